@@ -1,0 +1,408 @@
+-- The syntax trees of the language: one family of trees, with a sort for each nonterminal.
+use Rattle.std.specs.Prelude.{ℕ, ◌+◌, Option, Some, None, List, [], ◌∷◌, ◌++◌, max}
+use Rattle.ob0_scan.specs.declared.lexeme.TokenKind.{TokenKind}
+use Rattle.ob0_scan.specs.declared.lexeme.TokenKind.TheVariants as kind
+use Rattle.ob0_scan.specs.declared.lexeme.Reserved.TheVariants as reserved
+use Rattle.ob0_scan.specs.declared.lexeme.Symbol.TheVariants as symbol
+use Rattle.ob0_tree.specs.declared.tree.Relation.{Relation}
+use Rattle.ob0_tree.specs.declared.tree.Sign.{Sign}
+use Rattle.ob0_tree.specs.declared.tree.AddOperator.{AddOperator}
+use Rattle.ob0_tree.specs.declared.tree.MultiplyOperator.{MultiplyOperator}
+use Rattle.ob0_tree.specs.Lexeme.{Lexeme, Name, Number, Mark, relation_mark, sign_marks, add_mark, multiply_mark}
+
+-- What may stand again and again, or once or not at all, behind something else.
+pub data Item : Type 0 where
+  selector : Item
+  multiplier : Item
+  addend : Item
+  comparison : Item
+  arguments : Item
+  further_argument : Item
+  further_statement : Item
+  elsif_part : Item
+  else_part : Item
+  further_name : Item
+  further_fields : Item
+  formals : Item
+  further_section : Item
+  constant : Item
+  constants : Item
+  type_name : Item
+  type_names : Item
+  variable : Item
+  variables : Item
+  procedure : Item
+  body : Item
+
+pub data Sort : Type 0 where
+  item : Item → Sort
+  items : Item → Sort
+  maybe : Item → Sort
+  expression : Sort
+  simple : Sort
+  term : Sort
+  factor : Sort
+  statement : Sort
+  sequence : Sort
+  names : Sort
+  written_type : Sort
+  fields : Sort
+  section : Sort
+  declarations : Sort
+  block : Sort
+  module_text : Sort
+
+-- A tree has N in place of each identifier, and a number in place of each integer.
+pub data Tree (N : Type 0) : Sort → Type 0 where
+  none : {i : Item} → Tree N (maybe i)
+  one : {i : Item} → Tree N (item i) → Tree N (maybe i)
+  end : {i : Item} → Tree N (items i)
+  more : {i : Item} → Tree N (item i) → Tree N (items i) → Tree N (items i)
+  compares : Tree N simple → Tree N (maybe comparison) → Tree N expression
+  relates : Relation → Tree N simple → Tree N (item comparison)
+  sum : Option Sign → Tree N term → Tree N (items addend) → Tree N simple
+  adds : AddOperator → Tree N term → Tree N (item addend)
+  product : Tree N factor → Tree N (items multiplier) → Tree N term
+  multiplies : MultiplyOperator → Tree N factor → Tree N (item multiplier)
+  designator : N → Tree N (items selector) → Tree N factor
+  integer : ℕ → Tree N factor
+  parenthesised : Tree N expression → Tree N factor
+  negation : Tree N factor → Tree N factor
+  field : N → Tree N (item selector)
+  index : Tree N expression → Tree N (item selector)
+  empty : Tree N statement
+  assigns : N → Tree N (items selector) → Tree N expression → Tree N statement
+  calls : N → Tree N (maybe arguments) → Tree N statement
+  branches : Tree N expression → Tree N sequence → Tree N (items elsif_part) → Tree N (maybe else_part) → Tree N statement
+  while_loop : Tree N expression → Tree N sequence → Tree N statement
+  repeat_loop : Tree N sequence → Tree N expression → Tree N statement
+  no_arguments : Tree N (item arguments)
+  some_arguments : Tree N expression → Tree N (items further_argument) → Tree N (item arguments)
+  then_argument : Tree N expression → Tree N (item further_argument)
+  runs : Tree N statement → Tree N (items further_statement) → Tree N sequence
+  then_statement : Tree N statement → Tree N (item further_statement)
+  elsif_branch : Tree N expression → Tree N sequence → Tree N (item elsif_part)
+  else_branch : Tree N sequence → Tree N (item else_part)
+  listed : N → Tree N (items further_name) → Tree N names
+  then_name : N → Tree N (item further_name)
+  named_type : N → Tree N written_type
+  array_type : Tree N expression → Tree N written_type → Tree N written_type
+  record_type : Tree N fields → Tree N (items further_fields) → Tree N written_type
+  no_fields : Tree N fields
+  some_fields : Tree N names → Tree N written_type → Tree N fields
+  then_fields : Tree N fields → Tree N (item further_fields)
+  no_formals : Tree N (item formals)
+  some_formals : Tree N section → Tree N (items further_section) → Tree N (item formals)
+  value_section : Tree N names → Tree N written_type → Tree N section
+  variable_section : Tree N names → Tree N written_type → Tree N section
+  then_section : Tree N section → Tree N (item further_section)
+  declares_constant : N → Tree N expression → Tree N (item constant)
+  declares_constants : Tree N (items constant) → Tree N (item constants)
+  declares_type : N → Tree N written_type → Tree N (item type_name)
+  declares_types : Tree N (items type_name) → Tree N (item type_names)
+  declares_variable : Tree N names → Tree N written_type → Tree N (item variable)
+  declares_variables : Tree N (items variable) → Tree N (item variables)
+  declares_procedure : N → Tree N (maybe formals) → Tree N block → N → Tree N (item procedure)
+  declares : Tree N (maybe constants) → Tree N (maybe type_names) → Tree N (maybe variables) → Tree N (items procedure) → Tree N declarations
+  begins : Tree N sequence → Tree N (item body)
+  has_body : Tree N declarations → Tree N (maybe body) → Tree N block
+  is_module : N → Tree N block → N → Tree N module_text
+
+-- what stands in place of a name, or a kind of token, alone
+abbrev pub mark : {N : Type 0} → TokenKind → List (Lexeme N)
+mark k = Mark k ∷ []
+
+-- the tokens of a tree: one case for each production of the grammar
+abbrev pub spell : {N : Type 0} {s : Sort} → Tree N s → List (Lexeme N)
+spell none = []
+spell (one t) = spell t
+spell end = []
+spell (more t ts) = spell t ++ spell ts
+spell (compares left compared) = spell left ++ spell compared
+spell (relates relation right) = Mark (relation_mark relation) ∷ spell right
+spell (sum sign first terms) = sign_marks sign ++ (spell first ++ spell terms)
+spell (adds operator t) = Mark (add_mark operator) ∷ spell t
+spell (product first factors) = spell first ++ spell factors
+spell (multiplies operator f) = Mark (multiply_mark operator) ∷ spell f
+spell (designator name selectors) = Name name ∷ spell selectors
+spell (integer n) = Number n ∷ []
+spell (parenthesised e) = Mark (kind.Symbol symbol.LeftParen) ∷ (spell e ++ mark (kind.Symbol symbol.RightParen))
+spell (negation f) = Mark (kind.Symbol symbol.Not) ∷ spell f
+spell (field name) = Mark (kind.Symbol symbol.Dot) ∷ Name name ∷ []
+spell (index e) = Mark (kind.Symbol symbol.LeftBracket) ∷ (spell e ++ mark (kind.Symbol symbol.RightBracket))
+spell empty = []
+spell (assigns name selectors e) = Name name ∷ (spell selectors ++ (Mark (kind.Symbol symbol.Becomes) ∷ spell e))
+spell (calls name args) = Name name ∷ spell args
+spell (branches condition s elsifs rest) =
+    Mark (kind.Reserved reserved.If) ∷ (spell condition ++ (Mark (kind.Reserved reserved.Then) ∷ (spell s ++ (spell elsifs ++ (spell rest ++ mark (kind.Reserved reserved.End))))))
+spell (while_loop condition s) = Mark (kind.Reserved reserved.While) ∷ (spell condition ++ (Mark (kind.Reserved reserved.Do) ∷ (spell s ++ mark (kind.Reserved reserved.End))))
+spell (repeat_loop s condition) = Mark (kind.Reserved reserved.Repeat) ∷ (spell s ++ (Mark (kind.Reserved reserved.Until) ∷ spell condition))
+spell no_arguments = Mark (kind.Symbol symbol.LeftParen) ∷ mark (kind.Symbol symbol.RightParen)
+spell (some_arguments e es) = Mark (kind.Symbol symbol.LeftParen) ∷ (spell e ++ (spell es ++ mark (kind.Symbol symbol.RightParen)))
+spell (then_argument e) = Mark (kind.Symbol symbol.Comma) ∷ spell e
+spell (runs first statements) = spell first ++ spell statements
+spell (then_statement s) = Mark (kind.Symbol symbol.Semicolon) ∷ spell s
+spell (elsif_branch condition s) = Mark (kind.Reserved reserved.Elsif) ∷ (spell condition ++ (Mark (kind.Reserved reserved.Then) ∷ spell s))
+spell (else_branch s) = Mark (kind.Reserved reserved.Else) ∷ spell s
+spell (listed name others) = Name name ∷ spell others
+spell (then_name name) = Mark (kind.Symbol symbol.Comma) ∷ Name name ∷ []
+spell (named_type name) = Name name ∷ []
+spell (array_type size t) = Mark (kind.Reserved reserved.Array) ∷ (spell size ++ (Mark (kind.Reserved reserved.Of) ∷ spell t))
+spell (record_type first others) = Mark (kind.Reserved reserved.Record) ∷ (spell first ++ (spell others ++ mark (kind.Reserved reserved.End)))
+spell no_fields = []
+spell (some_fields ns t) = spell ns ++ (Mark (kind.Symbol symbol.Colon) ∷ spell t)
+spell (then_fields f) = Mark (kind.Symbol symbol.Semicolon) ∷ spell f
+spell no_formals = Mark (kind.Symbol symbol.LeftParen) ∷ mark (kind.Symbol symbol.RightParen)
+spell (some_formals first others) = Mark (kind.Symbol symbol.LeftParen) ∷ (spell first ++ (spell others ++ mark (kind.Symbol symbol.RightParen)))
+spell (value_section ns t) = spell ns ++ (Mark (kind.Symbol symbol.Colon) ∷ spell t)
+spell (variable_section ns t) = Mark (kind.Reserved reserved.Var) ∷ (spell ns ++ (Mark (kind.Symbol symbol.Colon) ∷ spell t))
+spell (then_section s) = Mark (kind.Symbol symbol.Semicolon) ∷ spell s
+spell (declares_constant name e) = Name name ∷ Mark (kind.Symbol symbol.Equal) ∷ (spell e ++ mark (kind.Symbol symbol.Semicolon))
+spell (declares_constants cs) = Mark (kind.Reserved reserved.Const) ∷ spell cs
+spell (declares_type name t) = Name name ∷ Mark (kind.Symbol symbol.Equal) ∷ (spell t ++ mark (kind.Symbol symbol.Semicolon))
+spell (declares_types ts) = Mark (kind.Reserved reserved.Type) ∷ spell ts
+spell (declares_variable ns t) = spell ns ++ (Mark (kind.Symbol symbol.Colon) ∷ (spell t ++ mark (kind.Symbol symbol.Semicolon)))
+spell (declares_variables vs) = Mark (kind.Reserved reserved.Var) ∷ spell vs
+spell (declares_procedure name fs b closing) =
+    Mark (kind.Reserved reserved.Procedure) ∷ Name name ∷ (spell fs ++ (Mark (kind.Symbol symbol.Semicolon) ∷ (spell b ++ (Mark (kind.Reserved reserved.End) ∷ Name closing ∷ mark (kind.Symbol symbol.Semicolon)))))
+spell (declares cs ts vs ps) = spell cs ++ (spell ts ++ (spell vs ++ spell ps))
+spell (begins s) = Mark (kind.Reserved reserved.Begin) ∷ spell s
+spell (has_body ds b) = spell ds ++ spell b
+spell (is_module name b closing) =
+    Mark (kind.Reserved reserved.Module) ∷ Name name ∷ Mark (kind.Symbol symbol.Semicolon) ∷ (spell b ++ (Mark (kind.Reserved reserved.End) ∷ Name closing ∷ mark (kind.Symbol symbol.Dot)))
+
+-- How deep constructs stand in one another: those of these productions count.
+abbrev pub nesting : {N : Type 0} {s : Sort} → Tree N s → ℕ
+nesting none = 0
+nesting (one t) = nesting t
+nesting end = 0
+nesting (more t ts) = max (nesting t) (nesting ts)
+nesting (compares left compared) = max (nesting left) (nesting compared)
+nesting (relates relation right) = nesting right
+nesting (sum sign first terms) = max (nesting first) (nesting terms)
+nesting (adds operator t) = nesting t
+nesting (product first factors) = max (nesting first) (nesting factors)
+nesting (multiplies operator f) = nesting f
+nesting (designator name selectors) = nesting selectors
+nesting (integer n) = 0
+nesting (parenthesised e) = nesting e + 1
+nesting (negation f) = nesting f + 1
+nesting (field name) = 0
+nesting (index e) = nesting e + 1
+nesting empty = 0
+nesting (assigns name selectors e) = max (nesting selectors) (nesting e)
+nesting (calls name args) = nesting args
+nesting (branches condition s elsifs rest) =
+    max (max (nesting condition) (nesting s)) (max (nesting elsifs) (nesting rest)) + 1
+nesting (while_loop condition s) = max (nesting condition) (nesting s) + 1
+nesting (repeat_loop s condition) = max (nesting s) (nesting condition) + 1
+nesting no_arguments = 0
+nesting (some_arguments e es) = max (nesting e) (nesting es)
+nesting (then_argument e) = nesting e
+nesting (runs first statements) = max (nesting first) (nesting statements)
+nesting (then_statement s) = nesting s
+nesting (elsif_branch condition s) = max (nesting condition) (nesting s)
+nesting (else_branch s) = nesting s
+nesting (listed name others) = 0
+nesting (then_name name) = 0
+nesting (named_type name) = 0
+nesting (array_type size t) = max (nesting size) (nesting t) + 1
+nesting (record_type first others) = max (nesting first) (nesting others) + 1
+nesting no_fields = 0
+nesting (some_fields ns t) = nesting t
+nesting (then_fields f) = nesting f
+nesting no_formals = 0
+nesting (some_formals first others) = max (nesting first) (nesting others)
+nesting (value_section ns t) = nesting t
+nesting (variable_section ns t) = nesting t
+nesting (then_section s) = nesting s
+nesting (declares_constant name e) = nesting e
+nesting (declares_constants cs) = nesting cs
+nesting (declares_type name t) = nesting t
+nesting (declares_types ts) = nesting ts
+nesting (declares_variable ns t) = nesting t
+nesting (declares_variables vs) = nesting vs
+nesting (declares_procedure name fs b closing) = max (nesting fs) (nesting b) + 1
+nesting (declares cs ts vs ps) = max (max (nesting cs) (nesting ts)) (max (nesting vs) (nesting ps))
+nesting (begins s) = nesting s
+nesting (has_body ds b) = max (nesting ds) (nesting b)
+nesting (is_module name b closing) = nesting b
+
+-- the tree with other names, and other numbers
+abbrev pub mapped : {N M : Type 0} {s : Sort} → (N → M) → (ℕ → ℕ) → Tree N s → Tree M s
+mapped f g none = none
+mapped f g (one t) = one (mapped f g t)
+mapped f g end = end
+mapped f g (more t ts) = more (mapped f g t) (mapped f g ts)
+mapped f g (compares left compared) = compares (mapped f g left) (mapped f g compared)
+mapped f g (relates relation right) = relates relation (mapped f g right)
+mapped f g (sum sign first terms) = sum sign (mapped f g first) (mapped f g terms)
+mapped f g (adds operator t) = adds operator (mapped f g t)
+mapped f g (product first factors) = product (mapped f g first) (mapped f g factors)
+mapped f g (multiplies operator t) = multiplies operator (mapped f g t)
+mapped f g (designator name selectors) = designator (f name) (mapped f g selectors)
+mapped f g (integer n) = integer (g n)
+mapped f g (parenthesised e) = parenthesised (mapped f g e)
+mapped f g (negation t) = negation (mapped f g t)
+mapped f g (field name) = field (f name)
+mapped f g (index e) = index (mapped f g e)
+mapped f g empty = empty
+mapped f g (assigns name selectors e) = assigns (f name) (mapped f g selectors) (mapped f g e)
+mapped f g (calls name args) = calls (f name) (mapped f g args)
+mapped f g (branches condition s elsifs rest) = branches (mapped f g condition) (mapped f g s) (mapped f g elsifs) (mapped f g rest)
+mapped f g (while_loop condition s) = while_loop (mapped f g condition) (mapped f g s)
+mapped f g (repeat_loop s condition) = repeat_loop (mapped f g s) (mapped f g condition)
+mapped f g no_arguments = no_arguments
+mapped f g (some_arguments e es) = some_arguments (mapped f g e) (mapped f g es)
+mapped f g (then_argument e) = then_argument (mapped f g e)
+mapped f g (runs first statements) = runs (mapped f g first) (mapped f g statements)
+mapped f g (then_statement s) = then_statement (mapped f g s)
+mapped f g (elsif_branch condition s) = elsif_branch (mapped f g condition) (mapped f g s)
+mapped f g (else_branch s) = else_branch (mapped f g s)
+mapped f g (listed name others) = listed (f name) (mapped f g others)
+mapped f g (then_name name) = then_name (f name)
+mapped f g (named_type name) = named_type (f name)
+mapped f g (array_type size t) = array_type (mapped f g size) (mapped f g t)
+mapped f g (record_type first others) = record_type (mapped f g first) (mapped f g others)
+mapped f g no_fields = no_fields
+mapped f g (some_fields ns t) = some_fields (mapped f g ns) (mapped f g t)
+mapped f g (then_fields fs) = then_fields (mapped f g fs)
+mapped f g no_formals = no_formals
+mapped f g (some_formals first others) = some_formals (mapped f g first) (mapped f g others)
+mapped f g (value_section ns t) = value_section (mapped f g ns) (mapped f g t)
+mapped f g (variable_section ns t) = variable_section (mapped f g ns) (mapped f g t)
+mapped f g (then_section s) = then_section (mapped f g s)
+mapped f g (declares_constant name e) = declares_constant (f name) (mapped f g e)
+mapped f g (declares_constants cs) = declares_constants (mapped f g cs)
+mapped f g (declares_type name t) = declares_type (f name) (mapped f g t)
+mapped f g (declares_types ts) = declares_types (mapped f g ts)
+mapped f g (declares_variable ns t) = declares_variable (mapped f g ns) (mapped f g t)
+mapped f g (declares_variables vs) = declares_variables (mapped f g vs)
+mapped f g (declares_procedure name fs b closing) = declares_procedure (f name) (mapped f g fs) (mapped f g b) (f closing)
+mapped f g (declares cs ts vs ps) = declares (mapped f g cs) (mapped f g ts) (mapped f g vs) (mapped f g ps)
+mapped f g (begins s) = begins (mapped f g s)
+mapped f g (has_body ds b) = has_body (mapped f g ds) (mapped f g b)
+mapped f g (is_module name b closing) = is_module (f name) (mapped f g b) (f closing)
+
+-- What an identifier is, where it stands.
+pub data Role : Type 0 where
+  declaring : Role
+  looked_up : Role
+  closing_name : Role
+  field_name : Role
+  module_name : Role
+
+-- The identifiers of a tree in text order, each with its role. The first argument is the role of the names in
+-- a list: they declare variables or parameters, or name a record's fields.
+abbrev pub identifiers : {N : Type 0} {s : Sort} → Role → Tree N s → List (Role × N)
+identifiers r none = []
+identifiers r (one t) = identifiers r t
+identifiers r end = []
+identifiers r (more t ts) = identifiers r t ++ identifiers r ts
+identifiers r (compares left compared) = identifiers r left ++ identifiers r compared
+identifiers r (relates relation right) = identifiers r right
+identifiers r (sum sign first terms) = identifiers r first ++ identifiers r terms
+identifiers r (adds operator t) = identifiers r t
+identifiers r (product first factors) = identifiers r first ++ identifiers r factors
+identifiers r (multiplies operator f) = identifiers r f
+identifiers r (designator name selectors) = (looked_up, name) ∷ identifiers r selectors
+identifiers r (integer n) = []
+identifiers r (parenthesised e) = identifiers r e
+identifiers r (negation f) = identifiers r f
+identifiers r (field name) = (field_name, name) ∷ []
+identifiers r (index e) = identifiers r e
+identifiers r empty = []
+identifiers r (assigns name selectors e) = (looked_up, name) ∷ (identifiers r selectors ++ identifiers r e)
+identifiers r (calls name args) = (looked_up, name) ∷ identifiers r args
+identifiers r (branches condition s elsifs rest) =
+    identifiers r condition ++ (identifiers r s ++ (identifiers r elsifs ++ identifiers r rest))
+identifiers r (while_loop condition s) = identifiers r condition ++ identifiers r s
+identifiers r (repeat_loop s condition) = identifiers r s ++ identifiers r condition
+identifiers r no_arguments = []
+identifiers r (some_arguments e es) = identifiers r e ++ identifiers r es
+identifiers r (then_argument e) = identifiers r e
+identifiers r (runs first statements) = identifiers r first ++ identifiers r statements
+identifiers r (then_statement s) = identifiers r s
+identifiers r (elsif_branch condition s) = identifiers r condition ++ identifiers r s
+identifiers r (else_branch s) = identifiers r s
+identifiers r (listed name others) = (r, name) ∷ identifiers r others
+identifiers r (then_name name) = (r, name) ∷ []
+identifiers r (named_type name) = (looked_up, name) ∷ []
+identifiers r (array_type size t) = identifiers r size ++ identifiers r t
+identifiers r (record_type first others) = identifiers r first ++ identifiers r others
+identifiers r no_fields = []
+identifiers r (some_fields ns t) = identifiers field_name ns ++ identifiers r t
+identifiers r (then_fields f) = identifiers r f
+identifiers r no_formals = []
+identifiers r (some_formals first others) = identifiers r first ++ identifiers r others
+identifiers r (value_section ns t) = identifiers declaring ns ++ identifiers r t
+identifiers r (variable_section ns t) = identifiers declaring ns ++ identifiers r t
+identifiers r (then_section s) = identifiers r s
+identifiers r (declares_constant name e) = (declaring, name) ∷ identifiers r e
+identifiers r (declares_constants cs) = identifiers r cs
+identifiers r (declares_type name t) = (declaring, name) ∷ identifiers r t
+identifiers r (declares_types ts) = identifiers r ts
+identifiers r (declares_variable ns t) = identifiers declaring ns ++ identifiers r t
+identifiers r (declares_variables vs) = identifiers r vs
+identifiers r (declares_procedure name fs b closing) =
+    (declaring, name) ∷ (identifiers r fs ++ (identifiers r b ++ ((closing_name, closing) ∷ [])))
+identifiers r (declares cs ts vs ps) = identifiers r cs ++ (identifiers r ts ++ (identifiers r vs ++ identifiers r ps))
+identifiers r (begins s) = identifiers r s
+identifiers r (has_body ds b) = identifiers r ds ++ identifiers r b
+identifiers r (is_module name b closing) = (module_name, name) ∷ (identifiers r b ++ ((module_name, closing) ∷ []))
+
+-- The names that are looked up, in text order: no declaring name, no closing name, no field, no module's name.
+abbrev pub occurrences : {N : Type 0} {s : Sort} → Tree N s → List N
+occurrences none = []
+occurrences (one t) = occurrences t
+occurrences end = []
+occurrences (more t ts) = occurrences t ++ occurrences ts
+occurrences (compares left compared) = occurrences left ++ occurrences compared
+occurrences (relates relation right) = occurrences right
+occurrences (sum sign first terms) = occurrences first ++ occurrences terms
+occurrences (adds operator t) = occurrences t
+occurrences (product first factors) = occurrences first ++ occurrences factors
+occurrences (multiplies operator f) = occurrences f
+occurrences (designator name selectors) = name ∷ occurrences selectors
+occurrences (integer n) = []
+occurrences (parenthesised e) = occurrences e
+occurrences (negation f) = occurrences f
+occurrences (field name) = []
+occurrences (index e) = occurrences e
+occurrences empty = []
+occurrences (assigns name selectors e) = name ∷ (occurrences selectors ++ occurrences e)
+occurrences (calls name args) = name ∷ occurrences args
+occurrences (branches condition s elsifs rest) = occurrences condition ++ (occurrences s ++ (occurrences elsifs ++ occurrences rest))
+occurrences (while_loop condition s) = occurrences condition ++ occurrences s
+occurrences (repeat_loop s condition) = occurrences s ++ occurrences condition
+occurrences no_arguments = []
+occurrences (some_arguments e es) = occurrences e ++ occurrences es
+occurrences (then_argument e) = occurrences e
+occurrences (runs first statements) = occurrences first ++ occurrences statements
+occurrences (then_statement s) = occurrences s
+occurrences (elsif_branch condition s) = occurrences condition ++ occurrences s
+occurrences (else_branch s) = occurrences s
+occurrences (listed name others) = []
+occurrences (then_name name) = []
+occurrences (named_type name) = name ∷ []
+occurrences (array_type size t) = occurrences size ++ occurrences t
+occurrences (record_type first others) = occurrences first ++ occurrences others
+occurrences no_fields = []
+occurrences (some_fields ns t) = occurrences t
+occurrences (then_fields f) = occurrences f
+occurrences no_formals = []
+occurrences (some_formals first others) = occurrences first ++ occurrences others
+occurrences (value_section ns t) = occurrences t
+occurrences (variable_section ns t) = occurrences t
+occurrences (then_section s) = occurrences s
+occurrences (declares_constant name e) = occurrences e
+occurrences (declares_constants cs) = occurrences cs
+occurrences (declares_type name t) = occurrences t
+occurrences (declares_types ts) = occurrences ts
+occurrences (declares_variable ns t) = occurrences t
+occurrences (declares_variables vs) = occurrences vs
+occurrences (declares_procedure name fs b closing) = occurrences fs ++ occurrences b
+occurrences (declares cs ts vs ps) = occurrences cs ++ (occurrences ts ++ (occurrences vs ++ occurrences ps))
+occurrences (begins s) = occurrences s
+occurrences (has_body ds b) = occurrences ds ++ occurrences b
+occurrences (is_module name b closing) = occurrences b
