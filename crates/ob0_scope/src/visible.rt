@@ -85,7 +85,7 @@ impl<'t> Visible<'t> {
     pub(crate) fn leave_to(&mut self, len: usize) -> Result<(), AllocError>
         ensures { OnOk result (self.new ≡ drop (length self.old - len) self.old) }
     {
-        for _index in len..self.len() {
+        for _left in 0..self.len().saturating_sub(len) {
             self.leave()?;
         }
         Ok(())

@@ -1,5 +1,5 @@
-use Rattle.std.proofs.Common.{◌≡◌, ◌-◌, drop}
+use Rattle.std.proofs.Common.{◌≡◌, drop}
 use Rattle.ob0_scope.proofs.visible.Visible.leave_to.Given as goal
 
-abbrev pub invariant-loop-index : goal.invariant-loop-index
-invariant-loop-index l = l.self ≡ drop (l.index - l.len) l.initial.self
+abbrev pub invariant-loop-left : goal.invariant-loop-left
+invariant-loop-left l = l.self ≡ drop l._left l.initial.self
