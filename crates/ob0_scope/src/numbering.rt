@@ -4,16 +4,16 @@ ghost use Rattle.std.specs.Prelude.{◌≡◌, ◌+◌, [], OnOk, IfOk, length, 
 ghost use Rattle.ob0_tree.specs.declared.tree.Role.TheVariants as roles;
 ghost use Rattle.ob0_tree.specs.Places.{text_at};
 ghost use Rattle.ob0_tree.specs.Parsed.{tree_of};
-ghost use Rattle.ob0_tree.specs.View.{expression_of, sequence_in, body_of, type_of, names_of, constant_of, constants_of, type_declaration_of, types_of, variable_of, variables_of, section_of, formals_of, procedure_of, block_of};
+ghost use Rattle.ob0_tree.specs.View.{expression_of, body_of, type_of, names_of, constant_of, constants_of, type_declaration_of, types_of, variable_of, variables_of, section_of, formals_of, procedure_of, block_of};
 ghost use Rattle.ob0_scope.specs.Names.{as_names};
 ghost use Rattle.ob0_scope.specs.Parts.{names_listed};
 ghost use Rattle.ob0_scope.specs.Scopes.{predeclared_scope};
 ghost use Rattle.ob0_scope.specs.Visiting.{marked, numbered_at, numbered_all, shown, shown_from, left_to, found, found_all, used, visit_constant, visit_constant_section, visit_type, visit_type_section, visit_variable, visit_variable_section, visit_section, visit_formals, visit_procedure, visit_block, visit_module};
 
-use crate::found;
 use crate::resolved::PREDECLARED;
 use crate::visible::Visible;
 use ob0_scan::Tokens;
+use ob0_tree::identifiers;
 use ob0_tree::tree::{
     Block, Constant, Expression, Module, Names, Procedure, Role, Section, Statement,
     TypeDeclaration, Variables, WrittenType,
@@ -154,7 +154,7 @@ impl<'t> Numbering<'t> {
         ensures { OnOk result (self.new ≡ used (expression_of e.now) self.old) }
     {
         let mut found = Vec::new(self.alloc);
-        found::expression(&mut found, e)?;
+        identifiers::expression(&mut found, e)?;
         self.find(&found)
     }
 
@@ -162,19 +162,16 @@ impl<'t> Numbering<'t> {
         ensures { OnOk result (self.new ≡ used (type_of t.now) self.old) }
     {
         let mut found = Vec::new(self.alloc);
-        found::written(&mut found, t)?;
+        identifiers::written_type(&mut found, t)?;
         self.find(&found)
     }
 
     fn body(&mut self, statements: &Option<Vec<Statement>>) -> Result<(), AllocError>
         ensures { OnOk result (self.new ≡ used (body_of statements.now) self.old) }
     {
-        if let Some(statements) = statements {
-            let mut found = Vec::new(self.alloc);
-            found::sequence(&mut found, statements)?;
-            self.find(&found)?;
-        }
-        Ok(())
+        let mut found = Vec::new(self.alloc);
+        identifiers::body(&mut found, statements)?;
+        self.find(&found)
     }
 
     fn names(&mut self, ns: &Names) -> Result<(), AllocError>
