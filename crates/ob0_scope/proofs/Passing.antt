@@ -11,7 +11,7 @@ use Rattle.ob0_tree.specs.Places.{named, text_at, value_at}
 use Rattle.ob0_tree.proofs.Occurring.{looked_up_only, looked_up_only-append}
 use Rattle.ob0_scope.specs.declared.numbering.Mark.{Mark}
 use Rattle.ob0_scope.specs.Names.{Name, as_names}
-use Rattle.ob0_scope.specs.Parts.{constant_names, formal_names, formal_sections, further_names, named_types, names_listed, section_constants, section_names, section_types, section_variables, variable_names}
+use Rattle.ob0_scope.specs.Parts.{constant_names, formal_names, formal_sections, further_names, module_block, named_types, names_listed, procedure_name, section_constants, section_names, section_types, section_variables, variable_names}
 use Rattle.ob0_scope.specs.Resolution.{declaring_only}
 use Rattle.ob0_scope.specs.Scopes.{Labels, Scope, after_block, after_names, after_procedure, after_procedures, body_scope, declare_names, declare_procedure_names, ordinal_of, predeclared_scope, relabel_block, relabel_constant_section, relabel_constants, relabel_formals, relabel_further, relabel_names, relabel_procedure, relabel_procedures, relabel_section, relabel_sections, relabel_type_section, relabel_types, relabel_uses, relabel_variable_section, relabel_variables, relabelled}
 use Rattle.ob0_scope.specs.Visiting.{Visit, behind_block, behind_heading, found, found_all, left_to, marked, numbered_all, numbered_at, shown, shown_from, used, visit_block, visit_constant, visit_constant_section, visit_constants, visit_formals, visit_module, visit_procedure, visit_procedures, visit_section, visit_sections, visit_type, visit_type_section, visit_types, visit_variable, visit_variable_section, visit_variables}
@@ -39,6 +39,43 @@ pub record At (v : Visit) (src : Scanned) (s : Scope Name) (k : ℕ) : Type 0 wh
 
 joined : {X Y : Type 0} (f : List X → List Y) (xs ys : List X) (a b c : List Y) → f (xs ++ ys) ≡ f xs ++ f ys → b ≡ a ++ f xs → c ≡ b ++ f ys → c ≡ a ++ f (xs ++ ys)
 joined f xs ys a b c split e g = g ∙ (ap (λ z. z ++ f ys) e ∙ (append_assoc a (f xs) (f ys) ∙ ap (λ z. a ++ z) (sym split)))
+
+-- a scope with newer bindings
+pub record Extends (s s' : Scope Name) : Type 0 where
+  pub newer : List (Name × ℕ)
+  pub is : s' ≡ newer ++ s
+
+extends_nothing : (s : Scope Name) → Extends s s
+extends_nothing s = record { newer = []; is = refl }
+
+one_extends : (b : Name × ℕ) (s : Scope Name) → Extends s (b ∷ s)
+one_extends b s = record { newer = b ∷ []; is = refl }
+
+extends_then : {s t u : Scope Name} → Extends s t → Extends t u → Extends s u
+extends_then {s = s} e f = record { newer = f.newer ++ e.newer; is = f.is ∙ (ap (λ z. f.newer ++ z) e.is ∙ sym (append_assoc f.newer e.newer s)) }
+
+names_extend : (k : ℕ) (xs : List Name) (s : Scope Name) → Extends s (declare_names k xs s)
+names_extend k [] s = extends_nothing s
+names_extend k (x ∷ xs) s = extends_then (one_extends (x, k) s) (names_extend (suc k) xs ((x, k) ∷ s))
+
+procedures_extend : (k : ℕ) (ps : Tree Name (items procedure)) (s : Scope Name) → Extends s (declare_procedure_names k ps s)
+procedures_extend k end s = extends_nothing s
+procedures_extend k (more p rest) s = extends_then (one_extends (procedure_name p, k) s) (procedures_extend (after_procedure (suc k) p) rest ((procedure_name p, k) ∷ s))
+
+block_extends : (k : ℕ) (b : Tree Name block) (s : Scope Name) → Extends s (body_scope k b s)
+block_extends k (has_body (declares cs ts vs ps) statements) s =
+    let xs = constant_names (section_constants cs) in
+    let ys = named_types (section_types ts) in
+    let zs = variable_names (section_variables vs) in
+    extends_then (names_extend k xs s)
+    (extends_then (names_extend (after_names k xs) ys (declare_names k xs s))
+    (extends_then (names_extend (after_names (after_names k xs) ys) zs (declare_names (after_names k xs) ys (declare_names k xs s)))
+    (procedures_extend (after_names (after_names (after_names k xs) ys) zs) ps (declare_names (after_names (after_names k xs) ys) zs (declare_names (after_names k xs) ys (declare_names k xs s))))))
+
+left_extends : {s s' : Scope Name} → Extends s s' → drop (length s' - length s) s' ≡ s
+left_extends {s = s} e =
+    let count : length (e.newer ++ s) - length s ≡ length e.newer + 0 = omega (arith, length-append e.newer s) in
+    ap (λ z. drop (length z - length s) z) e.is ∙ (ap (λ n. drop n (e.newer ++ s)) count ∙ drop-append-add e.newer s 0)
 
 -- what the identifiers of a part that declares nothing leave
 record FoundAll (table : ℕ → Option ℕ) (src : Scanned) (v w : Visit) (xs : List (Role × ℕ)) : Type 0 where
@@ -289,6 +326,17 @@ module _ {M : Type 0} (table : ℕ → Option ℕ) (label : Labels Name M) (src 
       (pass_to (pass_then a (sections_passed fs (visit_section f v) (declare_names k xs s) (after_names k xs) a.at))
       (λ p i. more (then_section (p.first i)) (p.second i)))
 
+  section_declaring : (f : Tree ℕ section) → map (text_at src) (declaring_only (identifiers role.Declaring f)) ≡ section_names (named src f)
+  section_declaring (value_section ns t) = ap (map (text_at src)) (group_declaring ns t) ∙ names_named ns
+  section_declaring (variable_section ns t) = ap (map (text_at src)) (group_declaring ns t) ∙ names_named ns
+
+  sections_declaring : (fs : Tree ℕ (items further_section)) → map (text_at src) (declaring_only (identifiers role.Declaring fs)) ≡ formal_names (named src fs)
+  sections_declaring end = refl
+  sections_declaring (more (then_section f) fs) =
+      let xs = identifiers role.Declaring f in
+      let ys = identifiers role.Declaring fs in
+      ap (map (text_at src)) (declaring_only-append xs ys) ∙ (map-append (text_at src) (declaring_only xs) (declaring_only ys) ∙ (λ i. section_declaring f i ++ sections_declaring fs i))
+
   formals_passed : (fs : Tree ℕ (maybe formals)) (v : Visit) (s : Scope Name) (k : ℕ) → At v src s k
       → Passes v (visit_formals fs v) (identifiers role.Declaring fs) (declare_names k (formal_names (formal_sections (named src fs))) s) (after_names k (formal_names (formal_sections (named src fs))))
       (relabel_formals as_names label s k (named src fs) ≡ by_table fs)
@@ -301,3 +349,103 @@ module _ {M : Type 0} (table : ℕ → Option ℕ) (label : Labels Name M) (src 
       pass_is refl (sym (declare_names-append k xs rest s)) (sym (after_names-append k xs rest))
       (pass_to (pass_then a (sections_passed fs (visit_section f v) (declare_names k xs s) (after_names k xs) a.at))
       (λ p i. one (some_formals (p.first i) (p.second i))))
+
+  formals_declaring : (fs : Tree ℕ (maybe formals)) → map (text_at src) (declaring_only (identifiers role.Declaring fs)) ≡ formal_names (formal_sections (named src fs))
+  formals_declaring none = refl
+  formals_declaring (one no_formals) = refl
+  formals_declaring (one (some_formals f fs)) = sections_declaring (more (then_section f) fs)
+
+  constant_section_passed : (cs : Tree ℕ (maybe constants)) (v : Visit) (s : Scope Name) (k : ℕ) → At v src s k
+      → Passes v (visit_constant_section cs v) (identifiers role.Declaring cs) (declare_names k (constant_names (section_constants (named src cs))) s) (after_names k (constant_names (section_constants (named src cs))))
+      (relabel_constant_section as_names label s k (named src cs) ≡ by_table cs)
+  constant_section_passed none v s k at = pass_to (pass_nothing v s k at) (λ h. refl)
+  constant_section_passed (one (declares_constants cs)) v s k at = pass_to (constants_passed cs v s k at) (λ p i. one (declares_constants (p i)))
+
+  type_section_passed : (ts : Tree ℕ (maybe type_names)) (v : Visit) (s : Scope Name) (k : ℕ) → At v src s k
+      → Passes v (visit_type_section ts v) (identifiers role.Declaring ts) (declare_names k (named_types (section_types (named src ts))) s) (after_names k (named_types (section_types (named src ts))))
+      (relabel_type_section as_names label s k (named src ts) ≡ by_table ts)
+  type_section_passed none v s k at = pass_to (pass_nothing v s k at) (λ h. refl)
+  type_section_passed (one (declares_types ts)) v s k at = pass_to (types_passed ts v s k at) (λ p i. one (declares_types (p i)))
+
+  variable_section_passed : (vs : Tree ℕ (maybe variables)) (v : Visit) (s : Scope Name) (k : ℕ) → At v src s k
+      → Passes v (visit_variable_section vs v) (identifiers role.Declaring vs) (declare_names k (variable_names (section_variables (named src vs))) s) (after_names k (variable_names (section_variables (named src vs))))
+      (relabel_variable_section as_names label s k (named src vs) ≡ by_table vs)
+  variable_section_passed none v s k at = pass_to (pass_nothing v s k at) (λ h. refl)
+  variable_section_passed (one (declares_variables vs)) v s k at = pass_to (variables_passed vs v s k at) (λ p i. one (declares_variables (p i)))
+
+  left_passed : {a b : Visit} {xs : List (Role × ℕ)} {s s' : Scope Name} {k' : ℕ} {P : Type 0} (outer : ℕ) → outer ≡ length s → Extends s s' → Passes a b xs s' k' P → Passes a (left_to outer b) xs s k' P
+  left_passed {b = b} {s = s} outer count extends p =
+      record {
+        at = record { source = p.at.source; scope = (λ i. drop (length (p.at.scope i) - count i) (p.at.scope i)) ∙ left_extends extends; next = p.at.next };
+        declared = p.declared; used = p.used; tokens = p.tokens; agree = p.agree;
+      }
+
+  mutual
+    pub block_passed : (b : Tree ℕ block) (v : Visit) (s : Scope Name) (k : ℕ) → At v src s k
+        → Passes v (visit_block b v) (identifiers role.Declaring b) (body_scope k (named src b) s) (after_block k (named src b))
+        (relabel_block as_names label s k (named src b) ≡ by_table b)
+    block_passed (has_body (declares cs ts vs ps) statements) v s k at =
+        let xs = constant_names (section_constants (named src cs)) in
+        let ys = named_types (section_types (named src ts)) in
+        let zs = variable_names (section_variables (named src vs)) in
+        let a = constant_section_passed cs v s k at in
+        let v₁ = visit_constant_section cs v in
+        let b = type_section_passed ts v₁ (declare_names k xs s) (after_names k xs) a.at in
+        let v₂ = visit_type_section ts v₁ in
+        let c = variable_section_passed vs v₂ (declare_names (after_names k xs) ys (declare_names k xs s)) (after_names (after_names k xs) ys) b.at in
+        let v₃ = visit_variable_section vs v₂ in
+        let d = procedures_passed ps v₃ (declare_names (after_names (after_names k xs) ys) zs (declare_names (after_names k xs) ys (declare_names k xs s))) (after_names (after_names (after_names k xs) ys) zs) c.at in
+        let e = used_passed statements (visit_procedures ps v₃) (body_scope k (named src (has_body (declares cs ts vs ps) statements)) s) (after_block k (named src (has_body (declares cs ts vs ps) statements))) tt d.at in
+        pass_to (pass_then (pass_then a (pass_then b (pass_then c d))) e)
+        (λ p i. has_body (declares (p.first.first i) (p.first.second.first i) (p.first.second.second.first i) (p.first.second.second.second i)) (p.second i))
+
+    pub procedures_passed : (ps : Tree ℕ (items procedure)) (v : Visit) (s : Scope Name) (k : ℕ) → At v src s k
+        → Passes v (visit_procedures ps v) (identifiers role.Declaring ps) (declare_procedure_names k (named src ps) s) (after_procedures k (named src ps))
+        (relabel_procedures as_names label s k (named src ps) ≡ by_table ps)
+    procedures_passed end v s k at = pass_to (pass_nothing v s k at) (λ h. refl)
+    procedures_passed (more p ps) v s k at =
+        let a = procedure_passed p v s k at in
+        pass_to (pass_then a (procedures_passed ps (visit_procedure p v) ((procedure_name (named src p), k) ∷ s) (after_procedure (suc k) (named src p)) a.at))
+        (λ q i. more (q.first i) (q.second i))
+
+    pub procedure_passed : (p : Tree ℕ (item procedure)) (v : Visit) (s : Scope Name) (k : ℕ) → At v src s k
+        → Passes v (visit_procedure p v) (identifiers role.Declaring p) ((procedure_name (named src p), k) ∷ s) (after_procedure (suc k) (named src p))
+        (relabel_procedure as_names label s k (named src p) ≡ by_table p)
+    procedure_passed (declares_procedure x fs b closing) v s k at =
+        let own = length v.declarations in
+        let outside = length v.scope in
+        let name = text_at src x in
+        let formal = formal_names (formal_sections (named src fs)) in
+        let k₁ = after_names (suc k) formal in
+        let inside = declare_names (suc k) formal ((name, k) ∷ s) in
+        let count : outside ≡ length s = ap length at.scope in
+        let v₁ = numbered_at x v in
+        let a = number_passed x v s k at in
+        let v₂ = visit_formals fs v₁ in
+        let f = formals_passed fs v₁ s (suc k) a.at in
+        let heading = left_passed outside count (names_extend (suc k) formal s) (pass_then a f) in
+        let h = show_passed (name ∷ formal) at (ap (λ xs. name ∷ xs) (formals_declaring fs)) heading in
+        let v₃ = behind_heading own outside v₂ in
+        let g = block_passed b v₃ inside k₁ h.at in
+        let whole = pass_then h g in
+        let e = extends_then (extends_then (one_extends (name, k) s) (names_extend (suc k) formal ((name, k) ∷ s))) (block_extends k₁ (named src b) inside) in
+        let behind = left_passed outside count e whole in
+        let shown_again : At (behind_block x (7 + own) outside (visit_block b v₃)) src ((name, k) ∷ s) (after_block k₁ (named src b)) =
+            record { source = behind.at.source; scope = (λ i. (text_at (behind.at.source i) x, at.next i) ∷ behind.at.scope i); next = behind.at.next } in
+        let visible : Passes v (behind_block x (7 + own) outside (visit_block b v₃)) (((role.Declaring, x) ∷ identifiers role.Declaring fs) ++ identifiers role.Declaring b) ((name, k) ∷ s) (after_block k₁ (named src b)) _ =
+            record { at = shown_again; declared = behind.declared; used = behind.used; tokens = behind.tokens; agree = behind.agree } in
+        let last = mark_passed role.ClosingName closing (Some (7 + own)) (behind_block x (7 + own) outside (visit_block b v₃)) ((name, k) ∷ s) (after_block k₁ (named src b)) refl refl shown_again in
+        pass_is (append_assoc ((role.Declaring, x) ∷ identifiers role.Declaring fs) (identifiers role.Declaring b) ((role.ClosingName, closing) ∷ []) ∙ append_assoc ((role.Declaring, x) ∷ []) (identifiers role.Declaring fs) (identifiers role.Declaring b ++ ((role.ClosingName, closing) ∷ []))) refl refl
+        (pass_to (pass_then visible last)
+        (λ p i. declares_procedure (label (sym p.first.first.first i) name) (p.first.first.second i) (p.first.second i) (label (sym (p.second ∙ ap Some at.next) i) (text_at src closing))))
+
+  pub module_passed : (m : Tree ℕ module_text) (v : Visit) → At v src (predeclared_scope as_names) 7
+      → Passes v (visit_module m v) (identifiers role.Declaring m) (body_scope 7 (module_block (named src m)) (predeclared_scope as_names)) (after_block 7 (module_block (named src m)))
+      (relabelled as_names label (named src m) ≡ by_table m)
+  module_passed (is_module x b closing) v at =
+      let s = predeclared_scope as_names in
+      let a = mark_passed role.ModuleName x None v s 7 refl refl at in
+      let g = block_passed b (marked x None v) s 7 a.at in
+      let last = mark_passed role.ModuleName closing None (visit_block b (marked x None v)) (body_scope 7 (named src b) s) (after_block 7 (named src b)) refl refl g.at in
+      pass_to (pass_then a (pass_then g last))
+      (λ p i. is_module (label (sym p.first i) (text_at src x)) (p.second.first i) (label (sym p.second.second i) (text_at src closing)))
