@@ -1,5 +1,5 @@
 -- A module's identifiers, gone through in text order: what is known after each part.
-use Rattle.std.specs.Prelude.{ℕ, ◌+◌, ◌-◌, List, [], ◌∷◌, ◌++◌, Option, Some, None, map, length, drop}
+use Rattle.std.specs.Prelude.{ℕ, ◌+◌, ◌-◌, List, [], ◌∷◌, ◌++◌, Option, Some, None, map, length, drop, slice_set}
 use Rattle.ob0_scan.specs.Scanned.{Scanned}
 use Rattle.ob0_tree.specs.declared.tree.Role.{Role}
 use Rattle.ob0_tree.specs.declared.tree.Role.TheVariants as role
@@ -8,7 +8,7 @@ use Rattle.ob0_tree.specs.Places.{text_at}
 use Rattle.ob0_scope.specs.declared.numbering.Mark.{Mark}
 use Rattle.ob0_scope.specs.Names.{Name, as_names}
 use Rattle.ob0_scope.specs.Parts.{names_listed}
-use Rattle.ob0_scope.specs.Scopes.{Scope, declare_names, ordinal_of}
+use Rattle.ob0_scope.specs.Scopes.{Scope, declare_names, ordinal_of, predeclared_scope}
 
 -- The names that are visible, the tokens that declare, the tokens of the occurrences, and each identifier so far with its
 -- declaration's ordinal.
@@ -131,3 +131,12 @@ abbrev mutual
 
 abbrev pub visit_module : Tree ℕ module_text → Visit → Visit
 visit_module (is_module x b closing) v = marked closing None (visit_block b (marked x None v))
+
+-- before the first identifier
+abbrev pub started : Scanned → Visit
+started source = record { source = source; scope = predeclared_scope as_names; declarations = []; uses = []; marks = [] }
+
+-- a table with the ordinal of each mark at its token
+abbrev pub with_marks : List (Option ℕ) → List Mark → List (Option ℕ)
+with_marks table [] = table
+with_marks table (m ∷ ms) = with_marks (slice_set table m.token m.ordinal) ms

@@ -8,7 +8,7 @@ ghost use Rattle.ob0_tree.specs.View.{expression_of, body_of, type_of, names_of,
 ghost use Rattle.ob0_scope.specs.Names.{as_names};
 ghost use Rattle.ob0_scope.specs.Parts.{names_listed};
 ghost use Rattle.ob0_scope.specs.Scopes.{predeclared_scope};
-ghost use Rattle.ob0_scope.specs.Visiting.{marked, numbered_at, numbered_all, shown, shown_from, left_to, found, found_all, used, visit_constant, visit_constant_section, visit_type, visit_type_section, visit_variable, visit_variable_section, visit_section, visit_formals, visit_procedure, visit_block, visit_module};
+ghost use Rattle.ob0_scope.specs.Visiting.{marked, numbered_at, numbered_all, shown, shown_from, left_to, found, found_all, used, visit_constant, visit_constant_section, visit_type, visit_type_section, visit_variable, visit_variable_section, visit_section, visit_formals, visit_procedure, visit_block, visit_module, started};
 
 use crate::resolved::PREDECLARED;
 use crate::visible::Visible;
@@ -58,7 +58,60 @@ pub(crate) fn token_text<'t>(tokens: &'t Tokens, token: usize) -> &'t str
     }
 }
 
+/// The predeclared names, visible.
+fn predeclared<'t>(alloc: Global) -> Result<Visible<'t>, AllocError>
+    ensures { IfOk result (λ v. v ≡ predeclared_scope as_names) }
+{
+    let mut visible = Visible::new(alloc);
+    visible.declare("INTEGER", 0)?;
+    visible.declare("BOOLEAN", 1)?;
+    visible.declare("TRUE", 2)?;
+    visible.declare("FALSE", 3)?;
+    visible.declare("Read", 4)?;
+    visible.declare("Write", 5)?;
+    visible.declare("WriteLn", 6)?;
+    Ok(visible)
+}
+
+/// Goes through a module.
+pub(crate) fn number<'t>(
+    alloc: Global,
+    read: &'t Module<'t>,
+) -> Result<Numbering<'t>, AllocError>
+    ensures { IfOk result (λ n. n ≡ visit_module (tree_of read.now) (started read.now.source)) }
+{
+    let mut numbering = Numbering {
+        alloc,
+        tokens: read.tokens(),
+        visible: predeclared(alloc)?,
+        declarations: Vec::new(alloc),
+        occurrences: Vec::new(alloc),
+        marks: Vec::new(alloc),
+    };
+    numbering.mark(read.name(), None)?;
+    numbering.block(read.block())?;
+    numbering.mark(read.closing(), None)?;
+    Ok(numbering)
+}
+
 impl<'t> Numbering<'t> {
+    /// The declaring tokens, the tokens of the occurrences, and the marks.
+    pub(crate) fn into_parts(self) -> (Vec<usize>, Vec<usize>, Vec<Mark>)
+        ensures declarations { result.0.items ≡ self.declarations }
+        ensures uses { result.1.items ≡ self.uses }
+        ensures marks { result.2.items ≡ self.marks }
+    {
+        let Numbering {
+            alloc: _,
+            tokens: _,
+            visible: _,
+            declarations,
+            occurrences,
+            marks,
+        } = self;
+        (declarations, occurrences, marks)
+    }
+
     /// How many declarations there are so far, the predeclared ones not counted.
     fn declared(&self) -> usize
         ensures { result ≡ length self.now.declarations }
