@@ -97,9 +97,9 @@ pub(crate) fn number<'t>(
 impl<'t> Numbering<'t> {
     /// The declaring tokens, the tokens of the occurrences, and the marks.
     pub(crate) fn into_parts(self) -> (Vec<usize>, Vec<usize>, Vec<Mark>)
-        ensures declarations { result.0.items ≡ self.declarations }
-        ensures uses { result.1.items ≡ self.uses }
-        ensures marks { result.2.items ≡ self.marks }
+        ensures declarations { result.0.items ≡ self.entry.declarations }
+        ensures uses { result.1.items ≡ self.entry.uses }
+        ensures marks { result.2.items ≡ self.entry.marks }
     {
         let Numbering {
             alloc: _,

@@ -5,6 +5,7 @@ ghost use Rattle.ob0_tree.specs.Parsed.{named_tree_of};
 ghost use Rattle.ob0_scope.specs.Occurrences.{binds};
 ghost use Rattle.ob0_scope.specs.Resolution.{IsResolution, ordinal_in, token_declaring};
 
+use crate::table::ordinal_at;
 use ob0_scan::{Fault, Tokens};
 use ob0_tree::tree::Module;
 use std::marker::Model;
@@ -59,10 +60,18 @@ impl<'t> Resolved<'t> {
     pub fn declaration_of(&self, occurrence: usize) -> Option<usize>
         ensures { result ≡ binds (named_tree_of self.now.module_read) occurrence }
     {
-        match self.occurrences.get(occurrence) {
-            Some(token) => self.ordinal_at(*token),
+        let _ = &self.faults;
+        match self.occurrence(occurrence) {
+            Some(token) => self.ordinal_at(token),
             None => None,
         }
+    }
+
+    /// The token of an occurrence.
+    fn occurrence(&self, occurrence: usize) -> Option<usize>
+        ensures { result ≡ slice_get self.now.uses occurrence }
+    {
+        self.occurrences.get(occurrence).copied()
     }
 
     /// The ordinal of the declaration of the identifier at token `token`: of a name that is looked up what binds it,
@@ -71,10 +80,7 @@ impl<'t> Resolved<'t> {
     pub fn ordinal_at(&self, token: usize) -> Option<usize>
         ensures { result ≡ ordinal_in self.now.ordinals token }
     {
-        match self.ordinals.get(token) {
-            Some(ordinal) => *ordinal,
-            None => None,
-        }
+        ordinal_at(&self.ordinals, token)
     }
 
     /// The tokens of the names that declare, in text order: the first has the ordinal 7.
