@@ -1,0 +1,142 @@
+-- Loops that collect names, and loops that test the parts of a module one by one.
+use Rattle.std.proofs.Common.{◌≡◌, ℕ, suc, ◌+◌, ◌<◌, ◌≤◌, Bool, true, false, not, cond, ◌&&◌, ◌||◌, List, [], ◌∷◌, ◌++◌, map, length, get_or, drop, refl, sym, ap, ◌∙◌, subst, append-nil, append_assoc, Bor, bytes_eq}
+use Rattle.std.proofs.lemmas.List.{drop_all, drop_more, drop-map}
+use Rattle.std.proofs.lemmas.Map.Text.{is_eq-slice_cmp}
+use Rattle.std.specs.List.{list_any}
+use Rattle.std.specs.BTreeSet.{BTreeSet, contains_by, UpdatesBy}
+use Rattle.std.specs.Cmp.Lexicographic.{slice_cmp}
+use Rattle.std.specs.Ordering.{is_eq, nat_cmp}
+use Rattle.ob0_scope.specs.Names.{Name, same_name}
+use Rattle.ob0_scope.specs.DeclaredOnce.{are_distinct, is_among}
+use Rattle.ob0_scope.proofs.Shadows.{same_name-comm}
+
+-- what is collected, with the names in what is left, is what was there at first with all of them
+pub record Gathering {A : Type 0} (f : List A → List ℕ) (xs : List A) (start : List ℕ) (done : ℕ) (out : List ℕ) : Type 0 where
+  pub so_far : out ++ f (drop done xs) ≡ start ++ f xs
+
+pub gathered : {A : Type 0} (f : List A → List ℕ) {xs : List A} {start : List ℕ} {done : ℕ} {out : List ℕ} → f [] ≡ [] → Gathering f xs start done out → length xs ≤ done → out ≡ start ++ f xs
+gathered f {xs = xs} {done = done} {out = out} none w all = sym (append-nil out) ∙ (ap (λ z. out ++ z) (sym (ap f (drop_all done xs all) ∙ none)) ∙ w.so_far)
+
+-- what held so far, with the test of what is left, is what held at first with the test of all
+pub record Holding {A : Type 0} (test : List A → Bool) (xs : List A) (start : Bool) (done : ℕ) (now : Bool) : Type 0 where
+  pub so_far : (now && test (drop done xs)) ≡ (start && test xs)
+
+pub and_true : (b : Bool) → (b && true) ≡ b
+and_true true = refl
+and_true false = refl
+
+pub and_assoc : (a b c : Bool) → ((a && b) && c) ≡ (a && (b && c))
+and_assoc true b c = refl
+and_assoc false b c = refl
+
+pub held : {A : Type 0} (test : List A → Bool) {xs : List A} {start : Bool} {done : ℕ} {now : Bool} → test [] ≡ true → Holding test xs start done now → length xs ≤ done → now ≡ (start && test xs)
+held test {xs = xs} {done = done} {now = now} none w all = sym (and_true now) ∙ (ap (λ b. now && b) (sym (ap test (drop_all done xs all) ∙ none)) ∙ w.so_far)
+
+pub holds_on : {A : Type 0} (test : List A → Bool) {xs : List A} {start : Bool} {done : ℕ} {now : Bool} (x : A) (b next : Bool) → Holding test xs start done now → done < length xs → x ≡ get_or xs done x
+    → ((rest : List A) → test (x ∷ rest) ≡ (b && test rest)) → next ≡ (now && b) → Holding test xs start (done + 1) next
+holds_on test {xs = xs} {done = done} {now = now} x b next w less here step e =
+    let split : drop done xs ≡ x ∷ drop (done + 1) xs = drop_more xs done x less ∙ ap (λ y. y ∷ drop (done + 1) xs) (sym here) in
+    let rest = drop (done + 1) xs in
+    record { so_far = ap (λ a. a && test rest) e ∙ (and_assoc now b (test rest) ∙ (ap (λ c. now && c) (sym (step rest)) ∙ (sym (ap (λ ys. now && test ys) split) ∙ w.so_far))) }
+
+pub gathers_on : {A : Type 0} (f : List A → List ℕ) {xs : List A} {start : List ℕ} {done : ℕ} {out : List ℕ} (x : A) (more next : List ℕ) → Gathering f xs start done out → done < length xs → x ≡ get_or xs done x
+    → ((rest : List A) → f (x ∷ rest) ≡ more ++ f rest) → next ≡ out ++ more → Gathering f xs start (done + 1) next
+gathers_on f {xs = xs} {done = done} {out = out} x more next w less here step e =
+    let split : drop done xs ≡ x ∷ drop (done + 1) xs = drop_more xs done x less ∙ ap (λ y. y ∷ drop (done + 1) xs) (sym here) in
+    let rest = drop (done + 1) xs in
+    record { so_far = ap (λ a. a ++ f rest) e ∙ (append_assoc out more (f rest) ∙ (ap (λ c. out ++ c) (sym (step rest)) ∙ (sym (ap (λ ys. out ++ f ys) split) ∙ w.so_far))) }
+
+-- names that are distinct, and distinct from some that were there before
+abbrev pub distinct_from : List Name → List Name → Bool
+distinct_from before [] = true
+distinct_from before (x ∷ xs) = not (is_among x before) && distinct_from (x ∷ before) xs
+
+abbrev none_among : List Name → List Name → Bool
+none_among [] before = true
+none_among (x ∷ xs) before = not (is_among x before) && none_among xs before
+
+none_before : (xs : List Name) → none_among xs [] ≡ true
+none_before [] = refl
+none_before (x ∷ xs) = none_before xs
+
+among_more : (a b c d : Bool) → (not (a || b) && (not c && d)) ≡ (not (a || c) && (not b && d))
+among_more true b c d = refl
+among_more false true true d = refl
+among_more false true false d = refl
+among_more false false true d = refl
+among_more false false false d = refl
+
+-- one more name before
+more_before : (x : Name) (xs before : List Name) → none_among xs (x ∷ before) ≡ (not (is_among x xs) && none_among xs before)
+more_before x [] before = refl
+more_before x (y ∷ ys) before =
+    ap (λ b. not (same_name y x || is_among y before) && b) (more_before x ys before)
+    ∙ (ap (λ s. not (s || is_among y before) && (not (is_among x ys) && none_among ys before)) (same_name-comm y x)
+    ∙ among_more (same_name x y) (is_among y before) (is_among x ys) (none_among ys before))
+
+regroup : (a d n p : Bool) → (a && (d && (n && p))) ≡ ((n && d) && (a && p))
+regroup true true true p = refl
+regroup true true false p = refl
+regroup true false true p = refl
+regroup true false false p = refl
+regroup false true true p = refl
+regroup false true false p = refl
+regroup false false true p = refl
+regroup false false false p = refl
+
+distinct_apart : (before xs : List Name) → distinct_from before xs ≡ (are_distinct xs && none_among xs before)
+distinct_apart before [] = refl
+distinct_apart before (x ∷ xs) =
+    ap (λ b. not (is_among x before) && b) (distinct_apart (x ∷ before) xs ∙ ap (λ b. are_distinct xs && b) (more_before x xs before))
+    ∙ regroup (not (is_among x before)) (are_distinct xs) (not (is_among x xs)) (none_among xs before)
+
+pub distinct_alone : (xs : List Name) → distinct_from [] xs ≡ are_distinct xs
+distinct_alone xs = distinct_apart [] xs ∙ (ap (λ b. are_distinct xs && b) (none_before xs) ∙ and_true (are_distinct xs))
+
+-- whether a set of texts has one
+abbrev pub has : BTreeSet (Bor Name) → Name → Bool
+has seen x = contains_by (λ key. slice_cmp nat_cmp x key.now) seen
+
+-- the names so far are those of the set
+pub record Seeing (text : ℕ → Name) (all : List ℕ) (start : Bool) (done : ℕ) (seen : BTreeSet (Bor Name)) (now : Bool) : Type 0 where
+  pub before : List Name
+  pub found : (x : Name) → has seen x ≡ is_among x before
+  pub so_far : (now && distinct_from before (map text (drop done all))) ≡ (start && distinct_from [] (map text all))
+
+either : (p q r : Bool) → p ≡ q → cond p true r ≡ (q || r)
+either true true r e = refl
+either true false r e = absurd (cc)
+either false true r e = absurd (cc)
+either false false r e = refl
+
+abbrev pub Adds : Name → BTreeSet (Bor Name) → BTreeSet (Bor Name) → Type 0
+Adds x seen next = UpdatesBy (λ a b. slice_cmp nat_cmp a.now b.now) (λ key. slice_cmp nat_cmp x key.now) seen next true
+
+pub sees_on : (text : ℕ → Name) (all : List ℕ) (start : Bool) (done : ℕ) (seen next : BTreeSet (Bor Name)) (now later added : Bool) (token : ℕ) → Seeing text all start done seen now → done < length all
+    → token ≡ get_or all done token → added ≡ not (has seen (text token)) → Adds (text token) seen next → later ≡ (now && added) → Seeing text all start (done + 1) next later
+sees_on text all start done seen next now later added token w less here new grown e =
+    let split : drop done all ≡ token ∷ drop (done + 1) all = drop_more all done token less ∙ ap (λ y. y ∷ drop (done + 1) all) (sym here) in
+    let x = text token in
+    let rest = map text (drop (done + 1) all) in
+    let fresh : added ≡ not (is_among x w.before) = new ∙ ap not (w.found x) in
+    record {
+      before = x ∷ w.before;
+      found = λ q.
+          grown.0 (record { ref_ptr = (0, 0); now = q })
+          ∙ (either (is_eq (slice_cmp nat_cmp x q)) (same_name q x) (has seen q) (is_eq-slice_cmp x q ∙ same_name-comm x q) ∙ ap (λ b. same_name q x || b) (w.found q));
+      so_far = ap (λ a. a && distinct_from (x ∷ w.before) rest) (e ∙ ap (λ b. now && b) fresh)
+          ∙ (and_assoc now (not (is_among x w.before)) (distinct_from (x ∷ w.before) rest) ∙ (sym (ap (λ ys. now && distinct_from w.before (map text ys)) split) ∙ w.so_far));
+    }
+
+pub all_seen : {text : ℕ → Name} {all : List ℕ} {start : Bool} {done : ℕ} {seen : BTreeSet (Bor Name)} {now : Bool} → Seeing text all start done seen now → length all ≤ done → now ≡ (start && are_distinct (map text all))
+all_seen {text = text} {all = all} {start = start} {done = done} {now = now} w over =
+    sym (and_true now) ∙ (sym (ap (λ ys. now && distinct_from w.before (map text ys)) (drop_all done all over)) ∙ (w.so_far ∙ ap (λ b. start && b) (distinct_alone (map text all))))
+
+pub nothing_seen : (text : ℕ → Name) (all : List ℕ) (start : Bool) (seen : BTreeSet (Bor Name)) → seen.keys ≡ [] → Seeing text all start 0 seen start
+nothing_seen text all start seen none =
+    record {
+      before = [];
+      found = λ x. ap (λ ks. list_any (λ (key : Bor Name). is_eq (slice_cmp nat_cmp x key.now)) ks) none;
+      so_far = refl;
+    }
+
