@@ -1,13 +1,19 @@
 -- Loops that collect names, and loops that test the parts of a module one by one.
 use Rattle.std.proofs.Common.{◌≡◌, ℕ, suc, ◌+◌, ◌<◌, ◌≤◌, Bool, true, false, not, cond, ◌&&◌, ◌||◌, List, [], ◌∷◌, ◌++◌, map, length, get_or, drop, refl, sym, ap, ◌∙◌, subst, append-nil, append_assoc, Bor, bytes_eq}
-use Rattle.std.proofs.lemmas.List.{drop_all, drop_more, drop-map}
+use Rattle.std.proofs.lemmas.List.{drop_all, drop_more, map-append}
 use Rattle.std.proofs.lemmas.Map.Text.{is_eq-slice_cmp}
 use Rattle.std.specs.List.{list_any}
 use Rattle.std.specs.BTreeSet.{BTreeSet, contains_by, UpdatesBy}
 use Rattle.std.specs.Cmp.Lexicographic.{slice_cmp}
 use Rattle.std.specs.Ordering.{is_eq, nat_cmp}
+use Rattle.ob0_scan.specs.Scanned.{Scanned}
+use Rattle.ob0_tree.specs.declared.tree.Fields.{Fields}
+use Rattle.ob0_tree.specs.Tree.{Tree, end, fields, further_fields, further_name, items, listed, more, names, no_fields, some_fields, then_fields, then_name}
+use Rattle.ob0_tree.specs.Places.{named, text_at}
+use Rattle.ob0_tree.specs.View.{fields_of, further_fields_of_group, items_of, record_listed}
 use Rattle.ob0_scope.specs.Names.{Name, same_name}
-use Rattle.ob0_scope.specs.DeclaredOnce.{are_distinct, is_among}
+use Rattle.ob0_scope.specs.Parts.{further_names, names_listed}
+use Rattle.ob0_scope.specs.DeclaredOnce.{are_distinct, fields_once, group_fields, group_once, groups_fields, groups_once, is_among}
 use Rattle.ob0_scope.proofs.Shadows.{same_name-comm}
 
 -- what is collected, with the names in what is left, is what was there at first with all of them
@@ -38,13 +44,6 @@ holds_on test {xs = xs} {done = done} {now = now} x b next w less here step e =
     let split : drop done xs ≡ x ∷ drop (done + 1) xs = drop_more xs done x less ∙ ap (λ y. y ∷ drop (done + 1) xs) (sym here) in
     let rest = drop (done + 1) xs in
     record { so_far = ap (λ a. a && test rest) e ∙ (and_assoc now b (test rest) ∙ (ap (λ c. now && c) (sym (step rest)) ∙ (sym (ap (λ ys. now && test ys) split) ∙ w.so_far))) }
-
-pub gathers_on : {A : Type 0} (f : List A → List ℕ) {xs : List A} {start : List ℕ} {done : ℕ} {out : List ℕ} (x : A) (more next : List ℕ) → Gathering f xs start done out → done < length xs → x ≡ get_or xs done x
-    → ((rest : List A) → f (x ∷ rest) ≡ more ++ f rest) → next ≡ out ++ more → Gathering f xs start (done + 1) next
-gathers_on f {xs = xs} {done = done} {out = out} x more next w less here step e =
-    let split : drop done xs ≡ x ∷ drop (done + 1) xs = drop_more xs done x less ∙ ap (λ y. y ∷ drop (done + 1) xs) (sym here) in
-    let rest = drop (done + 1) xs in
-    record { so_far = ap (λ a. a ++ f rest) e ∙ (append_assoc out more (f rest) ∙ (ap (λ c. out ++ c) (sym (step rest)) ∙ (sym (ap (λ ys. out ++ f ys) split) ∙ w.so_far))) }
 
 -- names that are distinct, and distinct from some that were there before
 abbrev pub distinct_from : List Name → List Name → Bool
@@ -112,12 +111,11 @@ either false false r e = refl
 abbrev pub Adds : Name → BTreeSet (Bor Name) → BTreeSet (Bor Name) → Type 0
 Adds x seen next = UpdatesBy (λ a b. slice_cmp nat_cmp a.now b.now) (λ key. slice_cmp nat_cmp x key.now) seen next true
 
-pub sees_on : (text : ℕ → Name) (all : List ℕ) (start : Bool) (done : ℕ) (seen next : BTreeSet (Bor Name)) (now later added : Bool) (token : ℕ) → Seeing text all start done seen now → done < length all
-    → token ≡ get_or all done token → added ≡ not (has seen (text token)) → Adds (text token) seen next → later ≡ (now && added) → Seeing text all start (done + 1) next later
-sees_on text all start done seen next now later added token w less here new grown e =
-    let split : drop done all ≡ token ∷ drop (done + 1) all = drop_more all done token less ∙ ap (λ y. y ∷ drop (done + 1) all) (sym here) in
-    let x = text token in
+pub sees_on : (text : ℕ → Name) (all : List ℕ) (start : Bool) (done : ℕ) (seen next : BTreeSet (Bor Name)) (now later added : Bool) (x : Name) → Seeing text all start done seen now → done < length all
+    → x ≡ text (get_or all done 0) → added ≡ not (has seen x) → Adds x seen next → later ≡ (now && added) → Seeing text all start (done + 1) next later
+sees_on text all start done seen next now later added x w less here new grown e =
     let rest = map text (drop (done + 1) all) in
+    let split : map text (drop done all) ≡ x ∷ rest = ap (map text) (drop_more all done 0 less) ∙ ap (λ y. y ∷ rest) (sym here) in
     let fresh : added ≡ not (is_among x w.before) = new ∙ ap not (w.found x) in
     record {
       before = x ∷ w.before;
@@ -125,7 +123,7 @@ sees_on text all start done seen next now later added token w less here new grow
           grown.0 (record { ref_ptr = (0, 0); now = q })
           ∙ (either (is_eq (slice_cmp nat_cmp x q)) (same_name q x) (has seen q) (is_eq-slice_cmp x q ∙ same_name-comm x q) ∙ ap (λ b. same_name q x || b) (w.found q));
       so_far = ap (λ a. a && distinct_from (x ∷ w.before) rest) (e ∙ ap (λ b. now && b) fresh)
-          ∙ (and_assoc now (not (is_among x w.before)) (distinct_from (x ∷ w.before) rest) ∙ (sym (ap (λ ys. now && distinct_from w.before (map text ys)) split) ∙ w.so_far));
+          ∙ (and_assoc now (not (is_among x w.before)) (distinct_from (x ∷ w.before) rest) ∙ (sym (ap (λ ys. now && distinct_from w.before ys) split) ∙ w.so_far));
     }
 
 pub all_seen : {text : ℕ → Name} {all : List ℕ} {start : Bool} {done : ℕ} {seen : BTreeSet (Bor Name)} {now : Bool} → Seeing text all start done seen now → length all ≤ done → now ≡ (start && are_distinct (map text all))
@@ -140,3 +138,29 @@ nothing_seen text all start seen none =
       so_far = refl;
     }
 
+
+-- names and parts of a tree, by their texts
+pub names_texts : (src : Scanned) (ns : Tree ℕ names) → map (text_at src) (names_listed ns) ≡ names_listed (named src ns)
+names_texts src (listed x rest) = ap (λ l. text_at src x ∷ l) (further_texts rest)
+  where
+    further_texts : (ns : Tree ℕ (items further_name)) → map (text_at src) (further_names ns) ≡ further_names (named src ns)
+    further_texts end = refl
+    further_texts (more (then_name x) rest) = ap (λ l. text_at src x ∷ l) (further_texts rest)
+
+group_texts : (src : Scanned) (g : Tree ℕ fields) → map (text_at src) (group_fields g) ≡ group_fields (named src g)
+group_texts src no_fields = refl
+group_texts src (some_fields ns t) = names_texts src ns
+
+groups_texts : (src : Scanned) (gs : Tree ℕ (items further_fields)) → map (text_at src) (groups_fields gs) ≡ groups_fields (named src gs)
+groups_texts src end = refl
+groups_texts src (more (then_fields g) rest) = map-append (text_at src) (group_fields g) (groups_fields rest) ∙ (λ i. group_texts src g i ++ groups_texts src rest i)
+
+-- a record's fields, whichever group is the first
+pub record_tested : (src : Scanned) (start distinct after : Bool) (gs : List Fields) (fs : List ℕ) → fs ≡ groups_fields (items_of further_fields_of_group gs) → distinct ≡ (start && are_distinct (map (text_at src) fs))
+    → after ≡ (distinct && groups_once (named src (items_of further_fields_of_group gs))) → after ≡ (start && fields_once (named src (record_listed gs)))
+record_tested src start distinct after [] fs are e f = f ∙ (and_true distinct ∙ (e ∙ ap (λ ns. start && are_distinct (map (text_at src) ns)) are))
+record_tested src start distinct after (g ∷ gs) fs are e f =
+    let rest = items_of further_fields_of_group gs in
+    let texts = ap (map (text_at src)) are ∙ groups_texts src (more (then_fields (fields_of g)) rest) in
+    let once = group_once (named src (fields_of g)) && groups_once (named src rest) in
+    f ∙ (ap (λ d. d && once) (e ∙ ap (λ ns. start && are_distinct ns) texts) ∙ and_assoc start (are_distinct (group_fields (named src (fields_of g)) ++ groups_fields (named src rest))) once)

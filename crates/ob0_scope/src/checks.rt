@@ -136,7 +136,7 @@ fn add_procedures(out: &mut Vec<usize>, procedures: &[Procedure]) -> Result<(), 
 
 impl Checks {
     fn into_faults(self) -> Vec<Fault>
-        ensures told { list_any is_of_declarations result.items ≡ not self.entry }
+        ensures told { list_any is_of_declarations result.items ≡ not self }
         ensures alone { list_any (λ fault. not (is_of_declarations fault)) result.items ≡ false }
     {
         let Checks { alloc: _, faults } = self;
