@@ -18,7 +18,7 @@ use Rattle.ob0_tree.specs.Places.{text_at, value_at}
 use Rattle.ob0_scope.specs.DeclaredOnce.{declared_once}
 use Rattle.ob0_scope.specs.Names.{Label, Name, as_names}
 use Rattle.ob0_scope.specs.Occurrences.{bindings, binds, label_ordinal}
-use Rattle.ob0_scope.specs.Resolution.{AreFaultsOf, IsNumbering, IsResolution, Resolution, is_of_declarations, is_of_occurrences, is_unbound, label_at, ordinal_in, span_at, undeclared_at}
+use Rattle.ob0_scope.specs.Resolution.{AreFaultsOf, IsNumbering, IsResolution, Resolution, is_of_declarations, is_of_occurrences, is_unbound, label_at, ordinal_in, span_at, undeclared_at, with_ordinal}
 use Rattle.ob0_scope.specs.Scopes.{as_label, numbered}
 use Rattle.ob0_scope.specs.Visiting.{Visit, started, visit_module, with_marks}
 use Rattle.ob0_scope.proofs.OccurrencesMapped.{occurrences-mapped}
@@ -140,10 +140,12 @@ resolution_made m v ordinals declarations uses once sorted parsed gone tabled de
     let marks = marks_stand w.marks (replicate (length m.source.tokens) None) 0 (length m.source.tokens) ascend (subst (λ n. length m.source.tokens ≤ n) (sym count) (le_refl (length m.source.tokens))) in
     let stand = subst (λ (os : List (Option ℕ)). HasMarks (ordinal_in os) w.marks) (sym table) marks in
     let numbering : IsNumbering m ordinals = (numbered_so.agree stand).1 in
+    let paired = module_passed (ordinal_in ordinals) with_ordinal m.source (tree_of m) (started m.source) (record { source = refl; scope = refl; next = refl }) in
     let occurring : uses ≡ occurrences (tree_of m) = occurs ∙ (ap (λ (v : Visit). v.uses) gone ∙ (numbered_so.used ∙ looked_up-occurrences role.Declaring (λ n xs. refl) (tree_of m))) in
     record {
       parsed = parsed;
       numbering = numbering;
+      binding = (paired.agree stand).1;
       declaring = declares ∙ (ap (λ (v : Visit). v.declarations) gone ∙ numbered_so.declared);
       occurring = occurring;
       told = faults_told m ordinals once sorted numbering told alone (subst (λ us. IsPermutation (once ++ undeclared_at m.source ordinals us) sorted) occurring permuted);
