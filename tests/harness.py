@@ -33,6 +33,10 @@ class Failed(Exception):
     pass
 
 
+class Skipped(Exception):
+    """A test that somebody left out; the run says so by name."""
+
+
 def shown(value, most=600):
     text = value if isinstance(value, str) else repr(value)
     return text if len(text) <= most else f"{text[:most]}.. ({len(text)} in all)"

@@ -40,7 +40,7 @@ class Played(Server):
     def send(self, message):
         content = json.dumps(message, separators=(",", ":"), ensure_ascii=False)
         print(f"\n--> {message['method']}" + (f" (request {message['id']})" if "id" in message else ""))
-        show(message.get("params"), len(content.encode()))
+        show(message.get("params", ()), len(content.encode()))
         super().send(message)
 
     def take(self):
@@ -70,7 +70,7 @@ def lines_of(value):
 def show(value, size):
     """A value under the head of its message."""
     print(f"    Content-Length: {size}")
-    for line in lines_of(value):
+    for line in lines_of(value) if value != () else ():
         print(f"    {line}")
 
 
@@ -85,10 +85,9 @@ def main():
     with Played() as server:
         say("a module without a fault is opened: an empty list of diagnostics")
         server.tell(did_open(GOOD, URI))
-        for version, (built, what, text) in enumerate(CHANGES, 2):
-            if built:
-                say(what)
-                server.tell(did_change(text, URI, version))
+        for version, (what, text) in enumerate([it[1:] for it in CHANGES if it[0]], 2):
+            say(what)
+            server.tell(did_change(text, URI, version))
         where = {"position": place(4, 16), "textDocument": {"uri": URI}}
         if BUILT["questions"]:
             say("which name stands in line 4 at character 16, and where else?")
