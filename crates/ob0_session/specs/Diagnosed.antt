@@ -8,7 +8,7 @@ use Rattle.ob0_scan.specs.declared.lexeme.Span.{Span}
 use Rattle.ob0_scan.specs.declared.lexeme.Token.{Token}
 use Rattle.ob0_tree.specs.Module.{ModuleOf}
 use Rattle.ob0_tree.specs.Tree.{Tree, module_text}
-use Rattle.ob0_parse.specs.Parsed.{NoneBegins}
+use Rattle.ob0_parse.specs.RefusedBy.{NoneBegins}
 use Rattle.ob0_parse.specs.declared.refusal.ParseRefusal.{ParseRefusal}
 use Rattle.ob0_parse.specs.declared.refusal.ParseRefusal.TheVariants.{Syntax, TooDeep, Memory}
 use Rattle.ob0_session.specs.declared.diagnoses.Diagnosis.{Diagnosis}

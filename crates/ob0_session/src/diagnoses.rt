@@ -2,7 +2,7 @@
 
 ghost use Rattle.std.specs.Prelude.{◌≡◌, ◌≤◌, ℕ, List, IfOk, map, length};
 ghost use Rattle.ob0_scan.specs.Scanned.{IsScanOf};
-ghost use Rattle.ob0_parse.specs.Parsed.{RefusedBy};
+ghost use Rattle.ob0_parse.specs.RefusedBy.{RefusedBy};
 ghost use Rattle.ob0_session.specs.Diagnosed.{Tells, IsRefusalAt, complaint_in, complaint_of, expects as expected_at, too_deep as too_deep_at, place_of as place_in};
 
 use ob0_parse::parse;
@@ -77,7 +77,11 @@ fn of_refusal(
     ensures { IfOk result (λ d. IsRefusalAt tokens.now refusal (complaint_in d)) }
 {
     match refusal {
-        ParseRefusal::Syntax { token, expected } => expects(alloc, expected.text(), place_of(tokens, token)),
+        ParseRefusal::Syntax { token, expected } => expects(
+            alloc,
+            expected.text(),
+            place_of(tokens, token),
+        ),
         ParseRefusal::TooDeep { token } => too_deep(alloc, place_of(tokens, token)),
         ParseRefusal::Memory => Err(AllocError),
     }
