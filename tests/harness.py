@@ -6,6 +6,7 @@ import os
 import select
 import subprocess
 import sys
+import tempfile
 import termios
 import threading
 import time
@@ -285,3 +286,60 @@ class Server:
             return self.process.wait(SECONDS)
         except subprocess.TimeoutExpired:
             raise Failed("the server did not end") from None
+
+
+# Texts and files
+
+
+def marked(text, *codes):
+    """A text whose faulty places stand between ⟦ and ⟧, and what is told of them, a code for each place in order."""
+    plain, starts, found = "", [], []
+    for it in text:
+        if it == "⟦":
+            starts.append(len(plain))
+        elif it == "⟧":
+            found.append((starts.pop(), len(plain)))
+        else:
+            plain += it
+    found.sort()
+    assert len(found) == len(codes) and not starts, text
+    position = lambda at: f"{plain.count(chr(10), 0, at)}:{at - (plain.rfind(chr(10), 0, at) + 1)}"
+    return plain, [told(code, MESSAGES[code], f"{position(a)}-{position(b)}") for code, (a, b) in zip(codes, found)]
+
+
+MESSAGES = {
+    "TooLong": "text too long",
+    "BadChar": "bad character",
+    "OpenComment": "comment not closed",
+    "NumberTooLarge": "number too large",
+    "NumberJoinsLetter": "letter after number",
+    "TooDeep": "nested too deep",
+    "Duplicate": "declared twice",
+    "Undeclared": "not declared",
+    "EndName": "wrong closing name",
+    "WrongKind": "wrong kind of name",
+    "TypeMismatch": "wrong type",
+    "NotConstant": "not constant",
+    "ConstFault": "constant has a fault",
+    "ArrayLength": "bad array length",
+    "TypeTooLarge": "type too large",
+    "ArgumentCount": "wrong number of arguments",
+    "NotVariable": "not a variable",
+    "NoField": "no such field",
+    "NotArray": "not an array",
+    "NotRecord": "not a record",
+}
+
+
+def on_file(command, text, *more, given=b"", name="m.mod"):
+    """Runs a command on a file with this text (or these bytes)."""
+    with tempfile.TemporaryDirectory() as room:
+        with open(os.path.join(room, name), "wb") as file:
+            file.write(text if isinstance(text, bytes) else text.encode())
+        return run([command, name, *more], given, cwd=room)
+
+
+def ends(found, out, status, err=""):
+    """Holds a run of the program to what it must write and to its status."""
+    wanted = tuple(it if isinstance(it, bytes) else it.encode() for it in (out, err))
+    same((found.out, found.err, found.status), (*wanted, status), "standard output, standard error and the status")
