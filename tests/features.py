@@ -5,7 +5,7 @@ name. A test of its own (test_features.py) asks the program for each feature, an
 feature that was built is switched on here, and its tests then run."""
 
 BUILT = {
-    "syntax": False,  # diagnostics of the parser
+    "syntax": True,  # diagnostics of the parser
     "types": False,  # diagnostics of scopes and types; `ob0 check`
     "changes": False,  # changes with a range
     "utf8": False,  # positions in UTF-8 units where the client offers them
