@@ -13,6 +13,7 @@ BUILT = {
     "fields": False,  # questions at fields of records
     "run": False,  # `ob0 run`
     "rename": False,  # rename and `ob0 rename`
+    "rename fields": False,  # rename of a record's field
     "inline": False,  # code actions
     "format": False,  # formatting
 }

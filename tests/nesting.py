@@ -1,14 +1,14 @@
 """Modules that are nested as deep as wished: of one construct, or of random mixes.
 
 Each step opens one construct that counts for nesting and leads to a place where the next one may stand. A place is of
-one of four kinds: declarations D, a type T, statements S, an expression E."""
+one of five kinds: declarations D, a type T, statements S, an expression E, a factor F."""
 import random
 
 # construct, from where, to where, before (with | before its opening token), after
 STEPS = [
-    ("parenthesis", "E", "E", "|(", ")"),
-    ("not", "E", "E", "|~ ", ""),
-    ("index in an expression", "E", "E", "a|[", "]"),
+    ("parenthesis", "F", "E", "|(", ")"),
+    ("not", "F", "F", "|~ ", ""),
+    ("index in an expression", "F", "E", "a|[", "]"),
     ("index of a target", "S", "E", "a|[", "] := 1"),
     ("IF, its condition", "S", "E", "|IF ", " THEN END"),
     ("IF, its statements", "S", "S", "|IF TRUE THEN ", " END"),
@@ -37,11 +37,12 @@ PASSES = [
     ("S", "E", "Write(", ")"),
     ("S", "E", "x := ", ""),
     ("S", "S", "; WriteLn; ", ";"),
-    ("E", "E", "1 + 2 * ", ""),
-    ("E", "E", "1 = ", ""),
+    ("E", "F", "", ""),
+    ("E", "F", "1 + 2 * ", ""),
+    ("E", "F", "-", " MOD 2 = 3"),
 ]
 
-LEAVES = {"D": "", "T": "INTEGER", "S": "x := 1", "E": "1"}
+LEAVES = {"D": "", "T": "INTEGER", "S": "x := 1", "E": "1", "F": "1"}
 BEFORE, AFTER = "MODULE M; ", " END M."
 
 
@@ -63,13 +64,14 @@ def leaf(walk, kind):
 def of_one(name, depth):
     """A module with so many of one construct inside one another, and the offset of the innermost one's token."""
     _, start, end, before, after = next(it for it in STEPS if it[0] == name)
-    into = {"D": [], "T": [("VAR v: ", ";")], "S": [("BEGIN ", "")], "E": [("BEGIN x := ", "")]}[start]
-    if start != end:
+    into = {"D": [], "T": [("VAR v: ", ";")], "S": [("BEGIN ", "")], "F": [("BEGIN x := ", "")]}[start]
+    if name not in REPEATED:
         raise ValueError(f"{name} can't stand in itself")
     return module(leaf([*into, *[(before, after)] * depth], end))
 
 
-REPEATED = [it[0] for it in STEPS if it[1] == it[2]]
+# (a factor is an expression)
+REPEATED = [it[0] for it in STEPS if it[1] == it[2] or it[1:3] == ("F", "E")]
 
 
 def mixed(seed, depth):
@@ -78,11 +80,11 @@ def mixed(seed, depth):
     while left:
         steps = [it for it in STEPS if it[1] == kind]
         passes = [it for it in PASSES if it[0] == kind]
-        # (an expression holds nothing but expressions: stay above it at times)
-        if chance.random() < 0.7:
-            steps = [it for it in steps if it[2] == kind] or steps
-            passes = []
-        if passes and chance.random() < 0.3:
+        # (what stands in an expression is an expression, and in a type a type: stay above them at times)
+        if chance.random() < 0.6:
+            stay = [it for it in steps if it[2] == kind]
+            steps, passes = stay or steps, passes if not steps else [] if stay else passes
+        if passes and (not steps or chance.random() < 0.3):
             _, kind, before, after = chance.choice(passes)
         else:
             _, _, kind, before, after = chance.choice(steps)

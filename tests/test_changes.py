@@ -1,7 +1,6 @@
 """Changes with a range, in both units: what the server holds is what the editor has."""
 import random
 
-from features import BUILT
 from harness import Server, compact, did_change, did_open, extent, holds, same, test, told
 
 ENDS = ("\r\n", "\r", "\n")
@@ -41,7 +40,7 @@ class Edited:
 
 
 def faults(edited):
-    """What is told of a text of white space, letters, comments that are closed, and bad characters `$` and `😀`."""
+    """What is told of a text of white space, letters, comments that are closed, and bad characters `$`, `é` and `😀`."""
     found, depth, at, text = [], 0, 0, edited.text
     while at < len(text):
         pair = text[at : at + 2]
@@ -49,7 +48,7 @@ def faults(edited):
             depth += 1 if pair == "(*" else -1
             at += 2
             continue
-        if not depth and text[at] in "$😀":
+        if not depth and text[at] in "$😀é":
             places = {"end": edited.position(at + 1), "start": edited.position(at)}
             found.append({"code": "BadChar", "message": "bad character", "range": places, "severity": 1})
         at += 1
@@ -58,6 +57,11 @@ def faults(edited):
 
 def is_between(text, at):
     return text[at - 1 : at + 1] == "\r\n"
+
+
+def scanned(diagnostics):
+    """The faults of scanning among what is told."""
+    return [it for it in diagnostics if it["code"] == "BadChar"]
 
 
 def session(seed, utf8, steps):
@@ -69,7 +73,7 @@ def session(seed, utf8, steps):
     pieces[7] = "(*é*)"
     with Server(**offer) as server:
         same("positionEncoding" in server.first["result"]["capabilities"], utf8, "whether the encoding is announced")
-        same(server.tell(did_open(edited.text)), faults(edited), "at first")
+        same(scanned(server.tell(did_open(edited.text))), faults(edited), "at first")
         for step in range(steps):
             changes = []
             for _ in range(chance.choice([1, 1, 1, 2, 3])):
@@ -82,9 +86,9 @@ def session(seed, utf8, steps):
             if edited.text.count("(*") != edited.text.count("*)"):
                 edited.text = "$ a\r\n$ (* 😀 *) b\r$\n"
                 changes = [{"text": edited.text}]
-            if sum(it in "$😀" for it in edited.text) > 90:
+            if sum(it in "$😀é" for it in edited.text) > 90:
                 raise AssertionError("the text is too long for the first 100 faults")
-            found = server.tell(did_change(changes, version=step + 2))
+            found = scanned(server.tell(did_change(changes, version=step + 2)))
             same(compact(found), compact(faults(edited)), f"step {step} of {edited.text!r}")
         same(server.end(), 0, "the status")
 
@@ -105,7 +109,7 @@ def changed(text, *changes, encodings=None):
     with Server(capabilities=capabilities) as server:
         server.tell(did_open(text))
         given = [{"range": extent(where), "text": new} if where else {"text": new} for where, new in changes]
-        return server.tell(did_change(given))
+        return scanned(server.tell(did_change(given)))
 
 
 def at_end(text, *changes, encodings=None):
@@ -183,7 +187,7 @@ def broken():
 def long_text():
     lines = [f"(* line {at} *)" for at in range(20000)]
     with Server() as server:
-        same([it["code"] for it in server.tell(did_open("\n".join(lines)))], ["Syntax"] if BUILT["syntax"] else [])
+        same(scanned(server.tell(did_open("\n".join(lines)))), [])
         for step in range(50):
             found = server.tell(did_change([{"range": extent("19990:3-19990:3"), "text": "*)$(*"}], version=step + 2))
             same(len(found), min(step + 1, 100), "the bad characters")

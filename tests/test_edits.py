@@ -54,6 +54,8 @@ RENAMES = [
     (CALLS, 2, 20, "W", "Predeclared"),
     (CALLS, 0, 7, "W", "NoName"),
     (CALLS, 0, 0, "W", "NoName"),
+]
+FIELD_RENAMES = [
     (RECORDS, 3, 8, "c", ["1:16-1:17", "3:8-3:9", "3:33-3:34"]),
     (RECORDS, 3, 8, "r", ["1:16-1:17", "3:8-3:9", "3:33-3:34"]),
     (RECORDS, 3, 8, "b", "Duplicate 1:19-1:20"),
@@ -74,10 +76,9 @@ def where(line, character, **more):
     return {"position": place(line, character), "textDocument": {"uri": URI}, **more}
 
 
-@test("rename: edits and refusals, through `serve`", "rename")
-def renames():
+def through_serve(rows):
     with Server() as server:
-        for text, line, character, new, wanted in RENAMES:
+        for text, line, character, new, wanted in rows:
             server.tell(did_open(text, URI))
             found = server.ask("textDocument/rename", where(line, character, newName=new))
             if isinstance(wanted, str):
@@ -87,14 +88,29 @@ def renames():
                 same(found.get("result"), {"changes": {URI: edits}}, f"{line}:{character} to {new}")
 
 
-@test("rename: edits and refusals, through the command", "rename")
-def renamed():
-    for text, line, character, new, wanted in RENAMES:
+def through_command(rows):
+    for text, line, character, new, wanted in rows:
         found = on_file("rename", text, str(line), str(character), new)
         if isinstance(wanted, str):
             ends(found, "", 1, f"refused: {wanted}\n")
         else:
             ends(found, edited(text, wanted, new), 0)
+
+
+@test("rename: edits and refusals, through `serve`", "rename")
+def renames():
+    through_serve(RENAMES)
+
+
+@test("rename: edits and refusals, through the command", "rename")
+def renamed():
+    through_command(RENAMES)
+
+
+@test("rename: a field of a record", "rename fields")
+def field_renamed():
+    through_serve(FIELD_RENAMES)
+    through_command(FIELD_RENAMES)
 
 
 @test("rename: a refusal and an edit, byte by byte", "rename")

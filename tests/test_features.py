@@ -28,11 +28,12 @@ def diagnosed(text):
         return bool(server.tell(did_open(text)))
 
 
-def asked_at_field():
+def asked_at_field(what, **more):
+    """Whether something is answered at a record's field."""
     with Server() as server:
         server.tell(did_open(FIELDS))
-        params = {"textDocument": {"uri": "file:///m"}, "position": place(0, FIELDS.index("a := 1"))}
-        return server.ask("textDocument/hover", params).get("result") is not None
+        params = {"textDocument": {"uri": "file:///m"}, "position": place(0, FIELDS.index("a := 1")), **more}
+        return server.ask(f"textDocument/{what}", params).get("result") is not None
 
 
 PROBES = {
@@ -41,9 +42,10 @@ PROBES = {
     "changes": lambda: announced()["textDocumentSync"]["change"] == 2,
     "utf8": lambda: "positionEncoding" in announced_with_utf8(),
     "questions": lambda: "hoverProvider" in announced(),
-    "fields": asked_at_field,
+    "fields": lambda: asked_at_field("hover"),
     "run": lambda: has("run"),
     "rename": lambda: "renameProvider" in announced(),
+    "rename fields": lambda: asked_at_field("rename", newName="b"),
     "inline": lambda: "codeActionProvider" in announced(textDocument={"codeAction": {"codeActionLiteralSupport": {}}}),
     "format": lambda: "documentFormattingProvider" in announced(),
 }
