@@ -187,7 +187,7 @@ def on_file(words, text, given=b""):
         return best(3, lambda: Timed([BINARY, words[0], "m.mod", *words[1:]], given, cwd=room))
 
 
-@measure("check: corpora, a large block, deep procedures", "types")
+@measure("check: corpora, a large block, deep procedures", "check")
 def checked():
     def each(text, _):
         found = on_file(["check"], text)
@@ -200,7 +200,7 @@ def checked():
     growth("procedures inside one another", [10, 50, 99], corpus.nest, each)
 
 
-@measure("check: 50,000 declarations in one block", "types")
+@measure("check: 50,000 declarations in one block", "check")
 def large_block():
     names = ",".join(f"v{at}" for at in range(50000))
     body = ";".join(f"v{at}:=v{at - 1}" for at in range(1, 50000, 3))

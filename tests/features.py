@@ -6,13 +6,15 @@ feature that was built is switched on here, and its tests then run."""
 
 BUILT = {
     "syntax": True,  # diagnostics of the parser
-    "types": False,  # diagnostics of scopes and types; `ob0 check`
+    "types": False,  # diagnostics of scopes and types
+    "check": False,  # `ob0 check`
     "changes": False,  # changes with a range
     "utf8": False,  # positions in UTF-8 units where the client offers them
     "questions": False,  # hover, definition, references, prepareRename
     "fields": False,  # questions at fields of records
     "run": False,  # `ob0 run`
-    "rename": False,  # rename and `ob0 rename`
+    "rename": False,  # rename
+    "rename command": False,  # `ob0 rename`
     "rename fields": False,  # rename of a record's field
     "inline": False,  # code actions
     "format": False,  # formatting

@@ -24,12 +24,12 @@ LONG_TOLD = """1:10: ConstFault: constant has a fault
 """
 
 
-@test("check: a module with ten faults, byte by byte", "types")
+@test("check: a module with ten faults, byte by byte", "check")
 def ten_faults():
     ends(on_file("check", LONG), LONG_TOLD, 1)
 
 
-@test("check: two array types of one form are two types", "types")
+@test("check: two array types of one form are two types", "check")
 def arrays():
     ends(
         on_file("check", "MODULE M; VAR a: ARRAY 3 OF INTEGER; b: ARRAY 3 OF INTEGER; BEGIN a := b END M."),
@@ -47,7 +47,7 @@ def chain(count):
     return f"MODULE M; TYPE{types}\nEND M."
 
 
-@test("check: sizes of types", "types")
+@test("check: sizes of types", "check")
 def sizes():
     of = lambda text: on_file("check", f"MODULE M; VAR a: {text}; END M.")
     ends(of("ARRAY 256 OF ARRAY 256 OF INTEGER"), "", 0)
@@ -142,7 +142,7 @@ def examples():
             same(server.tell(did_open(plain)), wanted, text)
 
 
-@test("check: each code of scopes and types, through `check`", "types")
+@test("check: each code of scopes and types, through `check`", "check")
 def examples_checked():
     for text, *codes in EXAMPLES:
         plain, wanted = marked(text, *codes)
@@ -158,7 +158,7 @@ def hundred():
     same([it["range"]["start"]["character"] for it in found], [16 + 3 * at for at in range(100)], "where")
 
 
-@test("check: parameters that are assigned, and bodies that see their own name", "types")
+@test("check: parameters that are assigned, and bodies that see their own name", "check")
 def well_typed():
     texts = [
         "MODULE M; VAR r: RECORD a: INTEGER END; s: RECORD a: BOOLEAN END; BEGIN r.a := 1; s.a := TRUE END M.",
@@ -170,7 +170,7 @@ def well_typed():
         ends(on_file("check", text), "", 0)
 
 
-@test("check: scanning and syntax are told first", "types")
+@test("check: scanning and syntax are told first", "check")
 def earlier():
     ends(on_file("check", "MODULE M; BEGIN x := 1a END M."), "0:21: NumberJoinsLetter: letter after number\n", 1)
     ends(on_file("check", "MODULE M; BEGIN x = 1 END M."), "0:18: Syntax: expected END\n", 1)
@@ -179,7 +179,7 @@ def earlier():
     ends(on_file("check", deep), "0:137: TooDeep: nested too deep\n", 1)
 
 
-@test("check: files that can't be taken", "types")
+@test("check: files that can't be taken", "check")
 def files():
     good = "MODULE M; VAR x: INTEGER; END M."
     too_long = "0:0: TooLong: text too long\n"
@@ -194,14 +194,14 @@ def files():
     ends(on_file("check", good, name="a b é.mod"), "", 0)
 
 
-@test("check: command lines that are refused", "types")
+@test("check: command lines that are refused", "check")
 def lines():
     for words in (["check"], ["check", "a", "b"], ["check", "--x", "a"]):
         found = run(words)
         same((found.out, bool(found.err), found.status), (b"", True, 2), " ".join(words))
 
 
-@test("check: a device that is full is a fault of writing", "types")
+@test("check: a device that is full is a fault of writing", "check")
 def full():
     import tempfile
 

@@ -102,12 +102,12 @@ def renames():
     through_serve(RENAMES)
 
 
-@test("rename: edits and refusals, through the command", "rename")
+@test("rename: edits and refusals, through the command", "rename command")
 def renamed():
     through_command(RENAMES)
 
 
-@test("rename: a field of a record", "rename fields")
+@test("rename: a field of a record", "rename fields", "rename command")
 def field_renamed():
     through_serve(FIELD_RENAMES)
     through_command(FIELD_RENAMES)
@@ -138,7 +138,7 @@ def announced():
             same(server.first["result"]["capabilities"]["renameProvider"], wanted)
 
 
-@test("rename: of texts that aren't well-typed", "rename")
+@test("rename: of texts that aren't well-typed", "rename", "rename command")
 def ill_typed():
     with Server() as server:
         server.tell(did_open("MODULE M", URI))
@@ -147,7 +147,7 @@ def ill_typed():
     ends(on_file("rename", "MODULE M", "0", "7", "x"), "0:8: Syntax: expected ;\n", 1)
 
 
-@test("rename: up to the longest text", "rename")
+@test("rename: up to the longest text", "rename command")
 def longest():
     text = "MODULE M; VAR x: INTEGER; END M.".ljust(1048576)
     ends(on_file("rename", text, "0", "14", "y"), text.replace("x", "y"), 0)
@@ -162,7 +162,7 @@ def same_run():
             same(on_file("run", after).out, on_file("run", text).out, after)
 
 
-@test("rename: command lines, and places far off", "rename")
+@test("rename: command lines, and places far off", "rename command")
 def lines():
     for words in (["0"], ["0", "0"], ["-1", "0", "x"], ["0", "18446744073709551616", "x"], ["0", "0", "x", "y"]):
         same(on_file("rename", NESTED, *words).status, 2, " ".join(words))

@@ -101,7 +101,7 @@ def chains():
         same([it for it in found if it["code"] in ("Syntax", "TooDeep")], [], "selectors")
 
 
-@test("syntax: `check` tells where the text ends early", "syntax", "types")
+@test("syntax: `check` tells where the text ends early", "check")
 def checked():
     import os
     import tempfile
