@@ -57,7 +57,8 @@ def watch(pid, peak):
 
 
 class Timed:
-    """A run of a command on bytes as its standard input: seconds, peak memory in bytes, what it wrote."""
+    """A run of a command on bytes as its standard input: seconds, those of them on a processor, peak memory in bytes,
+    what it wrote."""
 
     def __init__(self, words, given, cwd=None):
         peak = [0]
@@ -68,8 +69,10 @@ class Timed:
             process = subprocess.Popen(words, stdin=file, stdout=out, stderr=subprocess.DEVNULL, cwd=cwd)
             watcher = threading.Thread(target=watch, args=(process.pid, peak))
             watcher.start()
-            self.status = process.wait()
+            _, status, used = os.wait4(process.pid, 0)
             self.seconds = time.monotonic() - start
+            self.processor = used.ru_utime + used.ru_stime
+            process.returncode = self.status = os.WEXITSTATUS(status) if os.WIFEXITED(status) else -os.WTERMSIG(status)
             watcher.join()
             out.seek(0)
             self.out = out.read()
@@ -77,8 +80,8 @@ class Timed:
 
 
 def best(count, run):
-    """The quickest of some runs."""
-    return min((run() for _ in range(count)), key=lambda it: it.seconds)
+    """The quickest of some runs, by their time on a processor: others may run here too."""
+    return min((run() for _ in range(count)), key=lambda it: it.processor)
 
 
 def letter_at(text, version):
@@ -99,26 +102,26 @@ def served():
     found = best(3, lambda: Timed([BINARY, "serve"], given))
     copied = best(3, lambda: Timed(["cat"], given))
     said("bytes in", f"{len(given):,}")
-    said("seconds", f"{found.seconds:.3f}")
-    said("bytes a second", f"{len(given) / found.seconds:,.0f}")
+    said("seconds, those on a processor", f"{found.seconds:.3f}, {found.processor:.3f}")
+    said("bytes a second", f"{len(given) / found.processor:,.0f}")
     said("peak memory", megabytes(found.memory))
-    said("`cat` of the same bytes, seconds", f"{copied.seconds:.3f}")
-    said("ratio to `cat`", f"{found.seconds / copied.seconds:.1f}")
+    said("`cat` of the same bytes, seconds, on a processor", f"{copied.seconds:.3f}, {copied.processor:.3f}")
+    said("ratio to `cat`", f"{found.processor / max(copied.processor, 1e-3):.1f}")
     same_count = found.out.count(b'"diagnostics":[]')
     if found.status or same_count != 21:
         said("NOTE: the talk ended otherwise than expected", f"status {found.status}, {same_count} empty lists")
 
 
 def opened(text, times):
-    """Seconds for one open of a text through `serve`, over so many of them, and the peak memory."""
+    """Time on a processor for one open of a text through `serve`, over so many of them, and the peak memory."""
     empty = frames([initialize(), SHUTDOWN, EXIT])
     given = frames([initialize(), *(did_open(text, version=at) for at in range(times)), SHUTDOWN, EXIT])
     found, nothing = best(3, lambda: Timed([BINARY, "serve"], given)), best(3, lambda: Timed([BINARY, "serve"], empty))
-    return max(found.seconds - nothing.seconds, 1e-9) / times, found.memory
+    return max(found.processor - nothing.processor, 1e-9) / times, found.memory
 
 
 def growth(what, sizes, make, each):
-    """Prints seconds, bytes a second and memory for growing sizes, and the ratio of the last to the first, by size."""
+    """Prints time on a processor, bytes a second and memory for growing sizes, and the ratio of the last to the first, by size."""
     rows = []
     for size in sizes:
         text = make(size)
@@ -193,7 +196,7 @@ def checked():
         found = on_file(["check"], text)
         if found.status:
             said("NOTE: the module isn't well-typed", found.out[:200].decode(errors="replace"))
-        return found.seconds, found.memory
+        return found.processor, found.memory
 
     growth("module of", [10000, 100000, MIB], corpus.module, each)
     growth("one block, declarations", [500, 5000, 25000], corpus.block, each)
@@ -205,7 +208,7 @@ def large_block():
     names = ",".join(f"v{at}" for at in range(50000))
     body = ";".join(f"v{at}:=v{at - 1}" for at in range(1, 50000, 3))
     found = on_file(["check"], f"MODULE M;VAR {names}:INTEGER;BEGIN {body} END M.")
-    said("50,000 names and 33,333 uses", f"{found.seconds * 1000:.0f} ms  {megabytes(found.memory)}  status {found.status}")
+    said("50,000 names and 33,333 uses", f"{found.processor * 1000:.0f} ms  {megabytes(found.memory)}  status {found.status}")
 
 
 @measure("questions: references of one name, 10,000 and 100,000", "questions")
@@ -216,7 +219,7 @@ def referred():
         talk = lambda more: frames([initialize(), did_open(text), *more, SHUTDOWN, EXIT])
         without = best(3, lambda: Timed([BINARY, "serve"], talk([])))
         found = best(3, lambda: Timed([BINARY, "serve"], talk([request])))
-        return max(found.seconds - without.seconds, 1e-9), found.memory
+        return max(found.processor - without.processor, 1e-9), found.memory
 
     for name, on_line in (("on many lines", False), ("on one line", True)):
         growth(f"references {name},", [10000, 80000], lambda size, on_line=on_line: corpus.uses(size, on_line), each)
@@ -228,7 +231,7 @@ def ran():
 
     for name, (text, lua, python) in programs.PROGRAMS.items():
         found = on_file(["run"], text)
-        said(f"{name}: ob0", f"{found.seconds:.3f} s  {megabytes(found.memory)}  status {found.status}")
+        said(f"{name}: ob0", f"{found.processor:.3f} s  {megabytes(found.memory)}  status {found.status}")
         for command, other in (("lua5.4", lua), ("python3", python)):
             if not shutil.which(command):
                 said(f"{name}: {command}", "missing: install it (on Debian: apt-get install " + command + ")")
@@ -239,7 +242,7 @@ def ran():
                     it.write(other)
                 beside = best(3, lambda: Timed([command, file], b""))
             agrees = "the same output" if beside.out.split() == found.out.split() else "ANOTHER OUTPUT"
-            said(f"{name}: {command}", f"{beside.seconds:.3f} s  ob0 takes {found.seconds / beside.seconds:.1f} times that; {agrees}")
+            said(f"{name}: {command}", f"{beside.processor:.3f} s  ob0 takes {found.processor / beside.processor:.1f} times that; {agrees}")
 
 
 def main(words):
