@@ -99,6 +99,8 @@ class Parser:
     def __init__(self, text, tokens):
         end = Token("end", "", len(text))
         self.tokens, self.at = [*(it for it in tokens if it.kind != "comment"), end], 0
+        # what the layout asks for: signs, and parentheses that open parameters or arguments
+        self.signs, self.opening = set(), set()
 
     @property
     def kind(self):
@@ -142,6 +144,7 @@ class Parser:
     def block(self, node, depth):
         """Declarations, a body, END and the closing name."""
         node.constants, node.types, node.variables, node.procedures, node.body = [], [], [], [], []
+        first = self.at
         if self.has("CONST"):
             while self.kind == "ident":
                 name = self.need("ident")
@@ -163,9 +166,13 @@ class Parser:
         while self.kind == "PROCEDURE":
             node.procedures.append(self.procedure(depth))
             self.need(";")
+        start = self.at
         if self.has("BEGIN"):
             node.body = self.sequence(depth)
-        self.need("END")
+        own = [it for it in self.tokens[first:start] if it.kind in ("CONST", "TYPE", "VAR")] if not node.procedures else [
+            it for it in self.tokens[first:start] if it.kind in ("CONST", "TYPE", "VAR") and it.start < node.procedures[0].first.start
+        ]
+        node.words = [*own, *([self.tokens[start]] if self.tokens[start].kind == "BEGIN" else []), self.need("END")]
         node.closing = self.need("ident")
 
     def names(self):
@@ -177,7 +184,8 @@ class Parser:
     def procedure(self, depth):
         depth = self.deeper(depth)
         node = Node("procedure", self.need("PROCEDURE"), name=self.need("ident"), formals=[])
-        if self.has("("):
+        if self.kind == "(":
+            self.opening.add(self.need("("))
             if self.kind in ("VAR", "ident"):
                 node.formals.append(self.section(depth))
                 while self.has(";"):
@@ -228,10 +236,10 @@ class Parser:
         if self.kind not in ("IF", "WHILE", "REPEAT"):
             return None
         depth = self.deeper(depth)
-        node = Node(self.kind, self.need(self.kind))
+        node = Node(self.kind, self.need(self.kind), words=[])
         if node.kind == "REPEAT":
             node.body = self.sequence(depth)
-            self.need("UNTIL")
+            node.words.append(self.need("UNTIL"))
             node.condition = self.expression(depth)
             return self.close(node)
         if node.kind == "WHILE":
@@ -240,11 +248,13 @@ class Parser:
             node.body = self.sequence(depth)
         else:
             node.parts, node.other = [self.guarded(depth)], []
-            while self.has("ELSIF"):
+            while self.kind == "ELSIF":
+                node.words.append(self.need("ELSIF"))
                 node.parts.append(self.guarded(depth))
-            if self.has("ELSE"):
+            if self.kind == "ELSE":
+                node.words.append(self.need("ELSE"))
                 node.other = self.sequence(depth)
-        self.need("END")
+        node.words.append(self.need("END"))
         return self.close(node)
 
     def guarded(self, depth):
@@ -258,7 +268,8 @@ class Parser:
             self.need(":=")
             return self.close(Node("assign", target.first, target=target, right=self.expression(depth)))
         node = Node("call", target.first, name=target.first, arguments=[])
-        if self.has("("):
+        if self.kind == "(":
+            self.opening.add(self.need("("))
             if self.kind in ("ident", "integer", "(", "~", "+", "-"):
                 node.arguments.append(self.expression(depth))
                 while self.has(","):
@@ -288,6 +299,7 @@ class Parser:
         sign = self.has("+", "-")
         left = self.term(depth)
         if sign:
+            self.signs.add(sign)
             left = self.close(Node("sign", sign, operator=sign.kind, operand=left))
         while self.kind in ("+", "-", "OR"):
             operator = self.has(self.kind).kind
@@ -389,6 +401,8 @@ class Checker:
 
     def __init__(self, module):
         self.faults, self.bound, self.blocks = set(), [], [{it.name: it for it in PREDECLARED}]
+        # each identifier that is a field's, with the identifier that declares it and its record
+        self.fields = []
         self.block(module, module.name.text)
 
     def tell(self, code, first, last=None):
@@ -399,7 +413,7 @@ class Checker:
         """Declares a name in the innermost block."""
         if token.text in self.blocks[-1]:
             self.tell("Duplicate", token)
-        declared.token = token
+        declared.token, declared.block = token, self.blocks[-1]
         self.blocks[-1][token.text] = declared
         self.bound.append((token, declared))
 
@@ -472,6 +486,7 @@ class Checker:
                     if any(it.text == name for name, _, _ in made.fields):
                         self.tell("Duplicate", it)
                     made.fields.append((it.text, type_, it))
+                    self.fields.append((it, it, made))
         if made:
             scalars, depth = made.size()
             if scalars > 65536 or depth > 100:
@@ -542,7 +557,8 @@ class Checker:
                 type_ = self.tell("NotRecord", token)
             elif type_:
                 fields = [it for it in type_.fields if it[0] == part.text]
-                part.field = fields[0] if fields else None
+                if fields:
+                    self.fields.append((part, fields[0][2], type_))
                 type_ = fields[0][1] if fields else self.tell("NoField", part)
         return type_
 
@@ -640,7 +656,8 @@ class Text:
         if self.told:
             return
         try:
-            self.module = Parser(text, self.lexemes).module()
+            self.parser = Parser(text, self.lexemes)
+            self.module = self.parser.module()
         except Refused as why:
             code, token, message = why.args
             self.told = [(code, token.start, token.end, message)]

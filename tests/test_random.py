@@ -7,6 +7,7 @@ import re
 import sys
 
 import reference
+import reference_edits
 from features import BUILT
 from harness import MESSAGES, TOP, Server, did_open, extent, on_file, place, same, test, told
 
@@ -137,3 +138,97 @@ def runs():
         same((got.out.decode(), got.err.decode(), got.status), result, f"seed {seed}, input {given}, {calls} calls, {turns} turns, of\n{text}\n")
         ends[found.end] = ends.get(found.end, 0) + 1
     print(f"    {ends}")
+
+
+URI = "file:///m"
+
+
+def spread(found, edits):
+    """Edits as the server writes them."""
+    places = [(found.position(start), found.position(end), new) for start, end, new in edits]
+    return [{"newText": new, "range": {"end": place(*end), "start": place(*start)}} for start, end, new in places]
+
+
+def refusal(found, told_):
+    name, where = told_
+    return name + (" {}:{}-{}:{}".format(*found.position(where[0]), *found.position(where[1])) if where else "")
+
+
+def keeps_runs(before, after, seed):
+    for given, calls, turns in (([], 2, 2), ([7, -1, 0], 3, 1)):
+        runs_ = [reference.Run(it, given, calls, turns) for it in (before, after)]
+        same(*((it.output(), it.end) for it in runs_), f"seed {seed}, the run of\n{before}\nand of\n{after}")
+
+
+def modules(count):
+    for seed in range(SEED, SEED + max(1, count)):
+        chance = random.Random(f"edit {seed}")
+        text = program(seed)[0] if chance.random() < 0.7 else corpus.module(900, seed, True)
+        yield seed, chance, text, reference.Text(text)
+
+
+@test("random: renames", "rename", "rename fields")
+def renames():
+    with Server() as server:
+        for seed, chance, text, found in modules(COUNT // 10):
+            server.tell(did_open(text, URI))
+            words = [it for it in LEXEME.finditer(text) if re.match("[A-Za-z]", it[0])]
+            for _ in range(12):
+                where, new = chance.choice(words).start(), chance.choice([chance.choice(words)[0], "fresh", "x", "1a"])
+                wanted_ = reference_edits.rename(text, where, new)
+                params = {"newName": new, "position": place(*found.position(where)), "textDocument": {"uri": URI}}
+                got, what = server.ask("textDocument/rename", params), f"seed {seed}, {found.position(where)} to {new}, of\n{text}\n"
+                if isinstance(wanted_, tuple):
+                    same(got.get("error"), {"code": -32803, "message": refusal(found, wanted_)}, what)
+                else:
+                    same(got.get("result"), {"changes": {URI: spread(found, wanted_)}}, what)
+                    keeps_runs(text, reference_edits.patched(text, wanted_), seed)
+
+
+@test("random: inlining", "inline")
+def inlining():
+    with Server(capabilities={"textDocument": {"codeAction": {"codeActionLiteralSupport": {}}}}) as server:
+        for seed, chance, text, found in modules(COUNT // 10):
+            server.tell(did_open(text, URI))
+            words = [it for it in LEXEME.finditer(text) if re.match("c[0-9]|base|v1|TRUE", it[0])]
+            for _ in range(6):
+                where = chance.choice(words).start()
+                answers = [(title, reference_edits.inline(text, where, title == "Inline everywhere")) for title in ("Inline here", "Inline everywhere")]
+                at = place(*found.position(where))
+                params = {"context": {}, "range": {"end": at, "start": at}, "textDocument": {"uri": URI}}
+                got = server.ask("textDocument/codeAction", params)["result"]
+                wanted_ = [
+                    {"edit": {"changes": {URI: spread(found, it)}}, "kind": "refactor.inline", "title": title}
+                    for title, it in answers
+                    if isinstance(it, list)
+                ]
+                same(got, wanted_, f"seed {seed}, {found.position(where)} of\n{text}\n")
+                for _, it in answers:
+                    if isinstance(it, list):
+                        keeps_runs(text, reference_edits.patched(text, it), seed)
+
+
+def squeezed(text, chance):
+    """A text with other white space and comments in its gaps."""
+    pieces, at = [], 0
+    for it in LEXEME.finditer(text):
+        old = text[at : it.start()]
+        pieces += [chance.choice([old, old, " ", "\n", "\r\n  ", "\r", "(*a*)", " (* b\n *) ", "\t(**)\n"]) if old else chance.choice(["", "", "", " ", "\n"]), it[0]]
+        at = it.end()
+    return "".join(pieces)
+
+
+@test("random: formatting", "format")
+def formatting():
+    with Server() as server:
+        for seed, chance, text, _ in modules(COUNT // 5):
+            text = squeezed(text, chance)
+            found = reference.Text(text)
+            if found.told:
+                continue
+            server.tell(did_open(text, URI))
+            size, spaces = chance.choice([0, 1, 2, 4, 16, 17]), chance.random() < 0.7
+            wanted_ = reference_edits.layout(text, " " * min(16, max(1, size)) if spaces else "\t")
+            params = {"options": {"insertSpaces": spaces, "tabSize": size}, "textDocument": {"uri": URI}}
+            got = server.ask("textDocument/formatting", params)["result"]
+            same(got, spread(found, wanted_), f"seed {seed} of\n{text}\n")

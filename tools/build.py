@@ -54,8 +54,8 @@ class Work:
 
     def at(self):
         """How far the check is, by its own word."""
-        found = re.findall(r"^checked .*, (\d+ of \d+)$", self.said(), re.M)
-        return f", function {found[-1]}" if found else ""
+        found = re.findall(r"^so far: (\d+ of \d+ functions) checked", self.said(), re.M)
+        return f", {found[-1]} checked" if found else ""
 
 
 def end_all(running):
