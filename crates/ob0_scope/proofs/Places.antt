@@ -1,11 +1,10 @@
 -- What holds at each occurrence of a tree, by its number, the scope in which it stands, and its name.
-use Rattle.std.proofs.Common.{List, None, T, [], arith, length, map, refl, subst, suc, ℕ, ◌++◌, ◌+◌, ◌∷◌, ◌≡◌}
+use Rattle.std.proofs.Common.{List, None, [], arith, length, map, refl, subst, suc, ℕ, ◌++◌, ◌+◌, ◌∷◌, ◌≡◌}
 use Rattle.ob0_tree.specs.Tree.{Sort, Tree, block, constant, constants, declares, declares_constant, declares_constants, declares_procedure, declares_type, declares_types, declares_variable, declares_variables, end, formals, further_section, has_body, item, items, maybe, more, no_formals, none, occurrences, one, procedure, section, some_formals, then_section, type_name, type_names, value_section, variable, variable_section, variables}
 use Rattle.ob0_scope.specs.Names.{Label, Name, Naming}
 use Rattle.ob0_scope.specs.Parts.{formal_names, formal_sections, names_listed, procedure_name, section_constants, section_names, section_type, section_types, section_variables}
 use Rattle.ob0_scope.specs.Scopes.{Scope, after_names, after_procedure, as_label, body_scope, declare_names, first_procedure, first_type, first_variable, label_of, procedures_scope, relabel_block, relabel_constant_section, relabel_constants, relabel_formals, relabel_procedure, relabel_procedures, relabel_section, relabel_sections, relabel_type_section, relabel_types, relabel_uses, relabel_variable_section, relabel_variables, types_scope, variables_scope}
 use Rattle.ob0_scope.proofs.OccurrenceNames.{as_many-constant_section, as_many-formals, as_many-procedure, as_many-procedures, as_many-section, as_many-type_section, as_many-uses, as_many-variable_section, longer, occurrences-with_names}
-
 
 abbrev pub Placed : Type 1
 Placed = ℕ → Scope Name → Name → Type 0
@@ -147,12 +146,13 @@ module _ (u v : Naming Name) (R S : ℕ → Label → Type 0) (Q : Placed) (make
         let h₃ = cut T (j + length (occurrences cs) + length (occurrences ts)) (length (occurrences vs)) (occurrences vs') (occurrences ps') (as_many-variable_section w (as_label w) (variables_scope k b scope) (first_variable k b) vs) h₂.1 in
         (h₁.0, h₂.0, h₃.0, h₃.1, h₀.1) in
         let f' = part u R f in
-        let g' = part v S g in
-        (each-constant_section j scope k cs f'.0 g'.0,
-        each-type_section (j + length (occurrences cs)) (types_scope k b scope) (first_type k b) ts f'.1 g'.1,
-        each-variable_section (j + length (occurrences cs) + length (occurrences ts)) (variables_scope k b scope) (first_variable k b) vs f'.2 g'.2,
-        each-procedures (j + length (occurrences cs) + length (occurrences ts) + length (occurrences vs)) (procedures_scope k b scope) (first_procedure k b) ps f'.3 g'.3,
-        each-uses (j + length (occurrences (declares cs ts vs ps))) (body_scope k b scope) statements f'.4 g'.4)
+        let g' = part v S g in (
+          each-constant_section j scope k cs f'.0 g'.0,
+          each-type_section (j + length (occurrences cs)) (types_scope k b scope) (first_type k b) ts f'.1 g'.1,
+          each-variable_section (j + length (occurrences cs) + length (occurrences ts)) (variables_scope k b scope) (first_variable k b) vs f'.2 g'.2,
+          each-procedures (j + length (occurrences cs) + length (occurrences ts) + length (occurrences vs)) (procedures_scope k b scope) (first_procedure k b) ps f'.3 g'.3,
+          each-uses (j + length (occurrences (declares cs ts vs ps))) (body_scope k b scope) statements f'.4 g'.4,
+        )
 
     pub each-procedures : (j : ℕ) (scope : Scope Name) (k : ℕ) (ps : Tree Name (items procedure)) → AllAt R j (occurrences (relabel_procedures u (as_label u) scope k ps)) → AllAt S j (occurrences (relabel_procedures v (as_label v) scope k ps)) → EachProcedure Q j scope k ps
     each-procedures j scope k end f g = tt

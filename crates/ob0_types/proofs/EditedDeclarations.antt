@@ -1,6 +1,5 @@
 -- What an edited block's constants and types bind is what they bound, as the edit leaves it.
-use Rattle.std.proofs.Common.{Bool, None, Option, Result, Some, ap, arith, eq-eqb, eqb-true, false, if◌then◌else◌, le_refl, length, ne_eqb, option_and_then, refl, subst, subst₂, suc, sym, true, ℕ, ◌+◌, ◌<◌, ◌==◌, ◌∙◌, ◌∷◌, ◌≡◌, ◌≤◌}
-use Rattle.ob0_tree.specs.Places.{named}
+use Rattle.std.proofs.Common.{Bool, None, Option, Some, ap, arith, eq-eqb, eqb-true, false, if◌then◌else◌, le_refl, length, ne_eqb, option_and_then, refl, subst, subst₂, suc, sym, true, ℕ, ◌+◌, ◌<◌, ◌==◌, ◌∙◌, ◌∷◌, ◌≡◌, ◌≤◌}
 use Rattle.ob0_tree.specs.Tree.{Tree, constant, declares_constant, declares_type, end, expression, items, more, occurrences, type_name}
 use Rattle.ob0_scope.specs.Names.{Name, as_names}
 use Rattle.ob0_scope.specs.Parts.{constant_names, named_types}
@@ -20,7 +19,7 @@ use Rattle.ob0_types.proofs.DenotedInlined.{constructors-inlined}
 use Rattle.ob0_types.proofs.Leaves.{Here, Literal, constant-leaf, denoted-leaf, edited_meanings, known-value, read_meanings}
 use Rattle.ob0_types.proofs.Literals.{some_inverse}
 use Rattle.ob0_types.proofs.Marks.{IsRight, Mark, Marks, OfProcedure, Sound, Sound-weaken, is_left, knowns, not-left, read, read_edited, scope_marked}
-use Rattle.std.proofs.lemmas.Bool.{and_parts, cases_Bool}
+use Rattle.std.proofs.lemmas.Bool.{and_parts}
 
 -- two ways to go on from one value that is there
 pub agree-known : {V X Y Z : Type 0} (p : X → Y) (q : X → Z) (P : X → Type 0) (g : V → Option Y) (h : V → Option Z) (o o' : Option V)
@@ -102,16 +101,17 @@ constants-edited {V} {P} {Q} edit w lit X p q j k marks s seven (more (declares_
     (λ b right ordinal proc named w'. constants-edited edit w lit X p q (j + length (occurrences e)) (suc k) (b ∷ marks) (omega (arith, ordinal), right, proc, Sound-weaken edit w X k b.ordinal marks (omega (arith, ordinal)) s) (omega (arith, seven)) cs
     (subst₂ (λ y m. EachConstant (Here edit w) (j + length (occurrences e)) ((y, m) ∷ scope_marked marks) (suc k) cs) (sym named) (sym ordinal) here.1) w') in
     (elim (is_left edit k) as (λ t. is_left edit k ≡ t → Agree (read p) (read_edited edit q) Result (option_and_then (λ v. declare_constants as_names ((x, a_constant v) ∷ read p marks) cs) before)
-    (declare_constants as_names (read_edited edit q marks) (if t then cs' else more (declares_constant x (leaf edit j e)) cs')))
-    [ true ↦ λ l.
-    let d : k ≡ edit.constant = eqb-true k edit.constant (and_parts edit.gone (k == edit.constant) l).1 in
-    let v = value-known (knowns marks) edit.constant k x e cs w (worth (omega (arith, d)) (omega (arith, d, le-after_names (suc k) (constant_names cs)))) in
-    subst₂ (λ o env. Agree (read p) (read_edited edit q) Result (option_and_then (λ v. declare_constants as_names ((x, a_constant v) ∷ read p marks) cs) o) (declare_constants as_names env cs'))
-    (sym v.1 ∙ known-value p marks e) (ap (λ t. if t then read_edited edit q marks else (x, a_constant v.0) ∷ read_edited edit q marks) l) (tail v.0 v.1)
-    | false ↦ λ l. agree-known (read p) (read_edited edit q) Result (λ v. declare_constants as_names ((x, a_constant v) ∷ read p marks) cs) (λ v. declare_constants as_names ((x, a_constant v) ∷ read_edited edit q marks) cs')
-    before (constant_value (edited_meanings edit q marks) (leaf edit j e)) (constant-leaf edit w lit X p q k marks s j e here.0)
-    (λ v known. subst (λ env. Agree (read p) (read_edited edit q) Result (declare_constants as_names ((x, a_constant v) ∷ read p marks) cs) (declare_constants as_names env cs'))
-    (ap (λ t. if t then read_edited edit q marks else (x, a_constant v) ∷ read_edited edit q marks) l) (tail v (known-value p marks e ∙ known))) ]) refl
+    (declare_constants as_names (read_edited edit q marks) (if t then cs' else more (declares_constant x (leaf edit j e)) cs'))) [
+      | true ↦ λ l.
+          let d : k ≡ edit.constant = eqb-true k edit.constant (and_parts edit.gone (k == edit.constant) l).1 in
+          let v = value-known (knowns marks) edit.constant k x e cs w (worth (omega (arith, d)) (omega (arith, d, le-after_names (suc k) (constant_names cs)))) in
+          subst₂ (λ o env. Agree (read p) (read_edited edit q) Result (option_and_then (λ v. declare_constants as_names ((x, a_constant v) ∷ read p marks) cs) o) (declare_constants as_names env cs'))
+          (sym v.1 ∙ known-value p marks e) (ap (λ t. if t then read_edited edit q marks else (x, a_constant v.0) ∷ read_edited edit q marks) l) (tail v.0 v.1)
+      | false ↦ λ l. agree-known (read p) (read_edited edit q) Result (λ v. declare_constants as_names ((x, a_constant v) ∷ read p marks) cs) (λ v. declare_constants as_names ((x, a_constant v) ∷ read_edited edit q marks) cs')
+          before (constant_value (edited_meanings edit q marks) (leaf edit j e)) (constant-leaf edit w lit X p q k marks s j e here.0)
+          (λ v known. subst (λ env. Agree (read p) (read_edited edit q) Result (declare_constants as_names ((x, a_constant v) ∷ read p marks) cs) (declare_constants as_names env cs'))
+          (ap (λ t. if t then read_edited edit q marks else (x, a_constant v) ∷ read_edited edit q marks) l) (tail v (known-value p marks e ∙ known)))
+    ]) refl
 
 pub not-constant : (edit : Edit) (k : ℕ) → Outside edit k (suc k) → is_left edit k ≡ false
 not-constant edit k outside =

@@ -1,6 +1,6 @@
 -- Edited expressions and types at a place: over the environment that an edit leaves they mean what they meant.
 use Rattle.std.proofs.Common.{Bool, List, None, Option, Some, [], ap, arith, codes, eqb-true, false, lit<, option_map, refl, suc, sym, true, true≢false, ℕ, ⊎_elim, ◌<◌, ◌∙◌, ◌∷◌, ◌≡◌, ◌≤◌}
-use Rattle.ob0_tree.specs.Tree.{Tree, constant, expression, occurrences, written_type}
+use Rattle.ob0_tree.specs.Tree.{Tree, expression, occurrences, written_type}
 use Rattle.ob0_scope.specs.Mapping.{with_names}
 use Rattle.ob0_scope.specs.Names.{Name, as_names}
 use Rattle.ob0_scope.specs.Scopes.{Scope, ordinal_of, same_ordinal}
@@ -9,13 +9,14 @@ use Rattle.ob0_scope.proofs.Places.{Each, Placed}
 use Rattle.ob0_scope.proofs.SameNames.{with_names-id}
 use Rattle.ob0_values.specs.Values.{Place, Shape, Value, elements, members, number, truth}
 use Rattle.ob0_types.specs.ConstantValues.{known_object}
+use Rattle.ob0_types.specs.EditLaws.{IsScalar}
 use Rattle.ob0_types.specs.Environments.{Environment, meanings, newest}
 use Rattle.ob0_types.specs.Expressions.{Meanings, Object, a_constant, a_procedure, a_standard, a_type, a_variable}
 use Rattle.ob0_types.specs.Laws.{UsesAre}
 use Rattle.ob0_types.specs.Typing.{constant_of, constant_value, constants_only, denoted, type_of_name}
 use Rattle.ob0_types.specs.Written.{written_value}
 use Rattle.ob0_types.proofs.DenotedInlined.{ConstantWritten, StandsFor, constant_value-written, denoted-written}
-use Rattle.ob0_types.proofs.Literals.{IsScalar, IsSeen, literal-typed, literal-worth, some_inverse}
+use Rattle.ob0_types.proofs.Literals.{IsSeen, literal-typed, literal-worth, some_inverse}
 use Rattle.ob0_types.proofs.Marks.{Mark, Marks, Sound, Stays, edited-stands, found, found-right, known-found, knowns, no-found, object_as, object_of, ordinal-found, read, read-from, read-stands, read_edited, read_edited-from, scope_marked, worth-found, yes-found}
 use Rattle.ob0_types.proofs.TypeNaturality.{constant_value-map, denoted-map}
 use Rattle.std.proofs.lemmas.Bool.{cases_Bool, false_from_ne_true}
@@ -63,9 +64,10 @@ read-stands_for q marks x = ap newest (read-from q marks x) ∙ read-stands q ma
 pub uses-edited : {V P Q : Type 0} (edit : Edit) (w : Value) (X : Marks V P → Name → ℕ → P → Type 0) (q : ℕ → P → Q) (n : ℕ) (marks : Marks V P) → Sound edit w X n marks → (j : ℕ) (xs : List Name)
     → Each (Here edit w) j (scope_marked marks) xs → UsesAre edit.uses (StandsFor (edited_meanings edit q marks) w) j xs
 uses-edited edit w X q n marks s j [] here = tt
-uses-edited edit w X q n marks s j (x ∷ xs) here =
-    (λ u. edited-stands_for edit q marks x here.0.2 ∙ worth-found edit w q (found marks x) (found-right edit w X n marks x s) (sym (ordinal-found marks x) ∙ here.0.0 u),
-    uses-edited edit w X q n marks s (suc j) xs here.1)
+uses-edited edit w X q n marks s j (x ∷ xs) here = (
+  λ u. edited-stands_for edit q marks x here.0.2 ∙ worth-found edit w q (found marks x) (found-right edit w X n marks x s) (sym (ordinal-found marks x) ∙ here.0.0 u),
+  uses-edited edit w X q n marks s (suc j) xs here.1,
+)
 
 stays-below : (edit : Edit) (k : ℕ) (o : Option ℕ) → k < 7 → 7 ≤ edit.constant → o ≡ Some k → o ≡ Some edit.constant → ⊥
 stays-below edit k o l h e f = let g : k ≡ edit.constant = some_inverse (sym e ∙ f) in omega (arith, g, l, h)
@@ -164,9 +166,10 @@ plain-same {V} {P} {Q} p q (Some b) = of_object b.object
 
 pub edited-same : {V P Q : Type 0} (edit : Edit) (w : Value) (p q : ℕ → P → Q) (marks : Marks V P) (j : ℕ) (xs : List Name) → Each (Here edit w) j (scope_marked marks) xs → SameAt (plain_tag (read_edited edit q marks)) (plain_tag (read p marks)) xs
 edited-same edit w p q marks j [] here = tt
-edited-same edit w p q marks j (x ∷ xs) here =
-    (λ i. record { object = (ap (option_map plain_object) (edited-stands_for edit q marks x here.0.2) ∙ (plain-same q p (found marks x) ∙ sym (ap (option_map plain_object) (read-stands_for p marks x)))) i; text = [] },
-    edited-same edit w p q marks (suc j) xs here.1)
+edited-same edit w p q marks j (x ∷ xs) here = (
+  λ i. record { object = (ap (option_map plain_object) (edited-stands_for edit q marks x here.0.2) ∙ (plain-same q p (found marks x) ∙ sym (ap (option_map plain_object) (read-stands_for p marks x)))) i; text = [] },
+  edited-same edit w p q marks (suc j) xs here.1,
+)
 
 -- a constant expression, and a type's text
 

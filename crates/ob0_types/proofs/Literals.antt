@@ -1,8 +1,9 @@
 -- What is written for a value is worth it, where TRUE and FALSE are seen.
-use Rattle.std.proofs.Common.{IsTrue, None, Option, Some, [], ap, arith, codes, false, if◌then◌else◌, ltb-false, ltb-true, nat_lt, negsuc, option_and_then, pos, refl, subst, suc, sym, true, unwrap_or, ℕ, ◌∙◌, ◌≡◌}
+use Rattle.std.proofs.Common.{Some, [], ap, arith, codes, false, if◌then◌else◌, ltb-false, ltb-true, nat_lt, negsuc, option_and_then, pos, refl, subst, suc, sym, true, unwrap_or, ℕ, ◌∙◌, ◌≡◌}
 use Rattle.ob0_tree.specs.Tree.{Tree, adds, compares, end, factor, integer, more, none, parenthesised, product, sum}
 use Rattle.ob0_scope.specs.Names.{Name}
 use Rattle.ob0_values.specs.Values.{Overflow, Place, Shape, Store, Value, at_path, elements, ends, fits, gives, integer_shape, members, number, or_stuck, truth, ◌>>=◌}
+use Rattle.ob0_types.specs.EditLaws.{IsScalar}
 use Rattle.ob0_types.specs.Expressions.{Meanings, a_constant, evaluate, evaluate_factor, value_of}
 use Rattle.ob0_types.specs.Typing.{object_type, type_of, type_of_factor, value_type}
 use Rattle.ob0_types.specs.Written.{written_number, written_value}
@@ -12,26 +13,11 @@ use Rattle.ob0_tree.specs.declared.tree.AddOperator.TheVariants as add_operator
 pub some_inverse : {A : Type 0} {a b : A} → Some a ≡ Some b → a ≡ b
 some_inverse {A} {a} {b} e = ap (λ o. unwrap_or o a) e
 
--- the name that stands in what is written for a value, with the ordinal of its declaration
-abbrev pub written_name : Value → Option (Name × ℕ)
-written_name (truth true) = Some (codes "TRUE", 2)
-written_name (truth false) = Some (codes "FALSE", 3)
-written_name (number n) = None
-written_name (elements vs) = None
-written_name (members k ms) = None
-
 -- what is written stands for the value in a run, in each store
 abbrev pub IsSeen : {V P : Type 0} → Meanings Name V P → Value → Type 0
 IsSeen meaning (truth true) = meaning.stands_for (codes "TRUE") ≡ Some (a_constant (truth true))
 IsSeen meaning (truth false) = meaning.stands_for (codes "FALSE") ≡ Some (a_constant (truth false))
 IsSeen meaning _ = Unit {0}
-
--- a value of 32 bits, or a truth value
-abbrev pub IsScalar : Value → Type 0
-IsScalar (number n) = IsTrue (fits n)
-IsScalar (truth b) = Unit {0}
-IsScalar (elements vs) = ⊥
-IsScalar (members k ms) = ⊥
 
 pub least-worth : {P : Type 0} (meaning : Meanings Name Place P) (store : Store) (n : ℕ) → nat_lt n 2147483647 ≡ false → fits (negsuc n) ≡ true → evaluate_factor meaning store (written_number (negsuc n)) ≡ gives (number (negsuc n))
 unfolding evaluate
@@ -44,10 +30,11 @@ unfolding evaluate
 literal-worth meaning store v (number (pos n)) e h seen = subst (λ v. evaluate_factor meaning store v ≡ gives (number (pos n))) (some_inverse e) refl
 literal-worth meaning store v (number (negsuc n)) e h seen =
     subst (λ v. evaluate_factor meaning store v ≡ gives (number (negsuc n))) (some_inverse e)
-    ((elim (nat_lt n 2147483647) as (λ b. nat_lt n 2147483647 ≡ b → evaluate_factor meaning store (written_number (negsuc n)) ≡ gives (number (negsuc n)))
-    [ true ↦ λ l. ap (λ b. evaluate_factor meaning store (if b then parenthesised (compares (sum (Some sign.Minus) (product (integer (suc n)) end) end) none) else parenthesised (compares (sum (Some sign.Minus) (product (integer 2147483647) end) (more (adds add_operator.Subtract (product (integer 1) end)) end)) none))) l
-    ∙ ap (λ b. (if b then gives (number (negsuc n)) else ends Overflow) >>= (λ v. gives v)) h
-    | false ↦ λ l. least-worth meaning store n l h ]) refl)
+    ((elim (nat_lt n 2147483647) as (λ b. nat_lt n 2147483647 ≡ b → evaluate_factor meaning store (written_number (negsuc n)) ≡ gives (number (negsuc n))) [
+      | true ↦ λ l. ap (λ b. evaluate_factor meaning store (if b then parenthesised (compares (sum (Some sign.Minus) (product (integer (suc n)) end) end) none) else parenthesised (compares (sum (Some sign.Minus) (product (integer 2147483647) end) (more (adds add_operator.Subtract (product (integer 1) end)) end)) none))) l
+          ∙ ap (λ b. (if b then gives (number (negsuc n)) else ends Overflow) >>= (λ v. gives v)) h
+      | false ↦ λ l. least-worth meaning store n l h
+    ]) refl)
 literal-worth {P} meaning store v (truth true) e h seen =
     subst (λ v. evaluate_factor meaning store v ≡ gives (truth true)) (some_inverse e)
     (ap (λ o. value_of {P = P} store o >>= (λ v. gives [] >>= (λ steps. or_stuck (at_path steps v)))) seen)

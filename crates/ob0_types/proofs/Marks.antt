@@ -1,6 +1,5 @@
 -- Environments with the ordinals of their bindings: read as they are, and as an edit leaves them.
 use Rattle.std.proofs.Common.{Bool, List, None, Option, Some, [], ap, arith, eqb-true, false, if◌then◌else◌, le_of_lt, option_map, refl, sym, true, ℕ, ◌&&◌, ◌<◌, ◌==◌, ◌∙◌, ◌∷◌, ◌≡◌, ◌≤◌}
-use Rattle.ob0_tree.specs.Tree.{constant}
 use Rattle.ob0_scope.specs.Names.{Name, as_names, same_name}
 use Rattle.ob0_scope.specs.Scopes.{Scope, ordinal_of}
 use Rattle.ob0_scope.proofs.EditedTrees.{Edit}
@@ -101,9 +100,10 @@ pub edited-stands : {V P Q : Type 0} (edit : Edit) (q : ℕ → P → Q) (marks 
 edited-stands edit q [] x h = refl
 edited-stands edit q (b ∷ marks) x h =
     (elim (same_name x b.name) as (λ v. (edit.gone ≡ true → (elim v [ true ↦ Some b.ordinal | false ↦ ordinal_of as_names (scope_marked marks) x ]) ≡ Some edit.constant → ⊥)
-    → newest (read_edited edit q (elim v [ true ↦ b ∷ marks | false ↦ marks_from marks x ])) ≡ option_map (object_of q) (elim v [ true ↦ Some b | false ↦ found marks x ]))
-    [ true ↦ λ stays. ap (λ w. newest (if w then read_edited edit q marks else (b.name, object_as (q b.ordinal) b.object) ∷ read_edited edit q marks)) (not-left edit b.ordinal stays)
-    | false ↦ λ stays. edited-stands edit q marks x stays ]) h
+    → newest (read_edited edit q (elim v [ true ↦ b ∷ marks | false ↦ marks_from marks x ])) ≡ option_map (object_of q) (elim v [ true ↦ Some b | false ↦ found marks x ])) [
+      | true ↦ λ stays. ap (λ w. newest (if w then read_edited edit q marks else (b.name, object_as (q b.ordinal) b.object) ∷ read_edited edit q marks)) (not-left edit b.ordinal stays)
+      | false ↦ λ stays. edited-stands edit q marks x stays
+    ]) h
 
 pub ordinal-found : {V P : Type 0} (marks : Marks V P) (x : Name) → ordinal_of as_names (scope_marked marks) x ≡ option_map (λ b. b.ordinal) (found marks x)
 ordinal-found [] x = refl
