@@ -1,6 +1,6 @@
 //! The checker's state: what is known so far, and the faults told so far.
 
-use crate::fault::{Code, Fault};
+use ob0_scan::{Code, Fault};
 use crate::known::Known;
 use crate::names::Names;
 use crate::places::{first_token, last_token};

@@ -1,8 +1,7 @@
 //! Tells the faults of statements.
 
 use crate::checker::Checker;
-use crate::fault::Code;
-use crate::fitting::standard_formals;
+use ob0_scan::Code;
 use crate::judging::designated;
 use crate::known::{Formal, Object};
 use crate::types::Type;
@@ -50,18 +49,11 @@ impl<'t> Checker<'t> {
             self.tell_at(Code::Undeclared, token)?;
             return Ok(None);
         }
-        let found = match self.names(false).object(token) {
-            Some(Object::Procedure(formals)) => Some(formals.as_slice()),
-            Some(Object::Standard(standard)) => Some(standard_formals(*standard)),
-            _ => None,
-        };
-        match found {
-            Some(formals) => Ok(Some(Vec::from_slice(self.alloc, formals)?)),
-            None => {
-                self.tell_at(Code::WrongKind, token)?;
-                Ok(None)
-            }
+        if let Some(formals) = self.names(false).formals(token) {
+            return Ok(Some(Vec::from_slice(self.alloc, formals)?));
         }
+        self.tell_at(Code::WrongKind, token)?;
+        Ok(None)
     }
 
     fn complain_of_arguments(

@@ -1,7 +1,7 @@
 //! The types that texts of types denote.
 
 use crate::checker::Checker;
-use crate::fault::Code;
+use ob0_scan::Code;
 use crate::known::{Field, MOST_SCALARS, Object};
 use crate::types::Type;
 use ob0_tree::tree::{ArrayType, FieldList, Fields, Names, RecordType, WrittenType};

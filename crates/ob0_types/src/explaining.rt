@@ -1,7 +1,7 @@
 //! Tells the faults of expressions. What has a fault is of an unknown type, which raises no second fault.
 
 use crate::checker::Checker;
-use crate::fault::Code;
+use ob0_scan::Code;
 use crate::known::Object;
 use crate::places::{
     first_of_factor, first_of_simple, first_token, last_of_factor, last_of_simple, last_of_term,

@@ -85,8 +85,9 @@ pub struct Known<'t> {
     entries: Vec<Entry>,
 }
 
-static INTEGER: Shape<'static> = Shape::Integer;
-static BOOLEAN: Shape<'static> = Shape::Boolean;
+/// The places of INTEGER and BOOLEAN in the table of shapes.
+const INTEGER: usize = 0;
+const BOOLEAN: usize = 1;
 
 impl<'t> Known<'t> {
     /// The predeclared names.
@@ -95,6 +96,8 @@ impl<'t> Known<'t> {
             shapes: Vec::new(alloc),
             entries: Vec::new(alloc),
         };
+        known.shapes.push(Shape::Integer)?;
+        known.shapes.push(Shape::Boolean)?;
         known.declare(Object::Type(Type::Integer))?;
         known.declare(Object::Type(Type::Boolean))?;
         known.declare(Object::Constant(Scalar::Truth(true)))?;
@@ -112,6 +115,25 @@ impl<'t> Known<'t> {
             in_sight: true,
         })?;
         Ok(())
+    }
+
+    /// Makes room for the next ordinal, out of sight.
+    pub fn reserve(&mut self) -> Result<(), AllocError> {
+        self.entries.push(Entry {
+            object: Object::FaultyConstant,
+            in_sight: false,
+        })?;
+        Ok(())
+    }
+
+    /// Says what a declaration is, and brings it in sight.
+    pub fn define(&mut self, ordinal: usize, object: Object) {
+        if ordinal < self.entries.len() {
+            self.entries[ordinal] = Entry {
+                object,
+                in_sight: true,
+            };
+        }
     }
 
     /// How many declarations there are.
@@ -148,8 +170,8 @@ impl<'t> Known<'t> {
     /// The shape of a type, if it is known.
     pub fn shape(&self, of: Type) -> Option<&Shape<'t>> {
         match of {
-            Type::Integer => Some(&INTEGER),
-            Type::Boolean => Some(&BOOLEAN),
+            Type::Integer => self.shapes.get(INTEGER),
+            Type::Boolean => self.shapes.get(BOOLEAN),
             Type::Array(i) => self.shapes.get(i),
             Type::Record(i) => self.shapes.get(i),
             Type::Unknown => None,
