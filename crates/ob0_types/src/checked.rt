@@ -3,7 +3,7 @@
 use crate::checker::Checker;
 use ob0_scan::{Code, Fault, Span};
 use crate::known::{Known, Object, Shape};
-use crate::types::{Type, scalar_type};
+use crate::types::{TypeId, scalar_type};
 use ob0_scan::Tokens;
 use ob0_scope::resolved::{PREDECLARED, Resolved};
 use ob0_tree::tree::Module;
@@ -155,9 +155,9 @@ impl<'c, 't> WellTyped<'c, 't> {
     }
 
     /// The type of a declaration: of a type itself, of a variable or parameter its own, of a constant its value's.
-    pub fn declared_type(&self, declaration: usize) -> Option<Type> {
+    pub fn declared_type(&self, declaration: usize) -> Option<TypeId> {
         match self.object(declaration)? {
-            Object::Type(of) => Some(*of),
+            Object::Named(of) => Some(*of),
             Object::Variable(of) => Some(*of),
             Object::Constant(value) => Some(scalar_type(*value)),
             _ => None,
@@ -170,7 +170,7 @@ impl<'c, 't> WellTyped<'c, 't> {
     }
 
     /// The shape of a type.
-    pub fn shape_of(&self, of: Type) -> Option<&'c Shape<'t>> {
+    pub fn shape_of(&self, of: TypeId) -> Option<&'c Shape<'t>> {
         self.checked.known.shape(of)
     }
 }

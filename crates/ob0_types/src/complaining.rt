@@ -4,7 +4,7 @@ use crate::checker::Checker;
 use ob0_scan::Code;
 use crate::judging::designated;
 use crate::known::{Formal, Object};
-use crate::types::Type;
+use crate::types::TypeId;
 use ob0_tree::tree::{Assignment, Call, Designator, Expression, If, Statement};
 use std::alloc::AllocError;
 use std::mem;
@@ -17,10 +17,10 @@ impl<'t> Checker<'t> {
     }
 
     /// The type of the variable that is assigned to.
-    fn assigned(&mut self, token: usize) -> Result<Type, AllocError> {
+    fn assigned(&mut self, token: usize) -> Result<TypeId, AllocError> {
         if self.resolved.ordinal_at(token).is_none() {
             self.tell_at(Code::Undeclared, token)?;
-            return Ok(Type::Unknown);
+            return Ok(TypeId::Unknown);
         }
         let code = match self.names(false).object(token) {
             Some(Object::Variable(of)) => return Ok(*of),
@@ -30,7 +30,7 @@ impl<'t> Checker<'t> {
             None => Code::Undeclared,
         };
         self.tell_at(code, token)?;
-        Ok(Type::Unknown)
+        Ok(TypeId::Unknown)
     }
 
     fn complain_of_call(&mut self, call: &Call) -> Result<(), AllocError> {
@@ -108,7 +108,7 @@ impl<'t> Checker<'t> {
 
     fn complain_of_place(
         &mut self,
-        wanted: Type,
+        wanted: TypeId,
         e: &Expression,
         d: &Designator,
     ) -> Result<(), AllocError> {
@@ -134,12 +134,12 @@ impl<'t> Checker<'t> {
             Statement::Call(c) => self.complain_of_call(c),
             Statement::If(i) => self.complain_of_branches(i),
             Statement::While(w) => {
-                self.explain_wanted(&w.condition, Type::Boolean)?;
+                self.explain_wanted(&w.condition, TypeId::Boolean)?;
                 self.complain_of_sequence(&w.body)
             }
             Statement::Repeat(r) => {
                 self.complain_of_sequence(&r.body)?;
-                self.explain_wanted(&r.condition, Type::Boolean)
+                self.explain_wanted(&r.condition, TypeId::Boolean)
             }
         }
     }
@@ -154,10 +154,10 @@ impl<'t> Checker<'t> {
 
     #[cycle(complaints)]
     fn complain_of_branches(&mut self, i: &If) -> Result<(), AllocError> {
-        self.explain_wanted(&i.condition, Type::Boolean)?;
+        self.explain_wanted(&i.condition, TypeId::Boolean)?;
         self.complain_of_sequence(&i.then)?;
         for e in &i.elsifs {
-            self.explain_wanted(&e.condition, Type::Boolean)?;
+            self.explain_wanted(&e.condition, TypeId::Boolean)?;
             self.complain_of_sequence(&e.then)?;
         }
         match &i.otherwise {

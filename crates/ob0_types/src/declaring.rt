@@ -2,7 +2,7 @@
 
 use crate::checker::Checker;
 use crate::known::{Formal, Object};
-use crate::types::Type;
+use crate::types::TypeId;
 use ob0_tree::tree::{
     Block, Constant, Names, Procedure, Section, Statement, TypeDeclaration, Variables, WrittenType,
 };
@@ -23,7 +23,7 @@ impl<'t> Checker<'t> {
     }
 
     /// The type of a text of a type, and its faults.
-    fn written_type(&mut self, t: &WrittenType) -> Result<Type, AllocError> {
+    fn written_type(&mut self, t: &WrittenType) -> Result<TypeId, AllocError> {
         match self.denote(self.next, t)? {
             Some(denoted) => {
                 self.next = denoted.next;
@@ -38,11 +38,11 @@ impl<'t> Checker<'t> {
 
     fn type_declaration(&mut self, d: &TypeDeclaration) -> Result<(), AllocError> {
         let of = self.written_type(&d.written)?;
-        self.known.declare(Object::Type(of))
+        self.known.declare(Object::Named(of))
     }
 
     /// Declares variables or parameters of one type.
-    fn variables_of(&mut self, names: &Names, of: Type) -> Result<(), AllocError> {
+    fn variables_of(&mut self, names: &Names, of: TypeId) -> Result<(), AllocError> {
         self.known.declare(Object::Variable(of))?;
         for _name in &names.more {
             self.known.declare(Object::Variable(of))?;

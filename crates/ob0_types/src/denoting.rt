@@ -3,7 +3,7 @@
 use crate::checker::Checker;
 use ob0_scan::Code;
 use crate::known::{Field, MOST_SCALARS, Object};
-use crate::types::Type;
+use crate::types::TypeId;
 use ob0_tree::tree::{ArrayType, FieldList, Fields, Names, RecordType, WrittenType};
 use ob0_values::scalar::Scalar;
 use std::alloc::AllocError;
@@ -11,7 +11,7 @@ use std::alloc::AllocError;
 /// A type, and the ordinal of the next ARRAY or RECORD behind its text.
 #[derive(Clone, Copy)]
 pub struct Denoted {
-    pub of: Type,
+    pub of: TypeId,
     pub next: usize,
 }
 
@@ -111,7 +111,7 @@ impl<'t> Checker<'t> {
     fn add_fields(
         &self,
         names: &Names,
-        of: Type,
+        of: TypeId,
         fields: &mut Vec<Field<'t>>,
     ) -> Result<(), AllocError> {
         let spoken = self.names(false);
@@ -130,7 +130,7 @@ impl<'t> Checker<'t> {
 
     /// Tells the faults of a type's text, and gives the type with its unknown parts.
     #[cycle(supposing)]
-    pub fn suppose(&mut self, t: &WrittenType) -> Result<Type, AllocError> {
+    pub fn suppose(&mut self, t: &WrittenType) -> Result<TypeId, AllocError> {
         match t {
             WrittenType::Named(name) => self.suppose_name(*name),
             WrittenType::Array(a) => self.suppose_array(a),
@@ -138,30 +138,30 @@ impl<'t> Checker<'t> {
         }
     }
 
-    fn suppose_name(&mut self, name: usize) -> Result<Type, AllocError> {
+    fn suppose_name(&mut self, name: usize) -> Result<TypeId, AllocError> {
         if self.resolved.ordinal_at(name).is_none() {
             self.tell_at(Code::Undeclared, name)?;
-            return Ok(Type::Unknown);
+            return Ok(TypeId::Unknown);
         }
         let found = match self.names(false).object(name) {
-            Some(Object::Type(of)) => Some(*of),
+            Some(Object::Named(of)) => Some(*of),
             _ => None,
         };
         match found {
             Some(of) => Ok(of),
             None => {
                 self.tell_at(Code::WrongKind, name)?;
-                Ok(Type::Unknown)
+                Ok(TypeId::Unknown)
             }
         }
     }
 
     fn suppose_length(&mut self, a: &ArrayType) -> Result<Option<usize>, AllocError> {
         let of = self.explain(&a.size, true)?;
-        if of == Type::Unknown {
+        if of == TypeId::Unknown {
             return Ok(None);
         }
-        if of != Type::Integer {
+        if of != TypeId::Integer {
             self.tell_of(Code::TypeMismatch, &a.size)?;
             return Ok(None);
         }
@@ -177,25 +177,25 @@ impl<'t> Checker<'t> {
     }
 
     #[cycle(supposing)]
-    fn suppose_array(&mut self, a: &ArrayType) -> Result<Type, AllocError> {
+    fn suppose_array(&mut self, a: &ArrayType) -> Result<TypeId, AllocError> {
         let ordinal = self.next;
         self.next = self.next.saturating_add(1);
         let length = self.suppose_length(a)?;
         let element = self.suppose(&a.element)?;
         let Some(length) = length else {
-            return Ok(Type::Unknown);
+            return Ok(TypeId::Unknown);
         };
         match self.known.make_array(ordinal, length, element)? {
             Some(of) => Ok(of),
             None => {
                 self.tell_at(Code::TypeTooLarge, a.token)?;
-                Ok(Type::Unknown)
+                Ok(TypeId::Unknown)
             }
         }
     }
 
     #[cycle(supposing)]
-    fn suppose_record(&mut self, r: &RecordType) -> Result<Type, AllocError> {
+    fn suppose_record(&mut self, r: &RecordType) -> Result<TypeId, AllocError> {
         let ordinal = self.next;
         self.next = self.next.saturating_add(1);
         let mut fields = Vec::new(self.alloc);
@@ -208,7 +208,7 @@ impl<'t> Checker<'t> {
             Some(of) => Ok(of),
             None => {
                 self.tell_at(Code::TypeTooLarge, r.token)?;
-                Ok(Type::Unknown)
+                Ok(TypeId::Unknown)
             }
         }
     }

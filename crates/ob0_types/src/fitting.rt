@@ -3,22 +3,22 @@
 use crate::judging::designated;
 use crate::known::{Formal, Known, Object, Shape, Standard};
 use crate::names::Names;
-use crate::types::Type;
+use crate::types::TypeId;
 use ob0_tree::tree::{Assignment, Call, Elsif, Expression, If, Statement};
 
 static READ: [Formal; 1] = [Formal {
     by_place: true,
-    of: Type::Integer,
+    of: TypeId::Integer,
 }];
 static WRITE: [Formal; 1] = [Formal {
     by_place: false,
-    of: Type::Integer,
+    of: TypeId::Integer,
 }];
 static WRITE_LN: [Formal; 0] = [];
 
 impl<'t> Known<'t> {
     /// Whether two types are the same. Types of one place are; those of two places have two ordinals.
-    pub fn same(&self, a: Type, b: Type) -> bool {
+    pub fn same(&self, a: TypeId, b: TypeId) -> bool {
         a == b
     }
 }
@@ -38,7 +38,7 @@ impl<'a, 't> Names<'a, 't> {
         match self.object(token)? {
             Object::Procedure(formals) => Some(formals.as_slice()),
             Object::Standard(standard) => Some(standard_formals(*standard)),
-            Object::Type(_) => None,
+            Object::Named(_) => None,
             Object::Constant(_) => None,
             Object::FaultyConstant => None,
             Object::Variable(_) => None,
@@ -46,7 +46,7 @@ impl<'a, 't> Names<'a, 't> {
     }
 
     /// Both are there, and the same type.
-    fn agree(&self, left: Option<Type>, right: Option<Type>) -> bool {
+    fn agree(&self, left: Option<TypeId>, right: Option<TypeId>) -> bool {
         match left {
             None => false,
             Some(a) => match right {
@@ -58,7 +58,7 @@ impl<'a, 't> Names<'a, 't> {
 
     /// Whether an expression is a condition.
     pub fn condition_fits(&self, e: &Expression) -> bool {
-        self.agree(Some(Type::Boolean), self.type_of(e))
+        self.agree(Some(TypeId::Boolean), self.type_of(e))
     }
 
     pub fn assignment_fits(&self, a: &Assignment) -> bool {

@@ -1,8 +1,14 @@
 //! What is known of a module while it is checked: the shapes of its types, and what its declarations are.
 
-use crate::types::Type;
+ghost use Rattle.std.specs.Prelude.{◌≡◌, List, option_map};
+ghost use Rattle.ob0_values.specs.Values as shape;
+ghost use Rattle.ob0_types.specs.Tables.{fields_shape, type_shape};
+ghost use Rattle.ob0_types.specs.Typing.{shape_of_field};
+
+use crate::types::TypeId;
 use ob0_values::scalar::Scalar;
 use std::alloc::{AllocError, Global};
+use std::marker::Model;
 
 /// The greatest length of an array, and the most scalars that a type may have.
 pub const MOST_SCALARS: usize = 65536;
@@ -14,7 +20,7 @@ pub const MOST_DEPTH: usize = 100;
 #[derive(Clone, Copy, Debug)]
 pub struct Field<'t> {
     pub name: &'t str,
-    pub of: Type,
+    pub of: TypeId,
 }
 
 /// `ARRAY length OF element`, made by the constructor with this ordinal in the text.
@@ -22,7 +28,7 @@ pub struct Field<'t> {
 pub struct ArrayShape {
     pub ordinal: usize,
     pub length: usize,
-    pub element: Type,
+    pub element: TypeId,
     pub scalars: usize,
     pub depth: usize,
 }
@@ -49,7 +55,7 @@ pub enum Shape<'t> {
 #[derive(Clone, Copy, Debug)]
 pub struct Formal {
     pub by_place: bool,
-    pub of: Type,
+    pub of: TypeId,
 }
 
 /// The standard procedures.
@@ -63,11 +69,12 @@ pub enum Standard {
 /// What a declaration is.
 #[derive(Debug, Drop)]
 pub enum Object {
-    Type(Type),
+    /// A type, by its name.
+    Named(TypeId),
     Constant(Scalar),
     /// A constant whose right side has a fault.
     FaultyConstant,
-    Variable(Type),
+    Variable(TypeId),
     Procedure(Vec<Formal>),
     Standard(Standard),
 }
@@ -89,7 +96,36 @@ pub struct Known<'t> {
 const INTEGER: usize = 0;
 const BOOLEAN: usize = 1;
 
+/// The type of the first field of this name.
+fn field_in(fields: &[Field], name: &str) -> Option<TypeId>
+    ensures { (shapes : List shape.Shape) → option_map (type_shape shapes) result ≡ shape_of_field (fields_shape shapes fields.now) name.now }
+{
+    for field in fields {
+        if name == field.name {
+            return Some(field.of);
+        }
+    }
+    None
+}
+
+impl<'t> Model for Known<'t> {
+    ghost use Rattle.ob0_types.specs.KnownTables.{Tables, AreTables};
+
+    ghost Value = { Tables };
+
+    ghost view = { λ k. record { shapes = k.shapes.items; entries = k.entries.items } };
+
+    ghost invariant = { λ k. AreTables (record { shapes = k.shapes.items; entries = k.entries.items }) };
+}
+
 impl<'t> Known<'t> {
+    ghost use Rattle.std.specs.Prelude.{◌≡◌, ◌++◌, ◌∷◌, [], true, false, length, option_map, slice_get, slice_set, slice_index_or, MatchOption, IfOk, OnOk, IfSome};
+    ghost use Rattle.ob0_types.specs.declared.known.Object.TheVariants as kind;
+    ghost use Rattle.ob0_types.specs.KnownTables.{seen_in, shapes_of};
+    ghost use Rattle.ob0_types.specs.Tables.{object_in, ObjectIsMade, IsMade, made_shape, no_shape};
+    ghost use Rattle.ob0_types.specs.Typing.{element_type, field_type};
+    ghost use Rattle.ob0_values.specs.Values.{integer_shape};
+
     /// The predeclared names.
     pub fn new(alloc: Global) -> Result<Known<'t>, AllocError> {
         let mut known = Known {
@@ -98,8 +134,8 @@ impl<'t> Known<'t> {
         };
         known.shapes.push(Shape::Integer)?;
         known.shapes.push(Shape::Boolean)?;
-        known.declare(Object::Type(Type::Integer))?;
-        known.declare(Object::Type(Type::Boolean))?;
+        known.declare(Object::Named(TypeId::Integer))?;
+        known.declare(Object::Named(TypeId::Boolean))?;
         known.declare(Object::Constant(Scalar::Truth(true)))?;
         known.declare(Object::Constant(Scalar::Truth(false)))?;
         known.declare(Object::Standard(Standard::Read))?;
@@ -109,7 +145,11 @@ impl<'t> Known<'t> {
     }
 
     /// Declares the next ordinal, and brings it in sight.
-    pub fn declare(&mut self, object: Object) -> Result<(), AllocError> {
+    pub fn declare(&mut self, object: Object) -> Result<(), AllocError>
+        requires { ObjectIsMade (length self.old.shapes) object }
+        ensures shapes { OnOk result (self.new.shapes ≡ self.old.shapes) }
+        ensures entries { OnOk result (self.new.entries ≡ self.old.entries ++ record { object = object; in_sight = true } ∷ []) }
+    {
         self.entries.push(Entry {
             object,
             in_sight: true,
@@ -118,7 +158,10 @@ impl<'t> Known<'t> {
     }
 
     /// Makes room for the next ordinal, out of sight.
-    pub fn reserve(&mut self) -> Result<(), AllocError> {
+    pub fn reserve(&mut self) -> Result<(), AllocError>
+        ensures shapes { OnOk result (self.new.shapes ≡ self.old.shapes) }
+        ensures entries { OnOk result (self.new.entries ≡ self.old.entries ++ record { object = kind.FaultyConstant; in_sight = false } ∷ []) }
+    {
         self.entries.push(Entry {
             object: Object::FaultyConstant,
             in_sight: false,
@@ -127,7 +170,11 @@ impl<'t> Known<'t> {
     }
 
     /// Says what a declaration is, and brings it in sight.
-    pub fn define(&mut self, ordinal: usize, object: Object) {
+    pub fn define(&mut self, ordinal: usize, object: Object)
+        requires { ObjectIsMade (length self.old.shapes) object }
+        ensures shapes { self.new.shapes ≡ self.old.shapes }
+        ensures entries { self.new.entries ≡ slice_set self.old.entries ordinal (record { object = object; in_sight = true }) }
+    {
         if ordinal < self.entries.len() {
             self.entries[ordinal] = Entry {
                 object,
@@ -137,7 +184,9 @@ impl<'t> Known<'t> {
     }
 
     /// How many declarations there are.
-    pub fn count(&self) -> usize {
+    pub fn count(&self) -> usize
+        ensures { result ≡ length self.now.entries }
+    {
         self.entries.len()
     }
 
@@ -152,7 +201,10 @@ impl<'t> Known<'t> {
     }
 
     /// What a declaration is, where it is in sight.
-    pub fn seen(&self, ordinal: usize) -> Option<&Object> {
+    pub fn seen(&self, ordinal: usize) -> Option<&Object>
+        ensures value { option_map (λ o. object_in (shapes_of self.now) o.now) result ≡ seen_in self.now ordinal }
+        ensures made { IfSome result (λ o. ObjectIsMade (length self.now.shapes) o.now) }
+    {
         let entry = self.entries.get(ordinal)?;
         if entry.in_sight {
             Some(&entry.object)
@@ -168,55 +220,65 @@ impl<'t> Known<'t> {
     }
 
     /// The shape of a type, if it is known.
-    pub fn shape(&self, of: Type) -> Option<&Shape<'t>> {
+    pub fn shape(&self, of: TypeId) -> Option<&Shape<'t>> {
         match of {
-            Type::Integer => self.shapes.get(INTEGER),
-            Type::Boolean => self.shapes.get(BOOLEAN),
-            Type::Array(i) => self.shapes.get(i),
-            Type::Record(i) => self.shapes.get(i),
-            Type::Unknown => None,
+            TypeId::Integer => self.shapes.get(INTEGER),
+            TypeId::Boolean => self.shapes.get(BOOLEAN),
+            TypeId::Array(i) => self.shapes.get(i),
+            TypeId::Record(i) => self.shapes.get(i),
+            TypeId::Unknown => None,
         }
     }
 
-    fn array(&self, of: Type) -> Option<&ArrayShape> {
-        match of {
-            Type::Array(i) => match self.shapes.get(i)? {
-                Shape::Array(array) => Some(array),
-                _ => None,
-            },
-            _ => None,
-        }
-    }
-
-    fn record(&self, of: Type) -> Option<&RecordShape<'t>> {
-        match of {
-            Type::Record(i) => match self.shapes.get(i)? {
-                Shape::Record(record) => Some(record),
-                _ => None,
-            },
-            _ => None,
+    /// What the shape at a place of the table is.
+    fn entry(&self, place: usize) -> Option<&Shape<'t>>
+        ensures { MatchOption result (slice_index_or (shapes_of self.now) place no_shape ≡ no_shape) (λ m. slice_index_or (shapes_of self.now) place no_shape ≡ made_shape (shapes_of self.now) m.now) }
+    {
+        if place < self.shapes.len() {
+            Some(&self.shapes[place])
+        } else {
+            None
         }
     }
 
     /// The type of an array's elements.
-    pub fn element(&self, base: Type) -> Option<Type> {
-        let array = self.array(base)?;
-        Some(array.element)
+    pub fn element(&self, base: TypeId) -> Option<TypeId>
+        ensures { option_map (type_shape (shapes_of self.now)) result ≡ element_type (type_shape (shapes_of self.now) base) integer_shape }
+    {
+        match base {
+            TypeId::Array(i) => match self.entry(i)? {
+                Shape::Array(array) => Some(array.element),
+                Shape::Integer => None,
+                Shape::Boolean => None,
+                Shape::Record(_) => None,
+            },
+            TypeId::Integer => None,
+            TypeId::Boolean => None,
+            TypeId::Record(_) => None,
+            TypeId::Unknown => None,
+        }
     }
 
     /// The type of the first field of this name in a record.
-    pub fn field(&self, base: Type, name: &str) -> Option<Type> {
-        let record = self.record(base)?;
-        for field in &record.fields {
-            if field.name == name {
-                return Some(field.of);
-            }
+    pub fn field(&self, base: TypeId, name: &str) -> Option<TypeId>
+        ensures { option_map (type_shape (shapes_of self.now)) result ≡ field_type (type_shape (shapes_of self.now) base) name.now }
+    {
+        match base {
+            TypeId::Record(i) => match self.entry(i)? {
+                Shape::Record(record) => field_in(record.fields.as_slice(), name),
+                Shape::Integer => None,
+                Shape::Boolean => None,
+                Shape::Array(_) => None,
+            },
+            TypeId::Integer => None,
+            TypeId::Boolean => None,
+            TypeId::Array(_) => None,
+            TypeId::Unknown => None,
         }
-        None
     }
 
     /// How many scalars a type has, each number and truth being one.
-    pub fn scalars(&self, of: Type) -> usize {
+    pub fn scalars(&self, of: TypeId) -> usize {
         match self.shape(of) {
             Some(Shape::Array(array)) => array.scalars,
             Some(Shape::Record(record)) => record.scalars,
@@ -225,7 +287,7 @@ impl<'t> Known<'t> {
     }
 
     /// How many arrays and records stand inside one another.
-    pub fn depth(&self, of: Type) -> usize {
+    pub fn depth(&self, of: TypeId) -> usize {
         match self.shape(of) {
             Some(Shape::Array(array)) => array.depth,
             Some(Shape::Record(record)) => record.depth,
@@ -238,8 +300,8 @@ impl<'t> Known<'t> {
         &mut self,
         ordinal: usize,
         length: usize,
-        element: Type,
-    ) -> Result<Option<Type>, AllocError> {
+        element: TypeId,
+    ) -> Result<Option<TypeId>, AllocError> {
         let scalars = self.scalars(element).saturating_mul(length);
         let depth = self.depth(element).saturating_add(1);
         if scalars > MOST_SCALARS || depth > MOST_DEPTH {
@@ -253,7 +315,7 @@ impl<'t> Known<'t> {
             scalars,
             depth,
         }))?;
-        Ok(Some(Type::Array(place)))
+        Ok(Some(TypeId::Array(place)))
     }
 
     /// Makes a record type, where it is within the limits. An empty record counts as one scalar.
@@ -261,7 +323,7 @@ impl<'t> Known<'t> {
         &mut self,
         ordinal: usize,
         fields: Vec<Field<'t>>,
-    ) -> Result<Option<Type>, AllocError> {
+    ) -> Result<Option<TypeId>, AllocError> {
         let mut scalars = 0usize;
         let mut deepest = 0usize;
         for field in &fields {
@@ -280,6 +342,6 @@ impl<'t> Known<'t> {
             scalars,
             depth,
         }))?;
-        Ok(Some(Type::Record(place)))
+        Ok(Some(TypeId::Record(place)))
     }
 }

@@ -1,7 +1,7 @@
 //! What names stand for at a place, and how tokens are written.
 
 use crate::known::{Known, Object};
-use crate::types::{Type, scalar_type};
+use crate::types::{TypeId, scalar_type};
 use ob0_scan::{TokenKind, Tokens};
 use ob0_scope::resolved::Resolved;
 use ob0_values::scalar::Scalar;
@@ -41,7 +41,7 @@ impl<'a, 't> Names<'a, 't> {
     }
 
     /// The type of the variable, parameter or constant that a name stands for.
-    pub fn value_type(&self, token: usize) -> Option<Type> {
+    pub fn value_type(&self, token: usize) -> Option<TypeId> {
         match self.object(token)? {
             Object::Variable(of) => {
                 if self.only_constants {
@@ -51,7 +51,7 @@ impl<'a, 't> Names<'a, 't> {
                 }
             }
             Object::Constant(value) => Some(scalar_type(*value)),
-            Object::Type(_) => None,
+            Object::Named(_) => None,
             Object::FaultyConstant => None,
             Object::Procedure(_) => None,
             Object::Standard(_) => None,
@@ -62,7 +62,7 @@ impl<'a, 't> Names<'a, 't> {
     pub fn constant(&self, token: usize) -> Option<Scalar> {
         match self.object(token)? {
             Object::Constant(value) => Some(*value),
-            Object::Type(_) => None,
+            Object::Named(_) => None,
             Object::FaultyConstant => None,
             Object::Variable(_) => None,
             Object::Procedure(_) => None,
@@ -71,9 +71,9 @@ impl<'a, 't> Names<'a, 't> {
     }
 
     /// The type that a name stands for.
-    pub fn named_type(&self, token: usize) -> Option<Type> {
+    pub fn named_type(&self, token: usize) -> Option<TypeId> {
         match self.object(token)? {
-            Object::Type(of) => Some(*of),
+            Object::Named(of) => Some(*of),
             Object::Constant(_) => None,
             Object::FaultyConstant => None,
             Object::Variable(_) => None,
@@ -83,10 +83,10 @@ impl<'a, 't> Names<'a, 't> {
     }
 
     /// The type of the variable or parameter that a name stands for.
-    pub fn variable(&self, token: usize) -> Option<Type> {
+    pub fn variable(&self, token: usize) -> Option<TypeId> {
         match self.object(token)? {
             Object::Variable(of) => Some(*of),
-            Object::Type(_) => None,
+            Object::Named(_) => None,
             Object::Constant(_) => None,
             Object::FaultyConstant => None,
             Object::Procedure(_) => None,

@@ -1,11 +1,20 @@
 //! What a type is to the checker, and the types that operators ask for and give (Wirth, Compiler Construction, Oberon-0).
 
+ghost use Rattle.std.specs.Prelude.{◌≡◌, List, option_map};
+ghost use Rattle.ob0_values.specs.Scalars.{scalar_value};
+ghost use Rattle.ob0_values.specs.Values.{Shape, boolean_shape, integer_shape};
+ghost use Rattle.ob0_types.specs.Tables.{type_shape};
+ghost use Rattle.ob0_types.specs.Typing.{add_type, complement_type, multiply_type, relation_type, sign_type, value_type};
+ghost use Rattle.ob0_tree.specs.declared.tree.AddOperator.TheVariants as adding;
+ghost use Rattle.ob0_tree.specs.declared.tree.Sign.TheVariants as signs;
+ghost use Rattle.std.specs.Prelude.{Some};
+
 use ob0_tree::tree::{AddOperator, MultiplyOperator, Relation, Sign};
 use ob0_values::scalar::Scalar;
 
 /// A type: INTEGER, BOOLEAN, or the place of an array or record in the table of shapes.
 #[derive(Clone, Copy, Debug, PartialEq, Eq)]
-pub enum Type {
+pub enum TypeId {
     Integer,
     Boolean,
     Array(usize),
@@ -15,7 +24,9 @@ pub enum Type {
 }
 
 /// `left + right`, `left - right`, `left OR right`.
-pub fn add_type(operator: AddOperator, left: Type, right: Type) -> Option<Type> {
+pub fn add_type(operator: AddOperator, left: TypeId, right: TypeId) -> Option<TypeId>
+    ensures { (shapes : List Shape) → option_map (type_shape shapes) result ≡ add_type operator (type_shape shapes left) (type_shape shapes right) }
+{
     match operator {
         AddOperator::Add => both_integers(left, right),
         AddOperator::Subtract => both_integers(left, right),
@@ -24,7 +35,9 @@ pub fn add_type(operator: AddOperator, left: Type, right: Type) -> Option<Type> 
 }
 
 /// `left * right`, `left DIV right`, `left MOD right`, `left & right`.
-pub fn multiply_type(operator: MultiplyOperator, left: Type, right: Type) -> Option<Type> {
+pub fn multiply_type(operator: MultiplyOperator, left: TypeId, right: TypeId) -> Option<TypeId>
+    ensures { (shapes : List Shape) → option_map (type_shape shapes) result ≡ multiply_type operator (type_shape shapes left) (type_shape shapes right) }
+{
     match operator {
         MultiplyOperator::Multiply => both_integers(left, right),
         MultiplyOperator::Divide => both_integers(left, right),
@@ -33,74 +46,86 @@ pub fn multiply_type(operator: MultiplyOperator, left: Type, right: Type) -> Opt
     }
 }
 
-fn both_integers(left: Type, right: Type) -> Option<Type> {
+fn both_integers(left: TypeId, right: TypeId) -> Option<TypeId>
+    ensures { (shapes : List Shape) → option_map (type_shape shapes) result ≡ add_type adding.Add (type_shape shapes left) (type_shape shapes right) }
+{
     match left {
-        Type::Integer => only_integer(right),
-        Type::Boolean => None,
-        Type::Array(_) => None,
-        Type::Record(_) => None,
-        Type::Unknown => None,
+        TypeId::Integer => only_integer(right),
+        TypeId::Boolean => None,
+        TypeId::Array(_) => None,
+        TypeId::Record(_) => None,
+        TypeId::Unknown => None,
     }
 }
 
-fn both_booleans(left: Type, right: Type) -> Option<Type> {
+fn both_booleans(left: TypeId, right: TypeId) -> Option<TypeId>
+    ensures { (shapes : List Shape) → option_map (type_shape shapes) result ≡ add_type adding.Or (type_shape shapes left) (type_shape shapes right) }
+{
     match left {
-        Type::Integer => None,
-        Type::Boolean => only_boolean(right),
-        Type::Array(_) => None,
-        Type::Record(_) => None,
-        Type::Unknown => None,
+        TypeId::Integer => None,
+        TypeId::Boolean => only_boolean(right),
+        TypeId::Array(_) => None,
+        TypeId::Record(_) => None,
+        TypeId::Unknown => None,
     }
 }
 
-fn only_integer(operand: Type) -> Option<Type> {
+fn only_integer(operand: TypeId) -> Option<TypeId>
+    ensures { (shapes : List Shape) → option_map (type_shape shapes) result ≡ sign_type (Some signs.Plus) (type_shape shapes operand) }
+{
     match operand {
-        Type::Integer => Some(Type::Integer),
-        Type::Boolean => None,
-        Type::Array(_) => None,
-        Type::Record(_) => None,
-        Type::Unknown => None,
+        TypeId::Integer => Some(TypeId::Integer),
+        TypeId::Boolean => None,
+        TypeId::Array(_) => None,
+        TypeId::Record(_) => None,
+        TypeId::Unknown => None,
     }
 }
 
 /// `~ operand`
-pub fn only_boolean(operand: Type) -> Option<Type> {
+pub fn only_boolean(operand: TypeId) -> Option<TypeId>
+    ensures { (shapes : List Shape) → option_map (type_shape shapes) result ≡ complement_type (type_shape shapes operand) }
+{
     match operand {
-        Type::Integer => None,
-        Type::Boolean => Some(Type::Boolean),
-        Type::Array(_) => None,
-        Type::Record(_) => None,
-        Type::Unknown => None,
+        TypeId::Integer => None,
+        TypeId::Boolean => Some(TypeId::Boolean),
+        TypeId::Array(_) => None,
+        TypeId::Record(_) => None,
+        TypeId::Unknown => None,
     }
 }
 
 /// `left = right` and its like.
-pub fn relation_type(relation: Relation, left: Type, right: Type) -> Option<Type> {
+pub fn relation_type(relation: Relation, left: TypeId, right: TypeId) -> Option<TypeId>
+    ensures { (shapes : List Shape) → option_map (type_shape shapes) result ≡ relation_type relation (type_shape shapes left) (type_shape shapes right) }
+{
     match left {
-        Type::Integer => match right {
-            Type::Integer => Some(Type::Boolean),
-            Type::Boolean => None,
-            Type::Array(_) => None,
-            Type::Record(_) => None,
-            Type::Unknown => None,
+        TypeId::Integer => match right {
+            TypeId::Integer => Some(TypeId::Boolean),
+            TypeId::Boolean => None,
+            TypeId::Array(_) => None,
+            TypeId::Record(_) => None,
+            TypeId::Unknown => None,
         },
-        Type::Boolean => match right {
-            Type::Integer => None,
-            Type::Boolean => compared_truths(relation),
-            Type::Array(_) => None,
-            Type::Record(_) => None,
-            Type::Unknown => None,
+        TypeId::Boolean => match right {
+            TypeId::Integer => None,
+            TypeId::Boolean => compared_truths(relation),
+            TypeId::Array(_) => None,
+            TypeId::Record(_) => None,
+            TypeId::Unknown => None,
         },
-        Type::Array(_) => None,
-        Type::Record(_) => None,
-        Type::Unknown => None,
+        TypeId::Array(_) => None,
+        TypeId::Record(_) => None,
+        TypeId::Unknown => None,
     }
 }
 
-fn compared_truths(relation: Relation) -> Option<Type> {
+fn compared_truths(relation: Relation) -> Option<TypeId>
+    ensures { (shapes : List Shape) → option_map (type_shape shapes) result ≡ relation_type relation boolean_shape boolean_shape }
+{
     match relation {
-        Relation::Equal => Some(Type::Boolean),
-        Relation::NotEqual => Some(Type::Boolean),
+        Relation::Equal => Some(TypeId::Boolean),
+        Relation::NotEqual => Some(TypeId::Boolean),
         Relation::Less => None,
         Relation::LessEqual => None,
         Relation::Greater => None,
@@ -109,7 +134,9 @@ fn compared_truths(relation: Relation) -> Option<Type> {
 }
 
 /// A term with its sign, if it has one.
-pub fn sign_type(sign: Option<Sign>, operand: Type) -> Option<Type> {
+pub fn sign_type(sign: Option<Sign>, operand: TypeId) -> Option<TypeId>
+    ensures { (shapes : List Shape) → option_map (type_shape shapes) result ≡ sign_type sign (type_shape shapes operand) }
+{
     match sign {
         None => Some(operand),
         Some(sign) => match sign {
@@ -120,9 +147,11 @@ pub fn sign_type(sign: Option<Sign>, operand: Type) -> Option<Type> {
 }
 
 /// The type of a constant.
-pub fn scalar_type(value: Scalar) -> Type {
+pub fn scalar_type(value: Scalar) -> TypeId
+    ensures { (shapes : List Shape) → Some (type_shape shapes result) ≡ value_type (scalar_value value) }
+{
     match value {
-        Scalar::Number(_) => Type::Integer,
-        Scalar::Truth(_) => Type::Boolean,
+        Scalar::Number(_) => TypeId::Integer,
+        Scalar::Truth(_) => TypeId::Boolean,
     }
 }
