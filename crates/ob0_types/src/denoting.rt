@@ -116,12 +116,12 @@ impl<'t> Checker<'t> {
     ) -> Result<(), AllocError> {
         let spoken = self.names(false);
         fields.push(Field {
-            name: spoken.text(names.first),
+            name: spoken.written(names.first),
             of,
         })?;
         for name in &names.more {
             fields.push(Field {
-                name: spoken.text(*name),
+                name: spoken.written(*name),
                 of,
             })?;
         }

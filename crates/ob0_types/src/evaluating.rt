@@ -61,7 +61,7 @@ impl<'a, 't> Names<'a, 't> {
                 }
             }
             Factor::Integer(token) => {
-                let number = number_at(self.resolved.tokens(), *token)?;
+                let number = number_at(self.resolved.tokens(), *token);
                 Some(Scalar::Number(number))
             }
             Factor::Parenthesised(e) => self.evaluate(e),

@@ -235,7 +235,7 @@ impl<'t> Checker<'t> {
     fn explain_field(&mut self, base: TypeId, name: usize) -> Result<TypeId, AllocError> {
         match base {
             TypeId::Record(_) => {
-                let text = self.names(false).text(name);
+                let text = self.names(false).written(name);
                 match self.known.field(base, text) {
                     Some(of) => Ok(of),
                     None => {

@@ -1,6 +1,7 @@
 //! What a type is to the checker, and the types that operators ask for and give (Wirth, Compiler Construction, Oberon-0).
 
-ghost use Rattle.std.specs.Prelude.{◌≡◌, List, option_map};
+ghost use Rattle.std.specs.Prelude.{◌≡◌, List, option_and_then, option_map};
+ghost use Rattle.ob0_types.specs.Selected.{both};
 ghost use Rattle.ob0_values.specs.Scalars.{scalar_value};
 ghost use Rattle.ob0_values.specs.Values.{Shape, boolean_shape, integer_shape};
 ghost use Rattle.ob0_types.specs.Tables.{type_shape};
@@ -153,5 +154,72 @@ pub fn scalar_type(value: Scalar) -> TypeId
     match value {
         Scalar::Number(_) => TypeId::Integer,
         Scalar::Truth(_) => TypeId::Boolean,
+    }
+}
+
+/// The same where an operand may have no type: then the operation has none.
+pub fn added(
+    operator: AddOperator,
+    left: Option<TypeId>,
+    right: Option<TypeId>,
+) -> Option<TypeId>
+    ensures { (shapes : List Shape) → option_map (type_shape shapes) result ≡ both (add_type operator) (option_map (type_shape shapes) left) (option_map (type_shape shapes) right) }
+{
+    match left {
+        None => None,
+        Some(left) => match right {
+            None => None,
+            Some(right) => add_type(operator, left, right),
+        },
+    }
+}
+
+pub fn multiplied(
+    operator: MultiplyOperator,
+    left: Option<TypeId>,
+    right: Option<TypeId>,
+) -> Option<TypeId>
+    ensures { (shapes : List Shape) → option_map (type_shape shapes) result ≡ both (multiply_type operator) (option_map (type_shape shapes) left) (option_map (type_shape shapes) right) }
+{
+    match left {
+        None => None,
+        Some(left) => match right {
+            None => None,
+            Some(right) => multiply_type(operator, left, right),
+        },
+    }
+}
+
+pub fn related(
+    relation: Relation,
+    left: Option<TypeId>,
+    right: Option<TypeId>,
+) -> Option<TypeId>
+    ensures { (shapes : List Shape) → option_map (type_shape shapes) result ≡ both (relation_type relation) (option_map (type_shape shapes) left) (option_map (type_shape shapes) right) }
+{
+    match left {
+        None => None,
+        Some(left) => match right {
+            None => None,
+            Some(right) => relation_type(relation, left, right),
+        },
+    }
+}
+
+pub fn with_sign(sign: Option<Sign>, operand: Option<TypeId>) -> Option<TypeId>
+    ensures { (shapes : List Shape) → option_map (type_shape shapes) result ≡ option_and_then (sign_type sign) (option_map (type_shape shapes) operand) }
+{
+    match operand {
+        None => None,
+        Some(operand) => sign_type(sign, operand),
+    }
+}
+
+pub fn complement(operand: Option<TypeId>) -> Option<TypeId>
+    ensures { (shapes : List Shape) → option_map (type_shape shapes) result ≡ option_and_then complement_type (option_map (type_shape shapes) operand) }
+{
+    match operand {
+        None => None,
+        Some(operand) => only_boolean(operand),
     }
 }
