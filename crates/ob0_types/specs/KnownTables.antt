@@ -21,7 +21,7 @@ pub record AreTables (t : Tables) : Type 0 where
 
 -- what an entry is, where it is in sight
 abbrev pub seen_entry : List Shape → Entry → Option (Object Shape Signature)
-seen_entry shapes e = if e.in_sight then Some (object_in shapes e.object) else None
+seen_entry shapes e = if e.in_sight then object_in shapes e.object else None
 
 abbrev pub seen_in : Tables → ℕ → Option (Object Shape Signature)
 seen_in t k = option_and_then (seen_entry (shapes_of t)) (slice_get t.entries k)

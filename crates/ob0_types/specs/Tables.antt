@@ -82,14 +82,14 @@ standard_of standards.Read = reads
 standard_of standards.Write = writes
 standard_of standards.WriteLn = writes_line
 
--- a constant with a fault has a value that no expression has
-abbrev pub object_in : List Shape → declaration.Object → Object Shape Signature
-object_in shapes (kind.Named t) = a_type (type_shape shapes t)
-object_in shapes (kind.Constant v) = a_constant (scalar_value v)
-object_in shapes kind.FaultyConstant = a_constant (elements no_value)
-object_in shapes (kind.Variable t) = a_variable (type_shape shapes t)
-object_in shapes (kind.Procedure fs) = a_procedure (map (formal_in shapes) fs.items)
-object_in shapes (kind.Standard s) = a_standard (standard_of s)
+-- a constant with a fault is nothing that a name stands for
+abbrev pub object_in : List Shape → declaration.Object → Option (Object Shape Signature)
+object_in shapes (kind.Named t) = Some (a_type (type_shape shapes t))
+object_in shapes (kind.Constant v) = Some (a_constant (scalar_value v))
+object_in shapes kind.FaultyConstant = None
+object_in shapes (kind.Variable t) = Some (a_variable (type_shape shapes t))
+object_in shapes (kind.Procedure fs) = Some (a_procedure (map (formal_in shapes) fs.items))
+object_in shapes (kind.Standard s) = Some (a_standard (standard_of s))
 
 abbrev pub ObjectIsMade : ℕ → declaration.Object → Type 0
 ObjectIsMade n (kind.Named t) = IsMade n t

@@ -119,7 +119,7 @@ impl<'t> Model for Known<'t> {
 }
 
 impl<'t> Known<'t> {
-    ghost use Rattle.std.specs.Prelude.{◌≡◌, ◌++◌, ◌∷◌, [], true, false, length, option_map, slice_get, slice_set, slice_index_or, MatchOption, IfOk, OnOk, IfSome};
+    ghost use Rattle.std.specs.Prelude.{◌≡◌, ◌++◌, ◌∷◌, [], true, false, length, option_map, option_and_then, slice_get, slice_set, slice_index_or, MatchOption, IfOk, OnOk, IfSome};
     ghost use Rattle.ob0_types.specs.declared.known.Object.TheVariants as kind;
     ghost use Rattle.ob0_types.specs.KnownTables.{seen_in, shapes_of};
     ghost use Rattle.ob0_types.specs.Tables.{object_in, ObjectIsMade, IsMade, made_shape, no_shape};
@@ -202,7 +202,7 @@ impl<'t> Known<'t> {
 
     /// What a declaration is, where it is in sight.
     pub fn seen(&self, ordinal: usize) -> Option<&Object>
-        ensures value { option_map (λ o. object_in (shapes_of self.now) o.now) result ≡ seen_in self.now ordinal }
+        ensures value { option_and_then (λ o. object_in (shapes_of self.now) o.now) result ≡ seen_in self.now ordinal }
         ensures made { IfSome result (λ o. ObjectIsMade (length self.now.shapes) o.now) }
     {
         let entry = self.entries.get(ordinal)?;

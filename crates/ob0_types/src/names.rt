@@ -1,6 +1,6 @@
 //! What names stand for at a place, and how tokens are written.
 
-ghost use Rattle.std.specs.Prelude.{◌≡◌, ◌≤◌, Some, length, option_map, pos, IfSome};
+ghost use Rattle.std.specs.Prelude.{◌≡◌, ◌≤◌, Some, length, option_and_then, option_map, pos, IfSome};
 ghost use Rattle.ob0_tree.specs.Places.{text_at, value_at, value_of};
 
 use crate::known::{Known, Object};
@@ -61,12 +61,12 @@ impl<'a, 't> Names<'a, 't> {
     ghost use Rattle.ob0_types.specs.InLabels.{label_in, meaning_in, where_only};
     ghost use Rattle.ob0_types.specs.Tables.{object_in, type_shape, ObjectIsMade, IsMade};
     ghost use Rattle.ob0_types.specs.Typing.{constant_of, object_type, type_of_name};
-    ghost use Rattle.ob0_types.specs.Constants.{faultless, variable_of};
+    ghost use Rattle.ob0_types.specs.Constants.{variable_of};
     ghost use Rattle.ob0_values.specs.Scalars.{scalar_value};
 
     /// What a name stands for.
     pub fn object(&self, token: usize) -> Option<&'a Object>
-        ensures value { option_map (λ o. object_in (shapes_of self.now.known.now) o.now) result ≡ label_object self.now.known.now (label_in self.now.resolved.now token) }
+        ensures value { option_and_then (λ o. object_in (shapes_of self.now.known.now) o.now) result ≡ label_object self.now.known.now (label_in self.now.resolved.now token) }
         ensures made { IfSome result (λ o. ObjectIsMade (length self.now.known.now.shapes) o.now) }
     {
         let ordinal = self.resolved.ordinal_at(token)?;
@@ -95,7 +95,7 @@ impl<'a, 't> Names<'a, 't> {
 
     /// The value of the constant that a name stands for.
     pub fn constant(&self, token: usize) -> Option<Scalar>
-        ensures { option_map scalar_value result ≡ faultless (constant_of (label_object self.now.known.now (label_in self.now.resolved.now token))) }
+        ensures { option_map scalar_value result ≡ constant_of (label_object self.now.known.now (label_in self.now.resolved.now token)) }
     {
         match self.object(token)? {
             Object::Constant(value) => Some(*value),
@@ -150,15 +150,6 @@ impl<'a, 't> Names<'a, 't> {
         match self.resolved.ordinal_at(token) {
             None => self.text(token),
             Some(_) => "",
-        }
-    }
-
-    /// The same names in constant expressions.
-    pub fn in_constants(&self) -> Names<'a, 't> {
-        Names {
-            known: self.known,
-            resolved: self.resolved,
-            only_constants: true,
         }
     }
 }

@@ -1,5 +1,6 @@
-use Rattle.std.proofs.Common.{◌≡◌, ◌≤◌, ◌<◌, length, pos, sym, ap, ◌∙◌, subst, arith}
-use Rattle.std.proofs.lemmas.Int.{to_z-of_z}
+use Rattle.std.proofs.Common.{◌≡◌, ◌≤◌, ◌<◌, length, pos, sym, ap, ◌∙◌, subst, arith, w32}
+use Rattle.std.proofs.lemmas.Int.{ints, to_z-of_z}
+use Rattle.ob0_tree.specs.Places.{value_of}
 use Rattle.ob0_types.proofs.Numbers.{small_number, value_at-past, value_at-read}
 use Rattle.ob0_types.proofs.names.number_at.Goals as goal
 
@@ -10,8 +11,7 @@ pub returns-then-token-tokens : goal.returns-then-token-tokens
 returns-then-token-tokens c =
     let less = rw c.tokens-tokens.ensures at c.if-token-tokens.true in
     let read = rw c.tokens-tokens.ensures at c.number_of.ensures in
-    let value = value_at-read c.args.tokens.now c.args.token _ less in
-    grind (arith, to_z-of_z)
+    rw (to_z-of_z w32 c.number_of.result (rw c.number_of.ensures (omega (arith, ints)))) (read ∙ ap pos (sym (value_at-read c.args.tokens.now c.args.token _ less)))
 
 pub returns-else-token-tokens : goal.returns-else-token-tokens
 returns-else-token-tokens c = ap pos (sym (value_at-past c.args.tokens.now c.args.token (rw c.tokens-tokens.ensures at c.if-token-tokens.false)))
