@@ -10,7 +10,9 @@ use Rattle.ob0_types.specs.declared.types.TypeId.TheVariants as type
 use Rattle.ob0_types.specs.declared.known.Shape as code
 use Rattle.ob0_types.specs.declared.known.Shape.TheVariants as made
 use Rattle.ob0_types.specs.declared.known.Field.{Field}
-use Rattle.ob0_types.specs.Tables.{AreMadeInOrder, IsMade, PartsAreMade, fields_shape, made_shape, no_shape, only_array, only_record, shapes_from, type_shape}
+use Rattle.ob0_types.specs.declared.known.Object as declaration
+use Rattle.ob0_types.specs.declared.known.Object.TheVariants as kind
+use Rattle.ob0_types.specs.Tables.{AreMadeInOrder, IsCounted, IsEntry, IsMade, ObjectIsMade, PartsAreMade, fields_shape, made_shape, no_shape, only_array, only_record, shapes_from, type_shape}
 
 pub shapes_from-push : (known : List Shape) (ms : List code.Shape) (m : code.Shape) → shapes_from known (ms ++ m ∷ []) ≡ shapes_from known ms ++ made_shape (shapes_from known ms) m ∷ []
 shapes_from-push known [] m = refl
@@ -50,28 +52,55 @@ made_shape-more shapes later (made.Array a) h = ap (array_shape a.ordinal a.leng
 made_shape-more shapes later (made.Record r) h = ap (record_shape r.ordinal) (fields_shape-more shapes later r.fields.items h)
 
 -- an entry is made over all shapes of the table
-pub shape_at-entry : (known : List Shape) (ms : List code.Shape) (i : ℕ) (m : code.Shape) → AreMadeInOrder (length known) ms → i < length ms → m ≡ get_or ms i m
-    → get_or (shapes_from known ms) (length known + i) no_shape ≡ made_shape (shapes_from known ms) m
+pub shape_at-entry : (known : List Shape) (ms : List code.Shape) (i : ℕ) (m : code.Shape) → AreMadeInOrder known ms → i < length ms → m ≡ get_or ms i m
+    → (get_or (shapes_from known ms) (length known + i) no_shape ≡ made_shape (shapes_from known ms) m) × IsCounted m (made_shape (shapes_from known ms) m)
 shape_at-entry known [] i m h less e = absurd (omega arith)
 shape_at-entry known (x ∷ ms) zero m h less e =
     let later = shapes_later (known ++ made_shape known x ∷ []) ms in
     let whole : shapes_from known (x ∷ ms) ≡ (known ++ made_shape known x ∷ []) ++ later = shapes_from-known (known ++ made_shape known x ∷ []) ms in
     let split : shapes_from known (x ∷ ms) ≡ known ++ made_shape known x ∷ later = whole ∙ append_assoc known (made_shape known x ∷ []) later in
-    ap (λ n. get_or (shapes_from known (x ∷ ms)) n no_shape) (add-zero (length known))
+    let same : made_shape known x ≡ made_shape (shapes_from known (x ∷ ms)) x = sym (made_shape-more known (made_shape known x ∷ later) x h.0.parts) ∙ ap (λ z. made_shape z x) (sym split) in
+    let P : code.Shape → Type 0 = λ y. IsCounted y (made_shape (shapes_from known (x ∷ ms)) y) in
+    (ap (λ n. get_or (shapes_from known (x ∷ ms)) n no_shape) (add-zero (length known))
     ∙ ap (λ z. get_or z (length known) no_shape) split
     ∙ get_or-append_seam known (made_shape known x) later no_shape
-    ∙ sym (made_shape-more known (made_shape known x ∷ later) x h.0)
-    ∙ ap (λ z. made_shape z x) (sym split)
-    ∙ ap (made_shape (shapes_from known (x ∷ ms))) (sym e)
+    ∙ same
+    ∙ ap (made_shape (shapes_from known (x ∷ ms))) (sym e), subst P (sym e) (subst (IsCounted x) same h.0.counted))
 shape_at-entry known (x ∷ ms) (suc i) m h less e =
     let size : length (known ++ made_shape known x ∷ []) ≡ length known + 1 = length-append known (made_shape known x ∷ []) in
-    let P : ℕ → Type 0 = λ n. AreMadeInOrder n ms in
     let at : length known + suc i ≡ length (known ++ made_shape known x ∷ []) + i = omega (arith, size) in
-    ap (λ n. get_or (shapes_from known (x ∷ ms)) n no_shape) at
-    ∙ shape_at-entry (known ++ made_shape known x ∷ []) ms i m (subst P (sym size) h.1) (omega arith) e
+    let later = shape_at-entry (known ++ made_shape known x ∷ []) ms i m h.1 (omega arith) e in
+    (ap (λ n. get_or (shapes_from known (x ∷ ms)) n no_shape) at ∙ later.0, later.1)
 
-pub shape_at-table : (ms : List code.Shape) (i : ℕ) (m : code.Shape) → AreMadeInOrder 0 ms → i < length ms → m ≡ get_or ms i m → get_or (shapes_from [] ms) i no_shape ≡ made_shape (shapes_from [] ms) m
-shape_at-table ms i m h less e = ap (λ n. get_or (shapes_from [] ms) n no_shape) (sym (zero-add i)) ∙ shape_at-entry [] ms i m h less e
+pub shape_at-table : (ms : List code.Shape) (i : ℕ) (m : code.Shape) → AreMadeInOrder [] ms → i < length ms → m ≡ get_or ms i m → get_or (shapes_from [] ms) i no_shape ≡ made_shape (shapes_from [] ms) m
+shape_at-table ms i m h less e = ap (λ n. get_or (shapes_from [] ms) n no_shape) (sym (zero-add i)) ∙ (shape_at-entry [] ms i m h less e).0
+
+pub counted_at-table : (ms : List code.Shape) (i : ℕ) (m : code.Shape) → AreMadeInOrder [] ms → i < length ms → m ≡ get_or ms i m → IsCounted m (made_shape (shapes_from [] ms) m)
+counted_at-table ms i m h less e = (shape_at-entry [] ms i m h less e).1
 
 pub shape_at-past : (ms : List code.Shape) (i : ℕ) → length ms ≤ i → get_or (shapes_from [] ms) i no_shape ≡ no_shape
 shape_at-past ms i h = get_or_past (shapes_from [] ms) i no_shape (omega (arith, length-shapes_from [] ms))
+
+-- one more entry
+pub in_order-push : (known : List Shape) (ms : List code.Shape) (m : code.Shape) → AreMadeInOrder known ms → IsEntry (shapes_from known ms) m → AreMadeInOrder known (ms ++ m ∷ [])
+in_order-push known [] m h entry = (entry, tt)
+in_order-push known (x ∷ ms) m h entry = (h.0, in_order-push (known ++ made_shape known x ∷ []) ms m h.1 entry)
+
+pub length-table : (ms : List code.Shape) → length (shapes_from [] ms) ≡ length ms
+length-table ms = omega (arith, length-shapes_from [] ms)
+
+-- what was made stays so
+pub IsMade-more : (n m : ℕ) (t : TypeId) → n ≤ m → IsMade n t → IsMade m t
+IsMade-more n m type.Integer h made = tt
+IsMade-more n m type.Boolean h made = tt
+IsMade-more n m (type.Array i) h made = omega arith
+IsMade-more n m (type.Record i) h made = omega arith
+IsMade-more n m type.Unknown h made = tt
+
+pub ObjectIsMade-more : (n m : ℕ) (o : declaration.Object) → n ≤ m → ObjectIsMade n o → ObjectIsMade m o
+ObjectIsMade-more n m (kind.Named t) h made = IsMade-more n m t h made
+ObjectIsMade-more n m (kind.Constant v) h made = tt
+ObjectIsMade-more n m kind.FaultyConstant h made = tt
+ObjectIsMade-more n m (kind.Variable t) h made = IsMade-more n m t h made
+ObjectIsMade-more n m (kind.Procedure fs) h made = λ k d less. IsMade-more n m (get_or fs.items k d).of h (made k d less)
+ObjectIsMade-more n m (kind.Standard s) h made = tt

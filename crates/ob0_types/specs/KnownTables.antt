@@ -1,5 +1,5 @@
 -- The tables of the checker: the shapes made so far, and the declarations so far.
-use Rattle.std.specs.Prelude.{ℕ, Bool, true, false, List, [], ◌∷◌, length, All, slice_get, if◌then◌else◌, Some, None, Option, option_and_then}
+use Rattle.std.specs.Prelude.{◌≡◌, ◌≤◌, ◌++◌, ℕ, Bool, true, false, List, [], ◌∷◌, length, All, slice_get, if◌then◌else◌, Some, None, Option, option_and_then}
 use Rattle.ob0_values.specs.Values.{Shape}
 use Rattle.ob0_types.specs.declared.known.Shape as code
 use Rattle.ob0_types.specs.declared.known.Entry.{Entry}
@@ -16,7 +16,7 @@ abbrev pub shapes_of : Tables → List Shape
 shapes_of t = shapes_from [] t.shapes
 
 pub record AreTables (t : Tables) : Type 0 where
-  pub in_order : AreMadeInOrder 0 t.shapes
+  pub in_order : AreMadeInOrder [] t.shapes
   pub entries_made : All (λ e. ObjectIsMade (length t.shapes) e.object) t.entries
 
 -- what an entry is, where it is in sight
@@ -33,3 +33,10 @@ label_object t (as_written x) = None
 
 abbrev pub known_meaning : Tables → Typed Label
 known_meaning t = record { stands_for = label_object t; written = label_text }
+
+-- the table of shapes grew, and nothing was declared
+pub record Grown (old : Tables) (new : Tables) : Type 0 where
+  pub later : List Shape
+  pub shapes : shapes_of new ≡ shapes_of old ++ later
+  pub entries : new.entries ≡ old.entries
+  pub longer : length old.shapes ≤ length new.shapes

@@ -1,5 +1,5 @@
 -- What the checker's tables stand for: types, shapes and declarations.
-use Rattle.std.specs.Prelude.{ℕ, ◌+◌, ◌<◌, Bool, true, false, List, [], ◌∷◌, ◌++◌, map, length, slice_get, slice_index_or, All, if◌then◌else◌, Some, None, Option, ℤ}
+use Rattle.std.specs.Prelude.{◌≡◌, ℕ, ◌+◌, ◌<◌, Bool, true, false, List, [], ◌∷◌, ◌++◌, map, length, slice_get, slice_index_or, All, if◌then◌else◌, Some, None, Option, ℤ}
 use Rattle.ob0_values.specs.Scalars.{scalar_value}
 use Rattle.ob0_values.specs.Values.{FieldShapes, Shape, array_shape, boolean_shape, elements, integer_shape, next_field_shape, no_field_shape, no_value, record_shape}
 use Rattle.ob0_types.specs.declared.types.TypeId.{TypeId}
@@ -13,6 +13,7 @@ use Rattle.ob0_types.specs.declared.known.Standard.TheVariants as standards
 use Rattle.ob0_types.specs.declared.known.Object as declaration
 use Rattle.ob0_types.specs.declared.known.Object.TheVariants as kind
 use Rattle.ob0_types.specs.Expressions.{Object, Standard, a_constant, a_procedure, a_standard, a_type, a_variable, reads, writes, writes_line}
+use Rattle.ob0_types.specs.Typing.{depth, scalars}
 use Rattle.ob0_types.specs.WellTyped.{Formal, Mode, Signature, by_place, by_value}
 
 -- the shape of what has a fault
@@ -65,9 +66,21 @@ PartsAreMade n made.Boolean = Unit {0}
 PartsAreMade n (made.Array a) = IsMade n a.element
 PartsAreMade n (made.Record r) = All (λ f. IsMade n f.of) r.fields.items
 
-abbrev pub AreMadeInOrder : ℕ → List code.Shape → Type 0
-AreMadeInOrder n [] = Unit {0}
-AreMadeInOrder n (m ∷ ms) = PartsAreMade n m × AreMadeInOrder (n + 1) ms
+-- an entry keeps how many scalars its shape has, and how deep it is
+abbrev pub IsCounted : code.Shape → Shape → Type 0
+IsCounted made.Integer s = Unit {0}
+IsCounted made.Boolean s = Unit {0}
+IsCounted (made.Array a) s = (a.scalars ≡ scalars s) × (a.depth ≡ depth s)
+IsCounted (made.Record r) s = (r.scalars ≡ scalars s) × (r.depth ≡ depth s)
+
+pub record IsEntry (shapes : List Shape) (m : code.Shape) : Type 0 where
+  pub parts : PartsAreMade (length shapes) m
+  pub counted : IsCounted m (made_shape shapes m)
+
+-- each entry is made of those before it
+abbrev pub AreMadeInOrder : List Shape → List code.Shape → Type 0
+AreMadeInOrder known [] = Unit {0}
+AreMadeInOrder known (m ∷ ms) = IsEntry known m × AreMadeInOrder (known ++ made_shape known m ∷ []) ms
 
 -- what a declaration is
 abbrev pub mode_of : Bool → Mode

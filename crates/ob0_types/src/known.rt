@@ -1,6 +1,6 @@
 //! What is known of a module while it is checked: the shapes of its types, and what its declarations are.
 
-ghost use Rattle.std.specs.Prelude.{◌≡◌, List, option_map};
+ghost use Rattle.std.specs.Prelude.{◌≡◌, ◌≤◌, ◌++◌, ◌&&◌, nat_le, List, option_map};
 ghost use Rattle.ob0_values.specs.Values as shape;
 ghost use Rattle.ob0_types.specs.Tables.{fields_shape, type_shape};
 ghost use Rattle.ob0_types.specs.Typing.{shape_of_field};
@@ -96,6 +96,13 @@ pub struct Known<'t> {
 const INTEGER: usize = 0;
 const BOOLEAN: usize = 1;
 
+/// Whether a type of so many scalars and so deep may be.
+fn is_within(scalars: usize, depth: usize) -> bool
+    ensures { result ≡ (nat_le scalars 65536 && nat_le depth 100) }
+{
+    scalars <= MOST_SCALARS && depth <= MOST_DEPTH
+}
+
 /// The type of the first field of this name.
 fn field_in(fields: &[Field], name: &str) -> Option<TypeId>
     ensures { (shapes : List shape.Shape) → option_map (type_shape shapes) result ≡ shape_of_field (fields_shape shapes fields.now) name.now }
@@ -122,9 +129,9 @@ impl<'t> Known<'t> {
     ghost use Rattle.std.specs.Prelude.{◌≡◌, ◌++◌, ◌∷◌, [], true, false, length, option_map, option_and_then, slice_get, slice_set, slice_index_or, MatchOption, IfOk, OnOk, IfSome};
     ghost use Rattle.ob0_types.specs.declared.known.Object.TheVariants as kind;
     ghost use Rattle.ob0_types.specs.KnownTables.{seen_in, shapes_of};
-    ghost use Rattle.ob0_types.specs.Tables.{object_in, ObjectIsMade, IsMade, made_shape, no_shape};
-    ghost use Rattle.ob0_types.specs.Typing.{element_type, field_type};
-    ghost use Rattle.ob0_values.specs.Values.{integer_shape};
+    ghost use Rattle.ob0_types.specs.Tables.{object_in, IsCounted, IsEntry, ObjectIsMade, IsMade, made_shape, no_shape};
+    ghost use Rattle.ob0_types.specs.Typing.{depth, element_type, field_type, scalars, within_limits};
+    ghost use Rattle.ob0_values.specs.Values.{array_shape, integer_shape};
 
     /// The predeclared names.
     pub fn new(alloc: Global) -> Result<Known<'t>, AllocError> {
@@ -192,11 +199,9 @@ impl<'t> Known<'t> {
 
     /// Takes the declarations from an ordinal on out of sight.
     pub fn hide(&mut self, from: usize) {
-        let mut i = from;
-        while i < self.entries.len() {
+        for i in from..self.entries.len() {
             let entry = &mut self.entries[i];
             entry.in_sight = false;
-            i += 1;
         }
     }
 
@@ -232,7 +237,7 @@ impl<'t> Known<'t> {
 
     /// What the shape at a place of the table is.
     fn entry(&self, place: usize) -> Option<&Shape<'t>>
-        ensures { MatchOption result (slice_index_or (shapes_of self.now) place no_shape ≡ no_shape) (λ m. slice_index_or (shapes_of self.now) place no_shape ≡ made_shape (shapes_of self.now) m.now) }
+        ensures { MatchOption result (slice_index_or (shapes_of self.now) place no_shape ≡ no_shape) (λ m. (slice_index_or (shapes_of self.now) place no_shape ≡ made_shape (shapes_of self.now) m.now) × IsCounted m.now (made_shape (shapes_of self.now) m.now)) }
     {
         if place < self.shapes.len() {
             Some(&self.shapes[place])
@@ -278,70 +283,105 @@ impl<'t> Known<'t> {
     }
 
     /// How many scalars a type has, each number and truth being one.
-    pub fn scalars(&self, of: TypeId) -> usize {
-        match self.shape(of) {
-            Some(Shape::Array(array)) => array.scalars,
-            Some(Shape::Record(record)) => record.scalars,
-            _ => 1,
+    pub fn scalars(&self, of: TypeId) -> usize
+        ensures { result ≡ scalars (type_shape (shapes_of self.now) of) }
+    {
+        match of {
+            TypeId::Array(i) => match self.entry(i) {
+                None => 1,
+                Some(shape) => match shape {
+                    Shape::Array(array) => array.scalars,
+                    Shape::Integer => 1,
+                    Shape::Boolean => 1,
+                    Shape::Record(_) => 1,
+                },
+            },
+            TypeId::Record(i) => match self.entry(i) {
+                None => 1,
+                Some(shape) => match shape {
+                    Shape::Record(record) => record.scalars,
+                    Shape::Integer => 1,
+                    Shape::Boolean => 1,
+                    Shape::Array(_) => 1,
+                },
+            },
+            TypeId::Integer => 1,
+            TypeId::Boolean => 1,
+            TypeId::Unknown => 1,
         }
     }
 
-    /// How many arrays and records stand inside one another.
-    pub fn depth(&self, of: TypeId) -> usize {
-        match self.shape(of) {
-            Some(Shape::Array(array)) => array.depth,
-            Some(Shape::Record(record)) => record.depth,
-            _ => 0,
+    /// How many arrays and records stand inside one another. What has a fault counts as one.
+    pub fn depth(&self, of: TypeId) -> usize
+        ensures { result ≡ depth (type_shape (shapes_of self.now) of) }
+    {
+        match of {
+            TypeId::Array(i) => match self.entry(i) {
+                None => 1,
+                Some(shape) => match shape {
+                    Shape::Array(array) => array.depth,
+                    Shape::Integer => 1,
+                    Shape::Boolean => 1,
+                    Shape::Record(_) => 1,
+                },
+            },
+            TypeId::Record(i) => match self.entry(i) {
+                None => 1,
+                Some(shape) => match shape {
+                    Shape::Record(record) => record.depth,
+                    Shape::Integer => 1,
+                    Shape::Boolean => 1,
+                    Shape::Array(_) => 1,
+                },
+            },
+            TypeId::Integer => 0,
+            TypeId::Boolean => 0,
+            TypeId::Unknown => 1,
         }
+    }
+
+    /// Puts a shape into the table, and tells its place.
+    fn put(&mut self, shape: Shape<'t>) -> Result<usize, AllocError>
+        requires { IsEntry (shapes_of self.old) shape }
+        ensures place { IfOk result (λ i. i ≡ length self.old.shapes) }
+        ensures shapes { OnOk result (self.new.shapes ≡ self.old.shapes ++ shape.entry ∷ []) }
+        ensures entries { OnOk result (self.new.entries ≡ self.old.entries) }
+    {
+        let place = self.shapes.len();
+        self.shapes.push(shape)?;
+        Ok(place)
     }
 
     /// Makes an array type, where it is within the limits.
     pub fn make_array(
         &mut self,
         ordinal: usize,
-        length: usize,
+        size: usize,
         element: TypeId,
-    ) -> Result<Option<TypeId>, AllocError> {
-        let scalars = self.scalars(element).saturating_mul(length);
-        let depth = self.depth(element).saturating_add(1);
-        if scalars > MOST_SCALARS || depth > MOST_DEPTH {
+    ) -> Result<Option<TypeId>, AllocError>
+        requires { IsMade (length self.old.shapes) element }
+        ensures made { IfOk result (λ r. IfSome r (IsMade (length self.new.shapes))) }
+        ensures value { IfOk result (λ r. option_map (type_shape (shapes_of self.new)) r ≡ within_limits (array_shape ordinal size (type_shape (shapes_of self.old) element))) }
+        ensures entries { OnOk result (self.new.entries ≡ self.old.entries) }
+        ensures shapes { OnOk result ((later : List shape.Shape) × (shapes_of self.new ≡ shapes_of self.old ++ later)) }
+        ensures longer { OnOk result (length self.old.shapes ≤ length self.new.shapes) }
+    {
+        let Some(scalars) = size.checked_mul(self.scalars(element)) else {
+            return Ok(None);
+        };
+        let Some(depth) = self.depth(element).checked_add(1) else {
+            return Ok(None);
+        };
+        if !is_within(scalars, depth) {
             return Ok(None);
         }
-        let place = self.shapes.len();
-        self.shapes.push(Shape::Array(ArrayShape {
+        let place = self.put(Shape::Array(ArrayShape {
             ordinal,
-            length,
+            length: size,
             element,
             scalars,
             depth,
         }))?;
         Ok(Some(TypeId::Array(place)))
-    }
-
-    /// Makes a record type, where it is within the limits. An empty record counts as one scalar.
-    pub fn make_record(
-        &mut self,
-        ordinal: usize,
-        fields: Vec<Field<'t>>,
-    ) -> Result<Option<TypeId>, AllocError> {
-        let mut scalars = 0usize;
-        let mut deepest = 0usize;
-        for field in &fields {
-            scalars = scalars.saturating_add(self.scalars(field.of));
-            deepest = deepest.max(self.depth(field.of));
-        }
-        let scalars = scalars.max(1);
-        let depth = deepest.saturating_add(1);
-        if scalars > MOST_SCALARS || depth > MOST_DEPTH {
-            return Ok(None);
-        }
-        let place = self.shapes.len();
-        self.shapes.push(Shape::Record(RecordShape {
-            ordinal,
-            fields,
-            scalars,
-            depth,
-        }))?;
-        Ok(Some(TypeId::Record(place)))
     }
 }
