@@ -126,12 +126,12 @@ impl<'t> Model for Known<'t> {
 }
 
 impl<'t> Known<'t> {
-    ghost use Rattle.std.specs.Prelude.{◌≡◌, ◌++◌, ◌∷◌, [], true, false, length, option_map, option_and_then, slice_get, slice_set, slice_index_or, MatchOption, IfOk, OnOk, IfSome};
+    ghost use Rattle.std.specs.Prelude.{◌≡◌, ◌++◌, ◌∷◌, [], true, false, length, option_map, option_and_then, slice_get, slice_set, slice_index_or, MatchOption, All, ◌^◌, IfOk, OnOk, IfSome};
     ghost use Rattle.ob0_types.specs.declared.known.Object.TheVariants as kind;
     ghost use Rattle.ob0_types.specs.KnownTables.{seen_in, shapes_of};
     ghost use Rattle.ob0_types.specs.Tables.{object_in, IsCounted, IsEntry, ObjectIsMade, IsMade, made_shape, no_shape};
-    ghost use Rattle.ob0_types.specs.Typing.{depth, element_type, field_type, scalars, within_limits};
-    ghost use Rattle.ob0_values.specs.Values.{array_shape, integer_shape};
+    ghost use Rattle.ob0_types.specs.Typing.{depth, element_type, field_depth, field_scalars, field_type, scalars, within_limits};
+    ghost use Rattle.ob0_values.specs.Values.{array_shape, integer_shape, record_shape};
 
     /// The predeclared names.
     pub fn new(alloc: Global) -> Result<Known<'t>, AllocError> {
@@ -383,5 +383,63 @@ impl<'t> Known<'t> {
             depth,
         }))?;
         Ok(Some(TypeId::Array(place)))
+    }
+
+    /// How many scalars the fields of a record have. None past what a number can say.
+    fn field_scalars(&self, fields: &[Field<'t>]) -> Option<usize>
+        ensures { MatchOption result (2 ^ 64 ≤ field_scalars (fields_shape (shapes_of self.now) fields.now)) (λ n. n ≡ field_scalars (fields_shape (shapes_of self.now) fields.now)) }
+    {
+        let mut sum = 0usize;
+        for field in fields {
+            let more = self.scalars(field.of);
+            match sum.checked_add(more) {
+                None => return None,
+                Some(total) => sum = total,
+            }
+        }
+        Some(sum)
+    }
+
+    /// How deep the deepest field of a record is.
+    fn field_depth(&self, fields: &[Field<'t>]) -> usize
+        ensures { result ≡ field_depth (fields_shape (shapes_of self.now) fields.now) }
+    {
+        let mut deepest = 0usize;
+        for field in fields {
+            deepest = deepest.max(self.depth(field.of));
+        }
+        deepest
+    }
+
+    /// Makes a record type, where it is within the limits. An empty record counts as one scalar.
+    pub fn make_record(
+        &mut self,
+        ordinal: usize,
+        fields: Vec<Field<'t>>,
+    ) -> Result<Option<TypeId>, AllocError>
+        requires { All (λ f. IsMade (length self.old.shapes) f.of) fields.items }
+        ensures made { IfOk result (λ r. IfSome r (IsMade (length self.new.shapes))) }
+        ensures value { IfOk result (λ r. option_map (type_shape (shapes_of self.new)) r ≡ within_limits (record_shape ordinal (fields_shape (shapes_of self.old) fields.entry.items))) }
+        ensures entries { OnOk result (self.new.entries ≡ self.old.entries) }
+        ensures shapes { OnOk result ((later : List shape.Shape) × (shapes_of self.new ≡ shapes_of self.old ++ later)) }
+        ensures longer { OnOk result (length self.old.shapes ≤ length self.new.shapes) }
+    {
+        let Some(sum) = self.field_scalars(fields.as_slice()) else {
+            return Ok(None);
+        };
+        let scalars = sum.max(1);
+        let Some(depth) = self.field_depth(fields.as_slice()).checked_add(1) else {
+            return Ok(None);
+        };
+        if !is_within(scalars, depth) {
+            return Ok(None);
+        }
+        let place = self.put(Shape::Record(RecordShape {
+            ordinal,
+            fields,
+            scalars,
+            depth,
+        }))?;
+        Ok(Some(TypeId::Record(place)))
     }
 }
