@@ -1,11 +1,15 @@
 -- What is known of a module's names: to which declaration each is bound, and what is wrong with them.
-use Rattle.std.specs.Prelude.{◌≡◌, ℕ, ◌-◌, nat_lt, Bool, true, false, not, ◌||◌, List, [], ◌∷◌, Option, Some, None, length, slice_get, slice_index_or, if◌then◌else◌}
+use Rattle.std.specs.Prelude.{◌≡◌, ℕ, ◌-◌, nat_lt, Bool, true, false, not, ◌||◌, List, [], ◌∷◌, Option, Some, None, length, slice_get, slice_index_or, if◌then◌else◌, is_some}
 use Rattle.std.specs.List.{list_any}
 use Rattle.ob0_scan.specs.declared.fault.Code.{Code}
 use Rattle.ob0_scan.specs.declared.fault.Code.TheVariants as code
 use Rattle.ob0_scan.specs.declared.fault.Fault.{Fault}
+use Rattle.ob0_scan.specs.declared.lexeme.Span.{Span}
+use Rattle.ob0_scan.specs.declared.lexeme.Token.{Token}
 use Rattle.ob0_scan.specs.Scanned.{Scanned}
-use Rattle.ob0_tree.specs.Tree.{Tree, Role, module_text, mapped, occurrences, identifiers, declaring, looked_up, closing_name, field_name, module_name}
+use Rattle.ob0_tree.specs.declared.tree.Role.{Role}
+use Rattle.ob0_tree.specs.declared.tree.Role.TheVariants as role
+use Rattle.ob0_tree.specs.Tree.{Tree, module_text, mapped, occurrences, identifiers}
 use Rattle.ob0_tree.specs.Parsed.{Parsed, IsParsed, tree_of, named_tree_of}
 use Rattle.ob0_tree.specs.Places.{text_at, value_at}
 use Rattle.ob0_scope.specs.Names.{Label, Name, as_names, as_written, declared}
@@ -24,11 +28,11 @@ label_at source ordinals token = as_label as_names (ordinal_in ordinals token) (
 -- the declaring names among identifiers, in text order
 abbrev pub declaring_only : {N : Type 0} → List (Role × N) → List N
 declaring_only [] = []
-declaring_only ((declaring, n) ∷ xs) = n ∷ declaring_only xs
-declaring_only ((looked_up, n) ∷ xs) = declaring_only xs
-declaring_only ((closing_name, n) ∷ xs) = declaring_only xs
-declaring_only ((field_name, n) ∷ xs) = declaring_only xs
-declaring_only ((module_name, n) ∷ xs) = declaring_only xs
+declaring_only ((role.Declaring, n) ∷ xs) = n ∷ declaring_only xs
+declaring_only ((role.LookedUp, n) ∷ xs) = declaring_only xs
+declaring_only ((role.ClosingName, n) ∷ xs) = declaring_only xs
+declaring_only ((role.FieldName, n) ∷ xs) = declaring_only xs
+declaring_only ((role.ModuleName, n) ∷ xs) = declaring_only xs
 
 -- the token that declares what has an ordinal: none for the predeclared names
 abbrev pub token_declaring : List ℕ → ℕ → Option ℕ
@@ -46,6 +50,21 @@ is_of_declarations fault = elim (fault.code) [ code.Duplicate ↦ true | code.En
 -- no declaration binds a name that is looked up
 abbrev pub is_of_occurrences : Fault → Bool
 is_of_occurrences fault = elim (fault.code) [ code.Undeclared ↦ true | _ ↦ false ]
+
+-- where a token stands: at the text's start where there is no such token
+abbrev pub span_in : Option Token → Span
+span_in None = record { start = 0; end = 0 }
+span_in (Some t) = t.span
+
+abbrev pub span_at : Scanned → ℕ → Span
+span_at source token = span_in (slice_get source.tokens token)
+
+-- the faults at the occurrences that a table binds to nothing
+abbrev pub undeclared_at : Scanned → List (Option ℕ) → List ℕ → List Fault
+undeclared_at source ordinals [] = []
+undeclared_at source ordinals (token ∷ tokens) =
+    if is_some (ordinal_in ordinals token) then undeclared_at source ordinals tokens
+    else record { code = code.Undeclared; span = span_at source token } ∷ undeclared_at source ordinals tokens
 
 -- A module with the ordinals of its names by token, the tokens that declare in order of their ordinals, which begin at 7,
 -- the tokens of the occurrences in text order, and the faults.
@@ -69,6 +88,6 @@ pub record AreFaultsOf (m : Tree Name module_text) (faults : List Fault) : Type 
 pub record IsResolution (r : Resolution) : Type 0 where
   pub parsed : IsParsed r.module_read
   pub numbering : IsNumbering r.module_read r.ordinals
-  pub declaring : r.declarations ≡ declaring_only (identifiers declaring (tree_of r.module_read))
+  pub declaring : r.declarations ≡ declaring_only (identifiers role.Declaring (tree_of r.module_read))
   pub occurring : r.uses ≡ occurrences (tree_of r.module_read)
   pub told : AreFaultsOf (named_tree_of r.module_read) r.faults

@@ -1,8 +1,14 @@
 -- The tables of the checker: the shapes made so far, and the declarations so far.
-use Rattle.std.specs.Prelude.{◌≡◌, ◌≤◌, ◌++◌, ℕ, Bool, true, false, List, [], ◌∷◌, length, All, slice_get, if◌then◌else◌, Some, None, Option, option_and_then}
+use Rattle.std.specs.Prelude.{ℕ, Bool, true, false, List, [], ◌∷◌, length, All, slice_get, if◌then◌else◌, Some, None, Option, option_and_then}
 use Rattle.ob0_values.specs.Values.{Shape}
 use Rattle.ob0_types.specs.declared.known.Shape as code
+use Rattle.ob0_types.specs.declared.known.Shape.TheVariants as made
 use Rattle.ob0_types.specs.declared.known.Entry.{Entry}
+use Rattle.ob0_types.specs.declared.known.Object as declaration
+use Rattle.ob0_types.specs.declared.known.Object.TheVariants as kind
+use Rattle.ob0_types.specs.declared.known.Standard.TheVariants as standards
+use Rattle.ob0_types.specs.declared.types.TypeId.TheVariants as type
+use Rattle.ob0_values.specs.declared.scalar.Scalar.TheVariants as scalar
 use Rattle.ob0_scope.specs.Names.{Label, as_written, declared, label_text}
 use Rattle.ob0_types.specs.Expressions.{Object, Meanings}
 use Rattle.ob0_types.specs.Tables.{AreMadeInOrder, ObjectIsMade, object_in, shapes_from}
@@ -34,9 +40,14 @@ label_object t (as_written x) = None
 abbrev pub known_meaning : Tables → Typed Label
 known_meaning t = record { stands_for = label_object t; written = label_text }
 
--- the table of shapes grew, and nothing was declared
-pub record Grown (old : Tables) (new : Tables) : Type 0 where
-  pub later : List Shape
-  pub shapes : shapes_of new ≡ shapes_of old ++ later
-  pub entries : new.entries ≡ old.entries
-  pub longer : length old.shapes ≤ length new.shapes
+-- an entry in sight
+abbrev pub in_sight : declaration.Object → Entry
+in_sight o = record { object = o; in_sight = true }
+
+-- the tables of the predeclared names: INTEGER, BOOLEAN, TRUE, FALSE, Read, Write, WriteLn
+abbrev pub predeclared : Tables
+predeclared = record {
+  shapes = made.Integer ∷ made.Boolean ∷ [];
+  entries = in_sight (kind.Named type.Integer) ∷ in_sight (kind.Named type.Boolean) ∷ in_sight (kind.Constant (scalar.Truth true)) ∷ in_sight (kind.Constant (scalar.Truth false))
+      ∷ in_sight (kind.Standard standards.Read) ∷ in_sight (kind.Standard standards.Write) ∷ in_sight (kind.Standard standards.WriteLn) ∷ []
+}

@@ -92,10 +92,6 @@ pub struct Known<'t> {
     entries: Vec<Entry>,
 }
 
-/// The places of INTEGER and BOOLEAN in the table of shapes.
-const INTEGER: usize = 0;
-const BOOLEAN: usize = 1;
-
 /// Whether a type of so many scalars and so deep may be.
 fn is_within(scalars: usize, depth: usize) -> bool
     ensures { result ≡ (nat_le scalars 65536 && nat_le depth 100) }
@@ -128,13 +124,15 @@ impl<'t> Model for Known<'t> {
 impl<'t> Known<'t> {
     ghost use Rattle.std.specs.Prelude.{◌≡◌, ◌++◌, ◌∷◌, [], true, false, length, option_map, option_and_then, slice_get, slice_set, slice_index_or, MatchOption, All, ◌^◌, IfOk, OnOk, IfSome};
     ghost use Rattle.ob0_types.specs.declared.known.Object.TheVariants as kind;
-    ghost use Rattle.ob0_types.specs.KnownTables.{seen_in, shapes_of};
+    ghost use Rattle.ob0_types.specs.KnownTables.{predeclared, seen_in, shapes_of};
     ghost use Rattle.ob0_types.specs.Tables.{object_in, IsCounted, IsEntry, ObjectIsMade, IsMade, made_shape, no_shape};
     ghost use Rattle.ob0_types.specs.Typing.{depth, element_type, field_depth, field_scalars, field_type, scalars, within_limits};
     ghost use Rattle.ob0_values.specs.Values.{array_shape, integer_shape, record_shape};
 
     /// The predeclared names.
-    pub fn new(alloc: Global) -> Result<Known<'t>, AllocError> {
+    pub fn new(alloc: Global) -> Result<Known<'t>, AllocError>
+        ensures { IfOk result (λ k. k ≡ predeclared) }
+    {
         let mut known = Known {
             shapes: Vec::new(alloc),
             entries: Vec::new(alloc),
@@ -197,14 +195,6 @@ impl<'t> Known<'t> {
         self.entries.len()
     }
 
-    /// Takes the declarations from an ordinal on out of sight.
-    pub fn hide(&mut self, from: usize) {
-        for i in from..self.entries.len() {
-            let entry = &mut self.entries[i];
-            entry.in_sight = false;
-        }
-    }
-
     /// What a declaration is, where it is in sight.
     pub fn seen(&self, ordinal: usize) -> Option<&Object>
         ensures value { option_and_then (λ o. object_in (shapes_of self.now) o.now) result ≡ seen_in self.now ordinal }
@@ -219,20 +209,12 @@ impl<'t> Known<'t> {
     }
 
     /// What a declaration is, in sight or not.
-    pub fn object(&self, ordinal: usize) -> Option<&Object> {
+    pub fn object(&self, ordinal: usize) -> Option<&Object>
+        ensures value { option_map (λ o. o.now) result ≡ option_map (λ e. e.object) (slice_get self.now.entries ordinal) }
+        ensures made { IfSome result (λ o. ObjectIsMade (length self.now.shapes) o.now) }
+    {
         let entry = self.entries.get(ordinal)?;
         Some(&entry.object)
-    }
-
-    /// The shape of a type, if it is known.
-    pub fn shape(&self, of: TypeId) -> Option<&Shape<'t>> {
-        match of {
-            TypeId::Integer => self.shapes.get(INTEGER),
-            TypeId::Boolean => self.shapes.get(BOOLEAN),
-            TypeId::Array(i) => self.shapes.get(i),
-            TypeId::Record(i) => self.shapes.get(i),
-            TypeId::Unknown => None,
-        }
     }
 
     /// What the shape at a place of the table is.
