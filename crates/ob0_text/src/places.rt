@@ -2,7 +2,7 @@
 
 ghost use Rattle.std.specs.Prelude.{◌≡◌, ◌==◌, ◌||◌, ◌≤◌, true, IfOk, map};
 ghost use Rattle.std.specs.Str.{chars};
-ghost use Rattle.ob0_text.specs.Texts.{LF, CR, ends_line, byte_len, before, position_of};
+ghost use Rattle.ob0_text.specs.Texts.{LF, CR, ends_line, offset_of, position_of};
 ghost use Rattle.ob0_text.specs.Units.{width_of};
 ghost use Rattle.ob0_text.specs.Places.{at, IsFrom, IsPlace, IsPlaceBefore};
 
@@ -51,7 +51,7 @@ pub fn offsets_of(
     unit: Unit,
     positions: &[Position],
 ) -> Result<Vec<usize>, AllocError>
-    ensures { IfOk result (λ offsets. offsets.items ≡ map (λ p. byte_len (before (width_of unit) (chars text.now) p)) positions.now) }
+    ensures { IfOk result (λ offsets. offsets.items ≡ map (offset_of (width_of unit) (chars text.now)) positions.now) }
 {
     let mut offsets = Vec::new(alloc);
     let mut place = START;
@@ -74,7 +74,7 @@ pub fn position_of(text: &str, unit: Unit, offset: usize) -> Position
 }
 
 pub fn offset_of(text: &str, unit: Unit, position: Position) -> usize
-    ensures { result ≡ byte_len (before (width_of unit) (chars text.now) position) }
+    ensures { result ≡ offset_of (width_of unit) (chars text.now) position }
 {
     onward_to_position(text, unit, START, position).offset
 }
@@ -92,7 +92,8 @@ fn position_at(place: Place) -> Position
 fn is_from(from: Position, position: Position) -> bool
     ensures yes { result ≡ true → IsFrom from position }
 {
-    from.line < position.line || (from.line == position.line && from.character <= position.character)
+    from.line < position.line
+        || (from.line == position.line && from.character <= position.character)
 }
 
 fn is_line_break(c: char) -> bool
@@ -150,7 +151,7 @@ fn onward_to_offset(text: &str, unit: Unit, from: Place, offset: usize) -> Place
 fn onward_to_position(text: &str, unit: Unit, from: Place, position: Position) -> Place
     requires place { IsPlaceBefore (width_of unit) text.now position from }
     ensures place { IsPlaceBefore (width_of unit) text.now position result }
-    ensures offset { result.offset ≡ byte_len (before (width_of unit) (chars text.now) position) }
+    ensures offset { result.offset ≡ offset_of (width_of unit) (chars text.now) position }
 {
     let (mut line, mut character, mut reached) = (from.line, from.character, from.offset);
     let mut chars = text[from.offset..].chars();
