@@ -44,7 +44,12 @@ fn contents_that_are_no_messages(rt: HostRuntime) {
 fn contents_that_are_messages(rt: HostRuntime) {
     let alloc = rt.alloc();
     let asks = read(alloc, b"{\"id\":18446744073709551615,\"method\":\"m\"}");
-    assert!(rt; matches!(asks, Ok(Incoming::Request(Id::Unsigned(u64::MAX), _, Value::Null))));
+    assert!(rt;
+        matches!(
+            asks,
+            Ok(Incoming::Request(Id::Unsigned(u64::MAX), _, Value::Null))
+        )
+    );
     let tells = read(alloc, b"{\"method\":\"m\",\"params\":[]}");
     assert!(rt; matches!(tells, Ok(Incoming::Notice(_, Value::Array(_)))));
     let answers = read(alloc, b"{\"error\":{},\"id\":1}");
@@ -67,7 +72,15 @@ fn requests_that_are_read(rt: HostRuntime) {
         "textDocument/references",
         "{\"context\":{\"includeDeclaration\":true},\"position\":{\"character\":0,\"line\":18446744073709551615},\"textDocument\":{\"uri\":\"u\"}}",
     );
-    assert!(rt; matches!(references, Ok(Call::References { place: _, include_declaration: true })));
+    assert!(rt;
+        matches!(
+            references,
+            Ok(Call::References {
+                place: _,
+                include_declaration: true
+            })
+        )
+    );
     let rename = fault_of(
         alloc,
         "textDocument/rename",
@@ -80,11 +93,18 @@ fn requests_that_are_read(rt: HostRuntime) {
         ("18446744073709551615", "true", Indent::Spaces(16)),
         ("4", "false", Indent::Tab),
     ] {
-        let Ok(params) = format!(in alloc; "{{\"options\":{{\"insertSpaces\":{spaces},\"tabSize\":{size}}},\"textDocument\":{{\"uri\":\"u\"}}}}") else {
+        let Ok(params) = format!(in alloc;
+            "{{\"options\":{{\"insertSpaces\":{spaces},\"tabSize\":{size}}},\"textDocument\":{{\"uri\":\"u\"}}}}"
+        ) else {
             return;
         };
         match asked(alloc, "textDocument/formatting", params.as_str()) {
-            Ok(Call::Formatting { uri: _, indent: found }) => assert_eq!(rt; found, indent),
+            Ok(
+                Call::Formatting {
+                    uri: _,
+                    indent: found,
+                },
+            ) => assert_eq!(rt; found, indent),
             _ => assert!(rt; false, "{size}"),
         }
     }
@@ -96,33 +116,61 @@ fn requests_with_bad_params(rt: HostRuntime) {
     for (method, params) in [
         ("initialize", "null"),
         ("textDocument/hover", "{}"),
-        ("textDocument/hover", "{\"position\":{\"character\":1.0,\"line\":0},\"textDocument\":{\"uri\":\"u\"}}"),
-        ("textDocument/hover", "{\"position\":{\"character\":0,\"line\":-1},\"textDocument\":{\"uri\":\"u\"}}"),
-        ("textDocument/hover", "{\"position\":{\"character\":-0,\"line\":0},\"textDocument\":{\"uri\":\"u\"}}"),
-        ("textDocument/hover", "{\"position\":{\"character\":0,\"line\":18446744073709551616},\"textDocument\":{\"uri\":\"u\"}}"),
+        (
+            "textDocument/hover",
+            "{\"position\":{\"character\":1.0,\"line\":0},\"textDocument\":{\"uri\":\"u\"}}",
+        ),
+        (
+            "textDocument/hover",
+            "{\"position\":{\"character\":0,\"line\":-1},\"textDocument\":{\"uri\":\"u\"}}",
+        ),
+        (
+            "textDocument/hover",
+            "{\"position\":{\"character\":-0,\"line\":0},\"textDocument\":{\"uri\":\"u\"}}",
+        ),
+        (
+            "textDocument/hover",
+            "{\"position\":{\"character\":0,\"line\":18446744073709551616},\"textDocument\":{\"uri\":\"u\"}}",
+        ),
         ("textDocument/references", PLACE),
         ("textDocument/rename", PLACE),
-        ("textDocument/codeAction", "{\"range\":{\"end\":{\"character\":0,\"line\":0},\"start\":{\"character\":0,\"line\":0}},\"textDocument\":{\"uri\":\"u\"}}"),
-        ("textDocument/codeAction", "{\"context\":{\"only\":[null]},\"range\":{\"end\":{\"character\":0,\"line\":0},\"start\":{\"character\":0,\"line\":0}},\"textDocument\":{\"uri\":\"u\"}}"),
-        ("textDocument/formatting", "{\"options\":{\"insertSpaces\":true,\"tabSize\":-1},\"textDocument\":{\"uri\":\"u\"}}"),
+        (
+            "textDocument/codeAction",
+            "{\"range\":{\"end\":{\"character\":0,\"line\":0},\"start\":{\"character\":0,\"line\":0}},\"textDocument\":{\"uri\":\"u\"}}",
+        ),
+        (
+            "textDocument/codeAction",
+            "{\"context\":{\"only\":[null]},\"range\":{\"end\":{\"character\":0,\"line\":0},\"start\":{\"character\":0,\"line\":0}},\"textDocument\":{\"uri\":\"u\"}}",
+        ),
+        (
+            "textDocument/formatting",
+            "{\"options\":{\"insertSpaces\":true,\"tabSize\":-1},\"textDocument\":{\"uri\":\"u\"}}",
+        ),
     ] {
         let found = fault_of(alloc, method, params);
         assert_eq!(rt; found, Some(RpcFault::BadParams), "{method} {params}");
     }
-    assert_eq!(rt; fault_of(alloc, "exit", "{}"), Some(RpcFault::UnknownMethod));
+    assert_eq!(rt;
+        fault_of(alloc, "exit", "{}"),
+        Some(RpcFault::UnknownMethod)
+    );
 }
 
 /// How many kinds a code action asks for; None where it asks for none in particular, or can't be read.
 fn kinds(alloc: Global, context: &str) -> Option<usize> {
-    let Ok(params) = format!(in alloc; "{{\"context\":{context},\"range\":{{\"end\":{{\"character\":0,\"line\":0}},\"start\":{{\"character\":0,\"line\":0}}}},\"textDocument\":{{\"uri\":\"u\"}}}}") else {
+    let Ok(params) = format!(in alloc;
+        "{{\"context\":{context},\"range\":{{\"end\":{{\"character\":0,\"line\":0}},\"start\":{{\"character\":0,\"line\":0}}}},\"textDocument\":{{\"uri\":\"u\"}}}}"
+    ) else {
         return None;
     };
     match asked(alloc, "textDocument/codeAction", params.as_str()) {
-        Ok(Call::CodeAction {
-            uri: _,
-            range: _,
-            only: Some(only),
-        }) => Some(only.len()),
+        Ok(
+            Call::CodeAction {
+                uri: _,
+                range: _,
+                only: Some(only),
+            },
+        ) => Some(only.len()),
         _ => None,
     }
 }
@@ -181,7 +229,12 @@ fn answers_are_written(rt: HostRuntime) -> Result<(), Fail> {
         result(alloc, &text, Value::Null)?.as_slice(),
         b"{\"id\":\"a\\\"\",\"jsonrpc\":\"2.0\",\"result\":null}".as_slice()
     );
-    let refused = error(alloc, None, RpcFault::NotJson.code(), RpcFault::NotJson.text())?;
+    let refused = error(
+        alloc,
+        None,
+        RpcFault::NotJson.code(),
+        RpcFault::NotJson.text(),
+    )?;
     assert_eq!(rt;
         refused.as_slice(),
         b"{\"error\":{\"code\":-32700,\"message\":\"not JSON\"},\"id\":null,\"jsonrpc\":\"2.0\"}".as_slice()
