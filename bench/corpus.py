@@ -180,8 +180,8 @@ def nest(count):
 
 def uses(count, on_line=False):
     """One variable that is used so often."""
-    used = [f"x := {at % 10}" for at in range(count - 1)]
-    return (" " if on_line else "\n").join(["MODULE Uses; VAR x: INTEGER;", "BEGIN", *(it + ";" for it in used), "x := 1 END Uses."])
+    used = [f"x:={at % 10}" for at in range(count - 1)]
+    return (" " if on_line else "\n").join(["MODULE Uses; VAR x: INTEGER;", "BEGIN", *(it + ";" for it in used), "x:=1 END Uses."])
 
 
 def main(words):

@@ -222,7 +222,7 @@ def referred():
         return max(found.processor - without.processor, 1e-9), found.memory
 
     for name, on_line in (("on many lines", False), ("on one line", True)):
-        growth(f"references {name},", [10000, 80000], lambda size, on_line=on_line: corpus.uses(size, on_line), each)
+        growth(f"references {name},", [10000, 100000], lambda size, on_line=on_line: corpus.uses(size, on_line), each)
 
 
 @measure("run: loops, arrays and calls, against Lua and Python", "run")

@@ -1,6 +1,7 @@
 """`ob0 check` and the diagnostics of scopes and types: one example for each code, sizes, files that can't be read."""
 import os
 import subprocess
+import tempfile
 
 import harness
 from harness import Server, did_open, ends, marked, on_file, run, same, test
@@ -203,8 +204,6 @@ def lines():
 
 @test("check: a device that is full is a fault of writing", "check")
 def full():
-    import tempfile
-
     with tempfile.TemporaryDirectory() as room:
         file = os.path.join(room, "m.mod")
         with open(file, "w", encoding="utf-8") as it:

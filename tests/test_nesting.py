@@ -1,4 +1,5 @@
 """The deepest texts through the built program under a stack of 8 MiB: no mix of constructs runs it out."""
+import json
 import os
 
 import nesting
@@ -10,8 +11,6 @@ MIXES = int(os.environ.get("OB0_MIXES", "400"))
 
 def diagnosed(texts):
     """What is told of each text by one server under the small stack."""
-    import json
-
     talk = frames([initialize(), *(did_open(it, version=at) for at, it in enumerate(texts)), SHUTDOWN, EXIT])
     found = serve(talk, small_stack=True)
     same((found.err, found.status), (b"", 0), "the end")

@@ -1,4 +1,8 @@
 """Bytes in, bytes out: the first conversation in every cutting, streams that end early, heads that are refused."""
+import os
+import subprocess
+
+import harness
 from features import FIRST_ANSWER, capabilities
 from harness import compact, frame, frames, holds, initialize, run, same, serve, serve_in_pieces, test, unframed
 from harness import SHUTDOWN, EXIT, request
@@ -169,11 +173,6 @@ def end_after_shutdown():
 
 @test("stream: a reader that has gone is a fault of writing")
 def gone_reader():
-    import os
-    import subprocess
-
-    import harness
-
     reader, writer = os.pipe()
     os.close(reader)
     how = {"stdin": subprocess.PIPE, "stdout": writer, "stderr": subprocess.PIPE}

@@ -1,5 +1,5 @@
 """Diagnostics of the parser: the first token that can't stand, and what was expected there."""
-from harness import Server, did_open, extent, run, same, told, test
+from harness import Server, did_open, ends, frames, initialize, on_file, same, serve, test, told
 
 # text: where, what is expected
 EXPECTED = {
@@ -44,8 +44,6 @@ def expected():
 
 @test("syntax: the empty text, byte by byte", "syntax")
 def empty():
-    from harness import frames, initialize, serve
-
     wanted = (
         b'{"jsonrpc":"2.0","method":"textDocument/publishDiagnostics","params":{"diagnostics":[{"code":"Syntax",'
         b'"message":"expected MODULE","range":{"end":{"character":0,"line":0},"start":{"character":0,"line":0}},'
@@ -103,12 +101,4 @@ def chains():
 
 @test("syntax: `check` tells where the text ends early", "check")
 def checked():
-    import os
-    import tempfile
-
-    with tempfile.TemporaryDirectory() as room:
-        file = os.path.join(room, "m.mod")
-        with open(file, "wb"):
-            pass
-        found = run(["check", file])
-    same((found.out, found.err, found.status), (b"0:0: Syntax: expected MODULE\n", b"", 1))
+    ends(on_file("check", ""), "0:0: Syntax: expected MODULE\n", 1)

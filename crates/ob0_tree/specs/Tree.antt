@@ -1,5 +1,5 @@
 -- The syntax trees of the language: one family of trees, with a sort for each nonterminal.
-use Rattle.std.specs.Prelude.{ℕ, ◌+◌, Option, Some, None, List, [], ◌∷◌, ◌++◌, max}
+use Rattle.std.specs.Prelude.{ℕ, ◌+◌, Option, List, [], ◌∷◌, ◌++◌, max}
 use Rattle.ob0_scan.specs.declared.lexeme.TokenKind.{TokenKind}
 use Rattle.ob0_scan.specs.declared.lexeme.TokenKind.TheVariants as kind
 use Rattle.ob0_scan.specs.declared.lexeme.Reserved.TheVariants as reserved

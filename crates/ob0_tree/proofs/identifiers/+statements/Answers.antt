@@ -3,7 +3,7 @@ use Rattle.ob0_tree.proofs.Viewed.{while_made, repeat_made, if_parts}
 use Rattle.ob0_tree.specs.declared.tree.If.{out-If}
 use Rattle.ob0_tree.specs.declared.tree.Role.TheVariants as role
 use Rattle.ob0_tree.specs.Tree.{identifiers, branches}
-use Rattle.ob0_tree.specs.View.{items_of, statement_of, sequence_listed, expression_of, elsif_of, else_in, if_of}
+use Rattle.ob0_tree.specs.View.{items_of, statement_of, sequence_listed, expression_of, elsif_of, else_in}
 use Rattle.ob0_tree.proofs.Walks.{joined, joined_four}
 use Rattle.ob0_tree.proofs.identifiers.+statements.Goals as goal
 

@@ -1,5 +1,3 @@
-use Rattle.std.proofs.Common.{◌≡◌}
-use Rattle.ob0_tree.specs.declared.tree.Role.TheVariants as role
 use Rattle.ob0_tree.specs.Tree.{then_name}
 use Rattle.ob0_tree.proofs.Walks.{Walking}
 use Rattle.ob0_tree.proofs.identifiers.names.Given as goal

@@ -1,4 +1,3 @@
-use Rattle.std.proofs.Common.{◌≡◌}
 use Rattle.ob0_tree.specs.View.{procedure_of}
 use Rattle.ob0_tree.proofs.Deepest.{Deepest}
 use Rattle.ob0_tree.proofs.nesting.+blocks.Given as goal

@@ -1,4 +1,4 @@
-use Rattle.std.proofs.Common.{◌≡◌, sym, ap, ◌∙◌}
+use Rattle.std.proofs.Common.{sym, ap, ◌∙◌}
 use Rattle.ob0_tree.proofs.Viewed.{designator_made, simple_parts, term_parts}
 use Rattle.ob0_tree.specs.declared.tree.Simple.{out-Simple}
 use Rattle.ob0_tree.specs.declared.tree.Term.{out-Term}

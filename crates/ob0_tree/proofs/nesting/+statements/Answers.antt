@@ -1,9 +1,9 @@
-use Rattle.std.proofs.Common.{◌≡◌, max, ◌+◌, sym, ap, ◌∙◌, refl}
+use Rattle.std.proofs.Common.{max, sym, ap, ◌∙◌, refl}
 use Rattle.ob0_tree.proofs.Viewed.{while_made, repeat_made, if_parts}
 use Rattle.ob0_tree.specs.declared.tree.If.{out-If}
 use Rattle.ob0_tree.specs.Depth.{capped}
 use Rattle.ob0_tree.specs.Tree.{nesting, branches}
-use Rattle.ob0_tree.specs.View.{items_of, statement_of, sequence_listed, expression_of, elsif_of, else_in, if_of}
+use Rattle.ob0_tree.specs.View.{items_of, statement_of, sequence_listed, expression_of, elsif_of, else_in}
 use Rattle.ob0_tree.proofs.Deepest.{two_deep, one_deeper, max_zero}
 use Rattle.ob0_tree.proofs.nesting.+statements.Goals as goal
 

@@ -1,4 +1,4 @@
-use Rattle.std.proofs.Common.{◌≡◌, sym, ap, ◌∙◌}
+use Rattle.std.proofs.Common.{sym, ap, ◌∙◌}
 use Rattle.ob0_tree.proofs.Viewed.{record_made}
 use Rattle.ob0_tree.specs.Depth.{capped}
 use Rattle.ob0_tree.specs.Tree.{nesting}

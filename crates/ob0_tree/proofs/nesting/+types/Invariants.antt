@@ -1,4 +1,3 @@
-use Rattle.std.proofs.Common.{◌≡◌}
 use Rattle.ob0_tree.specs.View.{further_fields_of_group}
 use Rattle.ob0_tree.proofs.Deepest.{Deepest}
 use Rattle.ob0_tree.proofs.nesting.+types.Given as goal

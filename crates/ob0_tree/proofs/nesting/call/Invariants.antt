@@ -1,4 +1,3 @@
-use Rattle.std.proofs.Common.{◌≡◌}
 use Rattle.ob0_tree.specs.View.{further_argument_of}
 use Rattle.ob0_tree.proofs.Deepest.{Deepest}
 use Rattle.ob0_tree.proofs.nesting.call.Given as goal

@@ -1,4 +1,4 @@
-use Rattle.std.proofs.Common.{◌≡◌, ◌≤◌, ap, ◌∙◌, subst}
+use Rattle.std.proofs.Common.{◌≤◌, ap, ◌∙◌, subst}
 use Rattle.ob0_tree.specs.Depth.{capped}
 use Rattle.ob0_tree.specs.Tree.{nesting}
 use Rattle.ob0_tree.specs.View.{block_of}
