@@ -102,7 +102,7 @@ label_ordinal-of naming scope x = go (ordinal_of naming scope x)
     go None = refl
     go (Some k) = refl
 
-seven-or-less : (m : Tree Name module_text) (d : ℕ) (w : Value) → value_of_constant m d ≡ Some w → (7 ≤ d) × (value_in_block predeclared_known d 7 (module_block m) ≡ Some w)
+pub seven-or-less : (m : Tree Name module_text) (d : ℕ) (w : Value) → value_of_constant m d ≡ Some w → (7 ≤ d) × (value_in_block predeclared_known d 7 (module_block m) ≡ Some w)
 unfolding value_of_constant
 seven-or-less m d w h =
     (elim (nat_lt d 7) as (λ v. nat_lt d 7 ≡ v → (if v then None else value_in_block predeclared_known d 7 (module_block m)) ≡ Some w → (7 ≤ d) × (value_in_block predeclared_known d 7 (module_block m) ≡ Some w))
@@ -125,7 +125,7 @@ IsShownAs uses (number n) j l = Unit {0}
 IsShownAs uses (elements vs) j l = Unit {0}
 IsShownAs uses (members k ms) j l = Unit {0}
 
-shown-from : (uses : Uses) (w : Value) (j : ℕ) (scope : Scope Name) (x : Name) → IsShownAs uses w j (label_of (looking_for (truth_name w)) (as_label (looking_for (truth_name w))) scope x) → uses j ≡ true → shown w scope ≡ true
+pub shown-from : (uses : Uses) (w : Value) (j : ℕ) (scope : Scope Name) (x : Name) → IsShownAs uses w j (label_of (looking_for (truth_name w)) (as_label (looking_for (truth_name w))) scope x) → uses j ≡ true → shown w scope ≡ true
 shown-from uses (truth true) j scope x h u =
     ap (λ o. same_ordinal o 2) (sym (looked (codes "TRUE") scope x) ∙ (sym (label_ordinal-of (looking_for (codes "TRUE")) scope x) ∙ h u))
   where
@@ -142,7 +142,7 @@ shown-from uses (number n) j scope x h u = refl
 shown-from uses (elements vs) j scope x h u = refl
 shown-from uses (members k ms) j scope x h u = refl
 
-all-shown : (m : Tree Name module_text) (w : Value) (uses : Uses) → ((k : ℕ) → uses k ≡ true → IsShown m k w) → AllAt (IsShownAs uses w) 0 (occurrences (relabelled (looking_for (truth_name w)) (as_label (looking_for (truth_name w))) m))
+pub all-shown : (m : Tree Name module_text) (w : Value) (uses : Uses) → ((k : ℕ) → uses k ≡ true → IsShown m k w) → AllAt (IsShownAs uses w) 0 (occurrences (relabelled (looking_for (truth_name w)) (as_label (looking_for (truth_name w))) m))
 all-shown m (truth true) uses h = all-at (IsShownAs uses (truth true)) 0 (occurrences (relabelled (looking_for (codes "TRUE")) (as_label (looking_for (codes "TRUE"))) m)) (λ i l e u. sym (ap (option_and_then label_ordinal) e) ∙ h i (ap uses (sym (zero-add i)) ∙ u))
 all-shown m (truth false) uses h = all-at (IsShownAs uses (truth false)) 0 (occurrences (relabelled (looking_for (codes "FALSE")) (as_label (looking_for (codes "FALSE"))) m)) (λ i l e u. sym (ap (option_and_then label_ordinal) e) ∙ h i (ap uses (sym (zero-add i)) ∙ u))
 all-shown m (number n) uses h = all-at (IsShownAs uses (number n)) 0 (occurrences (relabelled (looking_for (codes "FALSE")) (as_label (looking_for (codes "FALSE"))) m)) (λ i l e. tt)

@@ -1,7 +1,7 @@
 -- Laws of edits: what keeps a module well-typed.
 use Rattle.std.specs.Prelude.{IsTrue, Some, codes, false, true, ℕ, ◌≡◌, ◌≢◌}
 use Rattle.ob0_tree.specs.Tree.{Tree, factor, module_text}
-use Rattle.ob0_scope.specs.Inlining.{Uses, inlined, module_without}
+use Rattle.ob0_scope.specs.Inlining.{Uses, inlined, inlined_everywhere, module_without}
 use Rattle.ob0_scope.specs.Names.{Name}
 use Rattle.ob0_scope.specs.Occurrences.{Free, binds}
 use Rattle.ob0_scope.specs.Scopes.{renamed}
@@ -50,3 +50,9 @@ abbrev pub LeavingOutKeepsWellTyped : Type 0
 LeavingOutKeepsWellTyped =
     (m : Tree Name module_text) (d : ℕ) (w : Value) (v : Tree Name factor)
     → IsConstantWritten m d w v → ((k : ℕ) → binds m k ≢ Some d) → WellTyped m → WellTyped (module_without d m)
+
+-- a constant's literal in place of all its uses, and its declaration gone: the module stays well-typed
+abbrev pub InliningEverywhereKeepsWellTyped : Type 0
+InliningEverywhereKeepsWellTyped =
+    (m : Tree Name module_text) (d : ℕ) (w : Value) (v : Tree Name factor)
+    → IsConstantWritten m d w v → ((k : ℕ) → binds m k ≡ Some d → IsShown m k w) → WellTyped m → WellTyped (inlined_everywhere m d v)
