@@ -4,7 +4,7 @@ use Rattle.ob0_tree.specs.Tree.{Sort, Tree, adds, compares, constant, end, facto
 use Rattle.ob0_scope.specs.Inlining.{Uses, all_bound_to}
 use Rattle.ob0_scope.specs.Names.{Label, Name, as_names}
 use Rattle.ob0_scope.specs.Occurrences.{bindings, binds, label_ordinal}
-use Rattle.ob0_scope.specs.Scopes.{Scope, as_label, ordinal_of, predeclared_scope, relabelled, same_ordinal}
+use Rattle.ob0_scope.specs.Parts.{module_block}
 use Rattle.ob0_scope.specs.SeenNames.{looking_for}
 use Rattle.ob0_scope.proofs.EditedTrees.{Edit, inline-nothing, leaf, no_uses, writing}
 use Rattle.ob0_scope.proofs.EverywhereTrees.{everywhere, gone-module}
@@ -20,6 +20,7 @@ use Rattle.ob0_types.proofs.EditedModules.{IsFitted, IsShownAs, all-at, all-show
 use Rattle.ob0_types.proofs.EditedTypes.{anything}
 use Rattle.ob0_types.proofs.Leaves.{AllStay, Here, Literal, Writes, none-used, same_ordinal-true, shown}
 use Rattle.ob0_types.proofs.Literals.{some_inverse}
+use Rattle.ob0_scope.specs.Scopes.{Scope, as_label, ordinal_of, predeclared_scope, relabelled, same_ordinal}
 use Rattle.ob0_tree.specs.declared.tree.Sign.TheVariants as sign
 use Rattle.ob0_tree.specs.declared.tree.AddOperator.TheVariants as add_operator
 use Rattle.std.proofs.lemmas.Bool.{cases_Bool}
@@ -92,27 +93,33 @@ bound-exactly m d i l e =
     let bound : binds m i ≡ label_ordinal l = ap (option_and_then label_ordinal) e in
     (λ u. sym bound ∙ same_ordinal-true (binds m i) d u, λ k. ap (λ o. same_ordinal o d) (bound ∙ k) ∙ eq-eqb d d refl)
 
-pub everywhere-fitted : (m : Tree Name module_text) (d : ℕ) (w : Value) (v : Tree Name factor) → IsConstantWritten m d w v → ((k : ℕ) → binds m k ≡ Some d → IsShown m k w) → WellTyped m → IsFitted (everywhere (all_bound_to m d) v d) w m
+-- in a well-typed module the constant's names stand alone as factors
+pub alone-module : (m : Tree Name module_text) (d : ℕ) (w : Value) (v : Tree Name factor) → IsConstantWritten m d w v → WellTyped m → EachBlock (StandsAlone d) 0 (predeclared_scope as_names) 7 (module_block m)
 unfolding WellTyped fits_over
-everywhere-fitted (is_module x b closing) d w v c seen well =
+alone-module (is_module x b closing) d w v c well =
     let m : Tree Name module_text = is_module x b closing in
-    let uses : Uses = all_bound_to m d in
-    let edit : Edit = everywhere uses v d in
     let low = seven-or-less m d w c.value in
-    let lit : Literal edit w = record { written = c.literal; scalar = c.scalar; ordinal = low.0 } in
     let plain : Edit = writing no_uses v d in
     let plain_lit : Literal plain w = record { written = c.literal; scalar = c.scalar; ordinal = low.0 } in
     let scope : Scope Name = predeclared_scope as_names in
     let all_plain : AllAt Nothing 0 (occurrences (relabelled as_names (as_label as_names) m)) = all-at Nothing 0 (occurrences (relabelled as_names (as_label as_names) m)) (λ i l e. tt) in
     let plain_here : EachBlock (Here plain w) 0 scope 7 b =
     each-block as_names as_names Nothing Nothing (Here plain w) (λ s j scope t both. (no_writes v d w j scope (occurrences t), all_kept v d scope (occurrences (leaf plain j t)))) 0 scope 7 b all_plain all_plain in
+    alone-block plain w plain_lit 0 0 7 marked_outermost (outermost-sound plain w anything low.0) (le_refl 7) b plain_here (λ l n. low.1) well.1
+
+pub everywhere-fitted : (m : Tree Name module_text) (d : ℕ) (w : Value) (v : Tree Name factor) → IsConstantWritten m d w v → ((k : ℕ) → binds m k ≡ Some d → IsShown m k w) → WellTyped m → IsFitted (everywhere (all_bound_to m d) v d) w m
+everywhere-fitted (is_module x b closing) d w v c seen well =
+    let m : Tree Name module_text = is_module x b closing in
+    let uses : Uses = all_bound_to m d in
+    let edit : Edit = everywhere uses v d in
+    let low = seven-or-less m d w c.value in
+    let lit : Literal edit w = record { written = c.literal; scalar = c.scalar; ordinal = low.0 } in
+    let scope : Scope Name = predeclared_scope as_names in
     let told : EachBlock (Told edit w) 0 scope 7 b =
     each-block as_names (looking_for (truth_name w)) (IsUseOf uses d) (IsShownAs uses w) (Told edit w) (λ s j scope t both. told-from edit w j scope (occurrences t) both) 0 scope 7 b
     (all-at (IsUseOf uses d) 0 (occurrences (relabelled as_names (as_label as_names) m)) (λ i l e. subst (λ n. IsUseOf uses d n l) (sym (zero-add i)) (bound-exactly m d i l e)))
     (all-shown m w uses (λ k u. seen k (same_ordinal-true (binds m k) d u))) in
-    let alone_there : EachBlock (StandsAlone d) 0 scope 7 b =
-    alone-block plain w plain_lit 0 0 7 marked_outermost (outermost-sound plain w anything low.0) (le_refl 7) b plain_here (λ l n. low.1) well.1 in
-    record { literal = lit; here = both-block (Told edit w) (StandsAlone d) (Here edit w) (here-everywhere edit w lit) 0 scope 7 b told alone_there; worth = low.1 }
+    record { literal = lit; here = both-block (Told edit w) (StandsAlone d) (Here edit w) (here-everywhere edit w lit) 0 scope 7 b told (alone-module m d w v c well); worth = low.1 }
 
 pub inlining_everywhere_keeps_well_typed-holds : InliningEverywhereKeepsWellTyped
 inlining_everywhere_keeps_well_typed-holds m d w v c seen well =
