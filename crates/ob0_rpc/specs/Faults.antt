@@ -1,0 +1,23 @@
+-- How a fault of a message is told (JSON-RPC 2.0, error objects).
+use Rattle.std.specs.Prelude.{◌-◌, ℕ, ℤ, negsuc, List, codes}
+use Rattle.ob0_rpc.specs.declared.incoming.RpcFault.{RpcFault}
+use Rattle.ob0_rpc.specs.declared.incoming.RpcFault.TheVariants.{NotJson, NotAMessage, UnknownMethod, BadParams, Memory}
+
+-- a code of an error: below zero
+abbrev pub minus : ℕ → ℤ
+minus n = negsuc (n - 1)
+
+-- want of memory is never told
+abbrev pub error_code : RpcFault → ℤ
+error_code NotJson = minus 32700
+error_code NotAMessage = minus 32600
+error_code UnknownMethod = minus 32601
+error_code BadParams = minus 32602
+error_code Memory = minus 32603
+
+abbrev pub error_text : RpcFault → List ℕ
+error_text NotJson = codes "not JSON"
+error_text NotAMessage = codes "not a message"
+error_text UnknownMethod = codes "unknown method"
+error_text BadParams = codes "bad params"
+error_text Memory = codes "out of memory"

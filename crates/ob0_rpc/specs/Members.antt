@@ -1,0 +1,66 @@
+-- What the members of params hold.
+use Rattle.std.specs.Prelude.{ℕ, ℤ, List, Bool, true, false, Option, Some, None, if◌then◌else◌, option_map, option_and_then, codes}
+use Rattle.std.specs.Str.{chars}
+use Rattle.serde_json.specs.Data.{Data, null, boolean, number, string, array, object}
+use Rattle.serde_json.specs.Find.{get, as_str, as_bool, as_array, as_object, as_number, as_i64, as_u64}
+use Rattle.ob0_text.specs.declared.positions.Position.{Position}
+use Rattle.ob0_text.specs.declared.positions.Range.{Range}
+
+-- a member that is null counts as absent
+abbrev pub is_absent : Option Data → Bool
+is_absent None = true
+is_absent (Some null) = true
+is_absent (Some (boolean b)) = false
+is_absent (Some (number n)) = false
+is_absent (Some (string s)) = false
+is_absent (Some (array ds)) = false
+is_absent (Some (object ms)) = false
+
+-- a member's text
+abbrev pub text_in : List ℕ → Data → Option (List ℕ)
+text_in name d = option_and_then as_str (get name d)
+
+abbrev pub truth_in : List ℕ → Data → Option Bool
+truth_in name d = option_and_then as_bool (get name d)
+
+-- a member's whole number from 0 to 2^64-1
+abbrev pub count_in : List ℕ → Data → Option ℕ
+count_in name d = option_and_then as_u64 (option_and_then as_number (get name d))
+
+-- a member of the member `textDocument`
+abbrev pub of_document : List ℕ → Data → Option Data
+of_document name params = option_and_then (get name) (get (codes "textDocument") params)
+
+abbrev pub uri_of : Data → Option (List ℕ)
+uri_of params = option_and_then as_str (of_document (codes "uri") params)
+
+-- a whole number of 64 bits with a sign
+abbrev pub version_of : Data → Option ℤ
+version_of params = option_and_then as_i64 (option_and_then as_number (of_document (codes "version") params))
+
+abbrev pub text_of : Data → Option (List ℕ)
+text_of params = option_map chars (option_and_then as_str (of_document (codes "text") params))
+
+abbrev pub position_by : Option ℕ → Option ℕ → Option Position
+position_by (Some line) (Some character) = Some (record { line = line; character = character })
+position_by (Some line) None = None
+position_by None character = None
+
+-- {"character":c,"line":l}
+abbrev pub position_of : Data → Option Position
+position_of d = position_by (count_in (codes "line") d) (count_in (codes "character") d)
+
+abbrev pub position_in : List ℕ → Data → Option Position
+position_in name d = option_and_then position_of (get name d)
+
+abbrev pub range_by : Option Position → Option Position → Option Range
+range_by (Some start) (Some end) = Some (record { start = start; end = end })
+range_by (Some start) None = None
+range_by None end = None
+
+-- {"end":P,"start":P}
+abbrev pub range_of : Data → Option Range
+range_of d = range_by (position_in (codes "start") d) (position_in (codes "end") d)
+
+abbrev pub range_in : List ℕ → Data → Option Range
+range_in name d = option_and_then range_of (get name d)

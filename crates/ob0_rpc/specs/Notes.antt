@@ -1,0 +1,65 @@
+-- What notifications tell, by their method and params (LSP 3.17, text document synchronization).
+use Rattle.std.specs.Prelude.{ℕ, ℤ, List, [], ◌∷◌, Option, Some, None, if◌then◌else◌, option_map, option_and_then, codes}
+use Rattle.std.specs.Str.{bytes_eq, chars}
+use Rattle.serde_json.specs.Data.{Data, Items, no_items, item}
+use Rattle.serde_json.specs.Find.{get, as_array}
+use Rattle.ob0_text.specs.OpenDocuments.{TextChange}
+use Rattle.ob0_text.specs.declared.positions.Range.{Range}
+use Rattle.ob0_rpc.specs.Members.{is_absent, text_in, uri_of, version_of, text_of, range_of}
+
+pub data Told : Type 0 where
+  exits : Told
+  -- the uri, the version and the characters of the text
+  opens : List ℕ → ℤ → List ℕ → Told
+  -- the uri, the version and the changes in order
+  changes : List ℕ → ℤ → List TextChange → Told
+  closes : List ℕ → Told
+  -- an open, a change or a close that can't be read, with its uri where that can be read
+  unreadable : Option (List ℕ) → Told
+  other : Told
+
+-- the range that a change has, or that it has none; none where it can't be read
+abbrev pub range_by : Option Data → Option (Option Range)
+range_by found = if is_absent found then Some None else option_map Some (option_and_then range_of found)
+
+abbrev pub change_by : Option (Option Range) → Option (List ℕ) → Option TextChange
+change_by (Some range) (Some text) = Some (record { range = range; text = chars text })
+change_by (Some range) None = None
+change_by None text = None
+
+-- A change of a range, or of the whole text.
+abbrev pub change_in : Data → Option TextChange
+change_in entry = change_by (range_by (get (codes "range") entry)) (text_in (codes "text") entry)
+
+-- all changes; none where one of them can't be read
+abbrev pub all_changes : Items → Option (List TextChange)
+all_changes no_items = Some []
+all_changes (item entry later) = option_and_then (λ change. option_map (λ changes. change ∷ changes) (all_changes later)) (change_in entry)
+
+abbrev pub changes_of : Data → Option (List TextChange)
+changes_of params = option_and_then all_changes (option_and_then as_array (get (codes "contentChanges") params))
+
+abbrev pub open_of : Option (List ℕ) → Option ℤ → Option (List ℕ) → Told
+open_of None version text = unreadable None
+open_of (Some uri) (Some version) (Some text) = opens uri version text
+open_of (Some uri) (Some version) None = unreadable (Some uri)
+open_of (Some uri) None text = unreadable (Some uri)
+
+abbrev pub change_of : Option (List ℕ) → Option ℤ → Option (List TextChange) → Told
+change_of None version all = unreadable None
+change_of (Some uri) (Some version) (Some all) = changes uri version all
+change_of (Some uri) (Some version) None = unreadable (Some uri)
+change_of (Some uri) None all = unreadable (Some uri)
+
+abbrev pub close_of : Option (List ℕ) → Told
+close_of None = unreadable None
+close_of (Some uri) = closes uri
+
+-- a notification by its method
+abbrev pub note_of : List ℕ → Data → Told
+note_of method params =
+    if bytes_eq method (codes "exit") then exits
+    else if bytes_eq method (codes "textDocument/didOpen") then open_of (uri_of params) (version_of params) (text_of params)
+    else if bytes_eq method (codes "textDocument/didChange") then change_of (uri_of params) (version_of params) (changes_of params)
+    else if bytes_eq method (codes "textDocument/didClose") then close_of (uri_of params)
+    else other

@@ -1,0 +1,94 @@
+-- What the values of the code stand for.
+use Rattle.std.specs.Prelude.{◌≡◌, ℕ, List, Option, Some, None, Result, Ok, Err, string_bytes, String, Vec, map, option_map}
+use Rattle.std.specs.Str.{chars}
+use Rattle.std.specs.declared.alloc.Global.{Global}
+use Rattle.serde_json.specs.Data.{Data, null, number, string, unsigned}
+use Rattle.serde_json.specs.Find.{of_integer}
+use Rattle.serde_json.specs.View.{view}
+use Rattle.ob0_text.specs.OpenDocuments.{told_change}
+use Rattle.ob0_rpc.specs.Asks.{At, Ask, initialize, shutdown, hover, definition, references, prepare_rename, rename, code_action, formatting}
+use Rattle.ob0_rpc.specs.Messages.{Reads, Meaning, not_a_message, response, request, notice, meaning_of}
+use Rattle.ob0_rpc.specs.Notes.{Told, exits, opens, changes, closes, unreadable, other, note_of}
+use Rattle.ob0_rpc.specs.declared.calls.Call as called
+use Rattle.ob0_rpc.specs.declared.calls.Place.{Place}
+use Rattle.ob0_rpc.specs.declared.incoming.Id.{Id}
+use Rattle.ob0_rpc.specs.declared.incoming.Id.TheVariants.{Signed, Unsigned, Text}
+use Rattle.ob0_rpc.specs.declared.incoming.Incoming.{Incoming}
+use Rattle.ob0_rpc.specs.declared.incoming.Incoming.TheVariants.{Request, Notice, Ignored}
+use Rattle.ob0_rpc.specs.declared.incoming.RpcFault.{RpcFault}
+use Rattle.ob0_rpc.specs.declared.incoming.RpcFault.TheVariants.{NotJson, NotAMessage, UnknownMethod, BadParams, Memory}
+use Rattle.ob0_rpc.specs.declared.notes.Note as noted
+
+abbrev pub id_data : Id → Data
+id_data (Signed z) = number (of_integer z)
+id_data (Unsigned n) = number (unsigned n)
+id_data (Text t) = string (string_bytes t)
+
+-- the id of an error: null where there is none
+abbrev pub id_or_null : Option Id → Data
+id_or_null (Some id) = id_data id
+id_or_null None = null
+
+abbrev pub seen : Incoming → Meaning
+seen (Request id method params) = request (id_data id) (string_bytes method) (view params)
+seen (Notice method params) = notice (string_bytes method) (view params)
+seen Ignored = response
+
+-- what the code makes of a JSON value
+abbrev pub MeansAs : Data → Result Incoming RpcFault → Type 0
+MeansAs d (Ok incoming) = meaning_of d ≡ seen incoming
+MeansAs d (Err NotAMessage) = meaning_of d ≡ not_a_message
+MeansAs d (Err Memory) = Unit {0}
+MeansAs d (Err NotJson) = ⊥
+MeansAs d (Err UnknownMethod) = ⊥
+MeansAs d (Err BadParams) = ⊥
+
+-- what the code makes of a content
+abbrev pub ReadsAs : List ℕ → Result Incoming RpcFault → Type 0
+ReadsAs content (Err NotJson) = Reads content None
+ReadsAs content (Err Memory) = Unit {0}
+ReadsAs content r = (d : Data) × Reads content (Some d) × MeansAs d r
+
+abbrev pub at_seen : Place → At
+at_seen place = record { uri = string_bytes place.uri; position = place.position }
+
+-- texts, where there are such
+abbrev pub kinds_seen : Option (Vec (String Global) Global) → Option (List (List ℕ))
+kinds_seen kinds = option_map (λ texts. map string_bytes texts.items) kinds
+
+abbrev pub seen_call : called.Call → Ask
+seen_call (called.TheVariants.Initialize client) = initialize client
+seen_call called.TheVariants.Shutdown = shutdown
+seen_call (called.TheVariants.Hover place) = hover (at_seen place)
+seen_call (called.TheVariants.Definition place) = definition (at_seen place)
+seen_call (called.TheVariants.References place include) = references (at_seen place) include
+seen_call (called.TheVariants.PrepareRename place) = prepare_rename (at_seen place)
+seen_call (called.TheVariants.Rename place name) = rename (at_seen place) (string_bytes name)
+seen_call (called.TheVariants.CodeAction uri range only) = code_action (string_bytes uri) range (kinds_seen only)
+seen_call (called.TheVariants.Formatting uri indent) = formatting (string_bytes uri) indent
+
+-- what the code makes of a request that asks this
+abbrev pub AsksFor : Result Ask RpcFault → Result called.Call RpcFault → Type 0
+AsksFor asked (Ok call) = asked ≡ Ok (seen_call call)
+AsksFor asked (Err UnknownMethod) = asked ≡ Err UnknownMethod
+AsksFor asked (Err BadParams) = asked ≡ Err BadParams
+AsksFor asked (Err Memory) = Unit {0}
+AsksFor asked (Err NotJson) = ⊥
+AsksFor asked (Err NotAMessage) = ⊥
+
+abbrev pub seen_note : noted.Note → Told
+seen_note noted.TheVariants.Exit = exits
+seen_note (noted.TheVariants.Open uri version text) = opens (string_bytes uri) version (chars (string_bytes text))
+seen_note (noted.TheVariants.Change uri version cs) = changes (string_bytes uri) version (map told_change cs.items)
+seen_note (noted.TheVariants.Close uri) = closes (string_bytes uri)
+seen_note (noted.TheVariants.Unreadable uri) = unreadable (option_map string_bytes uri)
+seen_note noted.TheVariants.Other = other
+
+-- what the code makes of a notification
+abbrev pub TellsAs : List ℕ → Data → Result noted.Note RpcFault → Type 0
+TellsAs method params (Ok note) = note_of method params ≡ seen_note note
+TellsAs method params (Err Memory) = Unit {0}
+TellsAs method params (Err NotJson) = ⊥
+TellsAs method params (Err NotAMessage) = ⊥
+TellsAs method params (Err UnknownMethod) = ⊥
+TellsAs method params (Err BadParams) = ⊥

@@ -1,0 +1,29 @@
+-- The messages that are written, as JSON values. Members stand in byte order of their names.
+use Rattle.std.specs.Prelude.{ℕ, ℤ, List, codes}
+use Rattle.serde_json.specs.Data.{Data, number, string, object, member, no_members}
+use Rattle.serde_json.specs.Find.{of_integer}
+
+abbrev pub text : List ℕ → Data
+text = string
+
+abbrev pub whole_number : ℤ → Data
+whole_number z = number (of_integer z)
+
+abbrev pub json_rpc : Data
+json_rpc = text (codes "2.0")
+
+-- {"id":I,"jsonrpc":"2.0","result":X}
+abbrev pub result_message : Data → Data → Data
+result_message id value = object (member (codes "id") id (member (codes "jsonrpc") json_rpc (member (codes "result") value no_members)))
+
+-- {"code":c,"message":m}
+abbrev pub error_value : ℤ → List ℕ → Data
+error_value code said = object (member (codes "code") (whole_number code) (member (codes "message") (text said) no_members))
+
+-- {"error":{..},"id":I,"jsonrpc":"2.0"}
+abbrev pub error_message : Data → ℤ → List ℕ → Data
+error_message id code said = object (member (codes "error") (error_value code said) (member (codes "id") id (member (codes "jsonrpc") json_rpc no_members)))
+
+-- {"jsonrpc":"2.0","method":M,"params":P}
+abbrev pub notification_message : List ℕ → Data → Data
+notification_message method params = object (member (codes "jsonrpc") json_rpc (member (codes "method") (text method) (member (codes "params") params no_members)))

@@ -1,0 +1,60 @@
+//! The changes of a document, as they are told.
+ghost use Rattle.std.specs.Prelude.{◌≡◌, IfOk, codes, option_and_then, option_map, map};
+ghost use Rattle.ob0_text.specs.OpenDocuments.{told_change};
+ghost use Rattle.serde_json.specs.Find.{get, as_array};
+ghost use Rattle.serde_json.specs.View.{view, items_view};
+ghost use Rattle.ob0_rpc.specs.Notes.{changes_of as changes_in, change_in, range_by};
+
+use crate::members::{is_absent, range_of, text_in};
+use ob0_text::{Change, Range};
+use serde_json::Value;
+use std::alloc::{AllocError, Global};
+
+/// The changes, none where an entry can't be read.
+pub fn read_changes(alloc: Global, params: &Value) -> Result<Option<Vec<Change>>, AllocError>
+    ensures { IfOk result (λ found. option_map (λ cs. map told_change cs.items) found ≡ changes_in (view params.now)) }
+{
+    let Some(entries) = entries_of(params) else {
+        return Ok(None);
+    };
+    let mut changes = Vec::new(alloc);
+    for entry in entries {
+        match read_change_in(alloc, entry)? {
+            Some(change) => changes.push(change)?,
+            None => return Ok(None),
+        }
+    }
+    Ok(Some(changes))
+}
+
+fn entries_of(params: &Value) -> Option<&Vec<Value>>
+    ensures { option_map (λ v. items_view v.now.items) result
+        ≡ option_and_then as_array (get (codes "contentChanges") (view params.now)) }
+{
+    params.get("contentChanges")?.as_array()
+}
+
+/// A change of a range, or one of the whole text.
+fn read_change_in(alloc: Global, entry: &Value) -> Result<Option<Change>, AllocError>
+    ensures { IfOk result (λ found. option_map told_change found ≡ change_in (view entry.now)) }
+{
+    let Some(range) = range_told(entry.get("range")) else {
+        return Ok(None);
+    };
+    let Some(text) = text_in(entry, "text") else {
+        return Ok(None);
+    };
+    let text = String::from_str(alloc, text)?;
+    Ok(Some(Change { range, text }))
+}
+
+/// The range that is told, or that none is; none where it can't be read.
+fn range_told(member: Option<&Value>) -> Option<Option<Range>>
+    ensures { result ≡ range_by (option_map (λ v. view v.now) member.entry) }
+{
+    if is_absent(member) {
+        return Some(None);
+    }
+    let range = range_of(member?)?;
+    Some(Some(range))
+}

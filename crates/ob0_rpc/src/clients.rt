@@ -1,0 +1,112 @@
+//! What clients can do.
+ghost use Rattle.std.specs.Prelude.{◌≡◌, ◌∷◌, [], codes, is_some, option_map, option_and_then};
+ghost use Rattle.serde_json.specs.Find.{as_object, as_str};
+ghost use Rattle.serde_json.specs.View.{view, items_view};
+ghost use Rattle.ob0_rpc.specs.Asks.{client_of as client_in, has_text, is_text as is_text_told, is_true as truth_of, within};
+
+use serde_json::Value;
+
+/// What a client says that it can do.
+#[derive(Clone, Copy, Debug, Drop, PartialEq, Eq)]
+pub struct Client {
+    /// It offers positions that count bytes of UTF-8.
+    pub counts_utf8: bool,
+    /// It asks where a rename would work before it asks for one.
+    pub prepares_renames: bool,
+    /// It takes code actions that are no commands.
+    pub takes_literal_actions: bool,
+    /// It takes edits with the versions of the documents that they are for.
+    pub takes_document_changes: bool,
+}
+
+/// What the params of `initialize` say. Members of another shape count as absent.
+pub fn client_of(params: &Value) -> Client
+    ensures { result ≡ client_in (view params.now) }
+{
+    Client {
+        counts_utf8: counts_utf8(params),
+        prepares_renames: is_true(prepare_support(params)),
+        takes_literal_actions: is_object(literal_support(params)),
+        takes_document_changes: is_true(document_changes(params)),
+    }
+}
+
+fn prepare_support(params: &Value) -> Option<&Value>
+    ensures { option_map (λ v. view v.now) result ≡ within (codes "capabilities" ∷ codes "textDocument" ∷ codes "rename" ∷ codes "prepareSupport" ∷ []) (view params.now) }
+{
+    let document = params.get("capabilities")?.get("textDocument")?;
+    document.get("rename")?.get("prepareSupport")
+}
+
+fn literal_support(params: &Value) -> Option<&Value>
+    ensures { option_map (λ v. view v.now) result ≡ within (codes "capabilities" ∷ codes "textDocument" ∷ codes "codeAction" ∷ codes "codeActionLiteralSupport" ∷ []) (view params.now) }
+{
+    let document = params.get("capabilities")?.get("textDocument")?;
+    document.get("codeAction")?.get("codeActionLiteralSupport")
+}
+
+fn document_changes(params: &Value) -> Option<&Value>
+    ensures { option_map (λ v. view v.now) result ≡ within (codes "capabilities" ∷ codes "workspace" ∷ codes "workspaceEdit" ∷ codes "documentChanges" ∷ []) (view params.now) }
+{
+    let workspace = params.get("capabilities")?.get("workspace")?;
+    workspace.get("workspaceEdit")?.get("documentChanges")
+}
+
+fn position_encodings(params: &Value) -> Option<&Value>
+    ensures { option_map (λ v. view v.now) result ≡ within (codes "capabilities" ∷ codes "general" ∷ codes "positionEncodings" ∷ []) (view params.now) }
+{
+    params
+        .get("capabilities")?
+        .get("general")?
+        .get("positionEncodings")
+}
+
+fn is_true(member: Option<&Value>) -> bool
+    ensures { result ≡ truth_of (option_map (λ v. view v.now) member.entry) }
+{
+    match member {
+        Some(value) => value.as_bool().unwrap_or(false),
+        None => false,
+    }
+}
+
+fn is_object(member: Option<&Value>) -> bool
+    ensures { result ≡ is_some (option_and_then as_object (option_map (λ v. view v.now) member.entry)) }
+{
+    match member {
+        Some(value) => value.is_object(),
+        None => false,
+    }
+}
+
+fn counts_utf8(params: &Value) -> bool
+    ensures { result ≡ (client_in (view params.now)).counts_utf8 }
+{
+    let Some(encodings) = position_encodings(params) else {
+        return false;
+    };
+    match encodings.as_array() {
+        Some(items) => holds_text(items, "utf-8"),
+        None => false,
+    }
+}
+
+fn holds_text(items: &[Value], text: &str) -> bool
+    ensures { result ≡ has_text text.now (items_view items.now) }
+{
+    for item in items {
+        if is_text(item, text) {
+            return true;
+        }
+    }
+    false
+}
+
+fn is_text(item: &Value, text: &str) -> bool
+    ensures { result ≡ is_text_told text.now (as_str (view item.now)) }
+{
+    match item.as_str() {
+        Some(found) => found == text,
+        None => false,
+    }
+}

@@ -1,0 +1,169 @@
+//! What the content of a message means.
+ghost use Rattle.std.specs.Prelude.{◌≡◌, true, false, IfOk, MatchOption, IfSome, option_map};
+ghost use Rattle.serde_json.specs.View.{view, number_view};
+ghost use Rattle.serde_json.specs.Data.{number};
+ghost use Rattle.ob0_rpc.specs.Messages.{is_id, params_of};
+ghost use Rattle.ob0_rpc.specs.Seen.{MeansAs, ReadsAs, id_data};
+
+use serde_json::{Number, Value};
+use std::alloc::{AllocError, AllocFailed, Global};
+use thiserror::Error;
+
+/// The id of a request.
+#[derive(Drop)]
+pub enum Id {
+    Signed(i64),
+    Unsigned(u64),
+    Text(String),
+}
+
+/// A message that has been read.
+#[derive(Drop)]
+pub enum Incoming {
+    Request(Id, String, Value),
+    Notice(String, Value),
+    Ignored,
+}
+
+/// Why a content, or the params of a message, can't be read.
+#[derive(Clone, Copy, Debug, Drop, PartialEq, Eq, Error)]
+pub enum RpcFault {
+    #[error("not JSON")]
+    NotJson,
+    #[error("not a message")]
+    NotAMessage,
+    #[error("unknown method")]
+    UnknownMethod,
+    #[error("bad params")]
+    BadParams,
+    #[error("out of memory")]
+    Memory,
+}
+
+impl RpcFault {
+    ghost use Rattle.std.specs.Prelude.{◌≡◌};
+    ghost use Rattle.ob0_rpc.specs.Faults.{error_code, error_text};
+
+    /// The code of the error that tells it (JSON-RPC 2.0).
+    pub fn code(self) -> i32
+        ensures { result ≡ error_code self }
+    {
+        match self {
+            RpcFault::NotJson => -32700,
+            RpcFault::NotAMessage => -32600,
+            RpcFault::UnknownMethod => -32601,
+            RpcFault::BadParams => -32602,
+            RpcFault::Memory => -32603,
+        }
+    }
+
+    /// The message of that error.
+    pub fn text(self) -> &'static str
+        ensures { result.now ≡ error_text self }
+    {
+        match self {
+            RpcFault::NotJson => "not JSON",
+            RpcFault::NotAMessage => "not a message",
+            RpcFault::UnknownMethod => "unknown method",
+            RpcFault::BadParams => "bad params",
+            RpcFault::Memory => "out of memory",
+        }
+    }
+}
+
+impl From<AllocError> for RpcFault {
+    ghost use Rattle.std.specs.Prelude.{◌≡◌};
+    ghost use Rattle.ob0_rpc.specs.declared.incoming.RpcFault.TheVariants.{Memory};
+
+    ghost from_gives = { λ _ e. e ≡ Memory };
+
+    fn from(_refused: AllocError) -> RpcFault {
+        RpcFault::Memory
+    }
+}
+
+impl<T: Drop> From<AllocFailed<T>> for RpcFault {
+    ghost use Rattle.std.specs.Prelude.{◌≡◌};
+    ghost use Rattle.ob0_rpc.specs.declared.incoming.RpcFault.TheVariants.{Memory};
+
+    ghost from_gives = { λ _ e. e ≡ Memory };
+
+    fn from(_refused: AllocFailed<T>) -> RpcFault {
+        RpcFault::Memory
+    }
+}
+
+/// Reads a content: one JSON value in UTF-8, nested at most 127 deep.
+pub fn read(alloc: Global, content: &[u8]) -> Result<Incoming, RpcFault>
+    ensures { ReadsAs content.now result }
+{
+    match Value::from_slice(alloc, content) {
+        Ok(value) => meaning(alloc, &value),
+        Err(error) => if error.is_memory() {
+            Err(RpcFault::Memory)
+        } else {
+            Err(RpcFault::NotJson)
+        },
+    }
+}
+
+// What a JSON value means.
+fn meaning(alloc: Global, message: &Value) -> Result<Incoming, RpcFault>
+    ensures { MeansAs (view message.now) result }
+{
+    let Some(method) = message.get("method") else {
+        return if message.get("result").is_some() || message.get("error").is_some() {
+            Ok(Incoming::Ignored)
+        } else {
+            Err(RpcFault::NotAMessage)
+        };
+    };
+    let Some(method) = method.as_str() else {
+        return Err(RpcFault::NotAMessage);
+    };
+    let Some(id) = message.get("id") else {
+        let method = String::from_str(alloc, method)?;
+        return Ok(Incoming::Notice(method, read_params(message)?));
+    };
+    let Some(id) = read_id(alloc, id)? else {
+        return Err(RpcFault::NotAMessage);
+    };
+    let method = String::from_str(alloc, method)?;
+    Ok(Incoming::Request(id, method, read_params(message)?))
+}
+
+// The params, null where they are absent.
+fn read_params(message: &Value) -> Result<Value, AllocError>
+    ensures { IfOk result (λ params. view params ≡ params_of (view message.now)) }
+{
+    match message.get("params") {
+        Some(params) => params.clone(),
+        None => Ok(Value::Null),
+    }
+}
+
+// A whole number or a text.
+fn read_id(alloc: Global, value: &Value) -> Result<Option<Id>, AllocError>
+    ensures { IfOk result (λ found. MatchOption found
+        (is_id (view value.now) ≡ false)
+        (λ id. (is_id (view value.now) ≡ true) × (id_data id ≡ view value.now))) }
+{
+    if let Some(text) = value.as_str() {
+        return Ok(Some(Id::Text(String::from_str(alloc, text)?)));
+    }
+    match value.as_number() {
+        Some(number) => Ok(whole_number(number)),
+        None => Ok(None),
+    }
+}
+
+fn whole_number(n: &Number) -> Option<Id>
+    ensures { MatchOption result
+        (is_id (number (number_view n.now)) ≡ false)
+        (λ id. (is_id (number (number_view n.now)) ≡ true) × (id_data id ≡ number (number_view n.now))) }
+{
+    match n.as_u64() {
+        Some(unsigned) => Some(Id::Unsigned(unsigned)),
+        None => n.as_i64().map(Id::Signed),
+    }
+}

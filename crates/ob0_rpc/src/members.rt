@@ -1,0 +1,84 @@
+//! What the members of params hold.
+ghost use Rattle.std.specs.Prelude.{◌≡◌, option_map};
+ghost use Rattle.std.specs.Str.{chars};
+ghost use Rattle.serde_json.specs.View.{view};
+ghost use Rattle.ob0_rpc.specs.Members.{is_absent as absent, text_in as text_of_member, truth_in as truth_of_member, count_in as count_of_member, uri_of as uri_told, version_of as version_told, text_of as text_told, position_of as position_told, position_in as position_of_member, range_of as range_told, range_in as range_of_member};
+
+use ob0_text::{Position, Range};
+use serde_json::Value;
+
+/// A member that is null counts as absent.
+pub fn is_absent(member: Option<&Value>) -> bool
+    ensures { result ≡ absent (option_map (λ v. view v.now) member.entry) }
+{
+    match member {
+        None => true,
+        Some(value) => value.is_null(),
+    }
+}
+
+pub fn text_in<'v>(value: &'v Value, name: &str) -> Option<&'v str>
+    ensures { option_map (λ s. s.now) result ≡ text_of_member name.now (view value.now) }
+{
+    value.get(name)?.as_str()
+}
+
+pub fn truth_in(value: &Value, name: &str) -> Option<bool>
+    ensures { result ≡ truth_of_member name.now (view value.now) }
+{
+    value.get(name)?.as_bool()
+}
+
+/// A whole number from 0 to 2^64-1.
+pub fn count_in(value: &Value, name: &str) -> Option<u64>
+    ensures { result ≡ count_of_member name.now (view value.now) }
+{
+    value.get(name)?.as_u64()
+}
+
+/// The document that params name.
+pub fn uri_of(params: &Value) -> Option<&str>
+    ensures { option_map (λ s. s.now) result ≡ uri_told (view params.now) }
+{
+    params.get("textDocument")?.get("uri")?.as_str()
+}
+
+pub fn version_of(params: &Value) -> Option<i64>
+    ensures { result ≡ version_told (view params.now) }
+{
+    params.get("textDocument")?.get("version")?.as_i64()
+}
+
+pub fn document_text(params: &Value) -> Option<&str>
+    ensures { option_map (λ s. chars s.now) result ≡ text_told (view params.now) }
+{
+    params.get("textDocument")?.get("text")?.as_str()
+}
+
+pub fn position_of(value: &Value) -> Option<Position>
+    ensures { result ≡ position_told (view value.now) }
+{
+    let line = count_in(value, "line")?;
+    let character = count_in(value, "character")?;
+    Some(Position { line, character })
+}
+
+pub fn position_in(value: &Value, name: &str) -> Option<Position>
+    ensures { result ≡ position_of_member name.now (view value.now) }
+{
+    position_of(value.get(name)?)
+}
+
+pub fn range_of(value: &Value) -> Option<Range>
+    ensures { result ≡ range_told (view value.now) }
+{
+    let start = position_in(value, "start")?;
+    let end = position_in(value, "end")?;
+    Some(Range { start, end })
+}
+
+pub fn range_in(value: &Value, name: &str) -> Option<Range>
+    ensures { result ≡ range_of_member name.now (view value.now) }
+{
+    range_of(value.get(name)?)
+}

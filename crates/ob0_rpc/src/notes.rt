@@ -1,0 +1,99 @@
+//! What notifications tell.
+ghost use Rattle.std.specs.Prelude.{◌≡◌, IfOk};
+ghost use Rattle.serde_json.specs.View.{view};
+ghost use Rattle.ob0_rpc.specs.Members.{uri_of as uri_in, version_of as version_in, text_of as text_in};
+ghost use Rattle.ob0_rpc.specs.Notes.{open_of, change_of, close_of, changes_of as changes_in};
+ghost use Rattle.ob0_rpc.specs.Seen.{TellsAs, seen_note};
+
+use crate::changes::read_changes;
+use crate::incoming::RpcFault;
+use crate::members::{document_text, uri_of, version_of};
+use ob0_text::Change;
+use serde_json::Value;
+use std::alloc::{AllocError, Global};
+
+/// A notification.
+#[derive(Drop)]
+pub enum Note {
+    Exit,
+    Open {
+        uri: String,
+        version: i64,
+        text: String,
+    },
+    Change {
+        uri: String,
+        version: i64,
+        changes: Vec<Change>,
+    },
+    Close {
+        uri: String,
+    },
+    /// An open, change or close whose params can't be read.
+    Unreadable {
+        uri: Option<String>,
+    },
+    Other,
+}
+
+/// Reads a notification by its method. The only fault is want of memory.
+pub fn notice(alloc: Global, method: &str, params: &Value) -> Result<Note, RpcFault>
+    ensures { TellsAs method.now (view params.now) result }
+{
+    if method == "exit" {
+        Ok(Note::Exit)
+    } else if method == "textDocument/didOpen" {
+        Ok(read_open(alloc, params)?)
+    } else if method == "textDocument/didChange" {
+        Ok(read_change(alloc, params)?)
+    } else if method == "textDocument/didClose" {
+        Ok(read_close(alloc, params)?)
+    } else {
+        Ok(Note::Other)
+    }
+}
+
+fn read_open(alloc: Global, params: &Value) -> Result<Note, AllocError>
+    ensures { IfOk result (λ note. seen_note note ≡ open_of (uri_in (view params.now)) (version_in (view params.now)) (text_in (view params.now))) }
+{
+    let Some(uri) = uri_of(params) else {
+        return Ok(Note::Unreadable { uri: None });
+    };
+    let uri = String::from_str(alloc, uri)?;
+    match (version_of(params), document_text(params)) {
+        (Some(version), Some(text)) => Ok(Note::Open {
+            uri,
+            version,
+            text: String::from_str(alloc, text)?,
+        }),
+        _ => Ok(Note::Unreadable { uri: Some(uri) }),
+    }
+}
+
+fn read_change(alloc: Global, params: &Value) -> Result<Note, AllocError>
+    ensures { IfOk result (λ note. seen_note note ≡ change_of (uri_in (view params.now)) (version_in (view params.now)) (changes_in (view params.now))) }
+{
+    let Some(uri) = uri_of(params) else {
+        return Ok(Note::Unreadable { uri: None });
+    };
+    let uri = String::from_str(alloc, uri)?;
+    match (version_of(params), read_changes(alloc, params)?) {
+        (Some(version), Some(changes)) => Ok(Note::Change {
+            uri,
+            version,
+            changes,
+        }),
+        _ => Ok(Note::Unreadable { uri: Some(uri) }),
+    }
+}
+
+fn read_close(alloc: Global, params: &Value) -> Result<Note, AllocError>
+    ensures { IfOk result (λ note. seen_note note ≡ close_of (uri_in (view params.now))) }
+{
+    match uri_of(params) {
+        Some(uri) => Ok(Note::Close {
+            uri: String::from_str(alloc, uri)?,
+        }),
+        None => Ok(Note::Unreadable { uri: None }),
+    }
+}

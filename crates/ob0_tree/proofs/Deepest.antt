@@ -1,0 +1,40 @@
+-- A walk over the items of a list, which keeps the greatest nesting.
+use Rattle.std.proofs.Common.{◌≡◌, ℕ, ◌+◌, ◌≤◌, max, List, length, drop, sym, ap, ◌∙◌, arith}
+use Rattle.std.proofs.lemmas.List.{drop_all}
+use Rattle.ob0_tree.specs.Depth.{capped}
+use Rattle.ob0_tree.specs.Tree.{Tree, Item, item, nesting}
+use Rattle.ob0_tree.specs.View.{items_of}
+
+pub capped_max : (a b : ℕ) → max (capped a) (capped b) ≡ capped (max a b)
+capped_max a b = omega arith
+
+pub capped_more : (a : ℕ) → capped (capped a + 1) ≡ capped (a + 1)
+capped_more a = omega arith
+
+-- what is the deepest so far, with the items that are left, is what was the deepest at first, with all items
+pub record Deepest {A : Type 0} {i : Item} (f : A → Tree ℕ (item i)) (start : ℕ) (xs : List A) (done : ℕ) (deepest : ℕ) : Type 0 where
+  pub so_far : max deepest (capped (nesting (items_of f (drop done xs)))) ≡ max start (capped (nesting (items_of f xs)))
+
+at_the_end : (deepest all : ℕ) → max deepest 0 ≡ all → deepest ≡ all
+at_the_end deepest all e = omega (arith, e)
+
+pub deepest_ends : {A : Type 0} {i : Item} {f : A → Tree ℕ (item i)} {start : ℕ} {xs : List A} {done : ℕ} {deepest : ℕ}
+    → Deepest f start xs done deepest → length xs ≤ done → deepest ≡ max start (capped (nesting (items_of f xs)))
+deepest_ends {f = f} {start = start} {xs = xs} {done = done} {deepest = deepest} w all =
+    at_the_end deepest (max start (capped (nesting (items_of f xs)))) (sym (ap (λ ys. max deepest (capped (nesting (items_of f ys)))) (drop_all done xs all)) ∙ w.so_far)
+
+pub two_deep : {first second deepest : ℕ} (a b : ℕ) → first ≡ capped a → second ≡ capped b → deepest ≡ max first second → deepest ≡ capped (max a b)
+two_deep {first = first} {second = second} a b p q r = r ∙ (ap (λ x. max x second) p ∙ (ap (λ x. max (capped a) x) q ∙ capped_max a b))
+
+pub one_deeper : {inner outer : ℕ} (a : ℕ) → inner ≡ capped a → outer ≡ capped (inner + 1) → outer ≡ capped (a + 1)
+one_deeper a p q = q ∙ (ap (λ x. capped (x + 1)) p ∙ capped_more a)
+
+-- a number that the cap doesn't reach
+pub not_capped : (n m : ℕ) → m ≤ 100 → n ≡ capped m → n ≡ m
+not_capped n m h e = omega (arith, h, e)
+
+pub max_zero : (n : ℕ) → n ≡ max n 0
+max_zero n = omega arith
+
+pub zero_max : (n : ℕ) → max 0 n ≡ n
+zero_max n = omega arith
