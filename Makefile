@@ -1,3 +1,35 @@
-.PHONY: test
-test:
-	rt ci
+# What a fresh machine with the toolchain needs:
+#   make demo              proves and builds the program, bin/ob0, and plays a conversation with it
+#   make test              the gate (every proof from nothing) and the end-to-end tests
+# and beside them:
+#   make build             proves and builds the program
+#   make end-to-end        the end-to-end tests alone, on bin/ob0
+#   make bench             times the program; nothing fails by time
+#   make install PREFIX=.. copies the program to PREFIX/bin
+PREFIX ?= /usr/local
+PYTHON ?= python3
+
+.PHONY: demo test build end-to-end bench install python
+
+demo: build
+	@$(PYTHON) tools/demo.py
+
+test: python
+	@$(PYTHON) tools/test.py
+
+build: python
+	@$(PYTHON) tools/build.py
+
+end-to-end: build
+	@$(PYTHON) tests/run.py
+
+bench: build
+	@$(PYTHON) bench/run.py
+
+install: build
+	@mkdir -p "$(DESTDIR)$(PREFIX)/bin"
+	@install -m 755 bin/ob0 "$(DESTDIR)$(PREFIX)/bin/ob0"
+	@echo "installed $(DESTDIR)$(PREFIX)/bin/ob0"
+
+python:
+	@command -v $(PYTHON) >/dev/null || { echo "$(PYTHON) is missing: install Python 3.8 or later (on Debian: apt-get install python3)" >&2; exit 2; }

@@ -9,7 +9,9 @@ use Rattle.ob0_tree.specs.Places.{lexeme_of, lexemes_from, lexemes}
 use Rattle.ob0_tree.specs.Parsed.{Parsed, IsParsed, tree_of}
 use Rattle.ob0_tree.proofs.Occurring.{looked_up_only, looked_up-occurrences}
 use Rattle.ob0_tree.specs.Order.{Ascending, names_only, leaves, identifier_at, identifiers_from, IsIdentifier, AreIdentifiers}
-use Rattle.ob0_tree.specs.Tree.{Role, declaring, field_name, looked_up, closing_name, module_name, occurrences, Sort, Tree, spell, identifiers, none, one, end, more, compares, relates, sum, adds, product, multiplies, designator, integer, parenthesised, negation, field, index, empty, assigns, calls, branches, while_loop, repeat_loop, no_arguments, some_arguments, then_argument, runs, then_statement, elsif_branch, else_branch, listed, then_name, named_type, array_type, record_type, no_fields, some_fields, then_fields, no_formals, some_formals, value_section, variable_section, then_section, declares_constant, declares_constants, declares_type, declares_types, declares_variable, declares_variables, declares_procedure, declares, begins, has_body, is_module}
+use Rattle.ob0_tree.specs.declared.tree.Role.{Role}
+use Rattle.ob0_tree.specs.declared.tree.Role.TheVariants as role
+use Rattle.ob0_tree.specs.Tree.{occurrences, Sort, Tree, spell, identifiers, none, one, end, more, compares, relates, sum, adds, product, multiplies, designator, integer, parenthesised, negation, field, index, empty, assigns, calls, branches, while_loop, repeat_loop, no_arguments, some_arguments, then_argument, runs, then_statement, elsif_branch, else_branch, listed, then_name, named_type, array_type, record_type, no_fields, some_fields, then_fields, no_formals, some_formals, value_section, variable_section, then_section, declares_constant, declares_constants, declares_type, declares_types, declares_variable, declares_variables, declares_procedure, declares, begins, has_body, is_module}
 
 -- the names among tokens
 abbrev pub lexeme_names : {N : Type 0} → List (Lexeme N) → List N
@@ -64,18 +66,18 @@ leaves_spelled r (named_type name) = refl
 leaves_spelled r (array_type size t) = simp (lexeme_names-append, map-append, leaves_spelled r size, leaves_spelled r t)
 leaves_spelled r (record_type first others) = simp (lexeme_names-append, map-append, append-nil, leaves_spelled r first, leaves_spelled r others)
 leaves_spelled r no_fields = refl
-leaves_spelled r (some_fields ns t) = simp (lexeme_names-append, map-append, leaves_spelled field_name ns, leaves_spelled r t)
+leaves_spelled r (some_fields ns t) = simp (lexeme_names-append, map-append, leaves_spelled role.FieldName ns, leaves_spelled r t)
 leaves_spelled r (then_fields f) = simp (leaves_spelled r f)
 leaves_spelled r no_formals = refl
 leaves_spelled r (some_formals first others) = simp (lexeme_names-append, map-append, append-nil, leaves_spelled r first, leaves_spelled r others)
-leaves_spelled r (value_section ns t) = simp (lexeme_names-append, map-append, leaves_spelled declaring ns, leaves_spelled r t)
-leaves_spelled r (variable_section ns t) = simp (lexeme_names-append, map-append, leaves_spelled declaring ns, leaves_spelled r t)
+leaves_spelled r (value_section ns t) = simp (lexeme_names-append, map-append, leaves_spelled role.Declaring ns, leaves_spelled r t)
+leaves_spelled r (variable_section ns t) = simp (lexeme_names-append, map-append, leaves_spelled role.Declaring ns, leaves_spelled r t)
 leaves_spelled r (then_section s) = simp (leaves_spelled r s)
 leaves_spelled r (declares_constant name e) = simp (lexeme_names-append, append-nil, leaves_spelled r e)
 leaves_spelled r (declares_constants cs) = simp (leaves_spelled r cs)
 leaves_spelled r (declares_type name t) = simp (lexeme_names-append, append-nil, leaves_spelled r t)
 leaves_spelled r (declares_types ts) = simp (leaves_spelled r ts)
-leaves_spelled r (declares_variable ns t) = simp (lexeme_names-append, map-append, append-nil, leaves_spelled declaring ns, leaves_spelled r t)
+leaves_spelled r (declares_variable ns t) = simp (lexeme_names-append, map-append, append-nil, leaves_spelled role.Declaring ns, leaves_spelled r t)
 leaves_spelled r (declares_variables vs) = simp (leaves_spelled r vs)
 leaves_spelled r (declares_procedure name fs b closing) = simp (lexeme_names-append, map-append, leaves_spelled r fs, leaves_spelled r b)
 leaves_spelled r (declares cs ts vs ps) = simp (lexeme_names-append, map-append, leaves_spelled r cs, leaves_spelled r ts, leaves_spelled r vs, leaves_spelled r ps)
@@ -95,7 +97,7 @@ names_from (t ∷ ts) i = name_first t.kind i (lexemes_from (i + 1) ts) ∙ ap (
 -- The identifiers of a module's tree are those of its text, all of them and in order.
 pub leaves_parsed : (m : Parsed) → IsParsed m → leaves (tree_of m) ≡ identifiers_from 0 m.source.tokens
 leaves_parsed m p =
-    leaves_spelled declaring (tree_of m)
+    leaves_spelled role.Declaring (tree_of m)
     ∙ (sym (append-nil (lexeme_names (spell (tree_of m))))
     ∙ (sym (lexeme_names-append (spell (tree_of m)) (EndOfText ∷ []))
     ∙ (ap lexeme_names p.places ∙ names_from m.source.tokens 0)))
@@ -186,13 +188,13 @@ leaves_are_identifiers m p =
 
 ascending_looked_up : (low : ℕ) (xs : List (Role × ℕ)) (high : ℕ) → Ascending low (names_only xs) high → Ascending low (looked_up_only xs) high
 ascending_looked_up low [] high p = p
-ascending_looked_up low ((looked_up, n) ∷ xs) high p = (p.0, ascending_looked_up (n + 1) xs high p.1)
-ascending_looked_up low ((declaring, n) ∷ xs) high p = ascending_lower low (n + 1) (looked_up_only xs) high (omega (arith, p.0)) (ascending_looked_up (n + 1) xs high p.1)
-ascending_looked_up low ((closing_name, n) ∷ xs) high p = ascending_lower low (n + 1) (looked_up_only xs) high (omega (arith, p.0)) (ascending_looked_up (n + 1) xs high p.1)
-ascending_looked_up low ((field_name, n) ∷ xs) high p = ascending_lower low (n + 1) (looked_up_only xs) high (omega (arith, p.0)) (ascending_looked_up (n + 1) xs high p.1)
-ascending_looked_up low ((module_name, n) ∷ xs) high p = ascending_lower low (n + 1) (looked_up_only xs) high (omega (arith, p.0)) (ascending_looked_up (n + 1) xs high p.1)
+ascending_looked_up low ((role.LookedUp, n) ∷ xs) high p = (p.0, ascending_looked_up (n + 1) xs high p.1)
+ascending_looked_up low ((role.Declaring, n) ∷ xs) high p = ascending_lower low (n + 1) (looked_up_only xs) high (omega (arith, p.0)) (ascending_looked_up (n + 1) xs high p.1)
+ascending_looked_up low ((role.ClosingName, n) ∷ xs) high p = ascending_lower low (n + 1) (looked_up_only xs) high (omega (arith, p.0)) (ascending_looked_up (n + 1) xs high p.1)
+ascending_looked_up low ((role.FieldName, n) ∷ xs) high p = ascending_lower low (n + 1) (looked_up_only xs) high (omega (arith, p.0)) (ascending_looked_up (n + 1) xs high p.1)
+ascending_looked_up low ((role.ModuleName, n) ∷ xs) high p = ascending_lower low (n + 1) (looked_up_only xs) high (omega (arith, p.0)) (ascending_looked_up (n + 1) xs high p.1)
 
 -- so do those that are looked up
 pub occurrences_ascend : {s : Sort} (t : Tree ℕ s) (low high : ℕ) → Ascending low (leaves t) high → Ascending low (occurrences t) high
 occurrences_ascend t low high p =
-    subst (λ l. Ascending low l high) (looked_up-occurrences declaring (λ n xs. refl) t) (ascending_looked_up low (identifiers declaring t) high p)
+    subst (λ l. Ascending low l high) (looked_up-occurrences role.Declaring (λ n xs. refl) t) (ascending_looked_up low (identifiers role.Declaring t) high p)

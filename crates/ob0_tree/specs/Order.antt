@@ -4,7 +4,9 @@ use Rattle.std.specs.List.{HoldsAt}
 use Rattle.ob0_scan.specs.declared.lexeme.TokenKind.{TokenKind}
 use Rattle.ob0_scan.specs.declared.lexeme.TokenKind.TheVariants as kind
 use Rattle.ob0_scan.specs.declared.lexeme.Token.{Token}
-use Rattle.ob0_tree.specs.Tree.{Role, Sort, Tree, identifiers, declaring}
+use Rattle.ob0_tree.specs.declared.tree.Role.{Role}
+use Rattle.ob0_tree.specs.declared.tree.Role.TheVariants as role
+use Rattle.ob0_tree.specs.Tree.{Sort, Tree, identifiers}
 
 -- Numbers that ascend: none is less than low or less than one before it or the same, and all are less than high.
 abbrev pub Ascending : ℕ → List ℕ → ℕ → Type 0
@@ -16,7 +18,7 @@ names_only xs = map (λ x. x.1) xs
 
 -- all identifiers of a tree, in text order
 abbrev pub leaves : {N : Type 0} {s : Sort} → Tree N s → List N
-leaves t = names_only (identifiers declaring t)
+leaves t = names_only (identifiers role.Declaring t)
 
 -- the index, where the token is an identifier
 abbrev pub identifier_at : ℕ → TokenKind → List ℕ

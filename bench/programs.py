@@ -1,0 +1,213 @@
+"""Programs that do the same in Oberon-0, Lua and Python: for each a name and three texts.
+
+A run allows 64 open calls and 100,000 turns of each execution of a loop, so the work stands in nested loops."""
+
+PROGRAMS = {
+    "nested loops, 2,000,000 turns": (
+        """MODULE Loops;
+VAR i, j, sum: INTEGER;
+BEGIN
+  i := 0; sum := 0;
+  WHILE i < 2000 DO
+    j := 0;
+    WHILE j < 1000 DO
+      sum := (sum * 3 + i + j) MOD 1000003; j := j + 1
+    END;
+    i := i + 1
+  END;
+  Write(sum); WriteLn
+END Loops.
+""",
+        """local i, sum = 0, 0
+while i < 2000 do
+  local j = 0
+  while j < 1000 do
+    sum = (sum * 3 + i + j) % 1000003; j = j + 1
+  end
+  i = i + 1
+end
+print(sum)
+""",
+        """def main():
+    i, total = 0, 0
+    while i < 2000:
+        j = 0
+        while j < 1000:
+            total = (total * 3 + i + j) % 1000003
+            j = j + 1
+        i = i + 1
+    print(total)
+main()
+""",
+    ),
+    "a sieve up to 60,000, 5 times": (
+        """MODULE Sieve;
+VAR a: ARRAY 60000 OF BOOLEAN; i, j, turn, count: INTEGER;
+BEGIN
+  turn := 0;
+  WHILE turn < 5 DO
+    i := 0; count := 0;
+    WHILE i < 60000 DO a[i] := FALSE; i := i + 1 END;
+    i := 2;
+    WHILE i < 60000 DO
+      IF ~a[i] THEN
+        count := count + 1; j := i + i;
+        WHILE j < 60000 DO a[j] := TRUE; j := j + i END
+      END;
+      i := i + 1
+    END;
+    turn := turn + 1
+  END;
+  Write(count); WriteLn
+END Sieve.
+""",
+        """local a, count = {}, 0
+for turn = 1, 5 do
+  count = 0
+  for i = 0, 59999 do a[i] = false end
+  local i = 2
+  while i < 60000 do
+    if not a[i] then
+      count = count + 1
+      local j = i + i
+      while j < 60000 do a[j] = true; j = j + i end
+    end
+    i = i + 1
+  end
+end
+print(count)
+""",
+        """def main():
+    a = [False] * 60000
+    for turn in range(5):
+        count, i = 0, 0
+        while i < 60000:
+            a[i] = False
+            i = i + 1
+        i = 2
+        while i < 60000:
+            if not a[i]:
+                count = count + 1
+                j = i + i
+                while j < 60000:
+                    a[j] = True
+                    j = j + i
+            i = i + 1
+    print(count)
+main()
+""",
+    ),
+    "calls, the 24th Fibonacci number": (
+        """MODULE Calls;
+VAR r: INTEGER;
+PROCEDURE Fib(n: INTEGER; VAR r: INTEGER);
+VAR a, b: INTEGER;
+BEGIN
+  IF n < 2 THEN r := n ELSE Fib(n - 1, a); Fib(n - 2, b); r := a + b END
+END Fib;
+BEGIN Fib(24, r); Write(r); WriteLn END Calls.
+""",
+        """local function fib(n)
+  if n < 2 then return n end
+  local a = fib(n - 1)
+  local b = fib(n - 2)
+  return a + b
+end
+print(fib(24))
+""",
+        """def fib(n):
+    if n < 2:
+        return n
+    a = fib(n - 1)
+    b = fib(n - 2)
+    return a + b
+print(fib(24))
+""",
+    ),
+    "a product of 64 by 64 matrices": (
+        """MODULE Product;
+TYPE Matrix = ARRAY 64 OF ARRAY 64 OF INTEGER;
+VAR a, b, c: Matrix; i, j, k, sum: INTEGER;
+BEGIN
+  i := 0;
+  WHILE i < 64 DO
+    j := 0;
+    WHILE j < 64 DO a[i][j] := i + j; b[i][j] := i - j; j := j + 1 END;
+    i := i + 1
+  END;
+  i := 0; sum := 0;
+  WHILE i < 64 DO
+    j := 0;
+    WHILE j < 64 DO
+      k := 0; c[i][j] := 0;
+      WHILE k < 64 DO c[i][j] := c[i][j] + a[i][k] * b[k][j]; k := k + 1 END;
+      sum := (sum + c[i][j]) MOD 1000003; j := j + 1
+    END;
+    i := i + 1
+  END;
+  Write(sum); WriteLn
+END Product.
+""",
+        """local a, b, c, sum = {}, {}, {}, 0
+for i = 0, 63 do
+  a[i], b[i], c[i] = {}, {}, {}
+  for j = 0, 63 do a[i][j] = i + j; b[i][j] = i - j end
+end
+for i = 0, 63 do
+  for j = 0, 63 do
+    c[i][j] = 0
+    for k = 0, 63 do c[i][j] = c[i][j] + a[i][k] * b[k][j] end
+    sum = (sum + c[i][j]) % 1000003
+  end
+end
+print(sum)
+""",
+        """def main():
+    a = [[i + j for j in range(64)] for i in range(64)]
+    b = [[i - j for j in range(64)] for i in range(64)]
+    total = 0
+    for i in range(64):
+        for j in range(64):
+            c = 0
+            for k in range(64):
+                c = c + a[i][k] * b[k][j]
+            total = (total + c) % 1000003
+    print(total)
+main()
+""",
+    ),
+    "a procedure's array of 10,000 copied 200 times": (
+        """MODULE Copies;
+TYPE Line = ARRAY 10000 OF INTEGER;
+VAR a: Line; i, sum: INTEGER;
+PROCEDURE Last(a: Line; VAR r: INTEGER);
+BEGIN a[0] := r; r := (a[9999] + a[0]) MOD 1000003 END Last;
+BEGIN
+  i := 0;
+  WHILE i < 10000 DO a[i] := i; i := i + 1 END;
+  i := 0; sum := 0;
+  WHILE i < 200 DO Last(a, sum); i := i + 1 END;
+  Write(sum); WriteLn
+END Copies.
+""",
+        """local a, sum = {}, 0
+for i = 0, 9999 do a[i] = i end
+local function last(given, r)
+  local a = table.move(given, 0, 9999, 0, {})
+  a[0] = r
+  return (a[9999] + a[0]) % 1000003
+end
+for i = 1, 200 do sum = last(a, sum) end
+print(sum)
+""",
+        """def last(given, r):
+    a = given[:]
+    a[0] = r
+    return (a[9999] + a[0]) % 1000003
+a, total = list(range(10000)), 0
+for i in range(200):
+    total = last(a, total)
+print(total)
+""",
+    ),
+}

@@ -1,0 +1,260 @@
+#!/usr/bin/env python3
+"""Times bin/ob0 and prints what it finds; nothing fails by time.
+
+  bench/run.py [WORD..]   the measurements whose names hold one of the words; with no word all of them"""
+import os
+import re
+import select
+import shutil
+import subprocess
+import sys
+import tempfile
+import threading
+import time
+
+HERE = os.path.dirname(os.path.abspath(__file__))
+sys.dont_write_bytecode = True
+sys.path[:0] = [HERE, os.path.join(os.path.dirname(HERE), "tests")]
+
+import corpus  # noqa: E402
+from features import BUILT  # noqa: E402
+from harness import BINARY, EXIT, SHUTDOWN, did_change, did_open, extent, frame, frames, initialize  # noqa: E402
+
+MIB = 1 << 20
+MEASURES = []
+
+
+def measure(name, *needs):
+    """Makes a function a measurement under this name, which needs these features."""
+
+    def take(function):
+        MEASURES.append((name, needs, function))
+        return function
+
+    return take
+
+
+def said(what, value):
+    print(f"  {what:<58} {value}", flush=True)
+
+
+def megabytes(count):
+    return f"{count / MIB:.1f} MiB"
+
+
+def watch(pid, peak):
+    """Keeps the peak memory of a process, which it looks at each millisecond (its parent's would be counted by wait4)."""
+    try:
+        while True:
+            with open(f"/proc/{pid}/status", encoding="ascii", errors="replace") as file:
+                found = re.search(r"VmHWM:\s+(\d+)", file.read())
+            if not found:
+                return
+            peak[0] = int(found[1]) * 1024
+            time.sleep(0.001)
+    except OSError:
+        pass
+
+
+class Timed:
+    """A run of a command on bytes as its standard input: seconds, peak memory in bytes, what it wrote."""
+
+    def __init__(self, words, given, cwd=None):
+        peak = [0]
+        with tempfile.TemporaryFile() as file, tempfile.TemporaryFile() as out:
+            file.write(given)
+            file.seek(0)
+            start = time.monotonic()
+            process = subprocess.Popen(words, stdin=file, stdout=out, stderr=subprocess.DEVNULL, cwd=cwd)
+            watcher = threading.Thread(target=watch, args=(process.pid, peak))
+            watcher.start()
+            self.status = process.wait()
+            self.seconds = time.monotonic() - start
+            watcher.join()
+            out.seek(0)
+            self.out = out.read()
+        self.memory = peak[0]
+
+
+def best(count, run):
+    """The quickest of some runs."""
+    return min((run() for _ in range(count)), key=lambda it: it.seconds)
+
+
+def letter_at(text, version):
+    """A change of one letter in the middle of a text: as a range where that is built, else as the whole text."""
+    middle = text.index("(", len(text) // 2)
+    line = text.count("\n", 0, middle)
+    column = middle - (text.rfind("\n", 0, middle) + 1)
+    if BUILT["changes"]:
+        return did_change([{"range": extent(f"{line}:{column}-{line}:{column}"), "text": " "}], version=version)
+    return did_change(text[:middle] + " " * version + text[middle:], version=version)
+
+
+@measure("serve: 1 MiB opened and changed 20 times")
+def served():
+    text = corpus.module(MIB - 100)
+    talk = [initialize(), did_open(text), *(did_change(text + " " * at, version=at) for at in range(2, 22)), SHUTDOWN, EXIT]
+    given = frames(talk)
+    found = best(3, lambda: Timed([BINARY, "serve"], given))
+    copied = best(3, lambda: Timed(["cat"], given))
+    said("bytes in", f"{len(given):,}")
+    said("seconds", f"{found.seconds:.3f}")
+    said("bytes a second", f"{len(given) / found.seconds:,.0f}")
+    said("peak memory", megabytes(found.memory))
+    said("`cat` of the same bytes, seconds", f"{copied.seconds:.3f}")
+    said("ratio to `cat`", f"{found.seconds / copied.seconds:.1f}")
+    same_count = found.out.count(b'"diagnostics":[]')
+    if found.status or same_count != 21:
+        said("NOTE: the talk ended otherwise than expected", f"status {found.status}, {same_count} empty lists")
+
+
+def opened(text, times):
+    """Seconds for one open of a text through `serve`, over so many of them, and the peak memory."""
+    empty = frames([initialize(), SHUTDOWN, EXIT])
+    given = frames([initialize(), *(did_open(text, version=at) for at in range(times)), SHUTDOWN, EXIT])
+    found, nothing = best(3, lambda: Timed([BINARY, "serve"], given)), best(3, lambda: Timed([BINARY, "serve"], empty))
+    return max(found.seconds - nothing.seconds, 1e-9) / times, found.memory
+
+
+def growth(what, sizes, make, each):
+    """Prints seconds, bytes a second and memory for growing sizes, and the ratio of the last to the first, by size."""
+    rows = []
+    for size in sizes:
+        text = make(size)
+        seconds, memory = each(text, size)
+        rows.append((len(text), seconds))
+        speed = f"{len(text) / seconds / 1e6:7.2f} MB/s"
+        said(f"{what} {size:,}: {len(text):,} bytes", f"{seconds * 1000:9.2f} ms  {speed}  {megabytes(memory)}")
+    (small, first), (large, last) = rows[0], rows[-1]
+    said(f"{what}: time grew by {last / first:.1f} where the text grew by {large / small:.1f}", f"ratio {last / first / (large / small):.2f}")
+
+
+@measure("serve: what an open costs, from 10 KB to 1 MiB")
+def growing():
+    sizes = [10000, 100000, MIB]
+    each = lambda text, size: opened(text, max(3, 3 * MIB // size // 4))
+    growth("module of", sizes, corpus.module, each)
+    growth("module on one line of", sizes, lambda size: corpus.module(size, on_line=True), each)
+
+
+@measure("serve: from a keystroke to the diagnostics, on 1 MiB")
+def keystroke():
+    text = corpus.module(MIB - 1000)
+    with subprocess.Popen([BINARY, "serve"], stdin=subprocess.PIPE, stdout=subprocess.PIPE, bufsize=0) as process:
+        held = b""
+
+        def send(message):
+            given = memoryview(frame(message))
+            while given:
+                given = given[process.stdin.write(given) :]
+
+        def take():
+            nonlocal held
+            while True:
+                head, empty, rest = held.partition(b"\r\n\r\n")
+                if empty and len(rest) >= int(head.partition(b": ")[2]):
+                    held = rest[int(head.partition(b": ")[2]) :]
+                    return
+                select.select([process.stdout], [], [])
+                held += os.read(process.stdout.fileno(), MIB)
+
+        send(initialize())
+        take()
+        send(did_open(text))
+        take()
+        taken = []
+        for version in range(2, 22):
+            change = letter_at(text, version)
+            start = time.monotonic()
+            send(change)
+            take()
+            taken.append(time.monotonic() - start)
+        for message in (SHUTDOWN, EXIT):
+            send(message)
+        process.stdin.close()
+        process.wait()
+    taken.sort()
+    said("the change is sent as", "a range" if BUILT["changes"] else "a whole text")
+    said("milliseconds: least, middle, most", ", ".join(f"{1000 * taken[at]:.1f}" for at in (0, len(taken) // 2, -1)))
+
+
+def on_file(words, text, given=b""):
+    """A run of the program on a file with this text."""
+    with tempfile.TemporaryDirectory() as room:
+        with open(os.path.join(room, "m.mod"), "w", encoding="utf-8") as file:
+            file.write(text)
+        return best(3, lambda: Timed([BINARY, words[0], "m.mod", *words[1:]], given, cwd=room))
+
+
+@measure("check: corpora, a large block, deep procedures", "types")
+def checked():
+    def each(text, _):
+        found = on_file(["check"], text)
+        if found.status:
+            said("NOTE: the module isn't well-typed", found.out[:200].decode(errors="replace"))
+        return found.seconds, found.memory
+
+    growth("module of", [10000, 100000, MIB], corpus.module, each)
+    growth("one block, declarations", [500, 5000, 25000], corpus.block, each)
+    growth("procedures inside one another", [10, 50, 99], corpus.nest, each)
+
+
+@measure("check: 50,000 declarations in one block", "types")
+def large_block():
+    names = ",".join(f"v{at}" for at in range(50000))
+    body = ";".join(f"v{at}:=v{at - 1}" for at in range(1, 50000, 3))
+    found = on_file(["check"], f"MODULE M;VAR {names}:INTEGER;BEGIN {body} END M.")
+    said("50,000 names and 33,333 uses", f"{found.seconds * 1000:.0f} ms  {megabytes(found.memory)}  status {found.status}")
+
+
+@measure("questions: references of one name, 10,000 and 100,000", "questions")
+def referred():
+    def each(text, _):
+        ask = {"context": {"includeDeclaration": True}, "position": {"character": 18, "line": 0}, "textDocument": {"uri": "file:///m"}}
+        request = {"id": 5, "jsonrpc": "2.0", "method": "textDocument/references", "params": ask}
+        talk = lambda more: frames([initialize(), did_open(text), *more, SHUTDOWN, EXIT])
+        without = best(3, lambda: Timed([BINARY, "serve"], talk([])))
+        found = best(3, lambda: Timed([BINARY, "serve"], talk([request])))
+        return max(found.seconds - without.seconds, 1e-9), found.memory
+
+    for name, on_line in (("on many lines", False), ("on one line", True)):
+        growth(f"references {name},", [10000, 80000], lambda size, on_line=on_line: corpus.uses(size, on_line), each)
+
+
+@measure("run: loops, arrays and calls, against Lua and Python", "run")
+def ran():
+    import programs
+
+    for name, (text, lua, python) in programs.PROGRAMS.items():
+        found = on_file(["run"], text)
+        said(f"{name}: ob0", f"{found.seconds:.3f} s  {megabytes(found.memory)}  status {found.status}")
+        for command, other in (("lua5.4", lua), ("python3", python)):
+            if not shutil.which(command):
+                said(f"{name}: {command}", "missing: install it (on Debian: apt-get install " + command + ")")
+                continue
+            with tempfile.TemporaryDirectory() as room:
+                file = os.path.join(room, "program")
+                with open(file, "w", encoding="utf-8") as it:
+                    it.write(other)
+                beside = best(3, lambda: Timed([command, file], b""))
+            agrees = "the same output" if beside.out.split() == found.out.split() else "ANOTHER OUTPUT"
+            said(f"{name}: {command}", f"{beside.seconds:.3f} s  ob0 takes {found.seconds / beside.seconds:.1f} times that; {agrees}")
+
+
+def main(words):
+    if not os.access(BINARY, os.X_OK):
+        print("bin/ob0 is missing: make it with `make build`", file=sys.stderr)
+        return 2
+    for name, needs, function in MEASURES:
+        if words and not any(it in name for it in words):
+            continue
+        lacking = [it for it in needs if not BUILT[it]]
+        print(f"{name}{': skipped, ' + ', '.join(lacking) + ' not built yet' if lacking else ''}", flush=True)
+        if not lacking:
+            function()
+    return 0
+
+
+if __name__ == "__main__":
+    sys.exit(main(sys.argv[1:]))

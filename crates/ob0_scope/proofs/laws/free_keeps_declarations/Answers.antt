@@ -1,0 +1,5 @@
+use Rattle.ob0_scope.proofs.RenamedDeclarations.{free_keeps_declarations-holds}
+use Rattle.ob0_scope.proofs.laws.free_keeps_declarations.Goals as goal
+
+pub returns : goal.returns
+returns c = free_keeps_declarations-holds

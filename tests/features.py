@@ -1,0 +1,38 @@
+"""What the program does today, in one table.
+
+A test names the features that it needs. Where one of them is False here, the test is skipped, and the run says so by
+name. A test of its own (test_features.py) asks the program for each feature, and fails where this table is wrong: so a
+feature that was built is switched on here, and its tests then run."""
+
+BUILT = {
+    "syntax": False,  # diagnostics of the parser
+    "types": False,  # diagnostics of scopes and types; `ob0 check`
+    "changes": False,  # changes with a range
+    "utf8": False,  # positions in UTF-8 units where the client offers them
+    "questions": False,  # hover, definition, references, prepareRename
+    "fields": False,  # questions at fields of records
+    "run": False,  # `ob0 run`
+    "rename": False,  # rename and `ob0 rename`
+    "inline": False,  # code actions
+    "format": False,  # formatting
+}
+
+
+def capabilities(prepare=False, literals=False, utf8=False):
+    """What `initialize` announces to a client that supports these."""
+    found = {"textDocumentSync": {"change": 2 if BUILT["changes"] else 1, "openClose": True}}
+    if BUILT["questions"]:
+        found.update(hoverProvider=True, definitionProvider=True, referencesProvider=True)
+    if BUILT["rename"]:
+        found["renameProvider"] = {"prepareProvider": True} if prepare else True
+    if BUILT["inline"] and literals:
+        found["codeActionProvider"] = {"codeActionKinds": ["refactor.inline"]}
+    if BUILT["format"]:
+        found["documentFormattingProvider"] = True
+    if BUILT["utf8"] and utf8:
+        found["positionEncoding"] = "utf-8"
+    return found
+
+
+# The bytes of the answer to `initialize` with id 1, for a client that supports nothing.
+FIRST_ANSWER = 230 if BUILT["format"] else 196 if BUILT["rename"] else 174 if BUILT["questions"] else 101

@@ -1,0 +1,190 @@
+"""Changes with a range, in both units: what the server holds is what the editor has."""
+import random
+
+from features import BUILT
+from harness import Server, compact, did_change, did_open, extent, holds, same, test, told
+
+ENDS = ("\r\n", "\r", "\n")
+
+
+def units(text, utf8):
+    return len(text.encode()) if utf8 else len(text.encode("utf-16-le")) // 2
+
+
+class Edited:
+    """A text as an editor holds it. Places are counted in characters."""
+
+    def __init__(self, text, utf8=False):
+        self.text, self.utf8 = text, utf8
+
+    def starts(self):
+        """Where the lines start."""
+        found, at = [0], 0
+        while at < len(self.text):
+            ending = next((it for it in ENDS if self.text.startswith(it, at)), "")
+            at += len(ending) or 1
+            if ending:
+                found.append(at)
+        return found
+
+    def position(self, at):
+        """The position of a place that is not between CR and LF."""
+        starts = self.starts()
+        line = max(count for count, start in enumerate(starts) if start <= at)
+        return {"line": line, "character": units(self.text[starts[line] : at], self.utf8)}
+
+    def change(self, start, end, new):
+        """Replaces, and gives the change."""
+        found = {"range": {"start": self.position(start), "end": self.position(end)}, "text": new}
+        self.text = self.text[:start] + new + self.text[end:]
+        return found
+
+
+def faults(edited):
+    """What is told of a text of white space, letters, comments that are closed, and bad characters `$` and `😀`."""
+    found, depth, at, text = [], 0, 0, edited.text
+    while at < len(text):
+        pair = text[at : at + 2]
+        if pair == "(*" or pair == "*)" and depth:
+            depth += 1 if pair == "(*" else -1
+            at += 2
+            continue
+        if not depth and text[at] in "$😀":
+            places = {"end": edited.position(at + 1), "start": edited.position(at)}
+            found.append({"code": "BadChar", "message": "bad character", "range": places, "severity": 1})
+        at += 1
+    return found[:100]
+
+
+def is_between(text, at):
+    return text[at - 1 : at + 1] == "\r\n"
+
+
+def session(seed, utf8, steps):
+    """A random editing session; after each step the diagnostics show where the server has each bad character."""
+    chance = random.Random(seed)
+    offer = {"capabilities": {"general": {"positionEncodings": ["utf-8", "utf-16"] if utf8 else ["utf-16"]}}}
+    edited = Edited("$ a\r\n$ (* 😀 *) b\r$\n", utf8)
+    pieces = ["$", "a", "😀", "\r", "\n", "\r\n", " ", "é", "(* 😀\r\n *)", "b$b", ""]
+    pieces[7] = "(*é*)"
+    with Server(**offer) as server:
+        same("positionEncoding" in server.first["result"]["capabilities"], utf8, "whether the encoding is announced")
+        same(server.tell(did_open(edited.text)), faults(edited), "at first")
+        for step in range(steps):
+            changes = []
+            for _ in range(chance.choice([1, 1, 1, 2, 3])):
+                places = [it for it in range(len(edited.text) + 1) if not is_between(edited.text, it)]
+                start = chance.randrange(len(places))
+                end = min(len(places) - 1, start + chance.choice([0, 0, 1, 2, 5]))
+                # (a text past 60 characters shrinks again)
+                new = "" if len(edited.text) > 60 else chance.choice(pieces)
+                changes.append(edited.change(places[start], places[end], new))
+            if edited.text.count("(*") != edited.text.count("*)"):
+                edited.text = "$ a\r\n$ (* 😀 *) b\r$\n"
+                changes = [{"text": edited.text}]
+            if sum(it in "$😀" for it in edited.text) > 90:
+                raise AssertionError("the text is too long for the first 100 faults")
+            found = server.tell(did_change(changes, version=step + 2))
+            same(compact(found), compact(faults(edited)), f"step {step} of {edited.text!r}")
+        same(server.end(), 0, "the status")
+
+
+@test("changes: 1,000 random changes in UTF-16 units, with CR, CR LF and characters past U+FFFF", "changes")
+def utf16():
+    session(1, False, 1000)
+
+
+@test("changes: 1,000 random changes in UTF-8 units", "changes", "utf8")
+def utf8_units():
+    session(2, True, 1000)
+
+
+def changed(text, *changes, encodings=None):
+    """What is told once a text with these changes, pairs of a range and a new text, is held."""
+    capabilities = {"general": {"positionEncodings": encodings}} if encodings else {}
+    with Server(capabilities=capabilities) as server:
+        server.tell(did_open(text))
+        given = [{"range": extent(where), "text": new} if where else {"text": new} for where, new in changes]
+        return server.tell(did_change(given))
+
+
+def at_end(text, *changes, encodings=None):
+    """Where a bad character stands that is put behind all of the changed text."""
+    end = ("18446744073709551615:0-18446744073709551615:0", "$")
+    found = changed(text, *changes, end, encodings=encodings)
+    return [it["range"]["start"] for it in found][-1]
+
+
+@test("changes: lines and units", "changes")
+def lines():
+    place = lambda line, character: {"line": line, "character": character}
+    same(at_end("(* 😀 *) x := 1;"), place(0, 16), "units of UTF-16")
+    same(at_end("(* 😀 *) x := 1;", ("0:9-0:10", "yz")), place(0, 17), "a name replaced behind a pair")
+    same(at_end("(* 😀 *) x := 1;", ("0:9-0:10", "yz"), ("0:4-0:4", "!")), place(0, 18), "inside a pair: before it")
+    same(at_end("a\rb", ("1:0-1:0", "\n"), ("1:1-1:1", "\nc"), ("2:0-2:1", "d")), place(2, 1), "CR and LF become one ending")
+    same(at_end("a\r\nb", ("0:1-1:0", "")), place(0, 2), "an ending taken away")
+    same(at_end("ab\ncd", ("1:1-0:1", "x")), place(0, 3), "a range that is swapped")
+    same(at_end("ab\ncd", ("0:99-1:0", "")), place(0, 4), "a character past the line's length")
+    same(at_end("ab\ncd", ("7:3-9:9", "e")), place(1, 3), "a line past the last")
+    same(at_end("ab", ("0:0-0:1", ""), (None, "xyz"), ("0:1-0:2", "")), place(0, 2), "a whole text between ranges")
+
+
+@test("changes: places in a text show by a bad character", "changes")
+def places():
+    bad = lambda where: [told("BadChar", "bad character", where)]
+    same(changed("(* 😀 *) x", ("0:9-0:9", "$")), bad("0:9-0:10"), "behind a pair")
+    same(changed("(* 😀 *) x", ("0:4-0:4", "$")), [], "in the comment")
+    same(changed("a\rb", ("1:0-1:0", "\n"), ("1:0-1:0", "$")), bad("1:0-1:1"), "behind CR LF")
+    same(changed("a\r\nb", ("0:9-0:9", "$")), bad("0:1-0:2"), "before CR LF")
+
+
+@test("changes: units of UTF-8", "changes", "utf8")
+def utf8_lines():
+    place = lambda line, character: {"line": line, "character": character}
+    both = ["utf-8", "utf-16"]
+    text = "(* 😀 *) x := 1;"
+    same(at_end(text, encodings=both), place(0, 18), "units of UTF-8")
+    same(at_end(text, encodings=["utf-32"]), place(0, 16), "what isn't offered isn't taken")
+    same(at_end(text, ("0:11-0:12", "yz"), encodings=both), place(0, 19), "a name behind four bytes")
+    same(at_end(text, ("0:5-0:5", "!"), encodings=both), place(0, 19), "inside a character: before it")
+
+
+@test("changes: utf-8 is announced where it is offered, and UTF-16 is taken else", "utf8")
+def announced():
+    for encodings, wanted in ((["utf-8"], True), ([7, "utf-8"], True), (["utf-16"], False), ([], False), ("utf-8", False)):
+        with Server(capabilities={"general": {"positionEncodings": encodings}}) as server:
+            found = server.first["result"]["capabilities"]
+        same(found.get("positionEncoding"), "utf-8" if wanted else None, repr(encodings))
+
+
+@test("changes: params that can't be read, and a document out of step", "changes")
+def broken():
+    module = "MODULE M; END M."
+    with Server() as server:
+        same(server.tell(did_open(module)), [])
+        for at, change in enumerate(
+            [
+                {"range": {"start": {"line": -1, "character": 0}, "end": {"line": 0, "character": 0}}, "text": ""},
+                {"range": {"start": {"line": 0, "character": 1.0}, "end": {"line": 0, "character": 2}}, "text": ""},
+                {"range": {"start": {"line": 18446744073709551616, "character": 0}, "end": {"line": 0, "character": 2}}, "text": ""},
+                {"range": {}, "text": ""},
+                {"range": extent("0:0-0:0")},
+                {"text": 7},
+                7,
+            ]
+        ):
+            server.send(did_change([change], version=10 * at))
+            # (a ranged change is skipped now, and sends nothing)
+            server.send(did_change([{"range": extent("0:0-0:0"), "text": "$"}], version=10 * at + 1))
+            same(server.tell(did_change(module, version=10 * at + 2)), [], f"after {change}")
+
+
+@test("changes: a text of many lines is edited near its end", "changes")
+def long_text():
+    lines = [f"(* line {at} *)" for at in range(20000)]
+    with Server() as server:
+        same([it["code"] for it in server.tell(did_open("\n".join(lines)))], ["Syntax"] if BUILT["syntax"] else [])
+        for step in range(50):
+            found = server.tell(did_change([{"range": extent("19990:3-19990:3"), "text": "*)$(*"}], version=step + 2))
+            same(len(found), min(step + 1, 100), "the bad characters")
+        holds(found[0]["range"]["start"]["line"] == 19990, "the line")

@@ -1,0 +1,226 @@
+"""Documents and what is published of them: opens, changes, closes, versions, faults of scanning."""
+from harness import answer, did_change, did_close, did_open, holds, initialize, notice, published, request, same, serve
+from harness import Server, extent, frames, told, test
+from features import BUILT, capabilities
+
+FIRST = answer(1, {"capabilities": capabilities()})
+MODULE = "MODULE M; VAR x: INTEGER; END M."
+LIMIT = 1048576
+
+
+def of(text, **named):
+    """What is published where a text is opened."""
+    with Server() as server:
+        return server.tell(did_open(text, **named))
+
+
+def talk(*contents):
+    """What is sent behind the first answer."""
+    found = serve([initialize(), *contents])
+    same((found.err, found.status), (b"", 1), "the end")
+    same(found.contents()[0], FIRST, "the first answer")
+    return found.contents()[1:]
+
+
+@test("documents: `12ab $`, byte by byte")
+def two_faults():
+    found = serve([initialize(), did_open("12ab $")])
+    wanted = (
+        b'Content-Length: 397\r\n\r\n{"jsonrpc":"2.0","method":"textDocument/publishDiagnostics","params":'
+        b'{"diagnostics":[{"code":"NumberJoinsLetter","message":"letter after number","range":{"end":{"character":4,'
+        b'"line":0},"start":{"character":0,"line":0}},"severity":1},{"code":"BadChar","message":"bad character",'
+        b'"range":{"end":{"character":6,"line":0},"start":{"character":5,"line":0}},"severity":1}],'
+        b'"uri":"file:///m","version":1}}'
+    )
+    same(found.out, frames([FIRST]) + wanted, "what was written")
+
+
+# text: what is told of it
+FAULTS = {
+    "(* (* *)": [told("OpenComment", "comment not closed", "0:0-0:2")],
+    "x (* (* *) (*": [told("OpenComment", "comment not closed", "0:2-0:4")],
+    "$ (*": [told("BadChar", "bad character", "0:0-0:1"), told("OpenComment", "comment not closed", "0:2-0:4")],
+    "(* $": [told("OpenComment", "comment not closed", "0:0-0:2")],
+    "(*)": [told("OpenComment", "comment not closed", "0:0-0:2")],
+    "2147483648": [told("NumberTooLarge", "number too large", "0:0-0:10")],
+    "0002147483648": [told("NumberTooLarge", "number too large", "0:0-0:13")],
+    "99999999999999999999999x 1a2b": [
+        told("NumberJoinsLetter", "letter after number", "0:0-0:24"),
+        told("NumberJoinsLetter", "letter after number", "0:25-0:29"),
+    ],
+    "0FH": [told("NumberJoinsLetter", "letter after number", "0:0-0:3")],
+    "a_b": [told("BadChar", "bad character", "0:1-0:2")],
+    "é": [told("BadChar", "bad character", "0:0-0:1")],
+    "😀$": [told("BadChar", "bad character", "0:0-0:2"), told("BadChar", "bad character", "0:2-0:3")],
+    "\ufeff": [told("BadChar", "bad character", "0:0-0:1")],
+    "\u00a0\u2028\v\f\0": [told("BadChar", "bad character", f"0:{at}-0:{at + 1}") for at in range(5)],
+    "a\r\n(* 😀 *) $": [told("BadChar", "bad character", "1:9-1:10")],
+    "\n\r\r\n$\n$": [told("BadChar", "bad character", "3:0-3:1"), told("BadChar", "bad character", "4:0-4:1")],
+    "(* \r\n \n \r *) !": [told("BadChar", "bad character", "3:4-3:5")],
+    "\"'": [told("BadChar", "bad character", "0:0-0:1"), told("BadChar", "bad character", "0:1-0:2")],
+}
+
+
+@test("documents: faults of scanning, with their ranges in UTF-16 units")
+def faults():
+    with Server() as server:
+        for version, (text, wanted) in enumerate(FAULTS.items()):
+            same(server.tell(did_open(text, version=version)), wanted, repr(text))
+
+
+@test("documents: texts that scan well")
+def good():
+    texts = [
+        MODULE,
+        "MODULE M; CONST c = 2147483647; d = 000000000002147483647; END M.",
+        "MODULE M; (* (* *) (* 😀 $ 12ab *) *) END M. (**)",
+        "(***)MODULE M;\tEND\r\nM\n.\r",
+        "MODULE M; VAR a: ARRAY 2 OF INTEGER; b: BOOLEAN; BEGIN a[0] := -(1 + 2); b := ~(1 <= 2) & (3 >= 2) OR FALSE END M.",
+    ]
+    with Server() as server:
+        for text in texts:
+            same(server.tell(did_open(text)), [], text)
+
+
+@test("documents: the first 100 faults are told")
+def many_faults():
+    same(len(of("$" * 100)), 100, "of 100 faults")
+    found = of("$" * 1000 + "(*")
+    same(found, [told("BadChar", "bad character", f"0:{at}-0:{at + 1}") for at in range(100)], "of 1,001 faults")
+
+
+@test("documents: a text of 1,048,576 bytes is taken, one byte more is too long")
+def lengths():
+    too_long = [told("TooLong", "text too long", "0:0-0:0")]
+    with Server() as server:
+        same(server.tell(did_open(MODULE.ljust(LIMIT))), [], "at the limit")
+        same(server.tell(did_open(MODULE.ljust(LIMIT + 1))), too_long, "past the limit")
+        same(server.tell(did_open("$" * (LIMIT + 1))), too_long, "other faults past the limit")
+        same(server.tell(did_open("é" * (LIMIT // 2 + 1))), too_long, "in bytes past the limit, in characters not")
+
+
+@test("documents: a change of the whole text")
+def whole():
+    found = talk(did_open("$"), did_change(MODULE, version=7), did_change("$", version=-8))
+    bad = told("BadChar", "bad character", "0:0-0:1")
+    same(found, [published([bad]), published([], version=7), published([bad], version=-8)])
+
+
+@test("documents: of two changes in one notification the last one stands")
+def two_changes():
+    same(talk(did_open("$"), did_change([{"text": "$$"}, {"text": MODULE}]))[1:], [published([], version=2)])
+
+
+@test("documents: an empty list of changes sets the version")
+def no_change():
+    same(talk(did_open("$"), did_change([], version=5))[1:], [published([told("BadChar", "bad character", "0:0-0:1")], version=5)])
+
+
+@test("documents: params that can't be read put a document out of step, until a whole text comes")
+def out_of_step():
+    broken = notice("textDocument/didChange", {"textDocument": {"uri": "file:///m", "version": 2}})
+    skipped = did_change([{"range": extent("0:0-0:1"), "text": ""}], version=3)
+    found = talk(did_open("$"), broken, skipped, did_change([], version=4), did_change(MODULE, version=5))
+    same(found[1:], [published([], version=5)])
+
+
+@test("documents: an open that can't be read, of an open document, puts it out of step")
+def broken_open():
+    broken = notice("textDocument/didOpen", {"textDocument": {"uri": "file:///m", "version": 2}})
+    same(talk(did_open("$"), broken, did_change([], version=3), did_open(MODULE, version=4))[1:], [published([], version=4)])
+
+
+@test("documents: versions are whole numbers of 64 bits")
+def versions():
+    with Server() as server:
+        for version in (-9223372036854775808, 9223372036854775807, 0):
+            same(server.tell(did_open(MODULE, version=version)), [], f"version {version}")
+    for version in (9223372036854775808, 1.5, "1", None, True):
+        same(talk(did_open(MODULE, version=version)), [], f"version {version!r}")
+
+
+@test("documents: notes that do nothing")
+def nothing():
+    notes = [
+        did_change(MODULE),
+        did_close(),
+        notice("textDocument/didOpen"),
+        notice("textDocument/didOpen", {"textDocument": {"uri": 7, "version": 1, "text": ""}}),
+        notice("textDocument/didOpen", {"textDocument": {"uri": "file:///n", "version": 1}}),
+        notice("textDocument/didOpen", [1]),
+        notice("textDocument/didClose", {}),
+        notice("textDocument/didSave", {"textDocument": {"uri": "file:///m"}}),
+    ]
+    same(talk(*notes), [])
+
+
+@test("documents: a close takes the diagnostics back, once, and without a version")
+def closed():
+    found = talk(did_open("$"), did_close(), did_close(), did_change("$"), did_open(MODULE, version=3))
+    same(found[1:], [published([], version=None), published([], version=3)])
+
+
+@test("documents: an open one is opened anew")
+def opened_anew():
+    same(talk(did_open("$"), did_open(MODULE, version=1)), [published([told("BadChar", "bad character", "0:0-0:1")]), published([])])
+
+
+@test("documents: several beside one another, by their uri as a text")
+def several():
+    found = talk(
+        did_open("$", uri="a"),
+        did_open(MODULE, uri="A"),
+        did_open(MODULE, uri=""),
+        did_close(uri="A"),
+        did_change("$$", uri="a", version=2),
+    )
+    bad = [told("BadChar", "bad character", f"0:{at}-0:{at + 1}") for at in range(2)]
+    same(
+        found,
+        [
+            published(bad[:1], uri="a"),
+            published([], uri="A"),
+            published([], uri=""),
+            published([], uri="A", version=None),
+            published(bad, uri="a", version=2),
+        ],
+    )
+
+
+@test("documents: a null member of a change counts as absent")
+def null_range():
+    same(talk(did_open("$"), did_change([{"range": None, "text": MODULE}]))[1:], [published([], version=2)])
+
+
+@test("documents: a change with a range can't be read while changes are of whole texts")
+def ranged():
+    if BUILT["changes"]:
+        return
+    found = talk(did_open("$"), did_change([{"range": extent("0:0-0:1"), "text": ""}]), did_change("$", version=3))
+    same(found[1:], [published([told("BadChar", "bad character", "0:0-0:1")], version=3)])
+
+
+@test("documents: a long conversation keeps each document")
+def long_talk():
+    with Server() as server:
+        for number in range(200):
+            uri, text = f"file:///{number % 7}", "$" * (number % 5) + "(**)"
+            found = server.tell(did_open(text, uri) if number < 7 else did_change(text, uri, number))
+            holds(len(found) >= number % 5, f"document {number}")
+        same(server.ask("x").get("error", {}).get("message"), "unknown method")
+        same(server.end(), 0, "the status")
+
+
+@test("documents: questions of a document that isn't open, or is out of step", "questions")
+def refused_questions():
+    where = {"position": {"character": 0, "line": 0}, "textDocument": {"uri": "file:///m"}}
+    broken = notice("textDocument/didChange", {"textDocument": {"uri": "file:///m", "version": 2}})
+    with Server() as server:
+        unopened = {"code": -32803, "message": "unopened"}
+        same(server.ask("textDocument/hover", where).get("error"), unopened)
+        server.tell(did_open(MODULE))
+        server.send(broken)
+        same(server.ask("textDocument/hover", where).get("error"), {"code": -32803, "message": "out of step"})
+        same(server.tell(did_change(MODULE, version=3)), [])
+        server.send(request(99, "textDocument/hover", {}))
+        same(server.take().get("error"), {"code": -32602, "message": "bad params"})

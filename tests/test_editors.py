@@ -1,0 +1,225 @@
+"""Real editors, without a screen: Neovim by its own client, Emacs by eglot.
+
+An editor that is absent is installed with apt-get. OB0_NO_EDITORS=1 leaves these tests out, by name."""
+import functools
+import json
+import os
+import shutil
+import subprocess
+import tempfile
+
+import harness
+from features import BUILT
+from harness import Failed, Skipped, TOP, extent, same, test
+
+EDITORS = os.path.join(TOP, "tests", "editors")
+ENDED = {"code": 0, "signal": 0}
+
+
+def install(packages, of):
+    """Installs Debian's packages."""
+    if not shutil.which("apt-get"):
+        raise Failed(f"{of} is missing, and apt-get too, which would install it: install {of} by hand")
+    words = [] if os.geteuid() == 0 else ["sudo", "-n"]
+    print(f"{of} is missing: installing {' '.join(packages)} with apt-get", flush=True)
+    environment = {**os.environ, "DEBIAN_FRONTEND": "noninteractive"}
+    how = {"stdin": subprocess.DEVNULL, "stdout": subprocess.PIPE, "stderr": subprocess.STDOUT, "env": environment}
+    for step in (["update"], ["install", "-y", "--no-install-recommends", *packages]):
+        try:
+            ran = subprocess.run([*words, "apt-get", *step], timeout=900, check=False, **how)
+        except (OSError, subprocess.TimeoutExpired) as why:
+            raise Failed(f"{of} is missing, and apt-get {step[0]} ended early: {why}") from None
+    if ran.returncode:
+        said = ran.stdout.decode(errors="replace")[-600:]
+        raise Failed(f"{of} is missing, and apt-get could not install {' '.join(packages)}:\n{said}")
+
+
+def wanted():
+    if os.environ.get("OB0_NO_EDITORS"):
+        raise Skipped("OB0_NO_EDITORS is set")
+
+
+@functools.lru_cache(None)
+def neovim():
+    wanted()
+    if not shutil.which("nvim"):
+        install(["neovim"], "Neovim")
+    return "nvim"
+
+
+@functools.lru_cache(None)
+def emacs():
+    wanted()
+    if not shutil.which("emacs"):
+        install(["emacs-nox", "elpa-eglot"], "Emacs")
+    words = ["emacs", "--batch", "--eval", "(progn (require 'package) (package-initialize) (require 'eglot))"]
+    if subprocess.run(words, stdin=subprocess.DEVNULL, capture_output=True, check=False).returncode:
+        install(["elpa-eglot"], "eglot")
+    return "emacs"
+
+
+def play(command, script, steps, text):
+    """What an editor found in these steps on a file with this text: pairs of a step and what was found."""
+    with tempfile.TemporaryDirectory() as room:
+        file, report = os.path.join(room, "m.mod"), os.path.join(room, "report")
+        with open(file, "w", encoding="utf-8", newline="") as it:
+            it.write(text)
+        own = {"OB0": os.path.abspath(harness.BINARY), "OB0_FILE": file, "OB0_REPORT": report, "OB0_STEPS": steps, "HOME": room}
+        how = {"stdin": subprocess.DEVNULL, "stdout": subprocess.PIPE, "stderr": subprocess.STDOUT, "cwd": room}
+        try:
+            ran = subprocess.run(
+                [*command, os.path.join(EDITORS, script)], env={**os.environ, **own}, timeout=240, check=False, **how
+            )
+        except subprocess.TimeoutExpired:
+            raise Failed(f"{command[0]} had not ended after 240 seconds") from None
+        found = []
+        if os.path.isfile(report):
+            with open(report, encoding="utf-8") as it:
+                found = [json.loads(line.replace(room, "")) for line in it]
+        if ran.returncode:
+            raise Failed(f"{command[0]} ended with {ran.returncode}: {found[-1:]}\n{ran.stdout.decode(errors='replace')[-1500:]}")
+    return [(it["step"], it["found"]) for it in found]
+
+
+def in_neovim(steps, text):
+    return play([neovim(), "--headless", "--clean", "-n", "-S"], "neovim.lua", steps, text)
+
+
+def in_emacs(steps, text):
+    return play([emacs(), "--batch", "-l"], "emacs.el", steps, text)
+
+
+GOOD = "MODULE M; BEGIN WriteLn END M.\n"
+TYPED = "MODULE M; VAR x: INTEGER; BEGIN WriteLn END M.\n"
+
+
+@test("Neovim: a bad character comes and goes, and the server ends cleanly")
+def neovim_scanning():
+    bad = [[0, 16, 0, 17, "BadChar", "bad character"]]
+    wanted_steps = [("opened", []), ("typed", bad), ("mended", []), ("undone", bad), ("redone", []), ("ended", ENDED)]
+    same(in_neovim("scanning", GOOD), wanted_steps)
+
+
+def while_typing():
+    """What is shown after each letter of `; x := 1`."""
+    typed, at = "; x := 1", TYPED.index(" END")
+    wanted_steps = [("opened", [])]
+    for count, letter in enumerate(typed, 1):
+        found = []
+        name, end = at + 2, at + count + 1
+        if letter == ":":
+            found = [[0, at + 4, 0, at + 5, "Syntax", "expected END"]]
+        elif count in (6, 7):
+            found = [[0, end, 0, end + 3, "Syntax", "expected expression"]]
+        elif count in (3, 4) and BUILT["types"]:
+            found = [[0, name, 0, name + 1, "WrongKind", "wrong kind of name"]]
+        wanted_steps.append((f"typed {letter}", found))
+    return [*wanted_steps, ("ended", ENDED)]
+
+
+@test("Neovim: a syntax fault comes and goes while a statement is typed", "syntax")
+def neovim_typing():
+    same(in_neovim("typing", TYPED), while_typing())
+
+
+FAULTY = """MODULE M;
+CONST k = 1 DIV 0; m = 1;
+VAR i: INTEGER; b: BOOLEAN;
+PROCEDURE P(VAR j: INTEGER); BEGIN j := 1 END Q;
+BEGIN i := b; P(3); P; z := 1; i.f := 1; i[0] := 1; Write(P); m := 2 END M.
+"""
+FAULTY_TOLD = [
+    "1:10-1:17 ConstFault: constant has a fault",
+    "3:46-3:47 EndName: wrong closing name",
+    "4:11-4:12 TypeMismatch: wrong type",
+    "4:16-4:17 NotVariable: not a variable",
+    "4:20-4:21 ArgumentCount: wrong number of arguments",
+    "4:23-4:24 Undeclared: not declared",
+    "4:32-4:33 NotRecord: not a record",
+    "4:42-4:43 NotArray: not an array",
+    "4:58-4:59 WrongKind: wrong kind of name",
+    "4:62-4:63 NotVariable: not a variable",
+]
+MENDED = """MODULE M;
+CONST k = 1 DIV 1; m = 1;
+VAR i: INTEGER; b: BOOLEAN;
+PROCEDURE P(VAR j: INTEGER); BEGIN j := 1 END P;
+BEGIN i := 0; P(i); b := m = 1; Write(k) END M.
+"""
+
+
+def as_neovim_shows():
+    found = []
+    for it in FAULTY_TOLD:
+        where, code, message = it.split(" ", 2)
+        place = extent(where)
+        ends = [place[end][part] for end in ("start", "end") for part in ("line", "character")]
+        found.append([*ends, code[:-1], message])
+    return found
+
+
+def as_emacs_shows():
+    lines = FAULTY.split("\n")
+    offset = lambda at: sum(len(it) + 1 for it in lines[: at["line"]]) + at["character"]
+    found = []
+    for it in FAULTY_TOLD:
+        where, code, message = it.split(" ", 2)
+        found.append([offset(extent(where)["start"]), offset(extent(where)["end"]), f" [{code[:-1]}]: {message}"])
+    return found
+
+
+@test("Neovim: the diagnostics of a faulty module, and none of the mended one", "types")
+def neovim_types():
+    os.environ["OB0_MENDED"] = MENDED
+    same(in_neovim("mending", FAULTY), [("opened", as_neovim_shows()), ("mended", []), ("ended", ENDED)])
+
+
+@test("Emacs: the diagnostics of a faulty module, and none of the mended one", "types")
+def emacs_types():
+    os.environ["OB0_MENDED"] = MENDED
+    same(in_emacs("mending", FAULTY), [("opened", as_emacs_shows()), ("mended", []), ("ended", 0)])
+
+
+@test("Emacs: a bad character comes and goes, and the server ends cleanly")
+def emacs_scanning():
+    bad = [[16, 17, " [BadChar]: bad character"]]
+    same(in_emacs("scanning", GOOD), [("opened", []), ("typed", bad), ("mended", []), ("ended", 0)])
+
+
+CALLS = """MODULE M;
+PROCEDURE F(n: INTEGER);
+BEGIN IF n > 0 THEN Write(n); F(n - 1) END END F;
+BEGIN F(2) END M.
+"""
+PLACES = ["1:10-1:11", "2:30-2:31", "2:47-2:48", "3:6-3:7"]
+HOVER = {"contents": {"kind": "plaintext", "value": "PROCEDURE F(n: INTEGER)"}, "range": extent("3:6-3:7")}
+DEFINITION = {"range": extent("1:10-1:11"), "uri": "file:///m.mod"}
+REFERENCES = [{"range": extent(it), "uri": "file:///m.mod"} for it in PLACES]
+
+
+@test("Neovim: hover, go to definition and references", "questions")
+def neovim_questions():
+    found = in_neovim("questions", CALLS)
+    wanted_steps = [("opened", []), ("hover", HOVER), ("definition", DEFINITION), ("references", REFERENCES)]
+    same(found, [*wanted_steps, ("jumped", [2, 10]), ("ended", ENDED)])
+
+
+@test("Emacs: hover, go to definition and references", "questions")
+def emacs_questions():
+    found = in_emacs("questions", CALLS)
+    wanted_steps = [("opened", []), ("hover", HOVER), ("definition", DEFINITION), ("references", REFERENCES)]
+    same(found, [*wanted_steps, ("places", [[2, 10], [3, 30], [3, 47], [4, 6]]), ("jumped", [1, 10]), ("ended", 0)])
+
+
+RENAMED = CALLS.replace("F", "G").replace("IG", "IF")
+
+
+@test("Neovim: a rename is applied", "rename")
+def neovim_rename():
+    wanted_steps = [("opened", []), ("renamed", []), ("text", RENAMED.rstrip("\n").split("\n")), ("ended", ENDED)]
+    same(in_neovim("rename", CALLS), wanted_steps)
+
+
+@test("Emacs: a rename is applied", "rename")
+def emacs_rename():
+    same(in_emacs("rename", CALLS), [("opened", []), ("renamed", []), ("text", RENAMED), ("ended", 0)])

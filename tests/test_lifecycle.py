@@ -1,0 +1,157 @@
+"""The order of checks and the table of errors: JSON, shape, lifecycle, method, params."""
+from features import capabilities
+from harness import EXIT, SHUTDOWN, answer, did_close, did_open, error, frame, initialize, notice, published, request
+from harness import run, same, serve, test
+
+FIRST = answer(1, {"capabilities": capabilities()})
+SHUT = answer(2, None)
+HOVER = request(5, "textDocument/hover", {"position": {"character": 0, "line": 0}, "textDocument": {"uri": "file:///m"}})
+NOT_JSON = error(None, -32700, "not JSON")
+NO_MESSAGE = error(None, -32600, "not a message")
+MODULE = "MODULE M; END M."
+
+# name: what comes, what goes, the status
+TALKS = {
+    "a request before initialize": ([HOVER], [error(5, -32002, "not initialized")], 1),
+    "an unknown request before initialize": ([request(5, "x")], [error(5, -32002, "not initialized")], 1),
+    "shutdown before initialize": ([SHUTDOWN], [error(2, -32002, "not initialized")], 1),
+    "a notification before initialize is dropped": (
+        [did_open(MODULE), initialize(), did_close()],
+        [FIRST],
+        1,
+    ),
+    "initialize twice": ([initialize(), initialize(2)], [FIRST, error(2, -32600, "already initialized")], 1),
+    "a request after shutdown": (
+        [initialize(), SHUTDOWN, HOVER, EXIT],
+        [FIRST, SHUT, error(5, -32600, "shut down")],
+        0,
+    ),
+    "initialize after shutdown": (
+        [initialize(), SHUTDOWN, initialize(3), EXIT],
+        [FIRST, SHUT, error(3, -32600, "shut down")],
+        0,
+    ),
+    "shutdown twice": ([initialize(), SHUTDOWN, SHUTDOWN], [FIRST, SHUT, error(2, -32600, "shut down")], 1),
+    "a notification after shutdown is dropped": ([initialize(), SHUTDOWN, did_open("$"), EXIT], [FIRST, SHUT], 0),
+    "exit without shutdown": ([initialize(), EXIT], [FIRST], 1),
+    "exit before initialize": ([EXIT, initialize()], [], 1),
+    "nothing is answered after exit": ([initialize(), SHUTDOWN, EXIT, HOVER, "["], [FIRST, SHUT], 0),
+    "exit as a request": ([initialize(), request("a", "exit")], [FIRST, error("a", -32601, "unknown method")], 1),
+    "shutdown as a notification is ignored": (
+        [initialize(), notice("shutdown"), SHUTDOWN, EXIT],
+        [FIRST, SHUT],
+        0,
+    ),
+    "initialize as a notification is ignored": ([notice("initialize", {}), initialize()], [FIRST], 1),
+    "didOpen as a request": (
+        [initialize(), {**did_open(MODULE), "id": 7}],
+        [FIRST, error(7, -32601, "unknown method")],
+        1,
+    ),
+    "unknown requests": (
+        [initialize(), request(-3, "$/x"), request("é", "textDocument/completion", {})],
+        [FIRST, error(-3, -32601, "unknown method"), error("é", -32601, "unknown method")],
+        1,
+    ),
+    "unknown notifications are ignored": (
+        [initialize(), notice("$/cancelRequest", {"id": 1}), notice("initialized", {}), notice("x")],
+        [FIRST],
+        1,
+    ),
+    "responses are ignored": (
+        ['{"id":7,"result":null}', '{"error":{},"id":1.5}', initialize()],
+        [FIRST],
+        1,
+    ),
+    "params of initialize that are no object leave the session as it was": (
+        [request(1, "initialize", []), request(1, "initialize"), initialize()],
+        [error(1, -32602, "bad params"), error(1, -32602, "bad params"), FIRST],
+        1,
+    ),
+    "members of initialize of another shape count as absent": (
+        [request(1, "initialize", {"capabilities": 7, "general": {"positionEncodings": 1}})],
+        [FIRST],
+        1,
+    ),
+    "ids": (
+        [
+            initialize(),
+            request(-9223372036854775808, "x"),
+            request(18446744073709551615, "x"),
+            request("", "x"),
+        ],
+        [
+            FIRST,
+            error(-9223372036854775808, -32601, "unknown method"),
+            error(18446744073709551615, -32601, "unknown method"),
+            error("", -32601, "unknown method"),
+        ],
+        1,
+    ),
+    "no messages": (
+        [
+            "[]",
+            "7",
+            "null",
+            '"x"',
+            "{}",
+            '{"id":1}',
+            '{"method":7}',
+            '{"id":1,"method":null,"result":1}',
+            '{"id":null,"method":"shutdown"}',
+            '{"id":1.5,"method":"shutdown"}',
+            '{"id":1.0,"method":"shutdown"}',
+            '{"id":-0,"method":"shutdown"}',
+            '{"id":1e2,"method":"shutdown"}',
+            '{"id":18446744073709551616,"method":"shutdown"}',
+            '{"id":true,"method":"shutdown"}',
+            '{"id":[],"method":"shutdown"}',
+        ],
+        [NO_MESSAGE] * 16,
+        1,
+    ),
+    "no JSON": (["", " ", "{", "[1,]", "nul", "{'a':1}", b"\xff", b'"\xc3"', "[]x"], [NOT_JSON] * 9, 1),
+    "no JSON is told after shutdown too": ([initialize(), SHUTDOWN, "", "[]"], [FIRST, SHUT, NOT_JSON, NO_MESSAGE], 1),
+    "127 arrays in one another are JSON, 128 are not": (
+        ["[" * 127 + "]" * 127, "[" * 128 + "]" * 128],
+        [NO_MESSAGE, NOT_JSON],
+        1,
+    ),
+    "the member jsonrpc isn't looked at": (
+        ['{"id":1,"method":"initialize","params":{}}', '{"id":2,"jsonrpc":"1","method":"shutdown"}'],
+        [FIRST, SHUT],
+        1,
+    ),
+    "white space round JSON": ([" {\n\t\"id\" : 1, \"method\" : \"initialize\", \"params\" : { } }\r\n"], [FIRST], 1),
+    "a text with escapes": (
+        [initialize(), did_open("MODULE M; END M.", uri="file:///\"\\\u0001\u007f😀")],
+        [FIRST, published([], uri="file:///\"\\\u0001\u007f😀")],
+        1,
+    ),
+}
+
+
+def make(name, comes, goes, status):
+    @test(f"lifecycle: {name}")
+    def talk():
+        found = serve(b"".join(frame(it) for it in comes))
+        same(found.contents(), goes, "what was sent")
+        same((found.err, found.status), (b"", status), "the end")
+
+
+for key, given in TALKS.items():
+    make(key, *given)
+
+
+@test("program: command lines that are refused are status 2, on standard error")
+def refused_lines():
+    for words in ([], ["x"], ["serve", "x"], ["serve", "--x"], ["--x"]):
+        found = run(words)
+        same((found.out, bool(found.err), found.status), (b"", True, 2), f"ob0 {' '.join(words)}")
+
+
+@test("program: help is told on standard output, status 0")
+def helped():
+    for words in (["--help"], ["help"], ["help", "serve"], ["serve", "--help"]):
+        found = run(words)
+        same((b"Usage:" in found.out, found.err, found.status), (True, b"", 0), f"ob0 {' '.join(words)}")

@@ -1,0 +1,197 @@
+"""Hover, definition, references and prepareRename through `serve`."""
+from harness import Server, answer, compact, did_open, extent, frames, initialize, place, request, same, serve, test
+
+URI = "file:///m"
+CALLS = """MODULE M;
+PROCEDURE F(n: INTEGER);
+BEGIN IF n > 0 THEN Write(n); F(n - 1) END END F;
+BEGIN F(2) END M.
+"""
+PLACES = ["1:10-1:11", "2:30-2:31", "2:47-2:48", "3:6-3:7"]
+
+
+def where(line, character, **more):
+    return {"position": place(line, character), "textDocument": {"uri": URI}, **more}
+
+
+class Asked(Server):
+    """A server that holds one text."""
+
+    def __init__(self, text, **capabilities):
+        super().__init__(capabilities=capabilities)
+        self.tell(did_open(text, URI))
+
+    def result(self, what, line, character, **more):
+        found = self.ask(f"textDocument/{what}", where(line, character, **more))
+        return found["result"] if "result" in found else found["error"]
+
+    def hover(self, line, character):
+        found = self.result("hover", line, character)
+        return found and (found["contents"]["value"], found["range"])
+
+    def references(self, line, character, include):
+        found = self.result("references", line, character, context={"includeDeclaration": include})
+        assert all(it["uri"] == URI for it in found)
+        return [it["range"] for it in found]
+
+    def definition(self, line, character):
+        found = self.result("definition", line, character)
+        return found and found["range"]
+
+
+@test("questions: hover, byte by byte", "questions")
+def hover_bytes():
+    found = serve(frames([initialize(), did_open(CALLS), request(3, "textDocument/hover", where(3, 7))])).contents()[2]
+    wanted = (
+        '{"id":3,"jsonrpc":"2.0","result":{"contents":{"kind":"plaintext","value":"PROCEDURE F(n: INTEGER)"},'
+        '"range":{"end":{"character":7,"line":3},"start":{"character":6,"line":3}}}}'
+    )
+    same(found, wanted)
+
+
+@test("questions: definition and references, byte by byte", "questions")
+def references_bytes():
+    asked = [
+        request(3, "textDocument/definition", where(2, 47)),
+        request(4, "textDocument/references", where(2, 47, context={"includeDeclaration": True})),
+        request(5, "textDocument/references", where(2, 47, context={"includeDeclaration": False})),
+        request(6, "textDocument/prepareRename", where(2, 47)),
+    ]
+    found = serve(frames([initialize(), did_open(CALLS), *asked])).contents()[2:]
+    locations = [{"range": extent(it), "uri": URI} for it in PLACES]
+    same(found[0], answer(3, locations[0]))
+    same(found[1], answer(4, locations))
+    same(found[2], answer(5, locations[1:]))
+    same(found[3], answer(6, extent(PLACES[2])))
+    same(
+        found[0],
+        '{"id":3,"jsonrpc":"2.0","result":{"range":{"end":{"character":11,"line":1},"start":{"character":10,"line":1}},"uri":"file:///m"}}',
+    )
+
+
+@test("questions: predeclared names and places without a name", "questions")
+def no_names():
+    with Asked(CALLS) as server:
+        write = [extent("2:20-2:25")]
+        same(server.hover(2, 20), ("predeclared Write", write[0]))
+        same(server.definition(2, 20), None)
+        same(server.result("prepareRename", 2, 20), None)
+        same(server.references(2, 20, True), write)
+        same(server.references(2, 20, False), write)
+        for line, character in ((0, 7), (0, 8), (0, 0), (2, 0), (3, 9), (3, 16), (9, 9)):
+            same(server.hover(line, character), None, f"hover at {line}:{character}")
+            same(server.references(line, character, True), [], f"references at {line}:{character}")
+            same(server.definition(line, character), None, f"definition at {line}:{character}")
+
+
+@test("questions: a text that isn't well-typed", "questions")
+def ill_typed():
+    with Asked("MODULE M") as server:
+        for what in ("hover", "definition", "prepareRename"):
+            same(server.result(what, 0, 7), None, what)
+        same(server.references(0, 7, True), [])
+
+
+@test("questions: positions that can't be read, and positions far off", "questions")
+def positions():
+    bad = {"code": -32602, "message": "bad params"}
+    with Asked(CALLS) as server:
+        for line in (18446744073709551616, -1, 1.0, "1", None, []):
+            same(server.result("hover", line, 0), bad, f"line {line!r}")
+        same(server.result("hover", 18446744073709551615, 18446744073709551615), None)
+        for params in (None, {}, [], {"position": place(0, 0)}, {"position": {}, "textDocument": {"uri": URI}}):
+            same(server.ask("textDocument/hover", params).get("error"), bad, f"params {params!r}")
+        same(server.ask("textDocument/references", where(0, 0)).get("error"), bad, "no context")
+        refused = {"code": -32803, "message": "unopened"}
+        same(server.ask("textDocument/hover", {**where(0, 0), "textDocument": {"uri": "x"}}).get("error"), refused)
+
+
+NAMES = """MODULE M;
+CONST c = 7; d = -c; on = c = 7;
+TYPE A = ARRAY c OF INTEGER; P = RECORD x, y: INTEGER; on: BOOLEAN END; E = RECORD END; I = INTEGER;
+VAR a: A; p: ARRAY 2 OF ARRAY 3 OF P; b: BOOLEAN; i: I;
+PROCEDURE Q(n: INTEGER; VAR p: P; q, r: BOOLEAN);
+VAR c: INTEGER;
+PROCEDURE R; BEGIN c := p.x; p.on := q; Q(c, p, q, on) END R;
+BEGIN c := n; R END Q;
+BEGIN a[c] := d; Q(a[0], p[0][1], on, b); b := TRUE END M.
+"""
+
+
+@test("questions: what hover tells of each kind of name", "questions")
+def hovers():
+    wanted = {
+        "1:6-1:7": "CONST c = 7",
+        "1:13-1:14": "CONST d = -7",
+        "1:21-1:23": "CONST on = TRUE",
+        "2:5-2:6": "TYPE A = ARRAY 7 OF INTEGER",
+        "2:29-2:30": "TYPE P = RECORD with 3 fields",
+        "2:72-2:73": "TYPE E = RECORD with 0 fields",
+        "2:88-2:89": "TYPE I = INTEGER",
+        "3:4-3:5": "VAR a: ARRAY 7 OF INTEGER",
+        "3:10-3:11": "VAR p: ARRAY 2 OF ARRAY 3 OF RECORD with 3 fields",
+        "3:50-3:51": "VAR i: INTEGER",
+        "4:10-4:11": "PROCEDURE Q(n: INTEGER; VAR p: RECORD with 3 fields; q: BOOLEAN; r: BOOLEAN)",
+        "4:12-4:13": "VAR n: INTEGER",
+        "4:28-4:29": "VAR p: RECORD with 3 fields",
+        "6:10-6:11": "PROCEDURE R()",
+        "6:19-6:20": "VAR c: INTEGER",
+        "6:51-6:53": "CONST on = TRUE",
+        "6:59-6:60": "PROCEDURE R()",
+        "8:47-8:51": "predeclared TRUE",
+        "2:20-2:27": "predeclared INTEGER",
+    }
+    with Asked(NAMES) as server:
+        for span, text in wanted.items():
+            at = extent(span)
+            for end in ("start", "end"):
+                same(server.hover(at[end]["line"], at[end]["character"]), (text, at), f"at {span}")
+
+
+@test("questions: names that are declared anew, closing names", "questions")
+def scopes():
+    with Asked(NAMES) as server:
+        same(server.definition(6, 19), extent("5:4-5:5"), "the inner c")
+        same(server.definition(8, 8), extent("1:6-1:7"), "the outer c")
+        same(server.references(1, 6, True), [extent(it) for it in ("1:6-1:7", "1:18-1:19", "1:26-1:27", "2:15-2:16", "8:8-8:9")])
+        same(server.references(6, 59, True), [extent(it) for it in ("6:10-6:11", "6:59-6:60", "7:14-7:15")])
+        same(server.references(7, 20, False), [extent(it) for it in ("6:40-6:41", "7:20-7:21", "8:17-8:18")])
+
+
+@test("questions: fields, by their record", "fields")
+def fields():
+    with Asked(NAMES) as server:
+        same(server.hover(6, 26), ("FIELD x: INTEGER", extent("6:26-6:27")))
+        same(server.definition(6, 26), extent("2:40-2:41"))
+        same(server.references(2, 56, True), [extent("2:55-2:57"), extent("6:31-6:33")])
+        same(server.result("prepareRename", 6, 31), extent("6:31-6:33"))
+    text = """MODULE M;
+TYPE R = RECORD a, b: INTEGER END;
+VAR r: R; s: RECORD a: INTEGER END; a: INTEGER;
+BEGIN r.a := 1; s.a := 2; a := r.a + s.a; Write(a) END M.
+"""
+    with Asked(text) as server:
+        same(server.hover(3, 8), ("FIELD a: INTEGER", extent("3:8-3:9")))
+        same(server.definition(3, 8), extent("1:16-1:17"))
+        same(server.references(3, 8, True), [extent(it) for it in ("1:16-1:17", "3:8-3:9", "3:33-3:34")])
+        same(server.references(3, 18, True), [extent(it) for it in ("2:20-2:21", "3:18-3:19", "3:39-3:40")])
+        same(server.references(3, 26, True), [extent(it) for it in ("2:36-2:37", "3:26-3:27", "3:48-3:49")])
+
+
+@test("questions: positions in UTF-8 units", "questions", "utf8")
+def utf8():
+    text = "MODULE M; VAR x: INTEGER; BEGIN (* 😀é *) x := 1 END M."
+    with Asked(text, general={"positionEncodings": ["utf-8"]}) as server:
+        same(server.references(0, 14, True), [extent("0:14-0:15"), extent("0:45-0:46")])
+    with Asked(text) as server:
+        same(server.references(0, 14, True), [extent("0:14-0:15"), extent("0:42-0:43")])
+
+
+@test("questions: 5,000 references, on many lines and on one", "questions")
+def many():
+    for gap in ("\n", " ", "\r\n", " (* 😀 *) "):
+        text = "MODULE M; VAR x: INTEGER; BEGIN" + f"{gap}x := 1;" * 5000 + " END M."
+        with Asked(text) as server:
+            found = server.references(0, 14, True)
+        same(len(found), 5001, "how many")
+        same(len({compact(it) for it in found}), 5001, "how many places")

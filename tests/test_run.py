@@ -1,0 +1,171 @@
+"""`ob0 run`: outputs, the seven ends, bounds, input, statuses."""
+from harness import ends, on_file, run, same, test
+
+COUNT = """MODULE M;
+VAR n: INTEGER;
+PROCEDURE P; BEGIN Write(n) END P;
+BEGIN Read(n); WHILE n > 0 DO n := n - 1; WriteLn END; P END M.
+"""
+CALLS = """MODULE M;
+PROCEDURE F(n: INTEGER);
+BEGIN IF n > 0 THEN Write(n); F(n - 1) END END F;
+BEGIN F(2) END M.
+"""
+DIVISORS = "MODULE M; BEGIN Write(-7 DIV 3); Write((-7) DIV 3); Write((-7) MOD 3); Write(1 MOD 0) END M."
+ALIASES = """MODULE M;
+VAR a: ARRAY 2 OF INTEGER; i: INTEGER;
+PROCEDURE S(VAR p: INTEGER; q: INTEGER; VAR r: INTEGER);
+BEGIN i := 1; p := q + 1; r := p * 10; Write(q) END S;
+BEGIN i := 0; S(a[i], a[i], a[i]); Write(a[0]); Write(a[1]); S(i, i, i); Write(i); a[i] := 0 END M.
+"""
+ACTIVATIONS = """MODULE M;
+PROCEDURE P(n: INTEGER);
+VAR k: INTEGER;
+PROCEDURE Q; BEGIN k := k + n END Q;
+BEGIN IF n > 0 THEN P(n - 1) END; Q; Q; Write(k) END P;
+BEGIN P(2) END M.
+"""
+REPEATED = """MODULE M;
+VAR n: INTEGER;
+BEGIN Read(n); REPEAT Write(n); n := n - 1 UNTIL n <= 0 END M.
+"""
+
+
+def ran(text, out, end="", given="", calls=None, turns=None):
+    """Holds a run to its output and its end (none: Done)."""
+    bounds = [*(["--calls", str(calls)] if calls is not None else []), *(["--turns", str(turns)] if turns is not None else [])]
+    ends(on_file("run", text, *bounds, given=given.encode()), out, 1 if end else 0, f"fault: {end}\n" if end else "")
+
+
+def body(statements, variables="x, y: INTEGER; b: BOOLEAN"):
+    return f"MODULE M; VAR {variables}; BEGIN {statements} END M."
+
+
+@test("run: input, turns and calls under bounds", "run")
+def bounds():
+    ran(COUNT, "", "InputEnd")
+    ran(COUNT, "\n\n\n", "TurnBound", "7", 0, 3)
+    ran(COUNT, "\n\n", "CallBound", "2", 0, 3)
+    ran(COUNT, "\n\n 0", "", "2", 1, 3)
+    ran(CALLS, " 2 1", "", "", 3)
+    ran(CALLS, " 2 1", "CallBound", "", 2)
+    ran(CALLS, " 2 1")
+
+
+@test("run: names that hide others, procedures that stand later", "run")
+def scopes():
+    ran("MODULE M;\nVAR x: INTEGER;\nPROCEDURE P;\nVAR y: INTEGER;\nBEGIN y := 1; x := y END P;\nBEGIN P; Write(x) END M.\n", " 1")
+    outer = "MODULE M;\nVAR Q: INTEGER;\nPROCEDURE A;\nPROCEDURE P; BEGIN Q := 7 END P;\nPROCEDURE R; BEGIN Write(2) END R;\nBEGIN P; R END A;\n"
+    ran(outer + "BEGIN A; Write(Q) END M.\n", " 2 7")
+    ran(ACTIVATIONS, " 0 2 4", "", "", 4)
+    ran(ACTIVATIONS, "", "CallBound", "", 3)
+
+
+@test("run: aliases, and places that are fixed at the call", "run")
+def aliases():
+    ran(ALIASES, " 0 10 0 1 20", "Index", "", 1)
+    ran(ALIASES, "", "CallBound", "", 0)
+
+
+@test("run: arithmetic of 32 bits, DIV and MOD", "run")
+def arithmetic():
+    ran(DIVISORS, " -2 -3 2", "Divisor")
+    ran(body("Write(2147483647 + 1)"), "", "Overflow")
+    ran(body("Write(-(-2147483647 - 1))"), "", "Overflow")
+    ran(body("Write(7 MOD (-2))"), "", "Divisor")
+    ran(body("Write(7 DIV (-2))"), "", "Divisor")
+    ran(body("Write(-2147483647 - 1); Write((-2147483647 - 1) DIV 1); Write((-2147483647 - 1) MOD 2147483647)"), " -2147483648 -2147483648 2147483646")
+    ran(body("Write(65536 * 32767); Write(65536 * (-32768)); Write(65536 * 32768)"), " 2147418112 -2147483648", "Overflow")
+    ran(body("Write(-1); Write(+1); Write(007); Write(- 7 MOD 3); Write(1 - 2 - 3); Write(2 + 3 * 4)"), " -1 1 7 -1 -4 14")
+    ran(body("x := -2147483647; Write(x - 1); Write(x - 2)"), " -2147483648", "Overflow")
+
+
+@test("run: relations, & and OR that stop early", "run")
+def truth():
+    tell = lambda it: f"IF {it} THEN Write(1) ELSE Write(0) END"
+    ran(body("; ".join(tell(it) for it in ("1 < 2", "1 <= 1", "2 > 2", "2 >= 2", "1 = 1", "1 # 1", "TRUE = FALSE", "TRUE # b"))), " 1 1 0 1 1 0 0 1")
+    ran(body(tell("b & (1 DIV 0 = 1)") + ";" + tell("~b OR (1 DIV 0 = 1)")), " 0 1")
+    ran(body(tell("~b & (1 DIV 0 = 1)")), "", "Divisor")
+    ran(body(tell("b OR (1 DIV 0 = 1)")), "", "Divisor")
+
+
+@test("run: statements", "run")
+def statements():
+    ran(body("IF b THEN Write(1) ELSIF x = 0 THEN Write(2) ELSE Write(3) END"), " 2")
+    ran(body("IF b THEN Write(1) ELSIF b THEN Write(2) END; WriteLn; ;; Write(4)"), "\n 4")
+    ran(body("WHILE x < 3 DO y := 0; WHILE y < 2 DO Write(x * 10 + y); y := y + 1 END; x := x + 1 END"), " 0 1 10 11 20 21")
+    ran(body("WHILE x < 3 DO y := 0; WHILE y < 3 DO Write(y); y := y + 1 END; x := x + 1 END", "x, y: INTEGER"), " 0 1 2" * 3, "", "", None, 3)
+    ran(body("WHILE TRUE DO x := x + 1 END"), "", "TurnBound")
+    ran(body("WHILE x < 100000 DO x := x + 1 END; Write(x)"), " 100000")
+    ran(body("WHILE x <= 100000 DO x := x + 1 END; Write(x)"), "", "TurnBound")
+
+
+@test("run: REPEAT", "run")
+def repeated():
+    ran(REPEATED, " 0", "", "0", None, 0)
+    ran(REPEATED, " 2", "TurnBound", "2", None, 0)
+    ran(REPEATED, " 2", "TurnBound", "2", None, 1)
+    ran(REPEATED, " 2 1", "", "2", None, 2)
+
+
+@test("run: arrays and records", "run")
+def arrays():
+    ran(body("a[0] := 1; b := a; b[0] := 2; Write(a[0]); Write(b[0]); Write(b[1])", "a, b: ARRAY 2 OF INTEGER"), " 1 2 0")
+    ran(body("r.x[1].y := 5; Write(r.x[1].y); Write(r.x[0].y); IF ~r.b THEN WriteLn END", "r: RECORD x: ARRAY 2 OF RECORD y: INTEGER END; b: BOOLEAN END"), " 5 0\n")
+    ran(body("a[2] := 1", "a: ARRAY 2 OF INTEGER"), "", "Index")
+    ran(body("a[-1] := 1", "a: ARRAY 2 OF INTEGER"), "", "Index")
+    ran(body("Write(a[5])", "a: ARRAY 2 OF INTEGER"), "", "Index")
+    ran(body("a[a[0]] := 1 DIV a[1]", "a: ARRAY 2 OF INTEGER"), "", "Divisor")
+    ran(body("a[7] := 1 DIV a[1]", "a: ARRAY 2 OF INTEGER"), "", "Index")
+    text = "MODULE M; TYPE A = ARRAY 2 OF INTEGER; VAR a: A; PROCEDURE P(b: A; VAR c: A); BEGIN b[0] := 7; c[1] := b[0]; Write(b[1]) END P; "
+    ran(text + "BEGIN P(a, a); Write(a[0]); Write(a[1]) END M.", " 0 0 7")
+
+
+@test("run: variables begin anew at each call", "run")
+def anew():
+    ran("MODULE M; PROCEDURE P; VAR x: INTEGER; b: BOOLEAN; BEGIN IF b THEN Write(9) END; x := x + 1; b := TRUE; Write(x) END P; BEGIN P; P END M.", " 1 1")
+
+
+@test("run: the input", "run")
+def inputs():
+    text = body("Read(x); Read(y); Write(x + y)")
+    ran(text, " 3", "", "1 2")
+    ran(text, " -2147483648", "", "\t-2147483648\r\n 0 ")
+    ran(text, " 8", "", "0001 0007 9 9 9")
+    ran(text, "", "InputEnd", "1")
+    for given in ("1 x", "1 2 +3", "1 2147483648", "-2147483649", "1 - 2", "1.0 2", "1,2", "--1", "1 2 \x00", "é"):
+        ends(on_file("run", text, given=given.encode()), "", 4, "fault: Input\n")
+    ends(on_file("run", text, given=b"1 2 \xff"), "", 4, "fault: Input\n")
+    ends(on_file("run", text, given=b"1 2".ljust(16777216)), " 3", 0)
+    ends(on_file("run", text, given=b"1 2".ljust(16777217)), "", 4, "fault: Input\n")
+    ends(on_file("run", DIVISORS, given=b"1 x"), "", 4, "fault: Input\n")
+
+
+@test("run: a file that isn't well-typed is checked, and its input isn't read", "run")
+def ill_typed():
+    ends(on_file("run", "MODULE M; BEGIN x := 1 END M.", given=b"x"), "0:16: Undeclared: not declared\n", 1)
+    ends(on_file("run", "", given=b"x"), "0:0: Syntax: expected MODULE\n", 1)
+    ends(on_file("run", b"\xff"), "", 4, "fault: Utf8\n")
+    ends(run(["run", "/nowhere"]), "", 4, "fault: File\n")
+
+
+@test("run: command lines", "run")
+def lines():
+    for words in (["--calls", "65"], ["--turns", "100001"], ["--calls", "-1"], ["--calls", "x"], ["--calls"], ["y"]):
+        found = on_file("run", DIVISORS, *words)
+        same((found.out, bool(found.err), found.status), (b"", True, 2), " ".join(words))
+    ran(DIVISORS, " -2 -3 2", "Divisor", "", 64, 100000)
+    same(run(["run"]).status, 2)
+
+
+@test("run: a predeclared name that is declared anew", "run")
+def declared_anew():
+    ran("MODULE M; VAR x: INTEGER; PROCEDURE Write(VAR n: INTEGER); BEGIN n := 3 END Write; PROCEDURE P; BEGIN Write(x) END P; BEGIN P; IF x = 3 THEN WriteLn END END M.", "\n")
+    ran("MODULE M; CONST TRUE = 1 = 2; BEGIN IF TRUE THEN Write(1) ELSE Write(0) END END M.", " 0")
+
+
+@test("run: a long run, and much output", "run")
+def long_run():
+    text = body("WHILE x < 1000 DO y := 0; WHILE y < 100 DO Write(y); y := y + 1 END; WriteLn; x := x + 1 END")
+    line = "".join(f" {at}" for at in range(100)) + "\n"
+    ran(text, line * 1000)

@@ -1,0 +1,183 @@
+"""Bytes in, bytes out: the first conversation in every cutting, streams that end early, heads that are refused."""
+from features import FIRST_ANSWER, capabilities
+from harness import compact, frame, frames, holds, initialize, run, same, serve, serve_in_pieces, test, unframed
+from harness import SHUTDOWN, EXIT, request
+
+IN = [
+    b'{"id":1,"jsonrpc":"2.0","method":"initialize","params":{"capabilities":{}}}',
+    b'{"jsonrpc":"2.0","method":"textDocument/didOpen","params":{"textDocument":{"languageId":"oberon-0",'
+    b'"text":"MODULE M; BEGIN WriteLn END M.","uri":"file:///m","version":1}}}',
+    b'{"id":2,"jsonrpc":"2.0","method":"shutdown"}',
+    b'{"jsonrpc":"2.0","method":"exit"}',
+]
+HEADS_IN = [75, 171, 44, 33]
+# The first answer's capabilities are those of what is built; all else never changes.
+FIRST = b'{"id":1,"jsonrpc":"2.0","result":{"capabilities":%s}}' % compact(capabilities()).encode()
+OUT = [
+    FIRST,
+    b'{"jsonrpc":"2.0","method":"textDocument/publishDiagnostics","params":{"diagnostics":[],'
+    b'"uri":"file:///m","version":1}}',
+    b'{"id":2,"jsonrpc":"2.0","result":null}',
+]
+HEADS_OUT = [FIRST_ANSWER, 118, 38]
+
+
+def spelled(lengths, contents):
+    """Frames with the lengths as they stand in the table above, not counted."""
+    return b"".join(b"Content-Length: %d\r\n\r\n%s" % it for it in zip(lengths, contents))
+
+
+INPUT, OUTPUT = spelled(HEADS_IN, IN), spelled(HEADS_OUT, OUT)
+BORDERS = [sum(len(frame(it)) for it in IN[:count]) for count in range(len(IN) + 1)]
+
+
+def ended(found, out, status, err=b""):
+    same(found.out, out, "what was written")
+    same(found.err, err, "standard error")
+    same(found.status, status, "the status")
+
+
+@test("stream: the first conversation, all at once")
+def at_once():
+    same([len(it) for it in IN], HEADS_IN, "the lengths that come in")
+    same([len(it) for it in OUT], HEADS_OUT, "the lengths that go out")
+    ended(run(["serve"], INPUT), OUTPUT, 0)
+
+
+@test("stream: the first conversation, one byte at a time")
+def by_bytes():
+    ended(serve_in_pieces([INPUT[at : at + 1] for at in range(len(INPUT))]), OUTPUT, 0)
+
+
+@test("stream: the first conversation, cut between the two line ends of each head")
+def between_line_ends():
+    cuts = [border + len(b"Content-Length: %d\r\n" % length) for border, length in zip(BORDERS, HEADS_IN)]
+    pieces = [INPUT[start:end] for start, end in zip([0, *cuts], [*cuts, len(INPUT)])]
+    holds(all(it.endswith(b"\r\n") and it.startswith(b"\r\n") for it in pieces[1:-1]), "the cuts are elsewhere")
+    ended(serve_in_pieces(pieces), OUTPUT, 0)
+
+
+@test("stream: the first conversation, cut in two at each byte")
+def in_two():
+    for cut in range(1, len(INPUT)):
+        ended(serve_in_pieces([INPUT[:cut], INPUT[cut:]]), OUTPUT, 0)
+
+
+@test("stream: the first conversation, ended after each byte")
+def ended_early():
+    for end in range(len(INPUT) + 1):
+        whole = BORDERS.index(end) if end in BORDERS else None
+        count = len([it for it in BORDERS[1:] if it <= end])
+        out = frames(OUT[:count])
+        if end == len(INPUT):
+            ended(serve(INPUT), OUTPUT, 0)
+        elif whole is not None:
+            ended(serve(INPUT[:end]), out, 1)
+        else:
+            ended(serve(INPUT[:end]), out, 3, b"fault: Truncated\n")
+
+
+@test("stream: a content that ends early")
+def truncated():
+    ended(serve(b"Content-Length: 10\r\n\r\n123456789"), b"", 3, b"fault: Truncated\n")
+
+
+@test("stream: a bad head behind the first message")
+def bad_head():
+    ended(serve(INPUT[: BORDERS[1]] + b"Content-Length: x\r\n\r\n"), frame(FIRST), 3, b"fault: BadHead\n")
+
+
+@test("stream: nothing is read behind a bad head")
+def behind_bad_head():
+    ended(serve(b"Content-Length: x\r\n\r\n" + INPUT), b"", 3, b"fault: BadHead\n")
+
+
+@test("stream: an exit before a bad head in one piece wins")
+def exit_before_bad_head():
+    ended(serve(INPUT + b"Content-Length: x\r\n\r\n"), OUTPUT, 0)
+
+
+REFUSED = {
+    "two lengths": b"Content-Length: 2\r\nContent-Length: 2\r\n\r\n[]",
+    "no length": b"Content-Type: x\r\n\r\n[]",
+    "no field": b"\r\n[]",
+    "a length past the limit": b"Content-Length: 16777217\r\n\r\n",
+    "a length of 23 digits": b"Content-Length: 99999999999999999999999\r\n\r\n",
+    "a length with a plus": b"Content-Length: +5\r\n\r\n[]   ",
+    "a length below 0": b"Content-Length: -1\r\n\r\n",
+    "two numbers": b"Content-Length: 1 2\r\n\r\n[]",
+    "an empty length": b"Content-Length: \r\n\r\n[]",
+    "a length in hexadecimal": b"Content-Length: 0x2\r\n\r\n[]",
+    "a line with no colon": b"Content-Length: 2\r\nx\r\n\r\n[]",
+    "a space in a name": b"Content-Length: 2\r\nX y: z\r\n\r\n[]",
+    "17 fields": b"Content-Length: 2\r\n" + b"X: y\r\n" * 16 + b"\r\n[]",
+    "a head of 4,097 bytes": b"Content-Length: 2\r\nX: " + b"y" * (4097 - 26) + b"\r\n\r\n[]",
+    "4,096 bytes with no empty line": b"a" * 4096,
+}
+
+
+@test("stream: heads that are refused")
+def refused_heads():
+    same(REFUSED["a head of 4,097 bytes"].index(b"[]"), 4097, "the length of that head")
+    for name, given in REFUSED.items():
+        found = serve(given)
+        same((found.out, found.err, found.status), (b"", b"fault: BadHead\n", 3), name)
+
+
+NO_MESSAGE = frame('{"error":{"code":-32600,"message":"not a message"},"id":null,"jsonrpc":"2.0"}')
+TAKEN = {
+    "another case and a space behind": b"content-length:2 \r\n\r\n[]",
+    "other fields": b"X-a: b\r\nContent-Type: application/vscode-jsonrpc; charset=utf-8\r\nCONTENT-LENGTH: 2\r\n\r\n[]",
+    "leading zeros": b"Content-Length: 0002\r\n\r\n[]",
+    "tabs round the length": b"Content-Length: \t2\t \r\n\r\n[]",
+    "lines that end with LF alone": b"Content-Length: 2\n\n[]",
+    "16 fields": b"Content-Length: 2\r\n" + b"X: y\r\n" * 15 + b"\r\n[]",
+    "a head of 4,096 bytes": b"Content-Length: 2\r\nX: " + b"y" * (4096 - 26) + b"\r\n\r\n[]",
+}
+
+
+@test("stream: heads that are taken")
+def taken_heads():
+    same(TAKEN["a head of 4,096 bytes"].index(b"[]"), 4096, "the length of that head")
+    for name, given in TAKEN.items():
+        found = serve(given)
+        same((found.out, found.err, found.status), (NO_MESSAGE, b"", 1), name)
+
+
+@test("stream: 4,095 bytes with no empty line, and the end")
+def almost_a_bad_head():
+    ended(serve(b"a" * 4095), b"", 3, b"fault: Truncated\n")
+
+
+@test("stream: a content of 16,777,216 bytes")
+def largest_content():
+    content = b"[" + b" " * (16777216 - 2) + b"]"
+    ended(serve(b"Content-Length: 16777216\r\n\r\n" + content), NO_MESSAGE, 1)
+
+
+@test("stream: a length with nothing behind it takes no memory")
+def promised_content():
+    found = run(["serve"], b"Content-Length: 16777216\r\n\r\n[]")
+    ended(found, b"", 3, b"fault: Truncated\n")
+
+
+@test("stream: an end of input between messages is status 1, after shutdown too")
+def end_after_shutdown():
+    found = serve([initialize(), SHUTDOWN])
+    same((len(unframed(found.out)), found.err, found.status), (2, b"", 1))
+
+
+@test("stream: a reader that has gone is a fault of writing")
+def gone_reader():
+    import os
+    import subprocess
+
+    import harness
+
+    reader, writer = os.pipe()
+    os.close(reader)
+    how = {"stdin": subprocess.PIPE, "stdout": writer, "stderr": subprocess.PIPE}
+    with subprocess.Popen([harness.BINARY, "serve"], **how) as process:
+        os.close(writer)
+        _, err = process.communicate(frames([initialize(), request(2, "shutdown"), EXIT]), timeout=harness.SECONDS)
+    same((err, process.returncode), (b"fault: Write\n", 4))

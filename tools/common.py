@@ -1,0 +1,111 @@
+"""What the scripts share: where things are, what is missing and how to get it, and how long it took."""
+import hashlib
+import os
+import shutil
+import subprocess
+import sys
+import time
+
+TOP = os.path.dirname(os.path.dirname(os.path.abspath(__file__)))
+BINARY = os.path.join(TOP, "bin", "ob0")
+STAMP = BINARY + ".stamp"
+
+HOW_TO_GET = {
+    "rt": "it is the command of the Rattle toolchain, with which this repository is proved: install the "
+    "toolchain, and put the folder that holds rt on PATH",
+    "apt-get": "it installs Debian's packages: on another system install what is missing by hand",
+}
+
+
+def stop(why, status=2):
+    print(f"{os.path.basename(sys.argv[0])}: {why}", file=sys.stderr)
+    sys.exit(status)
+
+
+def need(command):
+    """The path of a command, or the end of the script, which says what is missing."""
+    found = shutil.which(command)
+    if not found:
+        stop(f"{command} is missing: {HOW_TO_GET.get(command, 'install it')}")
+    return found
+
+
+def clock(seconds):
+    """Minutes and seconds."""
+    return f"{int(seconds) // 60}:{int(seconds) % 60:02d}"
+
+
+class Timer:
+    def __init__(self):
+        self.start = time.monotonic()
+
+    def __str__(self):
+        return clock(time.monotonic() - self.start)
+
+
+def libraries():
+    """Each crate of crates.txt with the crates of this repository that its line names."""
+    lines = {}
+    with open(os.path.join(TOP, "crates.txt"), encoding="utf-8") as file:
+        for line in file:
+            line = line.partition("#")[0].strip()
+            if not line:
+                continue
+            head, _, after = line.partition(":")
+            lines[head.split()[0]] = after.split()
+    return {name: [it for it in given if it in lines] for name, given in lines.items()}
+
+
+def below(name, named=None, found=None):
+    """The crates that a crate stands on and the crate itself, lowest first."""
+    named = libraries() if named is None else named
+    found = [] if found is None else found
+    for it in named.get(name, []):
+        below(it, named, found)
+    if name not in found:
+        found.append(name)
+    return found
+
+
+def sources(names):
+    """The files that decide what the program is."""
+    files = [os.path.join(TOP, "crates.txt"), os.path.join(TOP, "HANDLES")]
+    for name in names:
+        for part in ("src", "specs", "proofs"):
+            for at, folders, inside in os.walk(os.path.join(TOP, "crates", name, part)):
+                folders.sort()
+                files += [os.path.join(at, it) for it in sorted(inside)]
+    return files
+
+
+def fingerprint():
+    """A sum over the toolchain's identity and all that the program is made of."""
+    total = hashlib.sha256()
+    ran = subprocess.run(["rt", "version"], stdout=subprocess.PIPE, stderr=subprocess.DEVNULL, stdin=subprocess.DEVNULL)
+    total.update(ran.stdout)
+    for file in sources(below("ob0")):
+        total.update(os.path.relpath(file, TOP).encode() + b"\0")
+        with open(file, "rb") as it:
+            total.update(it.read() + b"\0")
+    return total.hexdigest()
+
+
+def is_current():
+    """Whether bin/ob0 was made from what stands here."""
+    if not os.access(BINARY, os.X_OK):
+        return False
+    try:
+        with open(STAMP, encoding="utf-8") as file:
+            return file.read().strip() == fingerprint()
+    except OSError:
+        return False
+
+
+def keep(linked):
+    """Copies a linked program to bin/ob0."""
+    os.makedirs(os.path.dirname(BINARY), exist_ok=True)
+    shutil.copyfile(linked, BINARY + ".new")
+    os.chmod(BINARY + ".new", 0o755)
+    os.replace(BINARY + ".new", BINARY)
+    with open(STAMP, "w", encoding="utf-8") as file:
+        file.write(fingerprint() + "\n")

@@ -1,0 +1,72 @@
+#!/usr/bin/env python3
+"""The whole test: the gate (`rt ci`: every proof from nothing, the edits that must fail, the tests, the program as
+two compilers build it), and then the end-to-end tests on the program that the gate built.
+
+The last line is 'N passed, M failed' over both; it also goes into bin/results."""
+import os
+import re
+import subprocess
+import sys
+
+import common
+from common import TOP
+
+LINE = re.compile(r"^(\d+) passed, (\d+) failed$")
+RESULTS = os.path.join(TOP, "bin", "results")
+
+
+def stream(words):
+    """Runs a command, shows what it says, and returns its status and the counts of its last line that has them."""
+    counts = None
+    how = {"cwd": TOP, "stdin": subprocess.DEVNULL, "stdout": subprocess.PIPE, "stderr": subprocess.STDOUT}
+    with subprocess.Popen(words, **how) as process:
+        for line in process.stdout:
+            text = line.decode(errors="replace")
+            found = LINE.match(text.strip())
+            if found:
+                counts = int(found[1]), int(found[2])
+                text = f"{words[0]}: {text}" if words[0] == "rt" else f"end to end: {text}"
+            print(text, end="", flush=True)
+    passed, failed = counts or (0, 0)
+    if process.returncode and not failed or counts is None:
+        failed += 1
+    return passed, failed
+
+
+def gate():
+    """The gate's counts. The program that it builds becomes bin/ob0: it is not proved a second time."""
+    linked = os.path.join(TOP, "crates", "ob0", "out", "ob0")
+    for old in (linked, common.BINARY):
+        if os.path.exists(old):
+            os.remove(old)
+    counts = stream(["rt", "ci"])
+    if os.path.isfile(linked):
+        common.keep(linked)
+    return counts
+
+
+def main():
+    timer = common.Timer()
+    os.makedirs(os.path.dirname(RESULTS), exist_ok=True)
+    if os.path.exists(RESULTS):
+        os.remove(RESULTS)
+    common.need("rt")
+    print("== the gate", flush=True)
+    passed, failed = gate()
+    print(f"== the gate: {passed} passed, {failed} failed, {timer}", flush=True)
+    print("== end to end", flush=True)
+    if os.path.isfile(common.BINARY):
+        more, wrong = stream([sys.executable, os.path.join("tests", "run.py")])
+        passed, failed = passed + more, failed + wrong
+    else:
+        print("the gate built no program, so no end-to-end test ran", flush=True)
+        failed += 1
+    line = f"{passed} passed, {failed} failed"
+    with open(RESULTS, "w", encoding="utf-8") as file:
+        file.write(line + "\n")
+    print(f"== all of it took {timer}\n{line}", flush=True)
+    return 1 if failed else 0
+
+
+if __name__ == "__main__":
+    sys.exit(main())
