@@ -3,6 +3,7 @@ use Rattle.std.specs.Prelude.{ℕ, position, List, [], ◌∷◌, map, Option, S
 use denote.Ref.{Bor}
 use Rattle.ob0_scope.specs.Names.{Name, same_name}
 use Rattle.ob0_values.specs.declared.value.Member.{Member}
+use Rattle.ob0_values.specs.declared.value.Place as place
 use Rattle.ob0_values.specs.declared.value.Step.{Step}
 use Rattle.ob0_values.specs.declared.value.Step.TheVariants as step
 use Rattle.ob0_values.specs.declared.value.Value.{Value, Scalar, Elements', Members', Row_of-Value, end_of-Value, more_of-Value, Row_of-Member, end_of-Member, more_of-Member}
@@ -33,6 +34,16 @@ step_of (step.Field x) = values.at_field x.now
 
 abbrev pub path_of : List Step → List values.Step
 path_of = map step_of
+
+abbrev pub place_of : place.Place → values.Place
+place_of p = record { variable = p.variable; path = path_of p.path.items }
+
+-- how many elements an array has
+abbrev pub count_in : values.Value → Option ℕ
+count_in (values.number n) = None
+count_in (values.truth b) = None
+count_in (values.elements vs) = Some (values.count_values vs)
+count_in (values.members k ms) = None
 
 abbrev pub store_of : List Value → values.Store
 store_of = map value_of

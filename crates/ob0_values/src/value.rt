@@ -1,8 +1,8 @@
 //! Values with parts, and the places of their parts.
 
 ghost use Rattle.std.specs.Prelude.{◌≡◌, IfOk, map, option_map, slice_get, slice_set};
-ghost use Rattle.ob0_values.specs.Stored.{given, path_of, step_of, value_of, member_place, members_in};
-ghost use Rattle.ob0_values.specs.Values.{at_path, named_member, part, with_at_path, with_named_member, with_part};
+ghost use Rattle.ob0_values.specs.Stored.{given, path_of, step_of, value_of, count_in, member_place, members_in, place_of, store_of};
+ghost use Rattle.ob0_values.specs.Values.{at_path, named_member, part, read_place, with_at_path, with_named_member, with_part};
 
 use crate::scalar::Scalar;
 use std::alloc::{AllocError, Global};
@@ -34,6 +34,14 @@ pub struct Member<'t> {
 pub enum Step<'t> {
     Index(usize),
     Field(&'t str),
+}
+
+/// Where a value stands: in a variable, at the end of a path.
+#[derive(Drop)]
+pub struct Place<'t> {
+    /// The variable's index in the store.
+    pub variable: usize,
+    pub path: Vec<Step<'t>>,
 }
 
 /// Where the first field of a name stands among fields, if there is one.
@@ -186,5 +194,26 @@ pub fn copied<'t>(alloc: Global, value: &Value<'t>) -> Result<Value<'t>, AllocEr
             }
             Ok(Value::Members(*constructor, out))
         }
+    }
+}
+
+/// What stands at a place, if anything does.
+pub fn read_place<'v, 't>(store: &'v [Value<'t>], place: &Place<'t>) -> Option<&'v Value<'t>>
+    ensures { option_map given result ≡ read_place (store_of store.now) (place_of place.now) }
+{
+    if place.variable >= store.len() {
+        return None;
+    }
+    at_path(&store[place.variable], &place.path)
+}
+
+/// How many parts an array has. None for what is no array.
+pub fn count(value: &Value) -> Option<usize>
+    ensures { result ≡ count_in (value_of value.now) }
+{
+    match value {
+        Value::Scalar(_) => None,
+        Value::Elements(items) => Some(items.len()),
+        Value::Members(_, _) => None,
     }
 }

@@ -1,0 +1,82 @@
+-- What the interpreter's tables stand for, and what its steps answer.
+use Rattle.std.specs.Prelude.{◌≡◌, ℕ, Bool, true, false, List, map, Option, Some, None, Ok, Err, Result, option_and_then, slice_get, slice_index_or}
+use Rattle.ob0_scan.specs.Scanned.{Scanned}
+use Rattle.ob0_tree.specs.Places.{text_at, value_at}
+use Rattle.ob0_tree.specs.Tree.{Sort, Tree, mapped}
+use Rattle.ob0_scope.specs.Names.{Label, as_names, as_written, declared, label_text}
+use Rattle.ob0_scope.specs.Scopes.{as_label}
+use Rattle.ob0_types.specs.Expressions.{Meanings, Object, a_constant, a_procedure, a_standard, a_variable, reads, writes, writes_line}
+use Rattle.ob0_types.specs.Expressions as standard
+use Rattle.ob0_types.specs.WellTyped.{Mode, by_place, by_value}
+use Rattle.ob0_values.specs.declared.scalar.Fault.{Fault}
+use Rattle.ob0_values.specs.declared.scalar.Fault.TheVariants as fault
+use Rattle.ob0_values.specs.Stored.{place_of, value_of}
+use Rattle.ob0_values.specs.Values.{End, Outcome, Place, ends, gives}
+use Rattle.ob0_values.specs.Values as values
+use Rattle.ob0_run.specs.declared.scene.Ending.{Ending}
+use Rattle.ob0_run.specs.declared.scene.Ending.TheVariants as ending
+use Rattle.ob0_run.specs.declared.scene.Stop.{Stop}
+use Rattle.ob0_run.specs.declared.scene.Stop.TheVariants as stop
+use Rattle.ob0_run.specs.declared.scene.Standard as code_standard
+use Rattle.ob0_run.specs.declared.scene.Standard.TheVariants as standards
+use Rattle.ob0_run.specs.declared.scene.Meant.{Meant}
+use Rattle.ob0_run.specs.declared.scene.Meant.TheVariants as meant
+use Rattle.ob0_run.specs.declared.scene.Scene.{Scene}
+
+-- how a run ends
+abbrev pub end_of : Ending → End
+end_of ending.Overflow = values.Overflow
+end_of ending.Divisor = values.Divisor
+end_of ending.Index = values.Index
+end_of ending.InputEnd = values.InputEnd
+end_of ending.CallBound = values.CallBound
+end_of ending.TurnBound = values.TurnBound
+end_of ending.Stuck = values.Stuck
+
+abbrev pub stop_of : Fault → Stop
+stop_of fault.Overflow = stop.Ended ending.Overflow
+stop_of fault.Divisor = stop.Ended ending.Divisor
+stop_of fault.Operand = stop.Ended ending.Stuck
+
+-- an answer is what a step gives or how it ends the run, but where memory was refused
+abbrev pub Answers : {A B : Type 0} → (A → B) → Result A Stop → Outcome B → Type 0
+Answers view (Ok a) o = o ≡ gives (view a)
+Answers view (Err (stop.Ended e)) o = o ≡ ends (end_of e)
+Answers view (Err stop.Memory) o = Unit {0}
+
+abbrev pub standard_of : code_standard.Standard → standard.Standard
+standard_of standards.Read = reads
+standard_of standards.Write = writes
+standard_of standards.WriteLn = writes_line
+
+abbrev pub mode_of : Bool → Mode
+mode_of true = by_place
+mode_of false = by_value
+
+-- what a declaration is to statements
+abbrev pub object_of : Meant → Option (Object Place (List Mode))
+object_of (meant.Constant v) = Some (a_constant (value_of v))
+object_of (meant.Variable p) = Some (a_variable (place_of p))
+object_of (meant.Procedure modes) = Some (a_procedure (map mode_of modes.items))
+object_of (meant.Standard s) = Some (a_standard (standard_of s))
+object_of meant.Nothing = None
+
+-- the ordinal that a table has at a token: None also where it has no such token
+abbrev pub ordinal_in : List (Option ℕ) → ℕ → Option ℕ
+ordinal_in ordinals token = slice_index_or ordinals token None
+
+-- the label of the identifier at a token
+abbrev pub label_in : Scene → ℕ → Label
+label_in s token = as_label as_names (ordinal_in s.ordinals.now token) (text_at s.tokens.now token)
+
+-- a tree over the indexes of tokens as the numbered tree that it stands for
+abbrev pub read_in : {s : Sort} → Scene → Tree ℕ s → Tree Label s
+read_in s t = mapped (label_in s) (value_at s.tokens.now) t
+
+-- what labels stand for
+abbrev pub meant_by : Scene → Label → Option (Object Place (List Mode))
+meant_by s (declared k) = option_and_then object_of (slice_get s.meant.now k)
+meant_by s (as_written x) = None
+
+abbrev pub meaning_in : Scene → Meanings Label Place (List Mode)
+meaning_in s = record { stands_for = meant_by s; written = label_text }
