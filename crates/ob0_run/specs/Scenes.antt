@@ -2,16 +2,16 @@
 use Rattle.std.specs.Prelude.{◌≡◌, ℕ, Bool, true, false, List, map, Option, Some, None, Ok, Err, Result, option_and_then, slice_get, slice_index_or}
 use Rattle.ob0_scan.specs.Scanned.{Scanned}
 use Rattle.ob0_tree.specs.Places.{text_at, value_at}
-use Rattle.ob0_tree.specs.Tree.{Sort, Tree, mapped}
+use Rattle.ob0_tree.specs.Tree.{Sort, Tree, field, index, item, items, mapped, selector}
 use Rattle.ob0_scope.specs.Names.{Label, as_names, as_written, declared, label_text}
 use Rattle.ob0_scope.specs.Scopes.{as_label}
-use Rattle.ob0_types.specs.Expressions.{Meanings, Object, a_constant, a_procedure, a_standard, a_variable, reads, writes, writes_line}
+use Rattle.ob0_types.specs.Expressions.{Meanings, Object, a_constant, a_procedure, a_standard, a_variable, element_step, evaluate, follow, reads, writes, writes_line}
 use Rattle.ob0_types.specs.Expressions as standard
 use Rattle.ob0_types.specs.WellTyped.{Mode, by_place, by_value}
 use Rattle.ob0_values.specs.declared.scalar.Fault.{Fault}
 use Rattle.ob0_values.specs.declared.scalar.Fault.TheVariants as fault
 use Rattle.ob0_values.specs.Stored.{place_of, value_of}
-use Rattle.ob0_values.specs.Values.{End, Outcome, Place, ends, gives}
+use Rattle.ob0_values.specs.Values.{End, Outcome, Place, Step, Store, at_field, at_path, ends, gives, or_stuck, ◌>>=◌}
 use Rattle.ob0_values.specs.Values as values
 use Rattle.ob0_run.specs.declared.scene.Ending.{Ending}
 use Rattle.ob0_run.specs.declared.scene.Ending.TheVariants as ending
@@ -80,3 +80,19 @@ meant_by s (as_written x) = None
 
 abbrev pub meaning_in : Scene → Meanings Label Place (List Mode)
 meaning_in s = record { stands_for = meant_by s; written = label_text }
+
+-- a value that has no parts
+abbrev pub scalar_in : values.Value → Option values.Value
+scalar_in (values.number n) = Some (values.number n)
+scalar_in (values.truth b) = Some (values.truth b)
+scalar_in (values.elements vs) = None
+scalar_in (values.members k ms) = None
+
+-- the step that a selector takes from a value
+abbrev pub step_by : {N P : Type 0} → Meanings N Place P → Store → values.Value → Tree N (item selector) → Outcome Step
+step_by meaning store v (field x) = gives (at_field (meaning.written x))
+step_by meaning store v (index e) = evaluate meaning store e >>= element_step v
+
+-- the part of a value that selectors lead to
+abbrev pub reached_by : {N P : Type 0} → Meanings N Place P → Store → values.Value → Tree N (items selector) → Outcome values.Value
+reached_by meaning store v path = follow meaning store v path >>= (λ steps. or_stuck (at_path steps v))

@@ -76,7 +76,7 @@ pub struct Scene<'r, 't> {
 }
 
 /// How an operation's fault ends a run.
-pub fn stop(fault: Fault) -> Stop
+pub fn stopped_by(fault: Fault) -> Stop
     ensures { result ≡ stop_of fault }
 {
     match fault {
@@ -102,11 +102,9 @@ impl<'r, 't> Scene<'r, 't> {
     pub fn meant(&self, name: usize) -> Option<&'r Meant<'t>>
         ensures { option_and_then object_of (option_map (λ m. m.now) result) ≡ meant_by self.now (label_in self.now name) }
     {
-        let ordinal = self.ordinal(name)?;
-        if ordinal < self.meant.len() {
-            Some(&self.meant[ordinal])
-        } else {
-            None
+        match self.ordinal(name) {
+            Some(ordinal) => self.meant.get(ordinal),
+            None => None,
         }
     }
 
