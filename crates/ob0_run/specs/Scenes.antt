@@ -2,16 +2,19 @@
 use Rattle.std.specs.Prelude.{◌≡◌, ℕ, Bool, true, false, List, map, Option, Some, None, Ok, Err, Result, option_and_then, slice_get, slice_index_or}
 use Rattle.ob0_scan.specs.Scanned.{Scanned}
 use Rattle.ob0_tree.specs.Places.{text_at, value_at}
-use Rattle.ob0_tree.specs.Tree.{Sort, Tree, field, index, item, items, mapped, selector}
+use Rattle.ob0_tree.specs.Tree.{Sort, Tree, addend, adds, field, index, item, mapped, multiplier, multiplies, selector}
 use Rattle.ob0_scope.specs.Names.{Label, as_names, as_written, declared, label_text}
 use Rattle.ob0_scope.specs.Scopes.{as_label}
-use Rattle.ob0_types.specs.Expressions.{Meanings, Object, a_constant, a_procedure, a_standard, a_variable, element_step, evaluate, follow, reads, writes, writes_line}
+use Rattle.ob0_types.specs.Expressions.{Meanings, Object, a_constant, a_procedure, a_standard, a_variable, element_step, evaluate, evaluate_factor, evaluate_term, reads, writes, writes_line}
 use Rattle.ob0_types.specs.Expressions as standard
 use Rattle.ob0_types.specs.WellTyped.{Mode, by_place, by_value}
 use Rattle.ob0_values.specs.declared.scalar.Fault.{Fault}
 use Rattle.ob0_values.specs.declared.scalar.Fault.TheVariants as fault
-use Rattle.ob0_values.specs.Stored.{place_of, value_of}
-use Rattle.ob0_values.specs.Values.{End, Outcome, Place, Step, Store, at_field, at_path, ends, gives, or_stuck, ◌>>=◌}
+use Rattle.ob0_values.specs.Stored.{path_of, place_of, value_of}
+use Rattle.std.specs.declared.vec.Vec.{Vec}
+use Rattle.std.specs.declared.alloc.Global.{Global}
+use Rattle.ob0_values.specs.declared.value.Step as code_step
+use Rattle.ob0_values.specs.Values.{End, Outcome, Place, Step, Store, at_field, ends, gives, ◌>>=◌}
 use Rattle.ob0_values.specs.Values as values
 use Rattle.ob0_run.specs.declared.scene.Ending.{Ending}
 use Rattle.ob0_run.specs.declared.scene.Ending.TheVariants as ending
@@ -93,6 +96,12 @@ abbrev pub step_by : {N P : Type 0} → Meanings N Place P → Store → values.
 step_by meaning store v (field x) = gives (at_field (meaning.written x))
 step_by meaning store v (index e) = evaluate meaning store e >>= element_step v
 
--- the part of a value that selectors lead to
-abbrev pub reached_by : {N P : Type 0} → Meanings N Place P → Store → values.Value → Tree N (items selector) → Outcome values.Value
-reached_by meaning store v path = follow meaning store v path >>= (λ steps. or_stuck (at_path steps v))
+-- a sum with one addend more, and a product with one factor more; an operand that doesn't matter isn't evaluated
+abbrev pub added_by : {N P : Type 0} → Meanings N Place P → Store → values.Value → Tree N (item addend) → Outcome values.Value
+added_by meaning store x (adds o t) = elim (values.add_is_settled o x) [ true ↦ gives x | false ↦ evaluate_term meaning store t >>= values.add o x ]
+
+abbrev pub multiplied_by : {N P : Type 0} → Meanings N Place P → Store → values.Value → Tree N (item multiplier) → Outcome values.Value
+multiplied_by meaning store x (multiplies o f) = elim (values.multiply_is_settled o x) [ true ↦ gives x | false ↦ evaluate_factor meaning store f >>= values.multiply o x ]
+
+abbrev pub steps_of : Vec code_step.Step Global → List Step
+steps_of steps = path_of steps.items

@@ -1,20 +1,20 @@
 //! What an expression is worth, and the place that a designator gives.
 
 ghost use Rattle.std.specs.Prelude.{◌≡◌};
-ghost use Rattle.ob0_tree.specs.View.{expression_of, factor_of, items_of, selector_of, simple_of, term_of};
-ghost use Rattle.ob0_types.specs.Expressions.{element_step, evaluate, evaluate_factor, evaluate_simple, evaluate_term};
-ghost use Rattle.ob0_values.specs.Values.{gives, or_stuck, part};
-ghost use Rattle.ob0_values.specs.Stored.{given, step_of, store_of, value_of};
-ghost use Rattle.ob0_run.specs.Scenes.{Answers, meaning_in, reached_by, read_in, step_by};
+ghost use Rattle.ob0_tree.specs.View.{addend_of, expression_of, factor_of, items_of, multiplier_of, selector_of, simple_of, term_of};
+ghost use Rattle.ob0_types.specs.Expressions.{element_step, evaluate, follow, evaluate_factor, evaluate_simple, evaluate_term};
+ghost use Rattle.ob0_values.specs.Values.{at_path, gives, or_stuck, part};
+ghost use Rattle.ob0_values.specs.Stored.{given, path_of, step_of, store_of, value_of};
+ghost use Rattle.ob0_run.specs.Scenes.{Answers, added_by, meaning_in, multiplied_by, read_in, step_by, steps_of};
 
 use crate::operands::{
     added, complement, multiplied, product_is_settled, related, scalar_of, sum_is_settled,
     with_sign,
 };
 use crate::scene::{Ending, Scene, Stop};
-use ob0_tree::tree::{Designator, Expression, Factor, Selector, Simple, Term};
+use ob0_tree::tree::{Addend, Designator, Expression, Factor, Multiplier, Selector, Simple, Term};
 use ob0_values::scalar::Scalar;
-use ob0_values::value::{Step, Value, copied, count, part};
+use ob0_values::value::{Step, Value, at_path, copied, count, part};
 use std::alloc::Global;
 
 /// The step to an array's element. An index below 0 or not below the length ends the run.
@@ -41,8 +41,18 @@ fn element<'t>(value: &Value, index: &Value) -> Result<Step<'t>, Stop>
     }
 }
 
+/// The part of a value at the end of a path.
+fn reach<'v, 't>(value: &'v Value<'t>, path: &[Step<'t>]) -> Result<&'v Value<'t>, Stop>
+    ensures { Answers given result (or_stuck (at_path (path_of path.now) (value_of value.now))) }
+{
+    match at_path(value, path) {
+        Some(part) => Ok(part),
+        None => Err(Stop::Ended(Ending::Stuck)),
+    }
+}
+
 /// The part of a value one step further.
-fn part_of<'v, 't>(value: &'v Value<'t>, step: Step<'t>) -> Result<&'v Value<'t>, Stop>
+fn reach_part<'v, 't>(value: &'v Value<'t>, step: Step<'t>) -> Result<&'v Value<'t>, Stop>
     ensures { Answers given result (or_stuck (part (value_of value.now) (step_of step.entry))) }
 {
     match part(value, step) {
@@ -84,12 +94,21 @@ impl<'r, 't> Scene<'r, 't> {
         let first = self.term(&s.first)?;
         let mut so_far = with_sign(s.sign, first)?;
         for addend in &s.more {
-            if !sum_is_settled(addend.operator, &so_far) {
-                let right = self.term(&addend.term)?;
-                so_far = added(addend.operator, &so_far, &right)?;
-            }
+            so_far = self.with_addend(addend, so_far)?;
         }
         Ok(so_far)
+    }
+
+    /// A sum with one addend more.
+    #[cycle(evaluation)]
+    fn with_addend(&self, addend: &Addend, so_far: Value<'t>) -> Result<Value<'t>, Stop>
+        ensures { Answers value_of result (added_by (meaning_in self.now) (store_of self.now.store.now) (value_of so_far.entry) (read_in self.now (addend_of addend.now))) }
+    {
+        if sum_is_settled(addend.operator, &so_far) {
+            return Ok(so_far);
+        }
+        let right = self.term(&addend.term)?;
+        added(addend.operator, &so_far, &right)
     }
 
     #[cycle(evaluation)]
@@ -98,12 +117,25 @@ impl<'r, 't> Scene<'r, 't> {
     {
         let mut so_far = self.factor(&t.first)?;
         for multiplier in &t.more {
-            if !product_is_settled(multiplier.operator, &so_far) {
-                let right = self.factor(&multiplier.factor)?;
-                so_far = multiplied(multiplier.operator, &so_far, &right)?;
-            }
+            so_far = self.with_multiplier(multiplier, so_far)?;
         }
         Ok(so_far)
+    }
+
+    /// A product with one factor more.
+    #[cycle(evaluation)]
+    fn with_multiplier(
+        &self,
+        multiplier: &Multiplier,
+        so_far: Value<'t>,
+    ) -> Result<Value<'t>, Stop>
+        ensures { Answers value_of result (multiplied_by (meaning_in self.now) (store_of self.now.store.now) (value_of so_far.entry) (read_in self.now (multiplier_of multiplier.now))) }
+    {
+        if product_is_settled(multiplier.operator, &so_far) {
+            return Ok(so_far);
+        }
+        let right = self.factor(&multiplier.factor)?;
+        multiplied(multiplier.operator, &so_far, &right)
     }
 
     #[cycle(evaluation)]
@@ -113,8 +145,8 @@ impl<'r, 't> Scene<'r, 't> {
         match f {
             Factor::Designator(d) => {
                 let held = self.held(d.name)?;
-                let part = self.reached(held, d)?;
-                copy(self.alloc, part)
+                let path = self.follow(d, held)?;
+                copy(self.alloc, reach(held, &path)?)
             }
             Factor::Integer(token) => Ok(Value::Scalar(Scalar::Number(self.number(*token)))),
             Factor::Parenthesised(e) => self.expression(e),
@@ -125,22 +157,24 @@ impl<'r, 't> Scene<'r, 't> {
         }
     }
 
-    /// The part of a value that a designator's selectors lead to.
+    /// The path that a designator's selectors take from a value.
     #[cycle(evaluation)]
-    fn reached<'v>(&self, value: &'v Value<'t>, d: &Designator) -> Result<&'v Value<'t>, Stop>
-        ensures { Answers given result (reached_by (meaning_in self.now) (store_of self.now.store.now) (value_of value.now) (read_in self.now (items_of selector_of d.now.selectors.items))) }
+    fn follow(&self, d: &Designator, value: &Value<'t>) -> Result<Vec<Step<'t>>, Stop>
+        ensures { Answers steps_of result (follow (meaning_in self.now) (store_of self.now.store.now) (value_of value.now) (read_in self.now (items_of selector_of d.now.selectors.items))) }
     {
-        let mut reached = value;
+        let mut path = Vec::new(self.alloc);
         for selector in &d.selectors {
-            let step = self.step(reached, selector)?;
-            reached = part_of(reached, step)?;
+            let reached = reach(value, &path)?;
+            let step = self.step(selector, reached)?;
+            reach_part(reached, step)?;
+            path.push(step)?;
         }
-        Ok(reached)
+        Ok(path)
     }
 
     /// The step that a selector takes from a value.
     #[cycle(evaluation)]
-    fn step(&self, value: &Value, selector: &Selector) -> Result<Step<'t>, Stop>
+    fn step(&self, selector: &Selector, value: &Value) -> Result<Step<'t>, Stop>
         ensures { Answers step_of result (step_by (meaning_in self.now) (store_of self.now.store.now) (value_of value.now) (read_in self.now (selector_of selector.now))) }
     {
         match selector {

@@ -10,7 +10,7 @@ ghost use Rattle.ob0_run.specs.Scenes.{Answers, label_in, meant_by, object_of, o
 use ob0_scan::{TokenKind, Tokens};
 use ob0_values::scalar::{Fault, Scalar};
 use ob0_values::value::{Place, Value, read_place};
-use std::alloc::{AllocError, Global};
+use std::alloc::{AllocError, AllocFailed, Global};
 
 /// How a run ends where it doesn't reach the end of the module's body.
 #[derive(Clone, Copy, Debug, PartialEq, Eq)]
@@ -39,6 +39,16 @@ impl From<AllocError> for Stop {
     ghost from_gives = { λ _ e. e ≡ Memory };
 
     fn from(_: AllocError) -> Stop {
+        Stop::Memory
+    }
+}
+
+impl<T: Drop> From<AllocFailed<T>> for Stop {
+    ghost use Rattle.ob0_run.specs.declared.scene.Stop.TheVariants.{Memory};
+
+    ghost from_gives = { λ _ e. e ≡ Memory };
+
+    fn from(_: AllocFailed<T>) -> Stop {
         Stop::Memory
     }
 }
