@@ -1,20 +1,20 @@
 //! What an expression is worth, and the place that a designator gives.
 
-ghost use Rattle.std.specs.Prelude.{◌≡◌};
+ghost use Rattle.std.specs.Prelude.{◌≡◌, ◌++◌};
 ghost use Rattle.ob0_tree.specs.View.{addend_of, expression_of, factor_of, items_of, multiplier_of, selector_of, simple_of, term_of};
 ghost use Rattle.ob0_types.specs.Expressions.{element_step, evaluate, follow, evaluate_factor, evaluate_simple, evaluate_term};
-ghost use Rattle.ob0_values.specs.Values.{at_path, gives, or_stuck, part};
-ghost use Rattle.ob0_values.specs.Stored.{given, path_of, step_of, store_of, value_of};
-ghost use Rattle.ob0_run.specs.Scenes.{Answers, added_by, meaning_in, multiplied_by, read_in, step_by, steps_of};
+ghost use Rattle.ob0_values.specs.Values.{at_path, gives, or_stuck, part, read_place};
+ghost use Rattle.ob0_values.specs.Stored.{given, path_of, place_of, step_of, store_of, value_of};
+ghost use Rattle.ob0_run.specs.Scenes.{Answers, added_by, label_in, meaning_in, meant_by, multiplied_by, read_in, step_by, steps_of};
 
 use crate::operands::{
     added, complement, multiplied, product_is_settled, related, scalar_of, sum_is_settled,
     with_sign,
 };
-use crate::scene::{Ending, Scene, Stop};
+use crate::scene::{Ending, Meant, Scene, Stop};
 use ob0_tree::tree::{Addend, Designator, Expression, Factor, Multiplier, Selector, Simple, Term};
 use ob0_values::scalar::Scalar;
-use ob0_values::value::{Step, Value, at_path, copied, count, part};
+use ob0_values::value::{Place, Step, Value, at_path, copied, count, further, part, read_place};
 use std::alloc::Global;
 
 /// The step to an array's element. An index below 0 or not below the length ends the run.
@@ -67,7 +67,52 @@ fn copy<'t>(alloc: Global, value: &Value<'t>) -> Result<Value<'t>, Stop>
     Ok(copied(alloc, value)?)
 }
 
+/// The place that steps lead to from a place.
+fn beyond<'t>(alloc: Global, place: &Place<'t>, steps: &[Step<'t>]) -> Result<Place<'t>, Stop>
+    ensures { Answers place_of result (gives (record { variable = place.now.variable; path = path_of place.now.path.items ++ path_of steps.now })) }
+{
+    Ok(further(alloc, place, steps)?)
+}
+
 impl<'r, 't> Scene<'r, 't> {
+    /// The place of the variable that a name stands for.
+    fn place(&self, name: usize) -> Result<&'r Place<'t>, Stop>
+        ensures { Answers (λ p. place_of p.now) result (place_of_name (meant_by self.now (label_in self.now name))) }
+    {
+        match self.meant(name) {
+            Some(Meant::Variable(place)) => Ok(place),
+            Some(Meant::Constant(_)) => Err(Stop::Ended(Ending::Stuck)),
+            Some(Meant::Procedure(_)) => Err(Stop::Ended(Ending::Stuck)),
+            Some(Meant::Standard(_)) => Err(Stop::Ended(Ending::Stuck)),
+            Some(Meant::Nothing) => Err(Stop::Ended(Ending::Stuck)),
+            None => Err(Stop::Ended(Ending::Stuck)),
+        }
+    }
+
+    /// What stands at a place.
+    fn standing(&self, place: &Place<'t>) -> Result<&'r Value<'t>, Stop>
+        ensures { Answers given result (or_stuck (read_place (store_of self.now.store.now) (place_of place.now))) }
+    {
+        match read_place(self.store, place) {
+            Some(value) => Ok(value),
+            None => Err(Stop::Ended(Ending::Stuck)),
+        }
+    }
+
+    /// The place that a designator gives.
+    ///
+    /// # Errors
+    ///
+    /// How its indexes end the run, or want of memory.
+    pub fn designate(&self, d: &Designator) -> Result<Place<'t>, Stop>
+        ensures { Answers place_of result (designate (meaning_in self.now) (store_of self.now.store.now) (label_in self.now d.now.name) (read_in self.now (items_of selector_of d.now.selectors.items))) }
+    {
+        let base = self.place(d.name)?;
+        let value = self.standing(base)?;
+        let steps = self.follow(d, value)?;
+        beyond(self.alloc, base, &steps)
+    }
+
     /// What an expression is worth. Operands are evaluated from left to right.
     ///
     /// # Errors

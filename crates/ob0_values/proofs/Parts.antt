@@ -1,6 +1,7 @@
 -- The parts of the code's values are those of what they stand for.
 use Rattle.std.proofs.Common.{◌≡◌, ℕ, zero, suc, ◌+◌, ◌<◌, ◌≤◌, Bool, true, false, List, [], ◌∷◌, map, length, refl, sym, ap, ◌∙◌, subst, Some, None, Option, slice_get, get_or, drop, take, take_all, ◌-◌, arith}
 use Rattle.std.proofs.lemmas.List.{map-set}
+use Rattle.std.proofs.lemmas.Option.{slice_get-map}
 use Rattle.std.specs.Prelude.{option_map, option_and_then, slice_set, if◌then◌else◌}
 use Rattle.ob0_scope.specs.Names.{Name, same_name}
 use Rattle.ob0_values.specs.declared.value.Member.{Member}
@@ -116,3 +117,28 @@ put_back (s ∷ path) d v new outer o part whole old e less taken put was inner 
     ap Some (back ∙ ap (λ w. values.with_part w (step_of s) (value_of part)) put ∙ put_twice (value_of v) (step_of s) e (value_of part))
     ∙ ap (option_map (values.with_part (value_of v) (step_of s))) (inner ∙ ap (λ p. values.with_at_path (path_of p) (value_of new) (value_of o)) (take_all (length (s ∷ path) - 1) path (omega arith)))
     ∙ ap (option_and_then (λ old. option_map (values.with_part (value_of v) (step_of s)) (values.with_at_path (path_of path) (value_of new) old))) (sym (ap (option_map value_of) was) ∙ taken)
+
+pub set_twice : (xs : List Value) (i : ℕ) (a b : Value) → slice_set (slice_set xs i a) i b ≡ slice_set xs i b
+set_twice [] i a b = refl
+set_twice (x ∷ xs) zero a b = refl
+set_twice (x ∷ xs) (suc i) a b = ap (λ l. x ∷ l) (set_twice xs i a b)
+
+-- a variable's value is taken out, made anew and put back
+pub put_in_store : (store : List Value) (p : values.Place) (new : values.Value) (o part : Value) (old : Option Value) (a b : List Value) (e : Value)
+    → old ≡ slice_get store p.variable → a ≡ slice_set store p.variable e → old ≡ Some o → Some (value_of part) ≡ values.with_at_path p.path new (value_of o)
+    → b ≡ slice_set a p.variable part → values.write_place (map value_of store) p new ≡ Some (map value_of b)
+put_in_store store p new o part old a b e taken put was inner back =
+    ap (option_and_then (λ old. option_map (slice_set (map value_of store) p.variable) (values.with_at_path p.path new old))) (slice_get-map value_of store p.variable ∙ ap (option_map value_of) (sym taken ∙ was))
+    ∙ ap (option_map (slice_set (map value_of store) p.variable)) (sym inner)
+    ∙ ap Some (sym (ap (map value_of) (back ∙ ap (λ l. slice_set l p.variable part) put ∙ set_twice store p.variable e part) ∙ map-set value_of store p.variable part))
+
+pub nothing_in_store : (store : List Value) (p : values.Place) (new : values.Value) (o : Value) (old : Option Value)
+    → old ≡ slice_get store p.variable → old ≡ Some o → None ≡ values.with_at_path p.path new (value_of o) → values.write_place (map value_of store) p new ≡ None
+nothing_in_store store p new o old taken was inner =
+    ap (option_and_then (λ old. option_map (slice_set (map value_of store) p.variable) (values.with_at_path p.path new old))) (slice_get-map value_of store p.variable ∙ ap (option_map value_of) (sym taken ∙ was))
+    ∙ ap (option_map (slice_set (map value_of store) p.variable)) (sym inner)
+
+pub no_variable : (store : List Value) (p : values.Place) (new : values.Value) (old : Option Value)
+    → old ≡ slice_get store p.variable → old ≡ None → values.write_place (map value_of store) p new ≡ None
+no_variable store p new old taken was =
+    ap (option_and_then (λ old. option_map (slice_set (map value_of store) p.variable) (values.with_at_path p.path new old))) (slice_get-map value_of store p.variable ∙ ap (option_map value_of) (sym taken ∙ was))

@@ -1,8 +1,8 @@
 //! Values with parts, and the places of their parts.
 
-ghost use Rattle.std.specs.Prelude.{◌≡◌, IfOk, map, option_map, slice_get, slice_set};
+ghost use Rattle.std.specs.Prelude.{◌≡◌, ◌++◌, IfOk, Some, None, if◌then◌else◌, map, option_map, slice_get, slice_set};
 ghost use Rattle.ob0_values.specs.Stored.{given, path_of, step_of, value_of, count_in, member_place, members_in, place_of, store_of};
-ghost use Rattle.ob0_values.specs.Values.{at_path, named_member, part, read_place, with_at_path, with_named_member, with_part};
+ghost use Rattle.ob0_values.specs.Values.{at_path, named_member, part, read_place, with_at_path, with_named_member, with_part, write_place};
 
 use crate::scalar::Scalar;
 use std::alloc::{AllocError, Global};
@@ -216,4 +216,41 @@ pub fn count(value: &Value) -> Option<usize>
         Value::Elements(items) => Some(items.len()),
         Value::Members(_, _) => None,
     }
+}
+
+/// Puts a value at a place, and tells whether something stands there. Where nothing does, the variable's old value is lost.
+pub fn write_place<'t>(store: &mut Vec<Value<'t>>, place: &Place<'t>, new: Value<'t>) -> bool
+    ensures { write_place (store_of store.old.items) (place_of place.now) (value_of new.entry) ≡ (if result then Some (store_of store.new.items) else None) }
+{
+    match exchange(store, place.variable, EMPTY) {
+        None => false,
+        Some(old) => match with_at_path(old, &place.path, new) {
+            None => false,
+            Some(value) => {
+                let _ = exchange(store, place.variable, value);
+                true
+            }
+        },
+    }
+}
+
+/// The place that steps lead to from a place.
+///
+/// # Errors
+///
+/// Want of memory.
+pub fn further<'t>(alloc: Global, place: &Place<'t>, steps: &[Step<'t>]) -> Result<Place<'t>, AllocError>
+    ensures { IfOk result (λ p. place_of p ≡ record { variable = place.now.variable; path = path_of place.now.path.items ++ path_of steps.now }) }
+{
+    let mut path = Vec::new(alloc);
+    for step in &place.path {
+        path.push(*step)?;
+    }
+    for more in steps {
+        path.push(*more)?;
+    }
+    Ok(Place {
+        variable: place.variable,
+        path,
+    })
 }
