@@ -12,9 +12,9 @@ use Rattle.ob0_tree.specs.declared.tree.Factor.{Factor, Designator}
 use Rattle.ob0_tree.specs.declared.tree.Selector.{Selector}
 use Rattle.ob0_tree.proofs.Viewed.{addend_made, comparison_made, designator_made, expression_made, simple_made, term_made}
 use Rattle.ob0_tree.specs.View.{addend_of, comparison_of, compared_of, expression_of, factor_of, items_of, multiplier_of, selector_of, simple_of, term_of}
-use Rattle.ob0_types.specs.Expressions.{Meanings, value_of, element_step, evaluate, evaluate_addends, evaluate_factor, evaluate_multipliers, evaluate_simple, evaluate_term, follow}
+use Rattle.ob0_types.specs.Expressions.{Meanings, designate, place_of, value_of, element_step, evaluate, evaluate_addends, evaluate_factor, evaluate_multipliers, evaluate_simple, evaluate_term, follow}
 use Rattle.ob0_values.specs.Stored.{store_of}
-use Rattle.ob0_values.specs.Values.{Outcome, Place, negated, number, Step, Store, Value, add, add_is_settled, at_path, ends, gives, multiply, multiply_is_settled, or_stuck, part, relate, signed, ◌>>=◌}
+use Rattle.ob0_values.specs.Values.{Outcome, Place, negated, number, read_place, Step, Store, Value, add, add_is_settled, at_path, ends, gives, multiply, multiply_is_settled, or_stuck, part, relate, signed, ◌>>=◌}
 use Rattle.ob0_run.specs.declared.scene.Scene.{Scene}
 use Rattle.ob0_run.specs.declared.scene.Stop.{Stop}
 use Rattle.ob0_run.specs.declared.scene.Stop.TheVariants as stop
@@ -299,3 +299,8 @@ pub designator_worth : (s : Scene) (f : Factor) (d : _) → f ≡ Designator d �
     ≡ (value_of (held_in s) (meant_by s (label_in s d.name)) >>= (λ v. follow (meaning_in s) (held_in s) v (read_in s (items_of selector_of d.selectors.items)) >>= (λ steps. or_stuck (at_path steps v))))
 designator_worth s f d is = ap (λ f. evaluate_factor (meaning_in s) (held_in s) (read_in s (factor_of f))) is ∙ ap (λ t. evaluate_factor (meaning_in s) (held_in s) (read_in s t)) (designator_made d)
     ∙ designator-split (meaning_in s) (held_in s) (label_in s d.name) (read_in s (items_of selector_of d.selectors.items))
+
+pub designate-split : {N P : Type 0} (m : Meanings N Place P) (s : Store) (x : N) (path : Tree N (items selector))
+    → designate m s x path ≡ (place_of (m.stands_for x) >>= (λ p. or_stuck (read_place s p) >>= (λ v. follow m s v path >>= (λ steps. gives (record { variable = p.variable; path = p.path ++ steps })))))
+unfolding designate
+designate-split m s x path = refl
