@@ -2,7 +2,7 @@
 use Rattle.std.specs.Prelude.{◌≡◌, ℕ, Bool, true, false, List, map, Option, Some, None, Ok, Err, Result, option_and_then, slice_get, slice_index_or}
 use Rattle.ob0_scan.specs.Scanned.{Scanned}
 use Rattle.ob0_tree.specs.Places.{text_at, value_at}
-use Rattle.ob0_tree.specs.Tree.{Sort, Tree, addend, adds, field, index, item, mapped, multiplier, multiplies, selector}
+use Rattle.ob0_tree.specs.Tree.{Sort, Tree, addend, adds, expression, field, index, item, mapped, multiplier, multiplies, selector}
 use Rattle.ob0_scope.specs.Names.{Label, as_names, as_written, declared, label_text}
 use Rattle.ob0_scope.specs.Scopes.{as_label}
 use Rattle.ob0_types.specs.Expressions.{Meanings, Object, a_constant, a_procedure, a_standard, a_variable, element_step, evaluate, evaluate_factor, evaluate_term, reads, writes, writes_line}
@@ -68,21 +68,33 @@ object_of meant.Nothing = None
 abbrev pub ordinal_in : List (Option ℕ) → ℕ → Option ℕ
 ordinal_in ordinals token = slice_index_or ordinals token None
 
--- the label of the identifier at a token
-abbrev pub label_in : Scene → ℕ → Label
-label_in s token = as_label as_names (ordinal_in s.ordinals.now token) (text_at s.tokens.now token)
+-- the label of the identifier at a token, and a tree over the indexes of tokens as the numbered tree that it stands for
+abbrev pub label_with : Scanned → List (Option ℕ) → ℕ → Label
+label_with source ordinals token = as_label as_names (ordinal_in ordinals token) (text_at source token)
 
--- a tree over the indexes of tokens as the numbered tree that it stands for
-abbrev pub read_in : {s : Sort} → Scene → Tree ℕ s → Tree Label s
-read_in s t = mapped (label_in s) (value_at s.tokens.now) t
+abbrev pub read_with : {s : Sort} → Scanned → List (Option ℕ) → Tree ℕ s → Tree Label s
+read_with source ordinals t = mapped (label_with source ordinals) (value_at source) t
 
 -- what labels stand for
+abbrev pub meant_with : List Meant → Label → Option (Object Place (List Mode))
+meant_with meant (declared k) = option_and_then object_of (slice_get meant k)
+meant_with meant (as_written x) = None
+
+abbrev pub meaning_with : List Meant → Meanings Label Place (List Mode)
+meaning_with meant = record { stands_for = meant_with meant; written = label_text }
+
+-- the same of a scene
+abbrev pub label_in : Scene → ℕ → Label
+label_in s = label_with s.tokens.now s.ordinals.now
+
+abbrev pub read_in : {s : Sort} → Scene → Tree ℕ s → Tree Label s
+read_in s t = read_with s.tokens.now s.ordinals.now t
+
 abbrev pub meant_by : Scene → Label → Option (Object Place (List Mode))
-meant_by s (declared k) = option_and_then object_of (slice_get s.meant.now k)
-meant_by s (as_written x) = None
+meant_by s = meant_with s.meant.now
 
 abbrev pub meaning_in : Scene → Meanings Label Place (List Mode)
-meaning_in s = record { stands_for = meant_by s; written = label_text }
+meaning_in s = meaning_with s.meant.now
 
 -- a value that has no parts
 abbrev pub scalar_in : values.Value → Option values.Value
@@ -105,3 +117,14 @@ multiplied_by meaning store x (multiplies o f) = elim (values.multiply_is_settle
 
 abbrev pub steps_of : Vec code_step.Step Global → List Step
 steps_of steps = path_of steps.items
+
+-- the truth that a value is
+abbrev pub truth_of : values.Value → Outcome Bool
+truth_of (values.truth b) = gives b
+truth_of (values.number n) = ends values.Stuck
+truth_of (values.elements vs) = ends values.Stuck
+truth_of (values.members k ms) = ends values.Stuck
+
+-- the truth that a condition is worth
+abbrev pub condition_in : {N P : Type 0} → Meanings N Place P → Store → Tree N expression → Outcome Bool
+condition_in meaning store e = evaluate meaning store e >>= truth_of
