@@ -239,7 +239,11 @@ pub fn write_place<'t>(store: &mut Vec<Value<'t>>, place: &Place<'t>, new: Value
 /// # Errors
 ///
 /// Want of memory.
-pub fn further<'t>(alloc: Global, place: &Place<'t>, steps: &[Step<'t>]) -> Result<Place<'t>, AllocError>
+pub fn further<'t>(
+    alloc: Global,
+    place: &Place<'t>,
+    steps: &[Step<'t>],
+) -> Result<Place<'t>, AllocError>
     ensures { IfOk result (λ p. place_of p ≡ record { variable = place.now.variable; path = path_of place.now.path.items ++ path_of steps.now }) }
 {
     let mut path = Vec::new(alloc);
