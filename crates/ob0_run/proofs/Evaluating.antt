@@ -154,9 +154,11 @@ pub adding_goes_on : {s : Scene} {start : Value} {xs : List Addend} {done : ℕ}
     → Adding s start xs done x → done < length xs → a ≡ get_or xs done a → added_by (meaning_in s) (held_in s) x (read_in s (addend_of a)) ≡ gives y → Adding s start xs (done + 1) y
 adding_goes_on {s = s} {xs = xs} {done = done} {x = x} a y w less here given =
     let split : drop done xs ≡ a ∷ drop (done + 1) xs = drop_more xs done a less ∙ ap (λ z. z ∷ drop (done + 1) xs) (sym here) in
-    record { so_far = w.so_far ∙ ap (λ zs. evaluate_addends (meaning_in s) (held_in s) x (read_in s (items_of addend_of zs))) split
-      ∙ addends-split (meaning_in s) (held_in s) x (read_in s (addend_of a)) (read_in s (items_of addend_of (drop (done + 1) xs)))
-      ∙ ap (λ o. o >>= (λ y. evaluate_addends (meaning_in s) (held_in s) y (read_in s (items_of addend_of (drop (done + 1) xs))))) given }
+    record {
+      so_far = w.so_far ∙ ap (λ zs. evaluate_addends (meaning_in s) (held_in s) x (read_in s (items_of addend_of zs))) split
+          ∙ addends-split (meaning_in s) (held_in s) x (read_in s (addend_of a)) (read_in s (items_of addend_of (drop (done + 1) xs)))
+          ∙ ap (λ o. o >>= (λ y. evaluate_addends (meaning_in s) (held_in s) y (read_in s (items_of addend_of (drop (done + 1) xs))))) given;
+    }
 
 pub adding_fails : {s : Scene} {start : Value} {xs : List Addend} {done : ℕ} {x : Value} {C : Type 0} (view : C → Value) (a : Addend) (e : Stop)
     → Adding s start xs done x → done < length xs → a ≡ get_or xs done a → Answers view (Err e) (added_by (meaning_in s) (held_in s) x (read_in s (addend_of a)))
@@ -164,7 +166,7 @@ pub adding_fails : {s : Scene} {start : Value} {xs : List Addend} {done : ℕ} {
 adding_fails {s = s} {xs = xs} {done = done} {x = x} view a e w less here given =
     let split : drop done xs ≡ a ∷ drop (done + 1) xs = drop_more xs done a less ∙ ap (λ z. z ∷ drop (done + 1) xs) (sym here) in
     subst (Answers view (Err e)) (sym (w.so_far ∙ ap (λ zs. evaluate_addends (meaning_in s) (held_in s) x (read_in s (items_of addend_of zs))) split
-      ∙ addends-split (meaning_in s) (held_in s) x (read_in s (addend_of a)) (read_in s (items_of addend_of (drop (done + 1) xs)))))
+    ∙ addends-split (meaning_in s) (held_in s) x (read_in s (addend_of a)) (read_in s (items_of addend_of (drop (done + 1) xs)))))
     (fails view view e (added_by (meaning_in s) (held_in s) x (read_in s (addend_of a))) (λ y. evaluate_addends (meaning_in s) (held_in s) y (read_in s (items_of addend_of (drop (done + 1) xs)))) given)
 
 pub adding_ends : {s : Scene} {start : Value} {xs : List Addend} {done : ℕ} {x : Value} → Adding s start xs done x → length xs ≤ done
@@ -176,9 +178,11 @@ pub multiplying_goes_on : {s : Scene} {start : Value} {xs : List Multiplier} {do
     → Multiplying s start xs done x → done < length xs → a ≡ get_or xs done a → multiplied_by (meaning_in s) (held_in s) x (read_in s (multiplier_of a)) ≡ gives y → Multiplying s start xs (done + 1) y
 multiplying_goes_on {s = s} {xs = xs} {done = done} {x = x} a y w less here given =
     let split : drop done xs ≡ a ∷ drop (done + 1) xs = drop_more xs done a less ∙ ap (λ z. z ∷ drop (done + 1) xs) (sym here) in
-    record { so_far = w.so_far ∙ ap (λ zs. evaluate_multipliers (meaning_in s) (held_in s) x (read_in s (items_of multiplier_of zs))) split
-      ∙ multipliers-split (meaning_in s) (held_in s) x (read_in s (multiplier_of a)) (read_in s (items_of multiplier_of (drop (done + 1) xs)))
-      ∙ ap (λ o. o >>= (λ y. evaluate_multipliers (meaning_in s) (held_in s) y (read_in s (items_of multiplier_of (drop (done + 1) xs))))) given }
+    record {
+      so_far = w.so_far ∙ ap (λ zs. evaluate_multipliers (meaning_in s) (held_in s) x (read_in s (items_of multiplier_of zs))) split
+          ∙ multipliers-split (meaning_in s) (held_in s) x (read_in s (multiplier_of a)) (read_in s (items_of multiplier_of (drop (done + 1) xs)))
+          ∙ ap (λ o. o >>= (λ y. evaluate_multipliers (meaning_in s) (held_in s) y (read_in s (items_of multiplier_of (drop (done + 1) xs))))) given;
+    }
 
 pub multiplying_fails : {s : Scene} {start : Value} {xs : List Multiplier} {done : ℕ} {x : Value} {C : Type 0} (view : C → Value) (a : Multiplier) (e : Stop)
     → Multiplying s start xs done x → done < length xs → a ≡ get_or xs done a → Answers view (Err e) (multiplied_by (meaning_in s) (held_in s) x (read_in s (multiplier_of a)))
@@ -186,7 +190,7 @@ pub multiplying_fails : {s : Scene} {start : Value} {xs : List Multiplier} {done
 multiplying_fails {s = s} {xs = xs} {done = done} {x = x} view a e w less here given =
     let split : drop done xs ≡ a ∷ drop (done + 1) xs = drop_more xs done a less ∙ ap (λ z. z ∷ drop (done + 1) xs) (sym here) in
     subst (Answers view (Err e)) (sym (w.so_far ∙ ap (λ zs. evaluate_multipliers (meaning_in s) (held_in s) x (read_in s (items_of multiplier_of zs))) split
-      ∙ multipliers-split (meaning_in s) (held_in s) x (read_in s (multiplier_of a)) (read_in s (items_of multiplier_of (drop (done + 1) xs)))))
+    ∙ multipliers-split (meaning_in s) (held_in s) x (read_in s (multiplier_of a)) (read_in s (items_of multiplier_of (drop (done + 1) xs)))))
     (fails view view e (multiplied_by (meaning_in s) (held_in s) x (read_in s (multiplier_of a))) (λ y. evaluate_multipliers (meaning_in s) (held_in s) y (read_in s (items_of multiplier_of (drop (done + 1) xs)))) given)
 
 pub multiplying_ends : {s : Scene} {start : Value} {xs : List Multiplier} {done : ℕ} {x : Value} → Multiplying s start xs done x → length xs ≤ done
@@ -233,11 +237,11 @@ following_goes_on {s = s} {v = v} {xs = xs} {done = done} {path = path} a st w x
       reached = x;
       leads = at_path-append path st v w x at (there (part w st) x found);
       so_far = f.so_far ∙ ap (λ w. follow (meaning_in s) (held_in s) w (read_in s (items_of selector_of (drop done xs))) >>= (λ steps. gives (path ++ steps))) same
-        ∙ ap (λ o. o >>= (λ steps. gives (path ++ steps))) (going s xs done w a less here
-        ∙ ap (λ o. o >>= (λ st. or_stuck (part w st) >>= (λ x. follow (meaning_in s) (held_in s) x (read_in s (items_of selector_of (drop (done + 1) xs))) >>= (λ steps. gives (st ∷ steps))))) step
-        ∙ ap (λ o. o >>= (λ x. follow (meaning_in s) (held_in s) x (read_in s (items_of selector_of (drop (done + 1) xs))) >>= (λ steps. gives (st ∷ steps)))) found)
-        ∙ bind_assoc rest (λ steps. gives (st ∷ steps)) (λ steps. gives (path ++ steps))
-        ∙ (λ i. rest >>= (λ steps. gives (sym (append_assoc path (st ∷ []) steps) i)));
+          ∙ ap (λ o. o >>= (λ steps. gives (path ++ steps))) (going s xs done w a less here
+          ∙ ap (λ o. o >>= (λ st. or_stuck (part w st) >>= (λ x. follow (meaning_in s) (held_in s) x (read_in s (items_of selector_of (drop (done + 1) xs))) >>= (λ steps. gives (st ∷ steps))))) step
+          ∙ ap (λ o. o >>= (λ x. follow (meaning_in s) (held_in s) x (read_in s (items_of selector_of (drop (done + 1) xs))) >>= (λ steps. gives (st ∷ steps)))) found)
+          ∙ bind_assoc rest (λ steps. gives (st ∷ steps)) (λ steps. gives (path ++ steps))
+          ∙ (λ i. rest >>= (λ steps. gives (sym (append_assoc path (st ∷ []) steps) i)));
     }
 
 pub following_fails : {s : Scene} {v : Value} {xs : List Selector} {done : ℕ} {path : List Step} {C D : Type 0} (view : C → Step) (view' : D → List Step) (a : Selector) (w : Value) (e : Stop)

@@ -170,11 +170,7 @@ impl<'r, 't> Scene<'r, 't> {
 
     /// A product with one factor more.
     #[cycle(evaluation)]
-    fn with_multiplier(
-        &self,
-        multiplier: &Multiplier,
-        so_far: Value<'t>,
-    ) -> Result<Value<'t>, Stop>
+    fn with_multiplier(&self, multiplier: &Multiplier, so_far: Value<'t>) -> Result<Value<'t>, Stop>
         ensures { Answers value_of result (multiplied_by (meaning_in self.now) (store_of self.now.store.now) (value_of so_far.entry) (read_in self.now (multiplier_of multiplier.now))) }
     {
         if product_is_settled(multiplier.operator, &so_far) {

@@ -33,7 +33,11 @@ fn outcome<'t>(given_result: Result<Scalar, Fault>) -> Result<Value<'t>, Stop>
     }
 }
 
-pub(crate) fn added<'t>(operator: AddOperator, left: &Value, right: &Value) -> Result<Value<'t>, Stop>
+pub(crate) fn added<'t>(
+    operator: AddOperator,
+    left: &Value,
+    right: &Value,
+) -> Result<Value<'t>, Stop>
     ensures { Answers value_of result (add operator (value_of left.now) (value_of right.now)) }
 {
     let Some(a) = scalar_of(left) else {
@@ -61,7 +65,11 @@ pub(crate) fn multiplied<'t>(
     outcome(scalar::multiply(operator, a, b))
 }
 
-pub(crate) fn related<'t>(relation: Relation, left: &Value, right: &Value) -> Result<Value<'t>, Stop>
+pub(crate) fn related<'t>(
+    relation: Relation,
+    left: &Value,
+    right: &Value,
+) -> Result<Value<'t>, Stop>
     ensures { Answers value_of result (relate relation (value_of left.now) (value_of right.now)) }
 {
     let Some(a) = scalar_of(left) else {

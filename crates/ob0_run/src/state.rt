@@ -6,7 +6,6 @@ ghost use Rattle.ob0_tree.specs.View.{assignment_of, expression_of, items_of, se
 ghost use Rattle.ob0_types.specs.Expressions.{designate, evaluate};
 ghost use Rattle.ob0_run.specs.Scenes.{Answers, label_with, condition_in, meaning_with, read_with, truth_of};
 ghost use Rattle.ob0_values.specs.Stored.{place_of, value_of};
-
 ghost use Rattle.ob0_run.specs.Runs.{Calls, execute, put_out, read_number, running, store_at};
 ghost use Rattle.ob0_run.specs.States.{Runs, item_of, state_of};
 
