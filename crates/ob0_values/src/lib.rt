@@ -4,3 +4,4 @@
 pub mod scalar;
 #[cfg(test)]
 mod tests;
+pub mod value;

@@ -1,5 +1,9 @@
 use crate::scalar::{Fault, Scalar, add, multiply, negated, relate, signed};
+use crate::value::{
+    Member, Place, Step, Value, copied, count, further, part, read_place, write_place,
+};
 use ob0_tree::tree::{AddOperator, MultiplyOperator, Relation, Sign};
+use std::alloc::{AllocError, Global};
 use std::test::Fail;
 
 #[test]
@@ -56,5 +60,53 @@ fn truths(rt: HostRuntime) -> Result<(), Fail> {
     assert_eq!(rt; negated(yes), Ok(no));
     assert_eq!(rt; relate(Relation::NotEqual, yes, no), Ok(yes));
     assert_eq!(rt; relate(Relation::Less, yes, no), Err(Fault::Operand));
+    Ok(())
+}
+
+fn pair(alloc: Global, x: i32, y: i32) -> Result<Value<'static>, AllocError> {
+    let mut items = Vec::new(alloc);
+    items.push(Value::Scalar(Scalar::Number(x)))?;
+    items.push(Value::Scalar(Scalar::Number(y)))?;
+    Ok(Value::Elements(items))
+}
+
+fn number_at<'t>(value: &Value<'t>, step: Step<'t>) -> Option<i32> {
+    match part(value, step) {
+        Some(Value::Scalar(Scalar::Number(n))) => Some(*n),
+        _ => None,
+    }
+}
+
+#[test]
+fn parts_of_values(rt: HostRuntime) -> Result<(), Fail> {
+    let alloc = rt.alloc();
+    let mut members = Vec::new(alloc);
+    members.push(Member {
+        name: "a",
+        value: pair(alloc, 1, 2)?,
+    })?;
+    members.push(Member {
+        name: "b",
+        value: Value::Scalar(Scalar::Truth(true)),
+    })?;
+    let mut store = Vec::new(alloc);
+    store.push(Value::Members(0, members))?;
+    let mut path = Vec::new(alloc);
+    path.push(Step::Field("a"))?;
+    let record = Place { variable: 0, path };
+    let place = further(alloc, &record, &[Step::Index(1)])?;
+    assert_eq!(rt;
+        write_place(&mut store, &place, Value::Scalar(Scalar::Number(7))),
+        true
+    );
+    let Some(array) = read_place(&store, &record) else {
+        return Err("no part".into());
+    };
+    assert_eq!(rt; count(array), Some(2));
+    assert_eq!(rt; number_at(array, Step::Index(0)), Some(1));
+    assert_eq!(rt; number_at(array, Step::Index(1)), Some(7));
+    assert_eq!(rt; number_at(array, Step::Index(2)), None);
+    let copy = copied(alloc, array)?;
+    assert_eq!(rt; number_at(&copy, Step::Index(1)), Some(7));
     Ok(())
 }
