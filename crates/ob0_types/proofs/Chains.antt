@@ -1,5 +1,5 @@
 -- A loop over the items of a chain: what the items so far give, and then those left, is what all give.
-use Rattle.std.proofs.Common.{◌≡◌, ℕ, ◌+◌, ◌<◌, ◌≤◌, Option, Some, None, option_and_then, List, [], ◌∷◌, length, get_or, drop, refl, sym, ap, ◌∙◌}
+use Rattle.std.proofs.Common.{◌≡◌, ℕ, ◌+◌, ◌<◌, ◌≤◌, Option, Some, None, option_and_then, List, ◌∷◌, length, get_or, drop, refl, sym, ap, ◌∙◌}
 use Rattle.std.proofs.lemmas.List.{drop_all, drop_more}
 use Rattle.ob0_tree.specs.Tree.{Tree, Item, item, items, end, more}
 use Rattle.ob0_tree.specs.View.{items_of}
@@ -31,7 +31,7 @@ chain_goes_on {chain = chain} {step = step} {r = r} {f = f} {xs = xs} {done = do
       so_far = ap (option_and_then (λ y. chain y (in_labels r (items_of f (drop (done + 1) xs))))) given
           ∙ each_step chain step h (in_labels r (f x)) (in_labels r (items_of f (drop (done + 1) xs))) out
           ∙ sym (ap (λ ys. option_and_then (λ y. chain y (in_labels r (items_of f ys))) out) split)
-          ∙ c.so_far
+          ∙ c.so_far;
     }
 
 at_end : {X : Type 0} {i : Item} (chain : X → Tree Label (items i) → Option X) → ((x : X) → chain x end ≡ Some x) → (out : Option X) → option_and_then (λ x. chain x end) out ≡ out

@@ -3,7 +3,7 @@ use Rattle.std.proofs.Common.{◌≡◌, [], Option, Some, None, option_and_then
 use Rattle.ob0_tree.specs.Tree.{Tree, expression}
 use Rattle.ob0_scope.specs.Names.{Label}
 use Rattle.ob0_types.specs.Constants.{constants_in}
-use Rattle.ob0_types.specs.Expressions.{Object, a_constant, evaluate}
+use Rattle.ob0_types.specs.Expressions.{a_constant, evaluate}
 use Rattle.ob0_types.specs.InLabels.{meaning_in}
 use Rattle.ob0_types.specs.KnownTables.{Tables, known_meaning, label_object}
 use Rattle.ob0_types.specs.Typing.{constant_of, constant_value, constants_only, given_value, object_type, type_of}

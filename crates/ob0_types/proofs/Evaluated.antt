@@ -1,16 +1,16 @@
 -- The values of constant expressions, part by part.
-use Rattle.std.proofs.Common.{◌≡◌, ℕ, ◌<◌, Bool, true, false, cond, List, [], ◌∷◌, length, arith, Option, Some, None, option_and_then, option_map, refl, sym, ap, ◌∙◌}
+use Rattle.std.proofs.Common.{◌≡◌, ◌<◌, Bool, true, false, cond, List, [], ◌∷◌, length, arith, Option, Some, None, option_and_then, option_map, refl, sym, ap, ◌∙◌}
 use Rattle.ob0_tree.specs.declared.tree.Relation.{Relation}
 use Rattle.ob0_tree.specs.declared.tree.Sign.{Sign}
-use Rattle.ob0_tree.specs.Tree.{Tree, addend, adds, compares, designator, end, expression, factor, field, index, item, items, more, multiplier, multiplies, negation, none, one, product, relates, selector, simple, sum, term}
+use Rattle.ob0_tree.specs.Tree.{Tree, addend, adds, compares, designator, end, factor, field, index, item, items, more, multiplier, multiplies, negation, none, one, product, relates, selector, simple, sum, term}
 use Rattle.ob0_scope.specs.Names.{Label}
 use Rattle.ob0_scope.specs.Resolution.{Resolution}
 use Rattle.ob0_tree.specs.View.{items_of, selector_of}
 use Rattle.ob0_tree.specs.declared.tree.Selector.{Selector}
 use Rattle.ob0_types.specs.InLabels.{in_labels}
 use Rattle.ob0_types.specs.KnownTables.{Tables, label_object}
-use Rattle.ob0_types.specs.Constants.{constants_in, product_value, sum_value, value_added, value_multiplied}
-use Rattle.ob0_types.specs.Expressions.{Meanings, Object, a_constant, element_step, evaluate, evaluate_addends, evaluate_factor, evaluate_multipliers, evaluate_simple, evaluate_term, follow, value_of}
+use Rattle.ob0_types.specs.Constants.{constants_in, value_added, value_multiplied}
+use Rattle.ob0_types.specs.Expressions.{Meanings, a_constant, element_step, evaluate, evaluate_addends, evaluate_factor, evaluate_multipliers, evaluate_simple, evaluate_term, follow, value_of}
 use Rattle.ob0_types.specs.Selected.{both}
 use Rattle.ob0_types.specs.Typing.{constant_of, given_value}
 use Rattle.ob0_types.proofs.Chains.{IsChain}

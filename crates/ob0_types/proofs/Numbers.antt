@@ -1,5 +1,5 @@
 -- The numbers of a text are those of its tokens, each of at most 31 bits.
-use Rattle.std.proofs.Common.{◌≡◌, ℕ, zero, suc, ◌+◌, ◌<◌, ◌≤◌, List, [], ◌∷◌, ◌++◌, length, get_or, slice_get, Some, None, sym, refl, ap, ◌∙◌, subst, arith, append-nil}
+use Rattle.std.proofs.Common.{◌≡◌, ℕ, zero, suc, ◌+◌, ◌<◌, ◌≤◌, List, [], ◌∷◌, ◌++◌, length, get_or, sym, ap, subst, arith}
 use Rattle.std.proofs.lemmas.Option.{slice_get-get_or, slice_get_past}
 use Rattle.ob0_scan.specs.declared.lexeme.Token.{Token}
 use Rattle.ob0_scan.specs.declared.lexeme.Span.{Span}
@@ -8,7 +8,7 @@ use Rattle.ob0_scan.specs.declared.lexeme.TokenKind.TheVariants as token
 use Rattle.ob0_scan.specs.declared.lexeme.LexemeKind.{LexemeKind}
 use Rattle.ob0_scan.specs.declared.lexeme.LexemeKind.TheVariants as lexeme
 use Rattle.ob0_scan.specs.Classes.{Belongs}
-use Rattle.ob0_scan.specs.Lexed.{AreLexemes, IsFirst, Lexeme}
+use Rattle.ob0_scan.specs.Lexed.{AreLexemes, Lexeme}
 use Rattle.ob0_scan.specs.Scanned.{IsScan, Scanned, span_from, token_at, tokens_from}
 use Rattle.ob0_tree.specs.Places.{value_at, value_in, value_of}
 

@@ -1,10 +1,10 @@
 -- The table of shapes: what is pushed keeps what was there, and each entry is made over all of the table.
-use Rattle.std.proofs.Common.{◌≡◌, ℕ, zero, suc, ◌+◌, ◌<◌, ◌≤◌, List, [], ◌∷◌, ◌++◌, All, map, length, get_or, slice_get, Some, None, Option, sym, refl, ap, ◌∙◌, subst, arith, add-one, append_assoc, append-nil, length-append, add-zero, zero-add}
+use Rattle.std.proofs.Common.{◌≡◌, ℕ, zero, suc, ◌+◌, ◌<◌, ◌≤◌, List, [], ◌∷◌, ◌++◌, All, length, get_or, sym, refl, ap, ◌∙◌, subst, arith, append_assoc, append-nil, length-append, add-zero, zero-add}
 use Rattle.std.proofs.lemmas.List.{get_or_past}
 use Rattle.std.proofs.lemmas.List.Elements.{All-head, All-tail}
 use Rattle.std.proofs.Math.ListN.{get_or-append}
 use Rattle.std.proofs.Math.Seq.{get_or-append_seam}
-use Rattle.ob0_values.specs.Values.{FieldShapes, Shape, array_shape, boolean_shape, integer_shape, next_field_shape, no_field_shape, record_shape}
+use Rattle.ob0_values.specs.Values.{Shape, array_shape, next_field_shape, record_shape}
 use Rattle.ob0_types.specs.declared.types.TypeId.{TypeId}
 use Rattle.ob0_types.specs.declared.types.TypeId.TheVariants as type
 use Rattle.ob0_types.specs.declared.known.Shape as code
@@ -60,12 +60,14 @@ shape_at-entry known (x ∷ ms) zero m h less e =
     let whole : shapes_from known (x ∷ ms) ≡ (known ++ made_shape known x ∷ []) ++ later = shapes_from-known (known ++ made_shape known x ∷ []) ms in
     let split : shapes_from known (x ∷ ms) ≡ known ++ made_shape known x ∷ later = whole ∙ append_assoc known (made_shape known x ∷ []) later in
     let same : made_shape known x ≡ made_shape (shapes_from known (x ∷ ms)) x = sym (made_shape-more known (made_shape known x ∷ later) x h.0.parts) ∙ ap (λ z. made_shape z x) (sym split) in
-    let P : code.Shape → Type 0 = λ y. IsCounted y (made_shape (shapes_from known (x ∷ ms)) y) in
-    (ap (λ n. get_or (shapes_from known (x ∷ ms)) n no_shape) (add-zero (length known))
-    ∙ ap (λ z. get_or z (length known) no_shape) split
-    ∙ get_or-append_seam known (made_shape known x) later no_shape
-    ∙ same
-    ∙ ap (made_shape (shapes_from known (x ∷ ms))) (sym e), subst P (sym e) (subst (IsCounted x) same h.0.counted))
+    let P : code.Shape → Type 0 = λ y. IsCounted y (made_shape (shapes_from known (x ∷ ms)) y) in (
+      ap (λ n. get_or (shapes_from known (x ∷ ms)) n no_shape) (add-zero (length known))
+          ∙ ap (λ z. get_or z (length known) no_shape) split
+          ∙ get_or-append_seam known (made_shape known x) later no_shape
+          ∙ same
+          ∙ ap (made_shape (shapes_from known (x ∷ ms))) (sym e),
+      subst P (sym e) (subst (IsCounted x) same h.0.counted),
+    )
 shape_at-entry known (x ∷ ms) (suc i) m h less e =
     let size : length (known ++ made_shape known x ∷ []) ≡ length known + 1 = length-append known (made_shape known x ∷ []) in
     let at : length known + suc i ≡ length (known ++ made_shape known x ∷ []) + i = omega (arith, size) in

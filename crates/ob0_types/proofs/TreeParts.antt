@@ -1,5 +1,5 @@
 -- The trees of expressions that are taken apart.
-use Rattle.std.proofs.Common.{◌≡◌, Option, Some, None, refl, sym, ap, ◌∙◌}
+use Rattle.std.proofs.Common.{◌≡◌, Some, None, sym, ap, ◌∙◌}
 use Rattle.ob0_tree.specs.declared.tree.Expression.{Expression, out-Expression, roll-out-Expression, back-Expression-compared}
 use Rattle.ob0_tree.specs.declared.tree.Comparison.{Comparison, out-Comparison, roll-out-Comparison}
 use Rattle.ob0_tree.specs.declared.tree.Addend.{Addend, out-Addend, roll-out-Addend}

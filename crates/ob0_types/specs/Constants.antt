@@ -1,5 +1,5 @@
 -- The types of variables, and the steps of a constant's evaluation.
-use Rattle.std.specs.Prelude.{ℕ, Bool, true, false, cond, List, [], Some, None, Option, option_and_then}
+use Rattle.std.specs.Prelude.{cond, [], Some, None, Option, option_and_then}
 use Rattle.ob0_tree.specs.declared.tree.AddOperator.{AddOperator}
 use Rattle.ob0_tree.specs.declared.tree.MultiplyOperator.{MultiplyOperator}
 use Rattle.ob0_tree.specs.Tree.{Tree, addend, adds, item, multiplier, multiplies}

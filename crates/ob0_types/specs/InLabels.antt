@@ -1,5 +1,5 @@
 -- Trees of the checker with labels in place of their tokens, and what the labels stand for.
-use Rattle.std.specs.Prelude.{ℕ, Bool, true, false, Some, None, Option, option_map}
+use Rattle.std.specs.Prelude.{ℕ, Bool, true, false, Option, option_map}
 use Rattle.ob0_tree.specs.Tree.{Sort, Tree, mapped}
 use Rattle.ob0_tree.specs.Places.{value_at}
 use Rattle.ob0_scope.specs.Names.{Label, label_text}

@@ -1,5 +1,5 @@
 -- The tables of the checker: the shapes made so far, and the declarations so far.
-use Rattle.std.specs.Prelude.{ℕ, Bool, true, false, List, [], ◌∷◌, length, All, slice_get, if◌then◌else◌, Some, None, Option, option_and_then}
+use Rattle.std.specs.Prelude.{ℕ, true, false, List, [], ◌∷◌, length, All, slice_get, if◌then◌else◌, None, Option, option_and_then}
 use Rattle.ob0_values.specs.Values.{Shape}
 use Rattle.ob0_types.specs.declared.known.Shape as code
 use Rattle.ob0_types.specs.declared.known.Shape.TheVariants as made
@@ -10,7 +10,7 @@ use Rattle.ob0_types.specs.declared.known.Standard.TheVariants as standards
 use Rattle.ob0_types.specs.declared.types.TypeId.TheVariants as type
 use Rattle.ob0_values.specs.declared.scalar.Scalar.TheVariants as scalar
 use Rattle.ob0_scope.specs.Names.{Label, as_written, declared, label_text}
-use Rattle.ob0_types.specs.Expressions.{Object, Meanings}
+use Rattle.ob0_types.specs.Expressions.{Object}
 use Rattle.ob0_types.specs.Tables.{AreMadeInOrder, ObjectIsMade, object_in, shapes_from}
 use Rattle.ob0_types.specs.WellTyped.{Signature, Typed}
 
@@ -49,5 +49,5 @@ abbrev pub predeclared : Tables
 predeclared = record {
   shapes = made.Integer ∷ made.Boolean ∷ [];
   entries = in_sight (kind.Named type.Integer) ∷ in_sight (kind.Named type.Boolean) ∷ in_sight (kind.Constant (scalar.Truth true)) ∷ in_sight (kind.Constant (scalar.Truth false))
-      ∷ in_sight (kind.Standard standards.Read) ∷ in_sight (kind.Standard standards.Write) ∷ in_sight (kind.Standard standards.WriteLn) ∷ []
+      ∷ in_sight (kind.Standard standards.Read) ∷ in_sight (kind.Standard standards.Write) ∷ in_sight (kind.Standard standards.WriteLn) ∷ [];
 }

@@ -1,6 +1,6 @@
 -- Steps of chains: one operand, one selector.
 use Rattle.std.specs.Prelude.{ℕ, Option, option_and_then}
-use Rattle.ob0_tree.specs.Tree.{Tree, addend, adds, multiplier, multiplies, end, field, index, item, items, more, selector}
+use Rattle.ob0_tree.specs.Tree.{Tree, addend, adds, multiplier, multiplies, field, index, item, items, selector}
 use Rattle.ob0_tree.specs.View.{items_of, selector_of}
 use Rattle.ob0_tree.specs.declared.tree.Designator.{Designator, out-Designator}
 use Rattle.ob0_types.specs.Expressions.{Meanings}

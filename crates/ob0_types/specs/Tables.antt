@@ -1,7 +1,7 @@
 -- What the checker's tables stand for: types, shapes and declarations.
-use Rattle.std.specs.Prelude.{◌≡◌, ℕ, ◌+◌, ◌<◌, Bool, true, false, List, [], ◌∷◌, ◌++◌, map, length, slice_get, slice_index_or, All, if◌then◌else◌, Some, None, Option, ℤ}
+use Rattle.std.specs.Prelude.{◌≡◌, ℕ, ◌<◌, Bool, true, false, List, [], ◌∷◌, ◌++◌, map, length, slice_index_or, All, Some, None, Option}
 use Rattle.ob0_values.specs.Scalars.{scalar_value}
-use Rattle.ob0_values.specs.Values.{FieldShapes, Shape, array_shape, boolean_shape, elements, integer_shape, next_field_shape, no_field_shape, no_value, record_shape}
+use Rattle.ob0_values.specs.Values.{FieldShapes, Shape, array_shape, boolean_shape, integer_shape, next_field_shape, no_field_shape, record_shape}
 use Rattle.ob0_types.specs.declared.types.TypeId.{TypeId}
 use Rattle.ob0_types.specs.declared.types.TypeId.TheVariants as type
 use Rattle.ob0_types.specs.declared.known.Shape as code

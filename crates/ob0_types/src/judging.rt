@@ -131,4 +131,3 @@ impl<'a, 't> Names<'a, 't> {
         self.type_behind(self.variable(d.name), d)
     }
 }
-

@@ -78,13 +78,7 @@ impl<'a, 't> Names<'a, 't> {
         ensures { option_map (type_shape (shapes_of self.now.known.now)) result ≡ object_type ((meaning_in self.now.known.now self.now.only_constants).stands_for (label_in self.now.resolved.now token)) }
     {
         match self.object(token)? {
-            Object::Variable(of) => {
-                if self.only_constants {
-                    None
-                } else {
-                    Some(*of)
-                }
-            }
+            Object::Variable(of) => { if self.only_constants { None } else { Some(*of) } }
             Object::Constant(value) => Some(scalar_type(*value)),
             Object::Named(_) => None,
             Object::FaultyConstant => None,

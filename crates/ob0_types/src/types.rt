@@ -158,11 +158,7 @@ pub fn scalar_type(value: Scalar) -> TypeId
 }
 
 /// The same where an operand may have no type: then the operation has none.
-pub fn added(
-    operator: AddOperator,
-    left: Option<TypeId>,
-    right: Option<TypeId>,
-) -> Option<TypeId>
+pub fn added(operator: AddOperator, left: Option<TypeId>, right: Option<TypeId>) -> Option<TypeId>
     ensures { (shapes : List Shape) → option_map (type_shape shapes) result ≡ both (add_type operator) (option_map (type_shape shapes) left) (option_map (type_shape shapes) right) }
 {
     match left {
@@ -190,11 +186,7 @@ pub fn multiplied(
     }
 }
 
-pub fn related(
-    relation: Relation,
-    left: Option<TypeId>,
-    right: Option<TypeId>,
-) -> Option<TypeId>
+pub fn related(relation: Relation, left: Option<TypeId>, right: Option<TypeId>) -> Option<TypeId>
     ensures { (shapes : List Shape) → option_map (type_shape shapes) result ≡ both (relation_type relation) (option_map (type_shape shapes) left) (option_map (type_shape shapes) right) }
 {
     match left {

@@ -1,4 +1,4 @@
-use Rattle.std.proofs.Common.{◌≡◌, sym, ◌∙◌}
+use Rattle.std.proofs.Common.{sym, ◌∙◌}
 use Rattle.ob0_types.proofs.Fields.{field_here, field_later}
 use Rattle.ob0_types.proofs.known.field_in.Goals as goal
 

@@ -1,6 +1,5 @@
-use Rattle.std.proofs.Common.{◌≡◌, ◌≤◌, ◌<◌, length, pos, sym, ap, ◌∙◌, subst, arith, w32}
+use Rattle.std.proofs.Common.{pos, sym, ap, ◌∙◌, arith, w32}
 use Rattle.std.proofs.lemmas.Int.{ints, to_z-of_z}
-use Rattle.ob0_tree.specs.Places.{value_of}
 use Rattle.ob0_types.proofs.Numbers.{small_number, value_at-past, value_at-read}
 use Rattle.ob0_types.proofs.names.number_at.Goals as goal
 

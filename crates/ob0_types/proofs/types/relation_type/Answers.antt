@@ -1,4 +1,3 @@
-use Rattle.std.proofs.Common.{◌≡◌}
 use Rattle.ob0_types.proofs.types.relation_type.Goals as goal
 
 pub returns-in-Boolean-right-2 : goal.returns-in-Boolean-right-2

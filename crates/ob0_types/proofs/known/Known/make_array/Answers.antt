@@ -1,7 +1,6 @@
-use Rattle.std.proofs.Common.{◌≡◌, ◌*◌, ◌++◌, ◌∷◌, [], Some, length, sym, ap, ◌∙◌, subst, arith}
+use Rattle.std.proofs.Common.{◌*◌, Some, sym, ap, ◌∙◌, subst, arith}
 use Rattle.ob0_types.specs.KnownTables.{shapes_of}
 use Rattle.ob0_types.specs.Tables.{IsMade, only_array, type_shape}
-use Rattle.ob0_types.specs.Typing.{depth, scalars}
 use Rattle.ob0_values.specs.Values.{array_shape}
 use Rattle.ob0_types.specs.declared.known.Shape.TheVariants as made
 use Rattle.ob0_types.proofs.Pushed.{limits_kept, pushed_at, pushed_shapes}
@@ -12,7 +11,7 @@ pub put-requires : goal.put-requires
 put-requires c =
     record {
       parts = subst (λ n. IsMade n c.args.element) (sym (length-table c.args.self.now.shapes)) c.requires;
-      counted = (c.in-Some.ensures.1 ∙ ap (λ n. c.args.size * n) c.scalars.ensures, omega (arith, c.in-Some-checked_add.ensures.1, c.depth.ensures))
+      counted = (c.in-Some.ensures.1 ∙ ap (λ n. c.args.size * n) c.scalars.ensures, omega (arith, c.in-Some-checked_add.ensures.1, c.depth.ensures));
     }
 
 pub returns-clause-value : goal.returns-clause-value

@@ -1,7 +1,6 @@
-use Rattle.std.proofs.Common.{◌≡◌, ℕ, ◌++◌, ◌∷◌, [], All, Some, max, suc, length, sym, ap, ◌∙◌, subst, arith}
+use Rattle.std.proofs.Common.{ℕ, All, Some, sym, ap, ◌∙◌, subst}
 use Rattle.ob0_types.specs.KnownTables.{shapes_of}
 use Rattle.ob0_types.specs.Tables.{IsMade, fields_shape, only_record}
-use Rattle.ob0_types.specs.Typing.{field_depth, field_scalars}
 use Rattle.ob0_values.specs.Values.{record_shape}
 use Rattle.ob0_types.specs.declared.known.Shape.TheVariants as made
 use Rattle.ob0_types.proofs.Pushed.{limits_kept, pushed_at, pushed_shapes, record_depth, record_scalars}
@@ -13,7 +12,7 @@ put-requires c =
     let P : ℕ → Type 0 = λ n. All (λ f. IsMade n f.of) c.args.fields.items in
     record {
       parts = subst P (sym (length-table c.args.self.now.shapes)) c.requires;
-      counted = (record_scalars (shapes_of c.args.self.now) c.args.fields.items c.as_slice.result.now c.in-Some.sum c.max-scalars.result c.in-Some.ensures c.as_slice.ensures.value c.max-scalars.ensures, record_depth (shapes_of c.args.self.now) c.args.fields.items c.as_slice-2.result.now c.field_depth.result c.in-Some-checked_add.depth c.field_depth.ensures c.as_slice-2.ensures.value c.in-Some-checked_add.ensures.1)
+      counted = (record_scalars (shapes_of c.args.self.now) c.args.fields.items c.as_slice.result.now c.in-Some.sum c.max-scalars.result c.in-Some.ensures c.as_slice.ensures.value c.max-scalars.ensures, record_depth (shapes_of c.args.self.now) c.args.fields.items c.as_slice-2.result.now c.field_depth.result c.in-Some-checked_add.depth c.field_depth.ensures c.as_slice-2.ensures.value c.in-Some-checked_add.ensures.1);
     }
 
 pub returns-clause-value : goal.returns-clause-value

@@ -1,5 +1,5 @@
-use Rattle.std.proofs.Common.{◌≡◌, ◌++◌, ◌∷◌, [], sym, subst}
-use Rattle.ob0_types.specs.KnownTables.{AreTables, shapes_of}
+use Rattle.std.proofs.Common.{sym, subst}
+use Rattle.ob0_types.specs.KnownTables.{shapes_of}
 use Rattle.ob0_types.specs.Tables.{IsEntry}
 use Rattle.ob0_types.proofs.Pushed.{tables-push}
 use Rattle.ob0_types.proofs.known.Known.put.Goals as goal

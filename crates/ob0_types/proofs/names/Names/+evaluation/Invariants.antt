@@ -1,4 +1,4 @@
-use Rattle.std.proofs.Common.{◌≡◌, [], option_map}
+use Rattle.std.proofs.Common.{[], option_map}
 use Rattle.ob0_tree.specs.View.{addend_of, multiplier_of}
 use Rattle.ob0_types.specs.Constants.{constants_in}
 use Rattle.ob0_types.specs.Expressions.{evaluate_addends, evaluate_multipliers}

@@ -1,12 +1,11 @@
-use Rattle.std.proofs.Common.{◌≡◌, option_and_then, option_map, sym, ap, ◌∙◌}
+use Rattle.std.proofs.Common.{option_and_then, option_map, sym, ap, ◌∙◌}
 use Rattle.ob0_tree.proofs.Viewed.{designator_made, simple_parts, term_parts}
 use Rattle.ob0_tree.specs.declared.tree.Addend.{out-Addend}
 use Rattle.ob0_tree.specs.declared.tree.Comparison.{out-Comparison}
 use Rattle.ob0_tree.specs.declared.tree.Expression.{out-Expression}
 use Rattle.ob0_tree.specs.declared.tree.Simple.{out-Simple}
 use Rattle.ob0_tree.specs.declared.tree.Term.{out-Term}
-use Rattle.ob0_tree.specs.declared.tree.Designator.{out-Designator}
-use Rattle.ob0_tree.specs.View.{items_of, addend_of, expression_of, multiplier_of, selector_of, term_of, factor_of, simple_of}
+use Rattle.ob0_tree.specs.View.{items_of, addend_of, multiplier_of, selector_of, term_of, factor_of, simple_of}
 use Rattle.ob0_types.specs.InLabels.{in_labels, label_in, meaning_in}
 use Rattle.ob0_types.specs.KnownTables.{shapes_of}
 use Rattle.ob0_types.specs.Selected.{both, type_added}

@@ -1,4 +1,4 @@
-use Rattle.std.proofs.Common.{◌≡◌, option_map}
+use Rattle.std.proofs.Common.{option_map}
 use Rattle.ob0_tree.specs.View.{addend_of, multiplier_of, selector_of}
 use Rattle.ob0_types.specs.InLabels.{meaning_in}
 use Rattle.ob0_types.specs.KnownTables.{shapes_of}

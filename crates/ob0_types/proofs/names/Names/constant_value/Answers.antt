@@ -1,4 +1,4 @@
-use Rattle.std.proofs.Common.{◌≡◌, sym, ◌∙◌}
+use Rattle.std.proofs.Common.{sym, ◌∙◌}
 use Rattle.ob0_tree.specs.View.{expression_of}
 use Rattle.ob0_types.specs.InLabels.{in_labels}
 use Rattle.ob0_types.specs.KnownTables.{shapes_of}
