@@ -1,0 +1,47 @@
+-- Trees over the indexes of a text's tokens: each identifier and integer is the index of its token.
+use Rattle.std.specs.Prelude.{ℕ, ◌+◌, Option, Some, None, List, [], ◌∷◌, slice_get}
+use Rattle.ob0_scan.specs.declared.lexeme.TokenKind.{TokenKind}
+use Rattle.ob0_scan.specs.declared.lexeme.TokenKind.TheVariants as kind
+use Rattle.ob0_scan.specs.declared.lexeme.Token.{Token}
+use Rattle.ob0_scan.specs.Scanned.{Scanned, spanned}
+use Rattle.ob0_tree.specs.Lexeme.{Lexeme, Name, Number, Mark, EndOfText}
+use Rattle.ob0_tree.specs.Tree.{Sort, Tree, mapped}
+
+-- the token at an index, with the index in place of a name or a number
+abbrev pub lexeme_of : ℕ → TokenKind → Lexeme ℕ
+lexeme_of i kind.Identifier = Name i
+lexeme_of i (kind.Integer value) = Number i
+lexeme_of i k = Mark k
+
+-- the tokens from an index on, the end counted as one
+abbrev pub lexemes_from : ℕ → List Token → List (Lexeme ℕ)
+lexemes_from i [] = EndOfText ∷ []
+lexemes_from i (t ∷ ts) = lexeme_of i t.kind ∷ lexemes_from (i + 1) ts
+
+abbrev pub lexemes : List Token → List (Lexeme ℕ)
+lexemes ts = lexemes_from 0 ts
+
+-- how a token is written
+abbrev pub text_in : List ℕ → Option Token → List ℕ
+text_in text None = []
+text_in text (Some t) = spanned text t.span
+
+-- the number that a token is
+abbrev pub value_of : TokenKind → ℕ
+value_of (kind.Integer value) = value
+value_of _ = 0
+
+abbrev pub value_in : Option Token → ℕ
+value_in None = 0
+value_in (Some t) = value_of t.kind
+
+-- the same of the token at an index
+abbrev pub text_at : Scanned → ℕ → List ℕ
+text_at s i = text_in s.text (slice_get s.tokens i)
+
+abbrev pub value_at : Scanned → ℕ → ℕ
+value_at s i = value_in (slice_get s.tokens i)
+
+-- a tree over indexes of tokens, with the tokens' names and numbers in their place
+abbrev pub named : {s : Sort} → Scanned → Tree ℕ s → Tree (List ℕ) s
+named s t = mapped (text_at s) (value_at s) t
