@@ -8,6 +8,8 @@ use Rattle.ob0_tree.specs.declared.tree.Relation.{Relation}
 use Rattle.ob0_tree.specs.declared.tree.Sign.{Sign}
 use Rattle.ob0_tree.specs.declared.tree.AddOperator.{AddOperator}
 use Rattle.ob0_tree.specs.declared.tree.MultiplyOperator.{MultiplyOperator}
+use Rattle.ob0_tree.specs.declared.tree.Role.{Role}
+use Rattle.ob0_tree.specs.declared.tree.Role.TheVariants as role
 use Rattle.ob0_tree.specs.Lexeme.{Lexeme, Name, Number, Mark, relation_mark, sign_marks, add_mark, multiply_mark}
 
 -- What may stand again and again, or once or not at all, behind something else.
@@ -284,14 +286,6 @@ mapped f g (begins s) = begins (mapped f g s)
 mapped f g (has_body ds b) = has_body (mapped f g ds) (mapped f g b)
 mapped f g (is_module name b closing) = is_module (f name) (mapped f g b) (f closing)
 
--- What an identifier is, where it stands.
-pub data Role : Type 0 where
-  declaring : Role
-  looked_up : Role
-  closing_name : Role
-  field_name : Role
-  module_name : Role
-
 -- The identifiers of a tree in text order, each with its role. The first argument is the role of the names in
 -- a list: they declare variables or parameters, or name a record's fields.
 abbrev pub identifiers : {N : Type 0} {s : Sort} → Role → Tree N s → List (Role × N)
@@ -305,15 +299,15 @@ identifiers r (sum sign first terms) = identifiers r first ++ identifiers r term
 identifiers r (adds operator t) = identifiers r t
 identifiers r (product first factors) = identifiers r first ++ identifiers r factors
 identifiers r (multiplies operator f) = identifiers r f
-identifiers r (designator name selectors) = (looked_up, name) ∷ identifiers r selectors
+identifiers r (designator name selectors) = (role.LookedUp, name) ∷ identifiers r selectors
 identifiers r (integer n) = []
 identifiers r (parenthesised e) = identifiers r e
 identifiers r (negation f) = identifiers r f
-identifiers r (field name) = (field_name, name) ∷ []
+identifiers r (field name) = (role.FieldName, name) ∷ []
 identifiers r (index e) = identifiers r e
 identifiers r empty = []
-identifiers r (assigns name selectors e) = (looked_up, name) ∷ (identifiers r selectors ++ identifiers r e)
-identifiers r (calls name args) = (looked_up, name) ∷ identifiers r args
+identifiers r (assigns name selectors e) = (role.LookedUp, name) ∷ (identifiers r selectors ++ identifiers r e)
+identifiers r (calls name args) = (role.LookedUp, name) ∷ identifiers r args
 identifiers r (branches condition s elsifs rest) =
     identifiers r condition ++ (identifiers r s ++ (identifiers r elsifs ++ identifiers r rest))
 identifiers r (while_loop condition s) = identifiers r condition ++ identifiers r s
@@ -327,29 +321,29 @@ identifiers r (elsif_branch condition s) = identifiers r condition ++ identifier
 identifiers r (else_branch s) = identifiers r s
 identifiers r (listed name others) = (r, name) ∷ identifiers r others
 identifiers r (then_name name) = (r, name) ∷ []
-identifiers r (named_type name) = (looked_up, name) ∷ []
+identifiers r (named_type name) = (role.LookedUp, name) ∷ []
 identifiers r (array_type size t) = identifiers r size ++ identifiers r t
 identifiers r (record_type first others) = identifiers r first ++ identifiers r others
 identifiers r no_fields = []
-identifiers r (some_fields ns t) = identifiers field_name ns ++ identifiers r t
+identifiers r (some_fields ns t) = identifiers role.FieldName ns ++ identifiers r t
 identifiers r (then_fields f) = identifiers r f
 identifiers r no_formals = []
 identifiers r (some_formals first others) = identifiers r first ++ identifiers r others
-identifiers r (value_section ns t) = identifiers declaring ns ++ identifiers r t
-identifiers r (variable_section ns t) = identifiers declaring ns ++ identifiers r t
+identifiers r (value_section ns t) = identifiers role.Declaring ns ++ identifiers r t
+identifiers r (variable_section ns t) = identifiers role.Declaring ns ++ identifiers r t
 identifiers r (then_section s) = identifiers r s
-identifiers r (declares_constant name e) = (declaring, name) ∷ identifiers r e
+identifiers r (declares_constant name e) = (role.Declaring, name) ∷ identifiers r e
 identifiers r (declares_constants cs) = identifiers r cs
-identifiers r (declares_type name t) = (declaring, name) ∷ identifiers r t
+identifiers r (declares_type name t) = (role.Declaring, name) ∷ identifiers r t
 identifiers r (declares_types ts) = identifiers r ts
-identifiers r (declares_variable ns t) = identifiers declaring ns ++ identifiers r t
+identifiers r (declares_variable ns t) = identifiers role.Declaring ns ++ identifiers r t
 identifiers r (declares_variables vs) = identifiers r vs
 identifiers r (declares_procedure name fs b closing) =
-    (declaring, name) ∷ (identifiers r fs ++ (identifiers r b ++ ((closing_name, closing) ∷ [])))
+    (role.Declaring, name) ∷ (identifiers r fs ++ (identifiers r b ++ ((role.ClosingName, closing) ∷ [])))
 identifiers r (declares cs ts vs ps) = identifiers r cs ++ (identifiers r ts ++ (identifiers r vs ++ identifiers r ps))
 identifiers r (begins s) = identifiers r s
 identifiers r (has_body ds b) = identifiers r ds ++ identifiers r b
-identifiers r (is_module name b closing) = (module_name, name) ∷ (identifiers r b ++ ((module_name, closing) ∷ []))
+identifiers r (is_module name b closing) = (role.ModuleName, name) ∷ (identifiers r b ++ ((role.ModuleName, closing) ∷ []))
 
 -- The names that are looked up, in text order: no declaring name, no closing name, no field, no module's name.
 abbrev pub occurrences : {N : Type 0} {s : Sort} → Tree N s → List N

@@ -1,0 +1,57 @@
+-- A walk over the items of a list, which keeps the greatest nesting.
+use Rattle.std.proofs.Common.{◌≡◌, ℕ, ◌+◌, ◌<◌, ◌≤◌, max, min, List, [], ◌∷◌, length, get_or, drop, refl, sym, ap, ◌∙◌, subst, arith}
+use Rattle.std.proofs.lemmas.List.{drop_all, drop_more}
+use Rattle.ob0_tree.specs.Depth.{capped}
+use Rattle.ob0_tree.specs.Tree.{Tree, Item, item, nesting}
+use Rattle.ob0_tree.specs.View.{items_of}
+
+pub capped_zero : capped 0 ≡ 0
+capped_zero = refl
+
+pub capped_max : (a b : ℕ) → max (capped a) (capped b) ≡ capped (max a b)
+capped_max a b = omega arith
+
+pub capped_more : (a : ℕ) → capped (capped a + 1) ≡ capped (a + 1)
+capped_more a = omega arith
+
+-- what is the deepest so far, with the items that are left, is what was the deepest at first, with all items
+pub record Deepest {A : Type 0} {i : Item} (f : A → Tree ℕ (item i)) (start : ℕ) (xs : List A) (done : ℕ) (deepest : ℕ) : Type 0 where
+  pub so_far : max deepest (capped (nesting (items_of f (drop done xs)))) ≡ max start (capped (nesting (items_of f xs)))
+
+pub deepest_begins : {A : Type 0} {i : Item} (f : A → Tree ℕ (item i)) (start : ℕ) (xs : List A) → Deepest f start xs 0 start
+deepest_begins f start xs = record { so_far = refl }
+
+onwards : (deepest rest one next all : ℕ) → max deepest (capped (max one rest)) ≡ all → next ≡ max deepest (capped one) → max next (capped rest) ≡ all
+onwards deepest rest one next all e f = omega (arith, e, f)
+
+pub deepest_goes_on : {A : Type 0} {i : Item} {f : A → Tree ℕ (item i)} {start : ℕ} {xs : List A} {done : ℕ} {deepest : ℕ} (x : A) (next : ℕ)
+    → Deepest f start xs done deepest → done < length xs → x ≡ get_or xs done x → next ≡ max deepest (capped (nesting (f x))) → Deepest f start xs (done + 1) next
+deepest_goes_on {f = f} {start = start} {xs = xs} {done = done} {deepest = deepest} x next w less here written =
+    let split : drop done xs ≡ x ∷ drop (done + 1) xs = drop_more xs done x less ∙ ap (λ y. y ∷ drop (done + 1) xs) (sym here) in
+    let before : max deepest (capped (nesting (items_of f (x ∷ drop (done + 1) xs)))) ≡ max start (capped (nesting (items_of f xs))) =
+    ap (λ ys. max deepest (capped (nesting (items_of f ys)))) (sym split) ∙ w.so_far in
+    record { so_far = onwards deepest (nesting (items_of f (drop (done + 1) xs))) (nesting (f x)) next (max start (capped (nesting (items_of f xs)))) before written }
+
+at_the_end : (deepest all : ℕ) → max deepest 0 ≡ all → deepest ≡ all
+at_the_end deepest all e = omega (arith, e)
+
+pub deepest_ends : {A : Type 0} {i : Item} {f : A → Tree ℕ (item i)} {start : ℕ} {xs : List A} {done : ℕ} {deepest : ℕ}
+    → Deepest f start xs done deepest → length xs ≤ done → deepest ≡ max start (capped (nesting (items_of f xs)))
+deepest_ends {f = f} {start = start} {xs = xs} {done = done} {deepest = deepest} w all =
+    at_the_end deepest (max start (capped (nesting (items_of f xs)))) (sym (ap (λ ys. max deepest (capped (nesting (items_of f ys)))) (drop_all done xs all)) ∙ w.so_far)
+
+pub two_deep : {first second deepest : ℕ} (a b : ℕ) → first ≡ capped a → second ≡ capped b → deepest ≡ max first second → deepest ≡ capped (max a b)
+two_deep {first = first} {second = second} a b p q r = r ∙ (ap (λ x. max x second) p ∙ (ap (λ x. max (capped a) x) q ∙ capped_max a b))
+
+pub one_deeper : {inner outer : ℕ} (a : ℕ) → inner ≡ capped a → outer ≡ capped (inner + 1) → outer ≡ capped (a + 1)
+one_deeper a p q = q ∙ (ap (λ x. capped (x + 1)) p ∙ capped_more a)
+
+-- a number that the cap doesn't reach
+pub not_capped : (n m : ℕ) → m ≤ 100 → n ≡ capped m → n ≡ m
+not_capped n m h e = omega (arith, h, e)
+
+pub max_zero : (n : ℕ) → n ≡ max n 0
+max_zero n = omega arith
+
+pub zero_max : (n : ℕ) → max 0 n ≡ n
+zero_max n = omega arith

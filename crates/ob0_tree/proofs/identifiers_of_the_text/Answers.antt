@@ -1,0 +1,11 @@
+use Rattle.ob0_tree.proofs.Leaves.{leaves_parsed, leaves_ascend, leaves_are_identifiers}
+use Rattle.ob0_tree.proofs.identifiers_of_the_text.Goals as goal
+
+pub returns-clause-all : goal.returns-clause-all
+returns-clause-all c m p = leaves_parsed m p
+
+pub returns-clause-ascend : goal.returns-clause-ascend
+returns-clause-ascend c m p = leaves_ascend m p
+
+pub returns-clause-stand : goal.returns-clause-stand
+returns-clause-stand c m p = leaves_are_identifiers m p

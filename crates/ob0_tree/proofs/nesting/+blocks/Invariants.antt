@@ -1,0 +1,7 @@
+use Rattle.std.proofs.Common.{◌≡◌}
+use Rattle.ob0_tree.specs.View.{procedure_of}
+use Rattle.ob0_tree.proofs.Deepest.{Deepest}
+use Rattle.ob0_tree.proofs.nesting.+blocks.Given as goal
+
+abbrev pub invariant-block-loop-p : goal.invariant-block-loop-p
+invariant-block-loop-p l = Deepest procedure_of l.initial.procedures l.p-items l.p-index l.procedures

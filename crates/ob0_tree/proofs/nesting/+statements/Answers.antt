@@ -1,0 +1,47 @@
+use Rattle.std.proofs.Common.{◌≡◌, max, ◌+◌, sym, ap, ◌∙◌, refl}
+use Rattle.ob0_tree.proofs.Viewed.{while_made, repeat_made, if_parts}
+use Rattle.ob0_tree.specs.declared.tree.If.{out-If}
+use Rattle.ob0_tree.specs.Depth.{capped}
+use Rattle.ob0_tree.specs.Tree.{nesting, branches}
+use Rattle.ob0_tree.specs.View.{items_of, statement_of, sequence_listed, expression_of, elsif_of, else_in, if_of}
+use Rattle.ob0_tree.proofs.Deepest.{two_deep, one_deeper, max_zero}
+use Rattle.ob0_tree.proofs.nesting.+statements.Goals as goal
+
+pub branches-returns-in-Some : goal.branches-returns-in-Some
+branches-returns-in-Some t c =
+    let i = out-If c.args.i.now in
+    let tree = if_parts c.args.i.now ∙ ap (λ o. branches (expression_of i.condition) (sequence_listed i.then.items) (items_of elsif_of i.elsifs.items) (else_in o)) c.in-Some.is in
+    let condition = nesting (expression_of i.condition) in
+    let then_part = nesting (sequence_listed i.then.items) in
+    let elsifs = nesting (items_of elsif_of i.elsifs.items) in
+    let other = nesting (sequence_listed c.in-Some.statements.items) in
+    let first = two_deep condition then_part c.expression.ensures c.sequence.ensures c.max-first.ensures in
+    let others = two_deep elsifs other c.elsifs-others.ensures c.sequence-in-Some.ensures c.max.ensures in
+    let all = two_deep (max condition then_part) (max elsifs other) first others c.max-in-Some.ensures in
+    one_deeper (max (max condition then_part) (max elsifs other)) all c.deeper.ensures ∙ ap (λ t. capped (nesting t)) (sym tree)
+
+pub branches-returns-in-None : goal.branches-returns-in-None
+branches-returns-in-None t c =
+    let i = out-If c.args.i.now in
+    let tree = if_parts c.args.i.now ∙ ap (λ o. branches (expression_of i.condition) (sequence_listed i.then.items) (items_of elsif_of i.elsifs.items) (else_in o)) c.in-None.is in
+    let condition = nesting (expression_of i.condition) in
+    let then_part = nesting (sequence_listed i.then.items) in
+    let elsifs = nesting (items_of elsif_of i.elsifs.items) in
+    let first = two_deep condition then_part c.expression.ensures c.sequence.ensures c.max-first.ensures in
+    let others = two_deep elsifs 0 c.elsifs-others.ensures refl (max_zero c.elsifs-others.result) in
+    let all = two_deep (max condition then_part) (max elsifs 0) first others c.max-in-None.ensures in
+    one_deeper (max (max condition then_part) (max elsifs 0)) all c.deeper-in-None.ensures ∙ ap (λ t. capped (nesting t)) (sym tree)
+
+pub statement-returns-in-While : goal.statement-returns-in-While
+statement-returns-in-While t c =
+    let w = c.in-While.w in
+    let inner = two_deep (nesting (expression_of w.condition)) (nesting (sequence_listed w.body.items)) c.expression.ensures c.sequence.ensures c.max.ensures in
+    one_deeper (max (nesting (expression_of w.condition)) (nesting (sequence_listed w.body.items))) inner c.deeper.ensures
+    ∙ ap (λ t. capped (nesting t)) (sym (while_made w) ∙ sym (ap statement_of c.in-While.is))
+
+pub statement-returns-in-Repeat : goal.statement-returns-in-Repeat
+statement-returns-in-Repeat t c =
+    let r = c.in-Repeat.r in
+    let inner = two_deep (nesting (sequence_listed r.body.items)) (nesting (expression_of r.condition)) c.sequence-in-Repeat.ensures c.expression-in-Repeat.ensures c.max-in-Repeat.ensures in
+    one_deeper (max (nesting (sequence_listed r.body.items)) (nesting (expression_of r.condition))) inner c.deeper-in-Repeat.ensures
+    ∙ ap (λ t. capped (nesting t)) (sym (repeat_made r) ∙ sym (ap statement_of c.in-Repeat.is))

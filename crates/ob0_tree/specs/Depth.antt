@@ -1,0 +1,5 @@
+-- Levels of nesting as the code counts them: a number of 32 bits, which stays at its largest.
+use Rattle.std.specs.Prelude.{ℕ, min}
+
+abbrev pub capped : ℕ → ℕ
+capped n = min n 4294967295

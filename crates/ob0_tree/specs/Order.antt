@@ -1,0 +1,39 @@
+-- The identifiers of a tree by their places among a text's tokens.
+use Rattle.std.specs.Prelude.{◌≡◌, ℕ, ◌+◌, ◌≤◌, ◌<◌, List, [], ◌∷◌, ◌++◌, map, length}
+use Rattle.std.specs.List.{HoldsAt}
+use Rattle.ob0_scan.specs.declared.lexeme.TokenKind.{TokenKind}
+use Rattle.ob0_scan.specs.declared.lexeme.TokenKind.TheVariants as kind
+use Rattle.ob0_scan.specs.declared.lexeme.Token.{Token}
+use Rattle.ob0_tree.specs.declared.tree.Role.{Role}
+use Rattle.ob0_tree.specs.declared.tree.Role.TheVariants as role
+use Rattle.ob0_tree.specs.Tree.{Sort, Tree, identifiers}
+
+-- Numbers that ascend: none is less than low or less than one before it or the same, and all are less than high.
+abbrev pub Ascending : ℕ → List ℕ → ℕ → Type 0
+Ascending low [] high = low ≤ high
+Ascending low (x ∷ xs) high = (low ≤ x) × Ascending (x + 1) xs high
+
+abbrev pub names_only : {N : Type 0} → List (Role × N) → List N
+names_only xs = map (λ x. x.1) xs
+
+-- all identifiers of a tree, in text order
+abbrev pub leaves : {N : Type 0} {s : Sort} → Tree N s → List N
+leaves t = names_only (identifiers role.Declaring t)
+
+-- the index, where the token is an identifier
+abbrev pub identifier_at : ℕ → TokenKind → List ℕ
+identifier_at i kind.Identifier = i ∷ []
+identifier_at i k = []
+
+-- the indexes of the identifiers among tokens, where the first token has this index
+abbrev pub identifiers_from : ℕ → List Token → List ℕ
+identifiers_from i [] = []
+identifiers_from i (t ∷ ts) = identifier_at i t.kind ++ identifiers_from (i + 1) ts
+
+-- the token at an index is an identifier
+abbrev pub IsIdentifier : List Token → ℕ → Type 0
+IsIdentifier ts i = (i < length ts) × HoldsAt (λ t. t.kind ≡ kind.Identifier) ts i
+
+abbrev pub AreIdentifiers : List Token → List ℕ → Type 0
+AreIdentifiers ts [] = Unit {0}
+AreIdentifiers ts (i ∷ others) = IsIdentifier ts i × AreIdentifiers ts others
