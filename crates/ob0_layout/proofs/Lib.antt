@@ -1,0 +1,6 @@
+pub mod Again
+pub mod Kept
+pub mod Pairs
+pub mod Named
+pub mod Apart
+pub mod Modules
