@@ -4,3 +4,4 @@ pub mod Pairs
 pub mod Named
 pub mod Apart
 pub mod Modules
+pub mod Walks

@@ -4,5 +4,6 @@
 mod gap;
 pub mod laws;
 mod standing;
+mod walk;
 
 pub use standing::Standing;
