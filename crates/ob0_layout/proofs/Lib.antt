@@ -5,3 +5,4 @@ pub mod Named
 pub mod Apart
 pub mod Modules
 pub mod Walks
+pub mod Ahead
