@@ -22,7 +22,9 @@ use Rattle.ob0_layout.specs.declared.sites.Next.TheVariants as next
 use Rattle.ob0_layout.specs.declared.sites.Solid.{Solid}
 use Rattle.ob0_layout.specs.declared.standing.Standing.{Standing}
 use Rattle.ob0_layout.specs.Layout.{next_line, next_standing, holds_break, comment_standing}
-use Rattle.ob0_layout.specs.Sites.{gap_before, last_gap, sites, all_sites, next_of}
+use Rattle.std.specs.List.{All}
+use Rattle.std.proofs.lemmas.List.Elements.{All-nil, All-cons}
+use Rattle.ob0_layout.specs.Sites.{gap_before, last_gap, sites, all_sites, next_of, LiesIn}
 
 break_append : (xs ys : List ℕ) → holds_break (xs ++ ys) ≡ (holds_break xs || holds_break ys)
 break_append [] ys = refl
@@ -297,3 +299,23 @@ sited_moved {text = text} {whole = whole} {left = left} {left' = left'} {comment
     (subst (λ (xs : List Standing). Sited text whole left' comments' xs before level start out) (sym c)
     (subst (λ (cs : List Span). Sited text whole left' cs ss before level start out) (sym b)
     (subst (λ (ts : List Token). Sited text whole ts comments ss before level start out) (sym a) h)))))
+
+-- the gaps of a text lie in it
+lie_kind : (text : List ℕ) (k : LexemeKind) (t : List ℕ) (ls : List Lexeme) (before : Option Solid) (level : ℕ) (broken : Bool) (ss : List Standing) (from at : ℕ) → from ≤ at → at ≤ length text
+    → ((b : Option Solid) (k : ℕ) (br : Bool) (xs : List Standing) (f : ℕ) → f ≤ at + length t → All (LiesIn (length text)) (sites b k br xs f (at + length t) ls))
+    → All (LiesIn (length text)) (sites before level broken ss from at (record { kind = k; text = t } ∷ ls))
+lie_kind text lexeme.Space t ls before level broken ss from at up in_text more = more before level (broken || holds_break t) ss from (omega arith)
+lie_kind text lexeme.Comment t ls before level broken ss from at up in_text more =
+    All-cons (LiesIn (length text)) _ _ (record { ordered = up; within = in_text }) (more _ level false ss (at + length t) (omega arith))
+lie_kind text (lexeme.Token k) t ls before level broken ss from at up in_text more =
+    All-cons (LiesIn (length text)) _ _ (record { ordered = up; within = in_text }) (more _ (next_line level ss) false (drop 1 ss) (at + length t) (omega arith))
+
+sites_lie : (text : List ℕ) (rest : List Lexeme) (at : ℕ) → StandFrom text at rest [] → (before : Option Solid) (level : ℕ) (broken : Bool) (ss : List Standing) (from : ℕ) → from ≤ at
+    → All (LiesIn (length text)) (sites before level broken ss from at rest)
+sites_lie text [] at s before level broken ss from up = All-cons (LiesIn (length text)) _ [] (record { ordered = up; within = s.place.0 }) (All-nil (LiesIn (length text)))
+sites_lie text (l ∷ ls) at s before level broken ss from up =
+    lie_kind text l.kind l.text ls before level broken ss from at up s.place.0 (sites_lie text ls (at + length l.text) (next_from text at l ls [] s))
+
+pub all_lie : (s : Scanned) (scan : IsScan s) (ss : List Standing) → All (LiesIn (length s.text)) (all_sites ss scan.lexemes)
+all_lie s scan ss =
+    sites_lie s.text scan.lexemes 0 (record { utf8 = scan.utf8; place = IsCharBoundary-start s.text scan.utf8; each = scan.lexed.each; rest = sym (append-nil (joined scan.lexemes) ∙ scan.lexed.whole) }) None 0 true ss 0 (omega arith)

@@ -6,3 +6,4 @@ pub mod Apart
 pub mod Modules
 pub mod Walks
 pub mod Ahead
+pub mod EditSteps
