@@ -8,8 +8,8 @@ BUILT = {
     "syntax": True,  # diagnostics of the parser
     "types": False,  # diagnostics of scopes and types
     "check": False,  # `ob0 check`
-    "changes": False,  # changes with a range
-    "utf8": False,  # positions in UTF-8 units where the client offers them
+    "changes": True,  # changes with a range
+    "utf8": True,  # positions in UTF-8 units where the client offers them
     "questions": False,  # hover, definition, references, prepareRename
     "fields": False,  # questions at fields of records
     "run": False,  # `ob0 run`
