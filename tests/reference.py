@@ -457,9 +457,12 @@ class Checker:
         if node.kind == "procedure":
             self.bound.append((node.closing, node.declared))
 
-    def constant(self, node):
-        """The type and value of a constant expression, None where they have a fault."""
-        type_ = self.expression(node, True)
+    def constant(self, node, type_=None):
+        """The type and value of a constant expression, None where they have a fault. An expression of another type than
+        is asked for isn't evaluated."""
+        if type_ and not self.asked(node, type_, True):
+            return None, None
+        type_ = type_ or self.expression(node, True)
         if type_ not in (INTEGER, BOOLEAN):
             return type_, None
         try:
@@ -494,12 +497,10 @@ class Checker:
         return made
 
     def array(self, node):
-        type_, length = self.constant(node.length)
+        _, length = self.constant(node.length, INTEGER)
         element = self.type(node.element)
-        if type_ is None or length is None and type_ in (INTEGER, BOOLEAN):
+        if length is None:
             return None
-        if type_ is not INTEGER:
-            return self.tell("TypeMismatch", node.length.first, node.length.last)
         if not 1 <= length <= 65536:
             return self.tell("ArrayLength", node.length.first, node.length.last)
         return Type("array", length, element)
@@ -528,8 +529,9 @@ class Checker:
         wants = [INTEGER, BOOLEAN] if node.operator in "=#" else [BOOLEAN] if node.operator in ("&", "OR") else [INTEGER]
         if left and left not in wants:
             return self.tell("TypeMismatch", node.left.first, node.left.last)
-        if node.operator in "=#" and left:
-            wants = [left]
+        if node.operator in "=#":
+            # (where the left one is unknown nothing is asked of the right one)
+            wants = [left or right]
         if right and right not in wants:
             return self.tell("TypeMismatch", node.right.first, node.right.last)
         return gives if left and right else None

@@ -8,6 +8,7 @@ import sys
 
 import reference
 import reference_edits
+import wild
 from features import BUILT
 from harness import MESSAGES, TOP, Server, did_open, extent, on_file, place, same, test, told
 
@@ -74,6 +75,14 @@ def lexemes():
 @test("random: diagnostics of texts with a few names and operators changed", "types")
 def names():
     compare(True)
+
+
+@test("random: diagnostics of modules of few names with many faults", "types")
+def wilds():
+    with Server() as server:
+        for seed in range(SEED, SEED + 2 * COUNT):
+            text = wild.module(seed)
+            same(server.tell(did_open(text)), wanted(text), f"seed {seed}, of the text\n{text}\n")
 
 
 @test("random: texts of few characters")

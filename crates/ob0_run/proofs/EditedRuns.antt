@@ -1,12 +1,11 @@
 -- The run of an edited module is the module's.
 use Rattle.std.proofs.Common.{List, None, Option, Some, [], ap, arith, false, if◌then◌else◌, le_refl, length, map, option_and_then, option_map, refl, subst, subst₂, suc, sym, true, zero, ℕ, ℤ, ⊎_elim, ◌++◌, ◌+◌, ◌<◌, ◌∙◌, ◌∷◌, ◌≡◌, ◌≤◌}
-use Rattle.ob0_tree.specs.Tree.{Tree, begins, block, body, declares, declares_procedure, declares_variable, end, formals, further_section, has_body, is_module, item, items, maybe, module_text, more, none, occurrences, one, procedure, sequence, then_section, value_section, variable, variable_section}
+use Rattle.ob0_tree.specs.Tree.{Tree, begins, block, body, constant, declares, declares_procedure, declares_variable, end, formals, further_section, has_body, is_module, item, items, maybe, module_text, more, none, occurrences, one, procedure, sequence, then_section, value_section, variable, variable_section}
 use Rattle.ob0_scope.specs.Names.{Name, as_names, same_name}
 use Rattle.ob0_scope.specs.Parts.{block_statements, constant_names, formal_names, formal_sections, named_types, names_listed, procedure_formals, procedure_name, section_constants, section_types, section_variables, variable_names}
-use Rattle.ob0_scope.specs.Scopes.{Scope, after_block, after_names, after_procedure, after_procedures, body_scope, declare_names, declare_procedure_names, first_procedure, first_type, first_variable, ordinal_of, predeclared_scope, procedures_scope, variables_scope}
 use Rattle.ob0_scope.proofs.EditedTrees.{Edit, SameAt, edited, edited_block, edited_procedure, edited_procedures, inline-nothing, leaf, leaving_out, left-module, with_names-same, writing, written-module}
 use Rattle.ob0_scope.proofs.Ordinals.{after_names-append, le-after_names, le-after_procedure}
-use Rattle.ob0_scope.proofs.Places.{Each, EachBlock, EachProcedure, EachVariable, OneProcedure}
+use Rattle.ob0_scope.proofs.Places.{EachBlock, EachProcedure, EachVariable, OneProcedure}
 use Rattle.ob0_values.specs.Values.{Place, Store, Stuck, Value, elements, initial, members, number, truth}
 use Rattle.ob0_types.specs.ConstantValues.{Known, no_constant, value_in_block, value_in_procedure, value_in_procedures}
 use Rattle.ob0_types.specs.Declarations.{after_types, after_variables, declare_constants, declare_first, formals_constructors, procedure_constructors, types_constructors, variables_constructors}
@@ -21,7 +20,7 @@ use Rattle.ob0_types.proofs.EditedModules.{IsFitted, inlining_keeps_well_typed-h
 use Rattle.ob0_types.proofs.EditedParts.{agree-weaken, all-left, bind_all, body-worth, edited-all, first-edited, formals-of, formals_constructors-leaf, heading-outside, left-join, left-then, mark_all, names_of, own-worth, procedure_constructors-edited, procedures-worth, read-all, rest-worth, types-of, types-outside, types_constructors-leaf, variables-of, variables_constructors-leaf}
 use Rattle.ob0_types.proofs.EditedTypes.{procedures-below}
 use Rattle.ob0_types.proofs.Inlined.{Stands}
-use Rattle.ob0_types.proofs.Leaves.{Here, Literal, denoted-leaf, edited-stands_for, edited_meanings, none-used, read-stands_for, read_meanings, seen-edited, shown, uses-edited}
+use Rattle.ob0_types.proofs.Leaves.{AllStay, Here, Literal, denoted-leaf, edited-stands_for, edited_meanings, none-used, read-stands_for, read_meanings, seen-read, shown, uses-read}
 use Rattle.ob0_types.proofs.Literals.{IsSeen, literal-worth, some_inverse}
 use Rattle.ob0_types.proofs.Marks.{IsRight, Mark, Marks, OfProcedure, Sound, Sound-from, Stays, found, is_left, knowns, marks_from, not-left, object_as, object_of, read, read-from, read_edited, read_edited-from, scope_marked}
 use Rattle.ob0_run.specs.EditLaws.{InliningKeepsModules, LeavingOutKeepsModules}
@@ -29,6 +28,7 @@ use Rattle.ob0_run.specs.Runs.{Activation, Argument, Calls, Code, Frame, Paramet
 use Rattle.ob0_run.proofs.ByOrdinal.{formal_names-parameters, parameter_names}
 use Rattle.ob0_run.proofs.InlinedStatements.{execute_all-written}
 use Rattle.ob0_run.proofs.RunNaturality.{execute_all-map}
+use Rattle.ob0_scope.specs.Scopes.{Scope, after_block, after_names, after_procedure, after_procedures, body_scope, declare_names, declare_procedure_names, first_procedure, first_type, first_variable, ordinal_of, predeclared_scope, procedures_scope, variables_scope}
 use Rattle.std.proofs.lemmas.Bool.{cases_Bool}
 
 -- a procedure in a run, and the number of the first occurrence in its text
@@ -104,16 +104,16 @@ run_tag meaning enter x = record { object = meaning.stands_for x; text = []; ent
 abbrev pub run_field : Name → RunTag
 run_field x = record { object = None; text = x; entering = λ args s. stopped Stuck s.output }
 
-pub run-same : (edit : Edit) (w : Value) (marks : Marks Place Text) (there here : Calls Name) → ((x : Name) → Stays edit (scope_marked marks) x → there x ≡ here x) → (j : ℕ) (xs : List Name)
-    → Each (Here edit w) j (scope_marked marks) xs → SameAt (run_tag (meanings_after edit marks) there) (run_tag (meanings_before marks) here) xs
-run-same edit w marks there here kept j [] known = tt
-run-same edit w marks there here kept j (x ∷ xs) known = (
+pub run-same : (edit : Edit) (w : Value) (marks : Marks Place Text) (there here : Calls Name) → ((x : Name) → Stays edit (scope_marked marks) x → there x ≡ here x) → (xs : List Name)
+    → AllStay edit (scope_marked marks) xs → SameAt (run_tag (meanings_after edit marks) there) (run_tag (meanings_before marks) here) xs
+run-same edit w marks there here kept [] known = tt
+run-same edit w marks there here kept (x ∷ xs) known = (
   λ i. record {
-    object = (ap passing (edited-stands_for edit (after edit) marks x known.0.2) ∙ (passing-kept edit (found marks x) ∙ sym (ap passing (read-stands_for before marks x)))) i;
+    object = (ap passing (edited-stands_for edit (after edit) marks x known.0) ∙ (passing-kept edit (found marks x) ∙ sym (ap passing (read-stands_for before marks x)))) i;
     text = [];
-    entering = kept x known.0.2 i;
+    entering = kept x known.0 i;
   },
-  run-same edit w marks there here kept (suc j) xs known.1,
+  run-same edit w marks there here kept xs known.1,
 )
 
 pub execute_all-alike : (there here : Activation Name) (enter_there enter_here : Calls Name) (t : ℕ) (a : Tree Name sequence) → SameAt (run_tag (statement_meanings as_names there) enter_there) (run_tag (statement_meanings as_names here) enter_here) (occurrences a)
@@ -124,19 +124,19 @@ execute_all-alike there here enter_there enter_here t a e =
     ∙ execute_all-map (run_tag (statement_meanings as_names here) enter_here) run_field run_tagged (λ x. x.entering) t a)
 
 pub body-kept : (edit : Edit) (w : Value) → Literal edit w → (n : ℕ) (marks : Marks Place Text) → Run_sound edit w n marks → (there here : Calls Name) → ((x : Name) → Stays edit (scope_marked marks) x → there x ≡ here x)
-    → (t j : ℕ) (statements : Tree Name (maybe body)) → Each (Here edit w) j (scope_marked marks) (occurrences statements)
+    → (t j : ℕ) (statements : Tree Name (maybe body)) → Here edit w (maybe body) j (scope_marked marks) statements
     → execute_body as_names (read_edited edit (after edit) marks) there t (leaf edit j statements) ≡ execute_body as_names (read before marks) here t statements
 unfolding execute_body
 body-kept edit w lit n marks s there here kept t j none known = refl
 body-kept edit w lit n marks s there here kept t j (one (begins a)) known = λ i state.
-    (⊎_elim
-    (λ yes_shown. let seen : IsSeen (edited_meanings edit (after edit) marks) w = seen-edited edit w lit (IsText edit w) (after edit) n marks s yes_shown in
-    execute_all-written (meanings_after edit marks) there t edit.uses edit.literal w record {
-      in_store = λ store. literal-worth (meanings_after edit marks) store edit.literal w lit.written lit.scalar (seen-passing (read_edited edit (after edit) marks) w seen);
-    } j a (uses-map edit.uses (StandsFor (edited_meanings edit (after edit) marks) w) (Stands (meanings_after edit marks) w) (λ x e. ap passing e) j (occurrences a) (uses-edited edit w (IsText edit w) (after edit) n marks s j (occurrences a) known)))
-    (λ not_shown. ap (execute_all (meanings_after edit marks) there t) (inline-nothing edit.uses edit.literal j a (none-used edit w j (scope_marked marks) (occurrences a) not_shown known)))
-    (cases_Bool (shown w (scope_marked marks)))
-    ∙ execute_all-alike (read_edited edit (after edit) marks) (read before marks) there here t a (run-same edit w marks there here kept j (occurrences a) known)) i state
+    (execute_all-alike (read_edited edit (after edit) marks) (read before marks) there here t (leaf edit j a) (run-same edit w marks there here kept (occurrences (leaf edit j a)) known.1)
+    ∙ ⊎_elim
+    (λ yes_shown. let seen : IsSeen (read_meanings before marks) w = seen-read edit w (IsText edit w) before n marks s yes_shown in
+    execute_all-written (meanings_before marks) here t edit.uses edit.literal w record {
+      in_store = λ store. literal-worth (meanings_before marks) store edit.literal w lit.written lit.scalar (seen-passing (read before marks) w seen);
+    } j a (uses-map edit.uses (StandsFor (read_meanings before marks) w) (Stands (meanings_before marks) w) (λ x e. ap passing e) j (occurrences a) (uses-read edit w (IsText edit w) before n marks s j (occurrences a) known.0)))
+    (λ not_shown. ap (execute_all (meanings_before marks) here t) (inline-nothing edit.uses edit.literal j a (none-used edit w j (scope_marked marks) (occurrences a) not_shown known.0)))
+    (cases_Bool (shown w (scope_marked marks)))) i state
 
 -- frames
 
@@ -374,7 +374,7 @@ CallsKept edit w there here =
     (n : ℕ) (marks : Marks Place Text) → Run_sound edit w n marks → (x : Name) → Stays edit (scope_marked marks) x → there (read_edited edit (after edit) marks) x ≡ here (read before marks) x
 
 pub statements-of : (edit : Edit) (j k : ℕ) (b : Tree Name block) (scope : Scope Name) (w : Value) → EachBlock (Here edit w) j scope k b
-    → (m : ℕ) × (block_statements (edited_block edit j k b) ≡ leaf edit m (block_statements b)) × Each (Here edit w) m (body_scope k b scope) (occurrences (block_statements b))
+    → (m : ℕ) × (block_statements (edited_block edit j k b) ≡ leaf edit m (block_statements b)) × Here edit w (maybe body) m (body_scope k b scope) (block_statements b)
 statements-of edit j k (has_body (declares cs ts vs ps) statements) scope w here = (j + length (occurrences (declares cs ts vs ps)), refl, here.4)
 
 -- the statements of a declared block, in its frame
@@ -385,7 +385,7 @@ block-runs edit w lit there here known t j k scope b each f right =
     let st = statements-of edit j k b scope w each in
     ap (execute_body as_names (read_edited edit (after edit) f.marks) (there (read_edited edit (after edit) f.marks)) t) st.1
     ∙ body-kept edit w lit (after_block k b) f.marks right.1 (there (read_edited edit (after edit) f.marks)) (here (read before f.marks)) (known (after_block k b) f.marks right.1) t st.0 (block_statements b)
-    (subst (λ scope. Each (Here edit w) st.0 scope (occurrences (block_statements b))) (sym right.0) st.2)
+    (subst (λ scope. Here edit w (maybe body) st.0 scope (block_statements b)) (sym right.0) st.2)
 
 -- a procedure's parameters and block, in a frame whose newest mark is the procedure's own
 pub activation-kept : (edit : Edit) (w : Value) → Literal edit w → (i j k : ℕ) (f : MarkedFrame) → Run_sound edit w (suc k) f.marks → 7 ≤ k → (x closing : Name) (fs : Tree Name (maybe formals)) (b : Tree Name block)

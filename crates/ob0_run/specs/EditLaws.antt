@@ -1,12 +1,12 @@
 -- Laws of edits: what keeps a module well-typed and its runs.
 use Rattle.std.specs.Prelude.{List, Some, ℕ, ℤ, ◌≡◌, ◌≢◌}
 use Rattle.ob0_tree.specs.Tree.{Tree, factor, module_text}
-use Rattle.ob0_scope.specs.Inlining.{Uses, inlined, module_without}
+use Rattle.ob0_scope.specs.Inlining.{Uses, inlined, inlined_everywhere, module_without}
 use Rattle.ob0_scope.specs.Names.{Name}
 use Rattle.ob0_scope.specs.Occurrences.{Free, binds}
 use Rattle.ob0_scope.specs.Scopes.{renamed}
 use Rattle.ob0_values.specs.Values.{Value}
-use Rattle.ob0_types.specs.EditLaws.{AreUsesOf, IsConstantWritten}
+use Rattle.ob0_types.specs.EditLaws.{AreUsesOf, IsConstantWritten, IsShown}
 use Rattle.ob0_types.specs.WellTyped.{WellTyped}
 use Rattle.ob0_run.specs.Runs.{run}
 
@@ -29,3 +29,9 @@ abbrev pub LeavingOutKeepsModules : Type 0
 LeavingOutKeepsModules =
     (m : Tree Name module_text) (d : ℕ) (w : Value) (v : Tree Name factor)
     → IsConstantWritten m d w v → ((k : ℕ) → binds m k ≢ Some d) → WellTyped m → WellTyped (module_without d m) × SameRuns (module_without d m) m
+
+-- a constant's literal in place of all its uses, and its declaration gone: the module stays well-typed and has the same runs
+abbrev pub InliningEverywhereKeepsModules : Type 0
+InliningEverywhereKeepsModules =
+    (m : Tree Name module_text) (d : ℕ) (w : Value) (v : Tree Name factor)
+    → IsConstantWritten m d w v → ((k : ℕ) → binds m k ≡ Some d → IsShown m k w) → WellTyped m → WellTyped (inlined_everywhere m d v) × SameRuns (inlined_everywhere m d v) m

@@ -224,7 +224,7 @@ uses-none : (k : ℕ) (xs : List Name) → UsesNone no_uses k xs
 uses-none k [] = tt
 uses-none k (x ∷ xs) = (refl, uses-none (suc k) xs)
 
-leaf-kept : {s : Sort} (v : Tree Name factor) (k : ℕ) (t : Tree Name s) → inline_in no_uses v k t ≡ t
+pub leaf-kept : {s : Sort} (v : Tree Name factor) (k : ℕ) (t : Tree Name s) → inline_in no_uses v k t ≡ t
 leaf-kept v k t = inline-nothing no_uses v k t (uses-none k (occurrences t))
 
 abbrev pub leaving_out : Tree Name factor → ℕ → Edit

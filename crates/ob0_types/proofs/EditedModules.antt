@@ -1,18 +1,19 @@
 -- Modules edited: what an edit maker knows is what the parts of a module need, and the edited module is well-typed.
 use Rattle.std.proofs.Common.{IsTrue, List, None, Option, Some, [], add-zero, ap, arith, codes, false, if◌then◌else◌, le_refl, lit<, ltb-false, nat_lt, option_and_then, refl, slice_get, subst, suc, sym, true, true≢false, zero-add, ℕ, ◌+◌, ◌<◌, ◌∙◌, ◌∷◌, ◌≡◌, ◌≢◌, ◌≤◌}
-use Rattle.ob0_tree.specs.Tree.{Tree, factor, is_module, module_text, occurrences}
-use Rattle.ob0_scope.specs.Inlining.{Uses}
+use Rattle.ob0_tree.specs.Tree.{Tree, constant, factor, is_module, module_text, occurrences}
+use Rattle.ob0_scope.specs.Inlining.{Uses, inline_in}
 use Rattle.ob0_scope.specs.Occurrences.{binds, label_ordinal}
 use Rattle.ob0_scope.specs.Parts.{module_block}
 use Rattle.ob0_scope.specs.SeenNames.{looking_for}
-use Rattle.ob0_scope.proofs.EditedTrees.{Edit, edited, edited_block, leaving_out, left-module, writing, written-module}
-use Rattle.ob0_scope.proofs.Places.{AllAt, EachBlock, each-block}
+use Rattle.ob0_scope.proofs.EditedTrees.{Edit, edited, edited_block, leaf-kept, leaving_out, left-module, writing, written-module}
+use Rattle.ob0_scope.proofs.Peeling.{both}
+use Rattle.ob0_scope.proofs.Places.{AllAt, Both, Each, EachBlock, each-block}
 use Rattle.ob0_values.specs.Values.{Value, boolean_shape, elements, integer_shape, members, number, truth}
 use Rattle.ob0_types.specs.EditLaws.{AreUsesOf, InliningKeepsWellTyped, IsConstantWritten, IsShown, LeavingOutKeepsWellTyped}
 use Rattle.ob0_types.specs.Expressions.{Object, a_constant, a_standard, a_type, reads, writes, writes_line}
 use Rattle.ob0_types.specs.WellTyped.{WellTyped, block_fits, fits_over}
 use Rattle.ob0_types.proofs.EditedTypes.{Checked, anything, as_signed, block_fits-edited}
-use Rattle.ob0_types.proofs.Leaves.{Here, Literal, shown}
+use Rattle.ob0_types.proofs.Leaves.{AllStay, Here, Literal, Writes, shown}
 use Rattle.ob0_types.proofs.Literals.{some_inverse}
 use Rattle.ob0_types.proofs.Marks.{IsRight, Marks, Sound, not-left, object_as, read, read_edited}
 use Rattle.ob0_scope.specs.Names.{Label, Name, Naming, as_names, predeclared_name, same_name}
@@ -101,7 +102,7 @@ label_ordinal-of naming scope x = go (ordinal_of naming scope x)
     go None = refl
     go (Some k) = refl
 
-seven-or-less : (m : Tree Name module_text) (d : ℕ) (w : Value) → value_of_constant m d ≡ Some w → (7 ≤ d) × (value_in_block predeclared_known d 7 (module_block m) ≡ Some w)
+pub seven-or-less : (m : Tree Name module_text) (d : ℕ) (w : Value) → value_of_constant m d ≡ Some w → (7 ≤ d) × (value_in_block predeclared_known d 7 (module_block m) ≡ Some w)
 unfolding value_of_constant
 seven-or-less m d w h =
     (elim (nat_lt d 7) as (λ v. nat_lt d 7 ≡ v → (if v then None else value_in_block predeclared_known d 7 (module_block m)) ≡ Some w → (7 ≤ d) × (value_in_block predeclared_known d 7 (module_block m) ≡ Some w))
@@ -124,7 +125,7 @@ IsShownAs uses (number n) j l = Unit {0}
 IsShownAs uses (elements vs) j l = Unit {0}
 IsShownAs uses (members k ms) j l = Unit {0}
 
-shown-from : (uses : Uses) (w : Value) (j : ℕ) (scope : Scope Name) (x : Name) → IsShownAs uses w j (label_of (looking_for (truth_name w)) (as_label (looking_for (truth_name w))) scope x) → uses j ≡ true → shown w scope ≡ true
+pub shown-from : (uses : Uses) (w : Value) (j : ℕ) (scope : Scope Name) (x : Name) → IsShownAs uses w j (label_of (looking_for (truth_name w)) (as_label (looking_for (truth_name w))) scope x) → uses j ≡ true → shown w scope ≡ true
 shown-from uses (truth true) j scope x h u =
     ap (λ o. same_ordinal o 2) (sym (looked (codes "TRUE") scope x) ∙ (sym (label_ordinal-of (looking_for (codes "TRUE")) scope x) ∙ h u))
   where
@@ -141,7 +142,7 @@ shown-from uses (number n) j scope x h u = refl
 shown-from uses (elements vs) j scope x h u = refl
 shown-from uses (members k ms) j scope x h u = refl
 
-all-shown : (m : Tree Name module_text) (w : Value) (uses : Uses) → ((k : ℕ) → uses k ≡ true → IsShown m k w) → AllAt (IsShownAs uses w) 0 (occurrences (relabelled (looking_for (truth_name w)) (as_label (looking_for (truth_name w))) m))
+pub all-shown : (m : Tree Name module_text) (w : Value) (uses : Uses) → ((k : ℕ) → uses k ≡ true → IsShown m k w) → AllAt (IsShownAs uses w) 0 (occurrences (relabelled (looking_for (truth_name w)) (as_label (looking_for (truth_name w))) m))
 all-shown m (truth true) uses h = all-at (IsShownAs uses (truth true)) 0 (occurrences (relabelled (looking_for (codes "TRUE")) (as_label (looking_for (codes "TRUE"))) m)) (λ i l e u. sym (ap (option_and_then label_ordinal) e) ∙ h i (ap uses (sym (zero-add i)) ∙ u))
 all-shown m (truth false) uses h = all-at (IsShownAs uses (truth false)) 0 (occurrences (relabelled (looking_for (codes "FALSE")) (as_label (looking_for (codes "FALSE"))) m)) (λ i l e u. sym (ap (option_and_then label_ordinal) e) ∙ h i (ap uses (sym (zero-add i)) ∙ u))
 all-shown m (number n) uses h = all-at (IsShownAs uses (number n)) 0 (occurrences (relabelled (looking_for (codes "FALSE")) (as_label (looking_for (codes "FALSE"))) m)) (λ i l e. tt)
@@ -155,12 +156,21 @@ written-fitted (is_module x b closing) d w v uses c u =
     record {
       literal = record { written = c.literal; scalar = c.scalar; ordinal = seven.0 };
       here = each-block as_names (looking_for (truth_name w)) (IsBound uses d) (IsShownAs uses w) (Here (writing uses v d) w)
-          (λ j scope x f g. (λ e. sym (label_ordinal-of as_names scope x) ∙ f e, λ e. shown-from uses w j scope x g e, λ e. absurd (true≢false (sym e))))
+          (λ s j scope t both. (writes_at uses j scope (occurrences t) both, all-stay scope (occurrences (inline_in uses v j t))))
           0 (predeclared_scope as_names) 7 b
           (all-at (IsBound uses d) 0 (occurrences (relabelled as_names (as_label as_names) m)) (λ i l e t. sym (ap (option_and_then label_ordinal) e) ∙ u.bound i (ap uses (sym (zero-add i)) ∙ t)))
           (all-shown m w uses u.seen);
       worth = seven.1;
     }
+  where
+    all-stay : (scope : Scope Name) (xs : List Name) → AllStay (writing uses v d) scope xs
+    all-stay scope [] = tt
+    all-stay scope (x ∷ xs) = (λ e. absurd (true≢false (sym e)), all-stay scope xs)
+
+    writes_at : (uses : Uses) (j : ℕ) (scope : Scope Name) (xs : List Name) → Each (Both as_names (looking_for (truth_name w)) (IsBound uses d) (IsShownAs uses w)) j scope xs → Each (Writes (writing uses v d) w) j scope xs
+    writes_at uses j scope [] both = tt
+    writes_at uses j scope (x ∷ xs) both =
+        ((λ e. sym (label_ordinal-of as_names scope x) ∙ both.0.0 e, λ e. shown-from uses w j scope x both.0.1 e), writes_at uses (suc j) scope xs both.1)
 
 pub inlining_keeps_well_typed-holds : InliningKeepsWellTyped
 inlining_keeps_well_typed-holds m d w v uses c u well = subst WellTyped (written-module uses v d m) (well_typed-edited (writing uses v d) w m (written-fitted m d w v uses c u) well)
@@ -179,10 +189,18 @@ left-fitted (is_module x b closing) d w v c u =
     record {
       literal = record { written = c.literal; scalar = c.scalar; ordinal = seven.0 };
       here = each-block as_names as_names (IsOther d) (IsOther d) (Here (leaving_out v d) w)
-          (λ j scope x f g. (λ e. absurd (true≢false (sym e)), λ e. absurd (true≢false (sym e)), λ e o. f (label_ordinal-of as_names scope x ∙ o)))
+          (λ s j scope t both. (no_writes j scope (occurrences t), subst (λ a. AllStay (leaving_out v d) scope (occurrences a)) (sym (leaf-kept v j t)) (all_others j scope (occurrences t) both)))
           0 (predeclared_scope as_names) 7 b others others;
       worth = seven.1;
     }
+  where
+    no_writes : (j : ℕ) (scope : Scope Name) (xs : List Name) → Each (Writes (leaving_out v d) w) j scope xs
+    no_writes j scope [] = tt
+    no_writes j scope (x ∷ xs) = ((λ e. absurd (true≢false (sym e)), λ e. absurd (true≢false (sym e))), no_writes (suc j) scope xs)
+
+    all_others : (j : ℕ) (scope : Scope Name) (xs : List Name) → Each (Both as_names as_names (IsOther d) (IsOther d)) j scope xs → AllStay (leaving_out v d) scope xs
+    all_others j scope [] both = tt
+    all_others j scope (x ∷ xs) both = (λ e o. both.0.0 (label_ordinal-of as_names scope x ∙ o), all_others (suc j) scope xs both.1)
 
 pub leaving_out_keeps_well_typed-holds : LeavingOutKeepsWellTyped
 leaving_out_keeps_well_typed-holds m d w v c u well = subst WellTyped (left-module v d m) (well_typed-edited (leaving_out v d) w m (left-fitted m d w v c u) well)

@@ -1,12 +1,12 @@
 -- An edited module fits where the module does.
 use Rattle.std.proofs.Common.{List, None, Option, Some, [], ap, arith, false, if◌then◌else◌, le_of_lt, le_refl, le_trans, length, map, nat_lt, negsuc, option_and_then, option_map, pos, refl, subst, subst₂, suc, sym, true, ℕ, ⊎_elim, ◌&&◌, ◌++◌, ◌+◌, ◌<◌, ◌∙◌, ◌∷◌, ◌≡◌, ◌≤◌}
-use Rattle.ob0_tree.specs.Tree.{Tree, adds, begins, block, body, compares, declares, declares_procedure, declares_variable, end, factor, further_section, has_body, integer, item, items, maybe, more, none, occurrences, one, parenthesised, procedure, product, sequence, sum, then_section, variable, written_type}
+use Rattle.ob0_tree.specs.Tree.{Tree, adds, begins, block, body, compares, constant, declares, declares_procedure, declares_variable, end, factor, further_section, has_body, integer, item, items, mark, maybe, more, none, occurrences, one, parenthesised, procedure, product, sequence, sum, then_section, variable, written_type}
 use Rattle.ob0_scope.specs.Names.{Name, as_names}
 use Rattle.ob0_scope.specs.Parts.{block_constants, block_types, block_variables, constant_names, formal_names, formal_sections, named_types, names_listed, section_constants, section_names, section_type, section_types, section_variables, variable_names}
 use Rattle.ob0_scope.specs.Scopes.{Scope, after_block, after_names, after_procedure, after_procedures, declare_names, declare_procedure_names, first_procedure, first_type, first_variable, procedures_scope, variables_scope}
 use Rattle.ob0_scope.proofs.EditedTrees.{Edit, SameAt, edited_block, edited_procedure, edited_procedures, inline-nothing, leaf, with_names-same}
 use Rattle.ob0_scope.proofs.Ordinals.{after_names-append, le-after_names, le-after_procedure}
-use Rattle.ob0_scope.proofs.Places.{Each, EachBlock, EachProcedure, EachSection, EachVariable}
+use Rattle.ob0_scope.proofs.Places.{EachBlock, EachProcedure, EachSection, EachVariable}
 use Rattle.ob0_values.specs.Values.{Shape, Value, elements, members, number, truth}
 use Rattle.ob0_types.specs.ConstantValues.{Known, no_constant, value_in_block, value_in_procedure, value_in_procedures}
 use Rattle.ob0_types.specs.Declarations.{after_types, after_variables, declare_constants, declare_first, formals_constructors, procedure_constructors, types_constructors, variables_constructors}
@@ -22,7 +22,7 @@ use Rattle.ob0_types.proofs.EditedDeclarations.{Left, Outside, Worth, agree-know
 use Rattle.ob0_types.proofs.EditedParts.{agree-weaken, all-left, bind_all, bind_all-names, body-worth, edited-all, first-edited, formals-of, formals_constructors-leaf, heading-outside, left-join, left-then, mark_all, names_of, names_of-with_value, own-worth, procedure_constructors-edited, procedures-worth, read-all, rest-worth, section_mode-leaf, section_names-leaf, section_type-leaf, types-below, types-of, types-outside, types_constructors-leaf, variables-of, variables_constructors-leaf, with_value}
 use Rattle.ob0_types.proofs.FitInlined.{alone, sequence_fits-written}
 use Rattle.ob0_types.proofs.FitNaturality.{sequence_fits-map}
-use Rattle.ob0_types.proofs.Leaves.{Here, Literal, Tag, as_field, denoted-leaf, edited-stands_for, edited_meanings, none-used, read-stands_for, read_meanings, seen-edited, shown, tagged, uses-edited}
+use Rattle.ob0_types.proofs.Leaves.{AllStay, Here, Literal, Tag, as_field, denoted-leaf, edited-stands_for, edited_meanings, none-used, read-stands_for, read_meanings, seen-read, shown, tagged, uses-read}
 use Rattle.ob0_types.proofs.Literals.{IsSeen, literal-typed, some_inverse}
 use Rattle.ob0_types.proofs.Marks.{Mark, Marks, Sound, Sound-weaken, knowns, read, read_edited, scope_marked}
 use Rattle.ob0_types.proofs.TypesByOrdinal.{hold-agrees, typed_names, typed_names-append, typed_parameter}
@@ -60,10 +60,10 @@ literal-no_variable meaning v (members k ms) e h seen = absurd h
 abbrev pub tag : {V P : Type 0} → Meanings Name V P → Name → Tag V P
 tag meaning x = record { object = meaning.stands_for x; text = [] }
 
-pub typed-same : (edit : Edit) (w : Value) (marks : Marks Shape Signature) (j : ℕ) (xs : List Name) → Each (Here edit w) j (scope_marked marks) xs → SameAt (tag (edited_meanings edit as_signed marks)) (tag (read_meanings as_signed marks)) xs
-typed-same edit w marks j [] here = tt
-typed-same edit w marks j (x ∷ xs) here =
-    (λ i. record { object = (edited-stands_for edit as_signed marks x here.0.2 ∙ sym (read-stands_for as_signed marks x)) i; text = [] }, typed-same edit w marks (suc j) xs here.1)
+pub typed-same : (edit : Edit) (marks : Marks Shape Signature) (xs : List Name) → AllStay edit (scope_marked marks) xs → SameAt (tag (edited_meanings edit as_signed marks)) (tag (read_meanings as_signed marks)) xs
+typed-same edit marks [] stay = tt
+typed-same edit marks (x ∷ xs) stay =
+    (λ i. record { object = (edited-stands_for edit as_signed marks x stay.0 ∙ sym (read-stands_for as_signed marks x)) i; text = [] }, typed-same edit marks xs stay.1)
 
 pub sequence_fits-alike : (there here : TypeEnvironment Name) (a : Tree Name sequence) → SameAt (tag (meanings as_names there)) (tag (meanings as_names here)) (occurrences a) → sequence_fits (meanings as_names there) a ≡ sequence_fits (meanings as_names here) a
 sequence_fits-alike there here a e =
@@ -71,21 +71,21 @@ sequence_fits-alike there here a e =
     ∙ (ap (sequence_fits tagged) (with_names-same (tag (meanings as_names there)) (tag (meanings as_names here)) as_field a e) ∙ sequence_fits-map (tag (meanings as_names here)) as_field tagged a)
 
 pub sequence-leaf : (edit : Edit) (w : Value) → Literal edit w → (n : ℕ) (marks : Marks Shape Signature) → Checked edit w n marks → (j : ℕ) (a : Tree Name sequence)
-    → Each (Here edit w) j (scope_marked marks) (occurrences a) → sequence_fits (edited_meanings edit as_signed marks) (leaf edit j a) ≡ sequence_fits (read_meanings as_signed marks) a
+    → Here edit w sequence j (scope_marked marks) a → sequence_fits (edited_meanings edit as_signed marks) (leaf edit j a) ≡ sequence_fits (read_meanings as_signed marks) a
 sequence-leaf edit w lit n marks s j a here =
-    let there : Typed Name = edited_meanings edit as_signed marks in
-    ⊎_elim
-    (λ yes_shown. let seen : IsSeen there w = seen-edited edit w lit anything as_signed n marks s yes_shown in
-    sequence_fits-written there edit.uses edit.literal w record {
-      typed = literal-typed there edit.literal w lit.written lit.scalar seen;
-      no_variable = literal-no_variable there edit.literal w lit.written lit.scalar seen;
-    } j a (uses-edited edit w anything as_signed n marks s j (occurrences a) here))
-    (λ not_shown. ap (sequence_fits there) (inline-nothing edit.uses edit.literal j a (none-used edit w j (scope_marked marks) (occurrences a) not_shown here)))
+    let known : Typed Name = read_meanings as_signed marks in
+    sequence_fits-alike (read_edited edit as_signed marks) (read as_signed marks) (leaf edit j a) (typed-same edit marks (occurrences (leaf edit j a)) here.1)
+    ∙ ⊎_elim
+    (λ yes_shown. let seen : IsSeen known w = seen-read edit w anything as_signed n marks s yes_shown in
+    sequence_fits-written known edit.uses edit.literal w record {
+      typed = literal-typed known edit.literal w lit.written lit.scalar seen;
+      no_variable = literal-no_variable known edit.literal w lit.written lit.scalar seen;
+    } j a (uses-read edit w anything as_signed n marks s j (occurrences a) here.0))
+    (λ not_shown. ap (sequence_fits known) (inline-nothing edit.uses edit.literal j a (none-used edit w j (scope_marked marks) (occurrences a) not_shown here.0)))
     (cases_Bool (shown w (scope_marked marks)))
-    ∙ sequence_fits-alike (read_edited edit as_signed marks) (read as_signed marks) a (typed-same edit w marks j (occurrences a) here)
 
 pub body_fits-edited : (edit : Edit) (w : Value) → Literal edit w → (n : ℕ) (marks : Marks Shape Signature) → Checked edit w n marks → (j : ℕ) (statements : Tree Name (maybe body))
-    → Each (Here edit w) j (scope_marked marks) (occurrences statements) → body_fits as_names (read_edited edit as_signed marks) (leaf edit j statements) ≡ body_fits as_names (read as_signed marks) statements
+    → Here edit w (maybe body) j (scope_marked marks) statements → body_fits as_names (read_edited edit as_signed marks) (leaf edit j statements) ≡ body_fits as_names (read as_signed marks) statements
 unfolding body_fits
 body_fits-edited edit w lit n marks s j none here = refl
 body_fits-edited edit w lit n marks s j (one (begins statements)) here = sequence-leaf edit w lit n marks s j statements here
@@ -242,11 +242,11 @@ mutual
       (leaf edit js statements) (edited_procedures edit jp (first_procedure k b) ps))
       ∙ procedures_fit-edited edit w lit (after_variables i b) jp js (first_procedure k b) inner left.sound (omega (arith, seven, above)) statements ps
       (subst (λ scope. EachProcedure (Here edit w) jp scope (first_procedure k b) ps) (sym left.scoped) here.3)
-      (subst (λ scope. Each (Here edit w) js (declare_procedure_names (first_procedure k b) ps scope) (occurrences statements)) (sym left.scoped) here.4)
+      (subst (λ scope. Here edit w (maybe body) js (declare_procedure_names (first_procedure k b) ps scope) statements) (sym left.scoped) here.4)
       (procedures-worth edit w (knowns marks) (knowns inner) k b worth left.value))
 
   pub procedures_fit-edited : (edit : Edit) (w : Value) → Literal edit w → (i j js k : ℕ) (marks : Marks Shape Signature) → Checked edit w k marks → 7 ≤ k → (statements : Tree Name (maybe body)) (ps : Tree Name (items procedure))
-      → EachProcedure (Here edit w) j (scope_marked marks) k ps → Each (Here edit w) js (declare_procedure_names k ps (scope_marked marks)) (occurrences statements) → Worth edit w k (after_procedures k ps) (value_in_procedures (knowns marks) edit.constant k ps)
+      → EachProcedure (Here edit w) j (scope_marked marks) k ps → Here edit w (maybe body) js (declare_procedure_names k ps (scope_marked marks)) statements → Worth edit w k (after_procedures k ps) (value_in_procedures (knowns marks) edit.constant k ps)
       → procedures_fit as_names (read_edited edit as_signed marks) i (leaf edit js statements) (edited_procedures edit j k ps) ≡ procedures_fit as_names (read as_signed marks) i statements ps
   procedures_fit-edited edit w lit i j js k marks s seven statements end here below worth = body_fits-edited edit w lit k marks s js statements below
   procedures_fit-edited edit w lit i j js k marks s seven statements (more (declares_procedure x fs b closing) rest) here below worth =

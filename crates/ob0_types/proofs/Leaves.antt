@@ -1,6 +1,6 @@
 -- Edited expressions and types at a place: over the environment that an edit leaves they mean what they meant.
-use Rattle.std.proofs.Common.{Bool, List, None, Option, Some, [], ap, arith, codes, eqb-true, false, lit<, option_map, refl, suc, sym, true, true≢false, ℕ, ⊎_elim, ◌<◌, ◌∙◌, ◌∷◌, ◌≡◌, ◌≤◌}
-use Rattle.ob0_tree.specs.Tree.{Tree, expression, occurrences, written_type}
+use Rattle.std.proofs.Common.{Bool, List, None, Option, Some, [], ap, codes, eqb-true, false, option_map, refl, suc, sym, true, true≢false, ℕ, ⊎_elim, ◌∙◌, ◌∷◌, ◌≡◌, ◌≤◌}
+use Rattle.ob0_tree.specs.Tree.{Tree, constant, expression, occurrences, written_type}
 use Rattle.ob0_scope.specs.Mapping.{with_names}
 use Rattle.ob0_scope.specs.Names.{Name, as_names}
 use Rattle.ob0_scope.specs.Scopes.{Scope, ordinal_of, same_ordinal}
@@ -16,7 +16,7 @@ use Rattle.ob0_types.specs.Laws.{UsesAre}
 use Rattle.ob0_types.specs.Typing.{constant_of, constant_value, constants_only, denoted, type_of_name}
 use Rattle.ob0_types.specs.Written.{written_value}
 use Rattle.ob0_types.proofs.DenotedInlined.{ConstantWritten, StandsFor, constant_value-written, denoted-written}
-use Rattle.ob0_types.proofs.Literals.{IsSeen, literal-typed, literal-worth, some_inverse}
+use Rattle.ob0_types.proofs.Literals.{IsSeen, literal-typed, literal-worth}
 use Rattle.ob0_types.proofs.Marks.{Mark, Marks, Sound, Stays, edited-stands, found, found-right, known-found, knowns, no-found, object_as, object_of, ordinal-found, read, read-from, read-stands, read_edited, read_edited-from, scope_marked, worth-found, yes-found}
 use Rattle.ob0_types.proofs.TypeNaturality.{constant_value-map, denoted-map}
 use Rattle.std.proofs.lemmas.Bool.{cases_Bool, false_from_ne_true}
@@ -29,10 +29,17 @@ shown (number n) scope = true
 shown (elements vs) scope = true
 shown (members k ms) scope = true
 
--- what is known at an occurrence: a use is the constant's, at a use the literal's name is seen, and what isn't a use stays
+-- at an occurrence that gives way: it is the constant's, and the literal's name is seen
+abbrev pub Writes : Edit → Value → ℕ → Scope Name → Name → Type 0
+Writes edit w j scope x = (edit.uses j ≡ true → ordinal_of as_names scope x ≡ Some edit.constant) × (edit.uses j ≡ true → shown w scope ≡ true)
+
+abbrev pub AllStay : Edit → Scope Name → List Name → Type 0
+AllStay edit scope [] = Unit {0}
+AllStay edit scope (x ∷ xs) = Stays edit scope x × AllStay edit scope xs
+
+-- what is known at a place: of the occurrences that give way, and that the edit leaves what the edited tree's names are bound to
 abbrev pub Here : Edit → Value → Placed
-Here edit w j scope x =
-    (edit.uses j ≡ true → ordinal_of as_names scope x ≡ Some edit.constant) × (edit.uses j ≡ true → shown w scope ≡ true) × Stays edit scope x
+Here edit w s j scope t = Each (Writes edit w) j scope (occurrences t) × AllStay edit scope (occurrences (leaf edit j t))
 
 pub record Literal (edit : Edit) (w : Value) : Type 0 where
   pub written : written_value w ≡ Some edit.literal
@@ -43,7 +50,7 @@ pub same_ordinal-true : (o : Option ℕ) (n : ℕ) → same_ordinal o n ≡ true
 same_ordinal-true None n e = absurd (true≢false (sym e))
 same_ordinal-true (Some k) n e = ap Some (eqb-true k n e)
 
-pub none-used : (edit : Edit) (w : Value) (j : ℕ) (scope : Scope Name) (xs : List Name) → shown w scope ≡ false → Each (Here edit w) j scope xs → UsesNone edit.uses j xs
+pub none-used : (edit : Edit) (w : Value) (j : ℕ) (scope : Scope Name) (xs : List Name) → shown w scope ≡ false → Each (Writes edit w) j scope xs → UsesNone edit.uses j xs
 none-used edit w j scope [] e here = tt
 none-used edit w j scope (x ∷ xs) e here = (false_from_ne_true (edit.uses j) (λ u. true≢false (sym (here.0.1 u) ∙ e)), none-used edit w (suc j) scope xs e here.1)
 
@@ -61,30 +68,24 @@ edited-stands_for edit q marks x stays = ap newest (read_edited-from edit q mark
 pub read-stands_for : {V P Q : Type 0} (q : ℕ → P → Q) (marks : Marks V P) (x : Name) → (read_meanings q marks).stands_for x ≡ option_map (object_of q) (found marks x)
 read-stands_for q marks x = ap newest (read-from q marks x) ∙ read-stands q marks x
 
-pub uses-edited : {V P Q : Type 0} (edit : Edit) (w : Value) (X : Marks V P → Name → ℕ → P → Type 0) (q : ℕ → P → Q) (n : ℕ) (marks : Marks V P) → Sound edit w X n marks → (j : ℕ) (xs : List Name)
-    → Each (Here edit w) j (scope_marked marks) xs → UsesAre edit.uses (StandsFor (edited_meanings edit q marks) w) j xs
-uses-edited edit w X q n marks s j [] here = tt
-uses-edited edit w X q n marks s j (x ∷ xs) here = (
-  λ u. edited-stands_for edit q marks x here.0.2 ∙ worth-found edit w q (found marks x) (found-right edit w X n marks x s) (sym (ordinal-found marks x) ∙ here.0.0 u),
-  uses-edited edit w X q n marks s (suc j) xs here.1,
-)
+pub uses-read : {V P Q : Type 0} (edit : Edit) (w : Value) (X : Marks V P → Name → ℕ → P → Type 0) (p : ℕ → P → Q) (n : ℕ) (marks : Marks V P) → Sound edit w X n marks → (j : ℕ) (xs : List Name)
+    → Each (Writes edit w) j (scope_marked marks) xs → UsesAre edit.uses (StandsFor (read_meanings p marks) w) j xs
+uses-read edit w X p n marks s j [] told = tt
+uses-read edit w X p n marks s j (x ∷ xs) told =
+    (λ u. read-stands_for p marks x ∙ worth-found edit w p (found marks x) (found-right edit w X n marks x s) (sym (ordinal-found marks x) ∙ told.0.0 u),
+    uses-read edit w X p n marks s (suc j) xs told.1)
 
-stays-below : (edit : Edit) (k : ℕ) (o : Option ℕ) → k < 7 → 7 ≤ edit.constant → o ≡ Some k → o ≡ Some edit.constant → ⊥
-stays-below edit k o l h e f = let g : k ≡ edit.constant = some_inverse (sym e ∙ f) in omega (arith, g, l, h)
-
-pub seen-edited : {V P Q : Type 0} (edit : Edit) (w : Value) → Literal edit w → (X : Marks V P → Name → ℕ → P → Type 0) (q : ℕ → P → Q) (n : ℕ) (marks : Marks V P) → Sound edit w X n marks
-    → shown w (scope_marked marks) ≡ true → IsSeen (edited_meanings edit q marks) w
-seen-edited edit (truth true) lit X q n marks s h =
-    let e = same_ordinal-true (ordinal_of as_names (scope_marked marks) (codes "TRUE")) 2 h in
-    edited-stands_for edit q marks (codes "TRUE") (λ g. stays-below edit 2 (ordinal_of as_names (scope_marked marks) (codes "TRUE")) (lit< tt) lit.ordinal e)
-    ∙ yes-found edit (truth true) q (found marks (codes "TRUE")) (found-right edit (truth true) X n marks (codes "TRUE") s) (sym (ordinal-found marks (codes "TRUE")) ∙ e)
-seen-edited edit (truth false) lit X q n marks s h =
-    let e = same_ordinal-true (ordinal_of as_names (scope_marked marks) (codes "FALSE")) 3 h in
-    edited-stands_for edit q marks (codes "FALSE") (λ g. stays-below edit 3 (ordinal_of as_names (scope_marked marks) (codes "FALSE")) (lit< tt) lit.ordinal e)
-    ∙ no-found edit (truth false) q (found marks (codes "FALSE")) (found-right edit (truth false) X n marks (codes "FALSE") s) (sym (ordinal-found marks (codes "FALSE")) ∙ e)
-seen-edited edit (number m) lit X q n marks s h = tt
-seen-edited edit (elements vs) lit X q n marks s h = tt
-seen-edited edit (members k ms) lit X q n marks s h = tt
+pub seen-read : {V P Q : Type 0} (edit : Edit) (w : Value) (X : Marks V P → Name → ℕ → P → Type 0) (p : ℕ → P → Q) (n : ℕ) (marks : Marks V P) → Sound edit w X n marks
+    → shown w (scope_marked marks) ≡ true → IsSeen (read_meanings p marks) w
+seen-read edit (truth true) X p n marks s h =
+    read-stands_for p marks (codes "TRUE")
+    ∙ yes-found edit (truth true) p (found marks (codes "TRUE")) (found-right edit (truth true) X n marks (codes "TRUE") s) (sym (ordinal-found marks (codes "TRUE")) ∙ same_ordinal-true (ordinal_of as_names (scope_marked marks) (codes "TRUE")) 2 h)
+seen-read edit (truth false) X p n marks s h =
+    read-stands_for p marks (codes "FALSE")
+    ∙ no-found edit (truth false) p (found marks (codes "FALSE")) (found-right edit (truth false) X n marks (codes "FALSE") s) (sym (ordinal-found marks (codes "FALSE")) ∙ same_ordinal-true (ordinal_of as_names (scope_marked marks) (codes "FALSE")) 3 h)
+seen-read edit (number m) X p n marks s h = tt
+seen-read edit (elements vs) X p n marks s h = tt
+seen-read edit (members k ms) X p n marks s h = tt
 
 pub seen-constants : {V P : Type 0} (W R : Type 0) (meaning : Meanings Name V P) (w : Value) → IsSeen meaning w → IsSeen {V = W} {P = R} (constants_only meaning) w
 seen-constants W R meaning (truth true) e = ap (λ o. option_map a_constant (constant_of o)) e
@@ -164,34 +165,33 @@ plain-same {V} {P} {Q} p q (Some b) = of_object b.object
     of_object (a_procedure s) = refl
     of_object (a_standard s) = refl
 
-pub edited-same : {V P Q : Type 0} (edit : Edit) (w : Value) (p q : ℕ → P → Q) (marks : Marks V P) (j : ℕ) (xs : List Name) → Each (Here edit w) j (scope_marked marks) xs → SameAt (plain_tag (read_edited edit q marks)) (plain_tag (read p marks)) xs
-edited-same edit w p q marks j [] here = tt
-edited-same edit w p q marks j (x ∷ xs) here = (
-  λ i. record { object = (ap (option_map plain_object) (edited-stands_for edit q marks x here.0.2) ∙ (plain-same q p (found marks x) ∙ sym (ap (option_map plain_object) (read-stands_for p marks x)))) i; text = [] },
-  edited-same edit w p q marks (suc j) xs here.1,
-)
+pub edited-same : {V P Q : Type 0} (edit : Edit) (p q : ℕ → P → Q) (marks : Marks V P) (xs : List Name) → AllStay edit (scope_marked marks) xs → SameAt (plain_tag (read_edited edit q marks)) (plain_tag (read p marks)) xs
+edited-same edit p q marks [] stay = tt
+edited-same edit p q marks (x ∷ xs) stay =
+    (λ i. record { object = (ap (option_map plain_object) (edited-stands_for edit q marks x stay.0) ∙ (plain-same q p (found marks x) ∙ sym (ap (option_map plain_object) (read-stands_for p marks x)))) i; text = [] },
+    edited-same edit p q marks xs stay.1)
 
 -- a constant expression, and a type's text
 
 pub constant-leaf : {V P Q : Type 0} (edit : Edit) (w : Value) → Literal edit w → (X : Marks V P → Name → ℕ → P → Type 0) (p q : ℕ → P → Q) (n : ℕ) (marks : Marks V P) → Sound edit w X n marks → (j : ℕ) (e : Tree Name expression)
-    → Each (Here edit w) j (scope_marked marks) (occurrences e) → constant_value (edited_meanings edit q marks) (leaf edit j e) ≡ constant_value (read_meanings p marks) e
+    → Here edit w expression j (scope_marked marks) e → constant_value (edited_meanings edit q marks) (leaf edit j e) ≡ constant_value (read_meanings p marks) e
 constant-leaf edit w lit X p q n marks s j e here =
-    ⊎_elim
-    (λ yes_shown. constant_value-written (edited_meanings edit q marks) edit.uses edit.literal w (literal-constant edit w lit (edited_meanings edit q marks) (seen-edited edit w lit X q n marks s yes_shown)) j e
-    (uses-edited edit w X q n marks s j (occurrences e) here))
-    (λ not_shown. ap (constant_value (edited_meanings edit q marks)) (inline-nothing edit.uses edit.literal j e (none-used edit w j (scope_marked marks) (occurrences e) not_shown here)))
+    constant_value-alike (read_edited edit q marks) (read p marks) (leaf edit j e) (edited-same edit p q marks (occurrences (leaf edit j e)) here.1)
+    ∙ ⊎_elim
+    (λ yes_shown. constant_value-written (read_meanings p marks) edit.uses edit.literal w (literal-constant edit w lit (read_meanings p marks) (seen-read edit w X p n marks s yes_shown)) j e
+    (uses-read edit w X p n marks s j (occurrences e) here.0))
+    (λ not_shown. ap (constant_value (read_meanings p marks)) (inline-nothing edit.uses edit.literal j e (none-used edit w j (scope_marked marks) (occurrences e) not_shown here.0)))
     (cases_Bool (shown w (scope_marked marks)))
-    ∙ constant_value-alike (read_edited edit q marks) (read p marks) e (edited-same edit w p q marks j (occurrences e) here)
 
 pub denoted-leaf : {V P Q : Type 0} (edit : Edit) (w : Value) → Literal edit w → (X : Marks V P → Name → ℕ → P → Type 0) (p q : ℕ → P → Q) (n : ℕ) (marks : Marks V P) → Sound edit w X n marks → (j k : ℕ) (t : Tree Name written_type)
-    → Each (Here edit w) j (scope_marked marks) (occurrences t) → denoted (edited_meanings edit q marks) k (leaf edit j t) ≡ denoted (read_meanings p marks) k t
+    → Here edit w written_type j (scope_marked marks) t → denoted (edited_meanings edit q marks) k (leaf edit j t) ≡ denoted (read_meanings p marks) k t
 denoted-leaf edit w lit X p q n marks s j k t here =
-    ⊎_elim
-    (λ yes_shown. denoted-written (edited_meanings edit q marks) edit.uses edit.literal w (literal-constant edit w lit (edited_meanings edit q marks) (seen-edited edit w lit X q n marks s yes_shown)) j k t
-    (uses-edited edit w X q n marks s j (occurrences t) here))
-    (λ not_shown. ap (denoted (edited_meanings edit q marks) k) (inline-nothing edit.uses edit.literal j t (none-used edit w j (scope_marked marks) (occurrences t) not_shown here)))
+    denoted-alike (read_edited edit q marks) (read p marks) k (leaf edit j t) (edited-same edit p q marks (occurrences (leaf edit j t)) here.1)
+    ∙ ⊎_elim
+    (λ yes_shown. denoted-written (read_meanings p marks) edit.uses edit.literal w (literal-constant edit w lit (read_meanings p marks) (seen-read edit w X p n marks s yes_shown)) j k t
+    (uses-read edit w X p n marks s j (occurrences t) here.0))
+    (λ not_shown. ap (denoted (read_meanings p marks) k) (inline-nothing edit.uses edit.literal j t (none-used edit w j (scope_marked marks) (occurrences t) not_shown here.0)))
     (cases_Bool (shown w (scope_marked marks)))
-    ∙ denoted-alike (read_edited edit q marks) (read p marks) k t (edited-same edit w p q marks j (occurrences t) here)
 
 -- what is known of constants
 pub known-value : {V P Q : Type 0} (p : ℕ → P → Q) (marks : Marks V P) (e : Tree Name expression) → constant_value (meanings as_names (knowns marks)) e ≡ constant_value (read_meanings p marks) e

@@ -1,10 +1,11 @@
 -- Laws of edits: what keeps a module well-typed.
-use Rattle.std.specs.Prelude.{IsTrue, Some, codes, false, true, ℕ, ◌≡◌, ◌≢◌}
+use Rattle.std.specs.Prelude.{All, IsTrue, Some, codes, false, true, ℕ, ◌≡◌, ◌≢◌}
 use Rattle.ob0_tree.specs.Tree.{Tree, factor, module_text}
-use Rattle.ob0_scope.specs.Inlining.{Uses, inlined, module_without}
-use Rattle.ob0_scope.specs.Names.{Name}
+use Rattle.ob0_scope.specs.Elsewhere.{names_elsewhere}
+use Rattle.ob0_scope.specs.Inlining.{Uses, inlined, inlined_everywhere, module_without}
+use Rattle.ob0_scope.specs.Names.{Name, declared}
 use Rattle.ob0_scope.specs.Occurrences.{Free, binds}
-use Rattle.ob0_scope.specs.Scopes.{renamed}
+use Rattle.ob0_scope.specs.Scopes.{numbered, renamed}
 use Rattle.ob0_scope.specs.SeenNames.{sees}
 use Rattle.ob0_values.specs.Values.{Value, elements, fits, members, number, truth}
 use Rattle.ob0_types.specs.ConstantValues.{value_of_constant}
@@ -50,3 +51,15 @@ abbrev pub LeavingOutKeepsWellTyped : Type 0
 LeavingOutKeepsWellTyped =
     (m : Tree Name module_text) (d : ℕ) (w : Value) (v : Tree Name factor)
     → IsConstantWritten m d w v → ((k : ℕ) → binds m k ≢ Some d) → WellTyped m → WellTyped (module_without d m)
+
+-- a constant's literal in place of all its uses, and its declaration gone: the module stays well-typed
+abbrev pub InliningEverywhereKeepsWellTyped : Type 0
+InliningEverywhereKeepsWellTyped =
+    (m : Tree Name module_text) (d : ℕ) (w : Value) (v : Tree Name factor)
+    → IsConstantWritten m d w v → ((k : ℕ) → binds m k ≡ Some d → IsShown m k w) → WellTyped m → WellTyped (inlined_everywhere m d v)
+
+-- in a well-typed module a constant's names stand alone as factors: none is a type's, a procedure's or an assigned variable's, and none has selectors
+abbrev pub ConstantsStandAlone : Type 0
+ConstantsStandAlone =
+    (m : Tree Name module_text) (d : ℕ) (w : Value) (v : Tree Name factor)
+    → IsConstantWritten m d w v → WellTyped m → All (λ l. l ≢ declared d) (names_elsewhere (numbered m))

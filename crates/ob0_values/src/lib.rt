@@ -1,2 +1,7 @@
 //! The values of Oberon-0: numbers of 32 bits, truths, arrays and records, and what operators give.
 #![tactic(auto)]
+
+pub mod scalar;
+#[cfg(test)]
+mod tests;
+pub mod value;

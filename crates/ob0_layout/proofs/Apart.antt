@@ -1,0 +1,330 @@
+-- Each lexeme that is laid out ends where the next begins.
+use Rattle.std.proofs.Common.{◌≡◌, ◌≢◌, ℕ, ◌<◌, Bool, true, false, ◌||◌, ◌==◌, ◌*◌, cond, List, [], ◌∷◌, ◌++◌, length, get_or, drop, map, replicate, refl, sym, ap, ◌∙◌, subst, arith, ◌⊎◌, inl, inr, ⊎_elim, eqb-true}
+use Rattle.std.specs.List.{AllPass}
+use Rattle.std.specs.Char.{is_ascii_alphanumeric}
+use Rattle.std.proofs.lemmas.Bool.{false_from_ne_true}
+use Rattle.std.proofs.lemmas.List.{get_or_append_left}
+use Rattle.std.proofs.lemmas.List.Elements.{All-cons, All-replicate}
+use Rattle.std.proofs.lemmas.List.Sums.{AllPass-from_list_all}
+use Rattle.ob0_scan.specs.declared.lexeme.Symbol.{Symbol}
+use Rattle.ob0_scan.specs.declared.lexeme.Symbol.TheVariants as symbol
+use Rattle.ob0_scan.specs.declared.lexeme.TokenKind.{TokenKind}
+use Rattle.ob0_scan.specs.declared.lexeme.TokenKind.TheVariants as token
+use Rattle.ob0_scan.specs.declared.lexeme.LexemeKind.{LexemeKind}
+use Rattle.ob0_scan.specs.declared.lexeme.LexemeKind.TheVariants as lexeme
+use Rattle.ob0_scan.specs.Classes.{symbol_text, is_space, IsRun, Belongs}
+use Rattle.ob0_scan.specs.Lexed.{Lexeme, joined}
+use Rattle.ob0_scan.specs.Ends.{joins, goes_on, EndsBefore, AreApart}
+use Rattle.ob0_scan.specs.Scanned.{Word, words}
+use Rattle.ob0_scan.proofs.Families.{Family, Blank, Letter, Digit, family, family_of, family-blank, head_family}
+use Rattle.ob0_scan.proofs.Families as families
+use Rattle.ob0_scan.proofs.Cuts.{nonempty}
+use Rattle.ob0_text.specs.declared.edits.Indent.{Indent}
+use Rattle.ob0_text.specs.declared.edits.Indent.TheVariants as indent_by
+use Rattle.ob0_tree.specs.Lexeme as spelled_as
+use Rattle.ob0_tree.specs.Lexeme.{kind_lexeme}
+use Rattle.ob0_tree.specs.Tree.{Sort, Tree, spell}
+use Rattle.ob0_layout.proofs.Named.{named_lexeme}
+use Rattle.ob0_layout.specs.declared.gap.Gap.TheVariants.{Nothing, Space}
+use Rattle.ob0_layout.specs.declared.standing.Standing.{Standing}
+use Rattle.ob0_layout.specs.declared.standing.Standing.TheVariants.{Begins, Opening, Joining, Plain}
+use Rattle.ob0_layout.specs.Standings.{standings}
+use Rattle.ob0_layout.specs.Layout.{Placed, placed, next_line, next_standing, holds_break, comment_standing, is_comment, follows_directly, precedes_directly, indentation, gap, gap_between, gap_in_line, gap_text, spaced, laid_behind, laid, laid_out}
+use Rattle.ob0_layout.proofs.Pairs.{Calm, calm_next, calm_paren, is_paren, is_star, calm_spelled}
+
+-- a token or comment
+abbrev IsSolid : LexemeKind → Type 0
+IsSolid lexeme.Space = ⊥
+IsSolid other = Unit {0}
+
+-- a byte that goes on with no token
+record Quiet (x : ℕ) : Type 0 where
+  alone : is_ascii_alphanumeric x ≡ false
+  unequal : (x == 61) ≡ false
+  starless : (x == 42) ≡ false
+
+quiet_joins : (s : Symbol) (x : ℕ) → Quiet x → joins s x ≡ false
+quiet_joins symbol.And x q = refl
+quiet_joins symbol.Times x q = refl
+quiet_joins symbol.Plus x q = refl
+quiet_joins symbol.Minus x q = refl
+quiet_joins symbol.Equal x q = refl
+quiet_joins symbol.NotEqual x q = refl
+quiet_joins symbol.Less x q = q.unequal
+quiet_joins symbol.LessEqual x q = refl
+quiet_joins symbol.Greater x q = q.unequal
+quiet_joins symbol.GreaterEqual x q = refl
+quiet_joins symbol.Not x q = refl
+quiet_joins symbol.Dot x q = refl
+quiet_joins symbol.Comma x q = refl
+quiet_joins symbol.Semicolon x q = refl
+quiet_joins symbol.Colon x q = q.unequal
+quiet_joins symbol.Becomes x q = refl
+quiet_joins symbol.LeftParen x q = q.starless
+quiet_joins symbol.RightParen x q = refl
+quiet_joins symbol.LeftBracket x q = refl
+quiet_joins symbol.RightBracket x q = refl
+
+quiet_ends : (k : LexemeKind) (x : ℕ) → IsSolid k → Quiet x → goes_on k x ≡ false
+quiet_ends lexeme.Space x solid q = absurd solid
+quiet_ends lexeme.Comment x solid q = refl
+quiet_ends (lexeme.Token token.Identifier) x solid q = q.alone
+quiet_ends (lexeme.Token (token.Reserved r)) x solid q = q.alone
+quiet_ends (lexeme.Token (token.Integer n)) x solid q = q.alone
+quiet_ends (lexeme.Token (token.Symbol s)) x solid q = quiet_joins s x q
+
+not_blank : (k : LexemeKind) → IsSolid k → Blank ≡ family_of k → ⊥
+not_blank lexeme.Space solid e = solid
+not_blank lexeme.Comment solid e = cc
+not_blank (lexeme.Token token.Identifier) solid e = cc
+not_blank (lexeme.Token (token.Reserved r)) solid e = cc
+not_blank (lexeme.Token (token.Integer n)) solid e = cc
+not_blank (lexeme.Token (token.Symbol s)) solid e = cc
+
+-- its first byte is no white space
+solid_first : (k : LexemeKind) (text : List ℕ) → IsSolid k → Belongs k text → is_space (get_or text 0 0) ≡ false
+solid_first k text solid h = false_from_ne_true (is_space (get_or text 0 0)) (λ blank. not_blank k solid (sym (family-blank (get_or text 0 0) blank) ∙ head_family k text h))
+
+differ : false ≡ true → ⊥
+differ e = cc
+
+-- what follows directly goes on with nothing
+quiet_symbol : (s : Symbol) (standing : Standing) → follows_directly (lexeme.Token (token.Symbol s)) standing ≡ true → Quiet (get_or (symbol_text s) 0 0)
+quiet_symbol symbol.And standing h = absurd (differ h)
+quiet_symbol symbol.Times standing h = absurd (differ h)
+quiet_symbol symbol.Plus standing h = absurd (differ h)
+quiet_symbol symbol.Minus standing h = absurd (differ h)
+quiet_symbol symbol.Equal standing h = absurd (differ h)
+quiet_symbol symbol.NotEqual standing h = absurd (differ h)
+quiet_symbol symbol.Less standing h = absurd (differ h)
+quiet_symbol symbol.LessEqual standing h = absurd (differ h)
+quiet_symbol symbol.Greater standing h = absurd (differ h)
+quiet_symbol symbol.GreaterEqual standing h = absurd (differ h)
+quiet_symbol symbol.Not standing h = absurd (differ h)
+quiet_symbol symbol.Dot standing h = record { alone = refl; unequal = refl; starless = refl }
+quiet_symbol symbol.Comma standing h = record { alone = refl; unequal = refl; starless = refl }
+quiet_symbol symbol.Semicolon standing h = record { alone = refl; unequal = refl; starless = refl }
+quiet_symbol symbol.Colon standing h = record { alone = refl; unequal = refl; starless = refl }
+quiet_symbol symbol.Becomes standing h = absurd (differ h)
+quiet_symbol symbol.LeftParen standing h = record { alone = refl; unequal = refl; starless = refl }
+quiet_symbol symbol.RightParen standing h = record { alone = refl; unequal = refl; starless = refl }
+quiet_symbol symbol.LeftBracket standing h = record { alone = refl; unequal = refl; starless = refl }
+quiet_symbol symbol.RightBracket standing h = record { alone = refl; unequal = refl; starless = refl }
+
+quiet_first : (k : LexemeKind) (text : List ℕ) (standing : Standing) → Belongs k text → follows_directly k standing ≡ true → Quiet (get_or text 0 0)
+quiet_first lexeme.Space text standing b h = absurd (differ h)
+quiet_first lexeme.Comment text standing b h = absurd (differ h)
+quiet_first (lexeme.Token token.Identifier) text standing b h = absurd (differ h)
+quiet_first (lexeme.Token (token.Reserved r)) text standing b h = absurd (differ h)
+quiet_first (lexeme.Token (token.Integer n)) text standing b h = absurd (differ h)
+quiet_first (lexeme.Token (token.Symbol s)) text standing b h = subst (λ t. Quiet (get_or t 0 0)) (sym b) (quiet_symbol s standing h)
+
+-- what is followed directly is gone on with at most by a `*` behind a `(`
+abbrev left_paren : LexemeKind
+left_paren = lexeme.Token (token.Symbol symbol.LeftParen)
+
+direct_symbol : (s : Symbol) (standing : Standing) (x : ℕ) → precedes_directly (lexeme.Token (token.Symbol s)) standing ≡ true → (lexeme.Token (token.Symbol s) ≡ left_paren → (x == 42) ≡ false) → joins s x ≡ false
+direct_symbol symbol.And standing x h star = refl
+direct_symbol symbol.Times standing x h star = refl
+direct_symbol symbol.Plus standing x h star = refl
+direct_symbol symbol.Minus standing x h star = refl
+direct_symbol symbol.Equal standing x h star = refl
+direct_symbol symbol.NotEqual standing x h star = refl
+direct_symbol symbol.Less standing x h star = absurd (differ h)
+direct_symbol symbol.LessEqual standing x h star = refl
+direct_symbol symbol.Greater standing x h star = absurd (differ h)
+direct_symbol symbol.GreaterEqual standing x h star = refl
+direct_symbol symbol.Not standing x h star = refl
+direct_symbol symbol.Dot standing x h star = refl
+direct_symbol symbol.Comma standing x h star = refl
+direct_symbol symbol.Semicolon standing x h star = refl
+direct_symbol symbol.Colon standing x h star = absurd (differ h)
+direct_symbol symbol.Becomes standing x h star = refl
+direct_symbol symbol.LeftParen standing x h star = star refl
+direct_symbol symbol.RightParen standing x h star = refl
+direct_symbol symbol.LeftBracket standing x h star = refl
+direct_symbol symbol.RightBracket standing x h star = refl
+
+direct_ends : (k : LexemeKind) (standing : Standing) (x : ℕ) → precedes_directly k standing ≡ true → (k ≡ left_paren → (x == 42) ≡ false) → goes_on k x ≡ false
+direct_ends lexeme.Space standing x h star = absurd (differ h)
+direct_ends lexeme.Comment standing x h star = absurd (differ h)
+direct_ends (lexeme.Token token.Identifier) standing x h star = absurd (differ h)
+direct_ends (lexeme.Token (token.Reserved r)) standing x h star = absurd (differ h)
+direct_ends (lexeme.Token (token.Integer n)) standing x h star = absurd (differ h)
+direct_ends (lexeme.Token (token.Symbol s)) standing x h star = direct_symbol s standing x h star
+
+-- only the token `*` begins with `*`
+other_family : (text : List ℕ) (f : Family) → family (get_or text 0 0) ≡ f → (families.Mark ≡ f → ⊥) → (get_or text 0 0 == 42) ≡ false
+other_family text f e other = false_from_ne_true (get_or text 0 0 == 42) (λ h. other (sym (ap family (eqb-true (get_or text 0 0) 42 h)) ∙ e))
+
+symbol_first : (s : Symbol) → is_star {N = List ℕ} (spelled_as.Mark (token.Symbol s)) ≡ false → (get_or (symbol_text s) 0 0 == 42) ≡ false
+symbol_first symbol.And h = refl
+symbol_first symbol.Times h = absurd (differ (sym h))
+symbol_first symbol.Plus h = refl
+symbol_first symbol.Minus h = refl
+symbol_first symbol.Equal h = refl
+symbol_first symbol.NotEqual h = refl
+symbol_first symbol.Less h = refl
+symbol_first symbol.LessEqual h = refl
+symbol_first symbol.Greater h = refl
+symbol_first symbol.GreaterEqual h = refl
+symbol_first symbol.Not h = refl
+symbol_first symbol.Dot h = refl
+symbol_first symbol.Comma h = refl
+symbol_first symbol.Semicolon h = refl
+symbol_first symbol.Colon h = refl
+symbol_first symbol.Becomes h = refl
+symbol_first symbol.LeftParen h = refl
+symbol_first symbol.RightParen h = refl
+symbol_first symbol.LeftBracket h = refl
+symbol_first symbol.RightBracket h = refl
+
+token_first : (k : TokenKind) (text : List ℕ) → Belongs (lexeme.Token k) text → is_star (kind_lexeme text k) ≡ false → (get_or text 0 0 == 42) ≡ false
+token_first token.Identifier text b h = other_family text Letter (head_family (lexeme.Token token.Identifier) text b) (λ e. cc)
+token_first (token.Reserved r) text b h = other_family text Letter (head_family (lexeme.Token (token.Reserved r)) text b) (λ e. cc)
+token_first (token.Integer n) text b h = other_family text Digit (head_family (lexeme.Token (token.Integer n)) text b) (λ e. cc)
+token_first (token.Symbol s) text b h = ap (λ t. get_or t 0 0 == 42) b ∙ symbol_first s h
+
+-- a gap that keeps apart a lexeme of a kind and one that begins with a byte
+data Fits (k : LexemeKind) (first : ℕ) : List ℕ → Type 0 where
+  directly : goes_on k first ≡ false → Fits k first []
+  by_space : {x : ℕ} {xs : List ℕ} → Quiet x → IsRun is_space (x ∷ xs) → Fits k first (x ∷ xs)
+
+either_true : (x y : Bool) → (x || y) ≡ true → (x ≡ true) ⊎ (y ≡ true)
+either_true true y h = inl refl
+either_true false y h = inr h
+
+both_false : (x y : Bool) → (x || y) ≡ false → y ≡ false
+both_false true y h = absurd (differ (sym h))
+both_false false y h = h
+
+indented : (indent : Indent) (level : ℕ) → AllPass is_space (indentation indent level)
+indented indent_by.Tab level = All-replicate (λ x. is_space x ≡ true) level 9 refl
+indented (indent_by.Spaces n) level = All-replicate (λ x. is_space x ≡ true) (level * n) 32 refl
+
+line_fits : (k : LexemeKind) (first : ℕ) (indent : Indent) (level : ℕ) → Fits k first (10 ∷ indentation indent level)
+line_fits k first indent level = by_space (record { alone = refl; unequal = refl; starless = refl }) (record { nonempty = omega arith; all = All-cons (λ x. is_space x ≡ true) 10 (indentation indent level) refl (indented indent level) })
+
+space_fits : (k : LexemeKind) (first : ℕ) → Fits k first (32 ∷ [])
+space_fits k first = by_space (record { alone = refl; unequal = refl; starless = refl }) (record { nonempty = omega arith; all = AllPass-from_list_all is_space (32 ∷ []) refl })
+
+-- two tokens or comments, of which the second doesn't begin with a `*` where it is a token behind a `(`
+record Neighbours (a b : Placed) : Type 0 where
+  left : IsSolid a.lexeme.kind
+  right : IsSolid b.lexeme.kind
+  right_belongs : Belongs b.lexeme.kind b.lexeme.text
+  starless : a.lexeme.kind ≡ left_paren → is_comment b.lexeme.kind ≡ false → (get_or b.lexeme.text 0 0 == 42) ≡ false
+
+joined_fits : (a b : Placed) → Neighbours a b → is_comment b.lexeme.kind ≡ false
+    → (follows_directly b.lexeme.kind b.standing || precedes_directly a.lexeme.kind a.standing) ≡ true → Fits a.lexeme.kind (get_or b.lexeme.text 0 0) []
+joined_fits a b n uncommented h = directly (⊎_elim
+    (λ f. quiet_ends a.lexeme.kind (get_or b.lexeme.text 0 0) n.left (quiet_first b.lexeme.kind b.lexeme.text b.standing n.right_belongs f))
+    (λ p. direct_ends a.lexeme.kind a.standing (get_or b.lexeme.text 0 0) p (λ paren. n.starless paren uncommented))
+    (either_true (follows_directly b.lexeme.kind b.standing) (precedes_directly a.lexeme.kind a.standing) h))
+
+in_line_fits : (indent : Indent) (a b : Placed) → Neighbours a b → (c d : Bool) → (is_comment a.lexeme.kind || is_comment b.lexeme.kind) ≡ c
+    → (follows_directly b.lexeme.kind b.standing || precedes_directly a.lexeme.kind a.standing) ≡ d
+    → Fits a.lexeme.kind (get_or b.lexeme.text 0 0) (gap_text indent (cond c Space (cond d Nothing Space)))
+in_line_fits indent a b n true d e f = space_fits a.lexeme.kind (get_or b.lexeme.text 0 0)
+in_line_fits indent a b n false true e f = joined_fits a b n (both_false (is_comment a.lexeme.kind) (is_comment b.lexeme.kind) e) f
+in_line_fits indent a b n false false e f = space_fits a.lexeme.kind (get_or b.lexeme.text 0 0)
+
+gap_in_line_fits : (indent : Indent) (a b : Placed) → Neighbours a b
+    → Fits a.lexeme.kind (get_or b.lexeme.text 0 0) (gap_text indent (gap_in_line a.lexeme.kind a.standing b.lexeme.kind b.standing))
+gap_in_line_fits indent a b n = in_line_fits indent a b n _ _ refl refl
+
+gap_between_fits : (indent : Indent) (a : Placed) (l : Lexeme) (s : Standing) → Neighbours a (record { lexeme = l; standing = s })
+    → Fits a.lexeme.kind (get_or l.text 0 0) (gap_text indent (gap_between a.lexeme.kind a.standing l.kind s))
+gap_between_fits indent a l (Begins level) n = line_fits a.lexeme.kind (get_or l.text 0 0) indent level
+gap_between_fits indent a l Opening n = gap_in_line_fits indent a (record { lexeme = l; standing = Opening }) n
+gap_between_fits indent a l Joining n = gap_in_line_fits indent a (record { lexeme = l; standing = Joining }) n
+gap_between_fits indent a l Plain n = gap_in_line_fits indent a (record { lexeme = l; standing = Plain }) n
+
+gap_fits : (indent : Indent) (a b : Placed) → Neighbours a b → Fits a.lexeme.kind (get_or b.lexeme.text 0 0) (gap indent a b)
+unfolding gap
+gap_fits indent a b n = gap_between_fits indent a b.lexeme b.standing n
+
+first_of : (l : Lexeme) (ls : List Lexeme) → Belongs l.kind l.text → get_or (joined (l ∷ ls)) 0 0 ≡ get_or l.text 0 0
+first_of l ls h = get_or_append_left l.text (joined ls) 0 0 (nonempty l.kind l.text h)
+
+fits_apart : (a b : Placed) (rest : List Lexeme) (g : List ℕ) → Neighbours a b → Belongs a.lexeme.kind a.lexeme.text
+    → Fits a.lexeme.kind (get_or b.lexeme.text 0 0) g → AreApart (b.lexeme ∷ rest) → AreApart (a.lexeme ∷ (spaced g ++ (b.lexeme ∷ rest)))
+fits_apart a b rest _ n h (directly e) more =
+    (record { belongs = h; ends = ap (goes_on a.lexeme.kind) (first_of b.lexeme rest n.right_belongs) ∙ e }, more)
+fits_apart a b rest _ n h (by_space {x = x} q run) more = (
+  record { belongs = h; ends = quiet_ends a.lexeme.kind x n.left q },
+  (record { belongs = run; ends = ap is_space (first_of b.lexeme rest n.right_belongs) ∙ solid_first b.lexeme.kind b.lexeme.text n.right n.right_belongs }, more),
+)
+
+-- the tokens among lexemes, as a tree spells them
+abbrev spelled : List Lexeme → List (spelled_as.Lexeme (List ℕ))
+spelled ls = map named_lexeme (words ls)
+
+-- the first is no `*`
+abbrev NoStar : List (spelled_as.Lexeme (List ℕ)) → Type 0
+NoStar [] = Unit {0}
+NoStar (x ∷ xs) = is_star x ≡ false
+
+calm_behind : {x : spelled_as.Lexeme (List ℕ)} {xs : List (spelled_as.Lexeme (List ℕ))} → Calm (x ∷ xs) → Calm xs
+calm_behind (calm_next h p) = p
+calm_behind (calm_paren h p) = p
+
+calm_first : {x : spelled_as.Lexeme (List ℕ)} {xs : List (spelled_as.Lexeme (List ℕ))} → Calm (x ∷ xs) → is_paren x ≡ true → NoStar xs
+calm_first (calm_next h p) paren = absurd (differ (sym h ∙ paren))
+calm_first (calm_paren h p) paren = h
+
+paren_of : (k : TokenKind) (text : List ℕ) → lexeme.Token k ≡ left_paren → is_paren (kind_lexeme text k) ≡ true
+paren_of k text e = let same : k ≡ token.Symbol symbol.LeftParen = cc in ap (λ k. is_paren (kind_lexeme text k)) same
+
+abbrev Spread : Indent → List Lexeme → Type 0
+Spread indent ls = (level : ℕ) (broken : Bool) (ss : List Standing) (a : Placed) → IsSolid a.lexeme.kind → Belongs a.lexeme.kind a.lexeme.text
+    → (a.lexeme.kind ≡ left_paren → NoStar (spelled ls)) → Calm (spelled ls) → AreApart ls → AreApart (a.lexeme ∷ laid_behind indent a (placed level broken ss ls))
+
+comment_spread : (indent : Indent) (text : List ℕ) (ls : List Lexeme) → Spread indent ls → Spread indent (record { kind = lexeme.Comment; text = text } ∷ ls)
+comment_spread indent text ls rest level broken ss a solid h after calm apart =
+    let c : Placed = record { lexeme = record { kind = lexeme.Comment; text = text }; standing = comment_standing broken (next_line level ss) } in
+    let n : Neighbours a c = record { left = solid; right = tt; right_belongs = apart.0.belongs; starless = λ paren uncommented. absurd (differ (sym uncommented)) } in
+    fits_apart a c (laid_behind indent c (placed level false ss ls)) (gap indent a c) n h (gap_fits indent a c n)
+    (rest level false ss c tt apart.0.belongs (λ e. cc) calm apart.1)
+
+token_spread : (indent : Indent) (k : TokenKind) (text : List ℕ) (ls : List Lexeme) → Spread indent ls → Spread indent (record { kind = lexeme.Token k; text = text } ∷ ls)
+token_spread indent k text ls rest level broken ss a solid h after calm apart =
+    let t : Placed = record { lexeme = record { kind = lexeme.Token k; text = text }; standing = next_standing ss } in
+    let n : Neighbours a t = record { left = solid; right = tt; right_belongs = apart.0.belongs; starless = λ paren uncommented. token_first k text apart.0.belongs (after paren) } in
+    fits_apart a t (laid_behind indent t (placed (next_line level ss) false (drop 1 ss) ls)) (gap indent a t) n h (gap_fits indent a t n)
+    (rest (next_line level ss) false (drop 1 ss) t tt apart.0.belongs (λ e. calm_first calm (paren_of k text e)) (calm_behind calm) apart.1)
+
+kind_spread : (indent : Indent) (k : LexemeKind) (text : List ℕ) (ls : List Lexeme) → Spread indent ls → Spread indent (record { kind = k; text = text } ∷ ls)
+kind_spread indent lexeme.Space text ls rest = λ level broken ss a solid h after calm apart. rest level (broken || holds_break text) ss a solid h after calm apart.1
+kind_spread indent lexeme.Comment text ls rest = comment_spread indent text ls rest
+kind_spread indent (lexeme.Token k) text ls rest = token_spread indent k text ls rest
+
+nothing_spread : (indent : Indent) → Spread indent []
+nothing_spread indent level broken ss a solid h after calm apart = (
+  record { belongs = h; ends = quiet_ends a.lexeme.kind 10 solid (record { alone = refl; unequal = refl; starless = refl }) },
+  (record { belongs = record { nonempty = omega arith; all = AllPass-from_list_all is_space (10 ∷ []) refl }; ends = refl }, tt),
+)
+
+behind_spread : (indent : Indent) (ls : List Lexeme) → Spread indent ls
+behind_spread indent [] = nothing_spread indent
+behind_spread indent (l ∷ ls) = kind_spread indent l.kind l.text ls (behind_spread indent ls)
+
+abbrev FirstSpread : Indent → List Lexeme → Type 0
+FirstSpread indent ls = (level : ℕ) (broken : Bool) (ss : List Standing) → Calm (spelled ls) → AreApart ls → AreApart (laid indent (placed level broken ss ls))
+
+kind_first_spread : (indent : Indent) (k : LexemeKind) (text : List ℕ) (ls : List Lexeme) → FirstSpread indent ls → FirstSpread indent (record { kind = k; text = text } ∷ ls)
+kind_first_spread indent lexeme.Space text ls rest = λ level broken ss calm apart. rest level (broken || holds_break text) ss calm apart.1
+kind_first_spread indent lexeme.Comment text ls rest = λ level broken ss calm apart.
+    let c : Placed = record { lexeme = record { kind = lexeme.Comment; text = text }; standing = comment_standing broken (next_line level ss) } in
+    behind_spread indent ls level false ss c tt apart.0.belongs (λ e. cc) calm apart.1
+kind_first_spread indent (lexeme.Token k) text ls rest = λ level broken ss calm apart.
+    let t : Placed = record { lexeme = record { kind = lexeme.Token k; text = text }; standing = next_standing ss } in
+    behind_spread indent ls (next_line level ss) false (drop 1 ss) t tt apart.0.belongs (λ e. calm_first calm (paren_of k text e)) (calm_behind calm) apart.1
+
+first_spread : (indent : Indent) (ls : List Lexeme) → FirstSpread indent ls
+first_spread indent [] = λ level broken ss calm apart. tt
+first_spread indent (l ∷ ls) = kind_first_spread indent l.kind l.text ls (first_spread indent ls)
+
+pub laid_out_apart : {s : Sort} (indent : Indent) (tree : Tree (List ℕ) s) (ls : List Lexeme) → spelled ls ≡ spell tree → AreApart ls → AreApart (laid_out indent tree ls)
+unfolding laid_out
+laid_out_apart indent tree ls e apart = first_spread indent ls 0 true (standings 0 tree) (subst Calm (sym e) (calm_spelled tree)) apart

@@ -1,0 +1,152 @@
+-- In a tree's spelling no `*` directly follows a `(`.
+use Rattle.std.proofs.Common.{◌≡◌, ℕ, Bool, true, false, Option, Some, None, List, [], ◌∷◌, ◌++◌, refl, sym, ap, subst}
+use Rattle.ob0_scan.specs.declared.lexeme.Symbol.TheVariants as symbol
+use Rattle.ob0_tree.specs.declared.tree.Relation.{Relation}
+use Rattle.ob0_tree.specs.declared.tree.Relation.TheVariants as relation
+use Rattle.ob0_tree.specs.declared.tree.Sign.{Sign}
+use Rattle.ob0_tree.specs.declared.tree.Sign.TheVariants as sign
+use Rattle.ob0_tree.specs.declared.tree.AddOperator.{AddOperator}
+use Rattle.ob0_tree.specs.declared.tree.AddOperator.TheVariants as add_operator
+use Rattle.ob0_tree.specs.declared.tree.MultiplyOperator.{MultiplyOperator}
+use Rattle.ob0_tree.specs.declared.tree.MultiplyOperator.TheVariants as multiply_operator
+use Rattle.ob0_scan.specs.declared.lexeme.TokenKind.TheVariants as kind
+use Rattle.ob0_tree.specs.Lexeme.{Lexeme, Name, Number, Mark, EndOfText, relation_mark, sign_marks, add_mark, multiply_mark}
+use Rattle.ob0_tree.specs.Tree.{Sort, Tree, expression, simple, term, factor, section, names, spell, none, one, end, more, compares, relates, sum, adds, product, multiplies, designator, integer, parenthesised, negation, field, index, empty, assigns, calls, branches, while_loop, repeat_loop, no_arguments, some_arguments, then_argument, runs, then_statement, elsif_branch, else_branch, listed, then_name, named_type, array_type, record_type, no_fields, some_fields, then_fields, no_formals, some_formals, value_section, variable_section, then_section, declares_constant, declares_constants, declares_type, declares_types, declares_variable, declares_variables, declares_procedure, declares, begins, has_body, is_module}
+
+abbrev pub is_paren : {N : Type 0} → Lexeme N → Bool
+is_paren (Mark (kind.Symbol symbol.LeftParen)) = true
+is_paren other = false
+
+abbrev pub is_star : {N : Type 0} → Lexeme N → Bool
+is_star (Mark (kind.Symbol symbol.Times)) = true
+is_star other = false
+
+-- behind each `(` stands something, and no `*`
+pub data Calm {N : Type 0} : List (Lexeme N) → Type 0 where
+  calm_end : Calm []
+  calm_next : {x : Lexeme N} {xs : List (Lexeme N)} → is_paren x ≡ false → Calm xs → Calm (x ∷ xs)
+  calm_paren : {x y : Lexeme N} {xs : List (Lexeme N)} → is_star y ≡ false → Calm (y ∷ xs) → Calm (x ∷ y ∷ xs)
+
+calm_append : {N : Type 0} {xs ys : List (Lexeme N)} → Calm xs → Calm ys → Calm (xs ++ ys)
+calm_append calm_end q = q
+calm_append (calm_next h p) q = calm_next h (calm_append p q)
+calm_append (calm_paren h p) q = calm_paren h (calm_append p q)
+
+-- the first is no `*`
+record Starts {N : Type 0} (xs : List (Lexeme N)) : Type 0 where
+  first : Lexeme N
+  rest : List (Lexeme N)
+  split : xs ≡ first ∷ rest
+  starless : is_star first ≡ false
+
+starts_append : {N : Type 0} {xs : List (Lexeme N)} (ys : List (Lexeme N)) → Starts xs → Starts (xs ++ ys)
+starts_append ys s = record { first = s.first; rest = s.rest ++ ys; split = ap (λ x. x ++ ys) s.split; starless = s.starless }
+
+starts_with : {N : Type 0} (x : Lexeme N) (xs : List (Lexeme N)) → is_star x ≡ false → Starts (x ∷ xs)
+starts_with x xs h = record { first = x; rest = xs; split = refl; starless = h }
+
+calm_open : {N : Type 0} {xs : List (Lexeme N)} (x : Lexeme N) → Starts xs → Calm xs → Calm (x ∷ xs)
+calm_open x s p = subst (λ xs. Calm (x ∷ xs)) (sym s.split) (calm_paren s.starless (subst Calm s.split p))
+
+factor_starts : {N : Type 0} (t : Tree N factor) → Starts (spell t)
+factor_starts (designator name selectors) = starts_with _ _ refl
+factor_starts (integer n) = starts_with _ _ refl
+factor_starts (parenthesised e) = starts_with _ _ refl
+factor_starts (negation f) = starts_with _ _ refl
+
+term_starts : {N : Type 0} (t : Tree N term) → Starts (spell t)
+term_starts (product first factors) = starts_append _ (factor_starts first)
+
+simple_starts : {N : Type 0} (t : Tree N simple) → Starts (spell t)
+simple_starts (sum None first terms) = starts_append _ (term_starts first)
+simple_starts (sum (Some sign.Plus) first terms) = starts_with _ _ refl
+simple_starts (sum (Some sign.Minus) first terms) = starts_with _ _ refl
+
+expression_starts : {N : Type 0} (t : Tree N expression) → Starts (spell t)
+expression_starts (compares left compared) = starts_append _ (simple_starts left)
+
+names_start : {N : Type 0} (t : Tree N names) → Starts (spell t)
+names_start (listed name others) = starts_with _ _ refl
+
+section_starts : {N : Type 0} (t : Tree N section) → Starts (spell t)
+section_starts (value_section ns t) = starts_append _ (names_start ns)
+section_starts (variable_section ns t) = starts_with _ _ refl
+
+calm_sign : (N : Type 0) (s : Option Sign) → Calm (sign_marks {N = N} s)
+calm_sign N None = calm_end
+calm_sign N (Some sign.Plus) = calm_next refl calm_end
+calm_sign N (Some sign.Minus) = calm_next refl calm_end
+
+no_paren_relation : (N : Type 0) (o : Relation) → is_paren {N = N} (Mark (relation_mark o)) ≡ false
+no_paren_relation N relation.Equal = refl
+no_paren_relation N relation.NotEqual = refl
+no_paren_relation N relation.Less = refl
+no_paren_relation N relation.LessEqual = refl
+no_paren_relation N relation.Greater = refl
+no_paren_relation N relation.GreaterEqual = refl
+
+no_paren_add : (N : Type 0) (o : AddOperator) → is_paren {N = N} (Mark (add_mark o)) ≡ false
+no_paren_add N add_operator.Add = refl
+no_paren_add N add_operator.Subtract = refl
+no_paren_add N add_operator.Or = refl
+
+no_paren_multiply : (N : Type 0) (o : MultiplyOperator) → is_paren {N = N} (Mark (multiply_mark o)) ≡ false
+no_paren_multiply N multiply_operator.Multiply = refl
+no_paren_multiply N multiply_operator.Divide = refl
+no_paren_multiply N multiply_operator.Modulo = refl
+no_paren_multiply N multiply_operator.And = refl
+
+pub calm_spelled : {N : Type 0} {s : Sort} (t : Tree N s) → Calm (spell t)
+calm_spelled none = calm_end
+calm_spelled (one t) = calm_spelled t
+calm_spelled end = calm_end
+calm_spelled (more t ts) = calm_append (calm_spelled t) (calm_spelled ts)
+calm_spelled (compares left compared) = calm_append (calm_spelled left) (calm_spelled compared)
+calm_spelled {N = N} (relates relation right) = calm_next (no_paren_relation N relation) (calm_spelled right)
+calm_spelled {N = N} (sum sign first terms) = calm_append (calm_sign N sign) (calm_append (calm_spelled first) (calm_spelled terms))
+calm_spelled {N = N} (adds operator t) = calm_next (no_paren_add N operator) (calm_spelled t)
+calm_spelled (product first factors) = calm_append (calm_spelled first) (calm_spelled factors)
+calm_spelled {N = N} (multiplies operator f) = calm_next (no_paren_multiply N operator) (calm_spelled f)
+calm_spelled (designator name selectors) = calm_next refl (calm_spelled selectors)
+calm_spelled (integer n) = calm_next refl calm_end
+calm_spelled (parenthesised e) = calm_open _ (starts_append _ (expression_starts e)) (calm_append (calm_spelled e) (calm_next refl calm_end))
+calm_spelled (negation f) = calm_next refl (calm_spelled f)
+calm_spelled (field name) = calm_next refl (calm_next refl calm_end)
+calm_spelled (index e) = calm_next refl (calm_append (calm_spelled e) (calm_next refl calm_end))
+calm_spelled empty = calm_end
+calm_spelled (assigns name selectors e) = calm_next refl (calm_append (calm_spelled selectors) (calm_next refl (calm_spelled e)))
+calm_spelled (calls name args) = calm_next refl (calm_spelled args)
+calm_spelled (branches condition s elsifs rest) = calm_next refl (calm_append (calm_spelled condition) (calm_next refl (calm_append (calm_spelled s) (calm_append (calm_spelled elsifs) (calm_append (calm_spelled rest) (calm_next refl calm_end))))))
+calm_spelled (while_loop condition s) = calm_next refl (calm_append (calm_spelled condition) (calm_next refl (calm_append (calm_spelled s) (calm_next refl calm_end))))
+calm_spelled (repeat_loop s condition) = calm_next refl (calm_append (calm_spelled s) (calm_next refl (calm_spelled condition)))
+calm_spelled no_arguments = calm_paren refl (calm_next refl calm_end)
+calm_spelled (some_arguments e es) = calm_open _ (starts_append _ (expression_starts e)) (calm_append (calm_spelled e) (calm_append (calm_spelled es) (calm_next refl calm_end)))
+calm_spelled (then_argument e) = calm_next refl (calm_spelled e)
+calm_spelled (runs first statements) = calm_append (calm_spelled first) (calm_spelled statements)
+calm_spelled (then_statement s) = calm_next refl (calm_spelled s)
+calm_spelled (elsif_branch condition s) = calm_next refl (calm_append (calm_spelled condition) (calm_next refl (calm_spelled s)))
+calm_spelled (else_branch s) = calm_next refl (calm_spelled s)
+calm_spelled (listed name others) = calm_next refl (calm_spelled others)
+calm_spelled (then_name name) = calm_next refl (calm_next refl calm_end)
+calm_spelled (named_type name) = calm_next refl calm_end
+calm_spelled (array_type size t) = calm_next refl (calm_append (calm_spelled size) (calm_next refl (calm_spelled t)))
+calm_spelled (record_type first others) = calm_next refl (calm_append (calm_spelled first) (calm_append (calm_spelled others) (calm_next refl calm_end)))
+calm_spelled no_fields = calm_end
+calm_spelled (some_fields ns t) = calm_append (calm_spelled ns) (calm_next refl (calm_spelled t))
+calm_spelled (then_fields f) = calm_next refl (calm_spelled f)
+calm_spelled no_formals = calm_paren refl (calm_next refl calm_end)
+calm_spelled (some_formals first others) = calm_open _ (starts_append _ (section_starts first)) (calm_append (calm_spelled first) (calm_append (calm_spelled others) (calm_next refl calm_end)))
+calm_spelled (value_section ns t) = calm_append (calm_spelled ns) (calm_next refl (calm_spelled t))
+calm_spelled (variable_section ns t) = calm_next refl (calm_append (calm_spelled ns) (calm_next refl (calm_spelled t)))
+calm_spelled (then_section s) = calm_next refl (calm_spelled s)
+calm_spelled (declares_constant name e) = calm_next refl (calm_next refl (calm_append (calm_spelled e) (calm_next refl calm_end)))
+calm_spelled (declares_constants cs) = calm_next refl (calm_spelled cs)
+calm_spelled (declares_type name t) = calm_next refl (calm_next refl (calm_append (calm_spelled t) (calm_next refl calm_end)))
+calm_spelled (declares_types ts) = calm_next refl (calm_spelled ts)
+calm_spelled (declares_variable ns t) = calm_append (calm_spelled ns) (calm_next refl (calm_append (calm_spelled t) (calm_next refl calm_end)))
+calm_spelled (declares_variables vs) = calm_next refl (calm_spelled vs)
+calm_spelled (declares_procedure name fs b closing) = calm_next refl (calm_next refl (calm_append (calm_spelled fs) (calm_next refl (calm_append (calm_spelled b) (calm_next refl (calm_next refl (calm_next refl calm_end)))))))
+calm_spelled (declares cs ts vs ps) = calm_append (calm_spelled cs) (calm_append (calm_spelled ts) (calm_append (calm_spelled vs) (calm_spelled ps)))
+calm_spelled (begins s) = calm_next refl (calm_spelled s)
+calm_spelled (has_body ds b) = calm_append (calm_spelled ds) (calm_spelled b)
+calm_spelled (is_module name b closing) = calm_next refl (calm_next refl (calm_next refl (calm_append (calm_spelled b) (calm_next refl (calm_next refl (calm_next refl calm_end))))))

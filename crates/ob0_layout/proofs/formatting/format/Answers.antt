@@ -1,0 +1,62 @@
+use Rattle.std.proofs.Common.{◌≡◌, ℕ, ◌<◌, ◌≤◌, Bool, true, false, List, length, map, refl, sym, ap, ◌∙◌, subst, arith, filter}
+use Rattle.std.specs.Bool.{IsTrue}
+use Rattle.std.specs.List.{All}
+use Rattle.std.specs.Prelude.{nat_lt}
+use Rattle.std.proofs.lemmas.Bool.{ltb-true, ltb-false}
+use Rattle.ob0_scan.specs.Scanned.{Scanned, IsScan, max_text}
+use Rattle.ob0_text.specs.Units.{width_of}
+use Rattle.ob0_tree.specs.Parsed.{tree_of}
+use Rattle.ob0_layout.specs.declared.sites.Site.{Site}
+use Rattle.ob0_layout.specs.declared.standing.Standing.{Standing}
+use Rattle.ob0_layout.specs.Standings.{standings}
+use Rattle.ob0_layout.specs.Sites.{all_sites, changed_sites, edit_of, laid_len, LiesIn}
+use Rattle.ob0_layout.proofs.Ahead.{all_lie}
+use Rattle.ob0_layout.proofs.formatting.format.Goals as goal
+
+-- the gaps that the code found are those of the source
+of_source : {s t : Scanned} (e : s ≡ t) (found read : List Site) (ss is : List Standing) → read ≡ found → ss ≡ is → ((scan : IsScan s) → found ≡ all_sites ss scan.lexemes) → (scan : IsScan t) → read ≡ all_sites is scan.lexemes
+of_source e found read ss is r f h = λ scan. r ∙ subst (λ (x : Scanned). (scan : IsScan x) → found ≡ all_sites ss scan.lexemes) e h scan ∙ ap (λ xs. all_sites xs scan.lexemes) f
+
+lie_in_source : {s t : Scanned} (e : s ≡ t) (bytes : List ℕ) (read : List Site) (is : List Standing) → IsScan s → bytes ≡ t.text → ((scan : IsScan t) → read ≡ all_sites is scan.lexemes) → All (LiesIn (length bytes)) read
+lie_in_source {t = t} e bytes read is scan b h =
+    let there = subst IsScan e scan in
+    subst (λ (xs : List ℕ). All (LiesIn (length xs)) read) (sym b) (subst (λ (gs : List Site). All (LiesIn (length t.text)) gs) (sym (h there)) (all_lie t there is))
+
+past : (b : Bool) (n m : ℕ) → (n ≤ m → IsTrue b) → b ≡ false → m < n
+past b n m h e = by_test (nat_lt m n) refl
+  where
+    by_test : (t : Bool) → nat_lt m n ≡ t → m < n
+    by_test true f = ltb-true m n f
+    by_test false f = let never : false ≡ true = subst IsTrue e (h (ltb-false m n f)) in absurd (cc)
+
+pub fits-requires-clause-within : goal.fits-requires-clause-within
+fits-requires-clause-within g c =
+    lie_in_source c.tokens-tokens.ensures.source c.as_bytes-text.result.now c.deref-2.result.now (standings 0 (tree_of c.args.module.now)) c.text.ensures.scan
+    (c.as_bytes-text.ensures.value ∙ c.text.ensures.value ∙ ap (λ (x : Scanned). x.text) c.tokens-tokens.ensures.source)
+    (of_source c.tokens-tokens.ensures.source c.in_ok-sites.sites.items c.deref-2.result.now c.deref.result.now _ c.deref-2.ensures.value (c.deref.ensures.value ∙ c.in_ok-standings.ensures) c.in_ok-sites.ensures)
+
+pub changed-requires : goal.changed-requires
+changed-requires g c =
+    lie_in_source c.tokens-tokens.ensures.source c.as_bytes-text.result.now c.deref-3.result.now (standings 0 (tree_of c.args.module.now)) c.text.ensures.scan
+    (c.as_bytes-text.ensures.value ∙ c.text.ensures.value ∙ ap (λ (x : Scanned). x.text) c.tokens-tokens.ensures.source)
+    (of_source c.tokens-tokens.ensures.source c.in_ok-sites.sites.items c.deref-3.result.now c.deref.result.now _ c.deref-3.ensures.value (c.deref.ensures.value ∙ c.in_ok-standings.ensures) c.in_ok-sites.ensures)
+
+pub returns-then-not-fits-clause-too_long : goal.returns-then-not-fits-clause-too_long
+returns-then-not-fits-clause-too_long g c = λ scan told.
+    let text = c.as_bytes-text.ensures.value ∙ c.text.ensures.value ∙ ap (λ (x : Scanned). x.text) c.tokens-tokens.ensures.source in
+    let same = of_source c.tokens-tokens.ensures.source c.in_ok-sites.sites.items c.deref-2.result.now c.deref.result.now (standings 0 (tree_of c.args.module.now)) c.deref-2.ensures.value (c.deref.ensures.value ∙ c.in_ok-standings.ensures) c.in_ok-sites.ensures scan in
+    subst (λ (n : ℕ). max_text < n) (λ i. laid_len c.args.indent (length (text i)) 0 (same i)) (past c.fits.result _ max_text c.fits.ensures.1 c.if-not-fits.true)
+
+pub returns-clause-edits : goal.returns-clause-edits
+returns-clause-edits g c = λ scan.
+    let text = c.as_bytes-text.ensures.value ∙ c.text.ensures.value ∙ ap (λ (x : Scanned). x.text) c.tokens-tokens.ensures.source in
+    let same = of_source c.tokens-tokens.ensures.source c.in_ok-sites.sites.items c.deref-3.result.now c.deref.result.now (standings 0 (tree_of c.args.module.now)) c.deref-3.ensures.value (c.deref.ensures.value ∙ c.in_ok-standings.ensures) c.in_ok-sites.ensures scan in
+    c.in_ok-edits.ensures
+    ∙ ap (map (edit_of c.args.indent (width_of (g.T.TextStore.unit_of c.args.store.now)) (g.T.TextStore.content c.args.store.now)))
+    (c.deref-4.ensures.value ∙ c.in_ok-changed.ensures ∙ (λ i. changed_sites c.args.indent (text i) (same i)))
+
+pub returns-clause-fits : goal.returns-clause-fits
+returns-clause-fits g c = λ scan.
+    let text = c.as_bytes-text.ensures.value ∙ c.text.ensures.value ∙ ap (λ (x : Scanned). x.text) c.tokens-tokens.ensures.source in
+    let same = of_source c.tokens-tokens.ensures.source c.in_ok-sites.sites.items c.deref-2.result.now c.deref.result.now (standings 0 (tree_of c.args.module.now)) c.deref-2.ensures.value (c.deref.ensures.value ∙ c.in_ok-standings.ensures) c.in_ok-sites.ensures scan in
+    subst (λ (n : ℕ). n ≤ max_text) (λ i. laid_len c.args.indent (length (text i)) 0 (same i)) (c.fits.ensures.0 c.if-not-fits.false)

@@ -1,0 +1,87 @@
+-- The gaps of a text: before, between and behind its tokens and comments.
+use Rattle.std.specs.Prelude.{◌≤◌, ℕ, ◌+◌, ◌-◌, Bool, true, false, ◌||◌, not, if◌then◌else◌, nat_lt, bytes_eq, Option, Some, None, List, [], ◌∷◌, length, drop, filter, map, slice_range, string_bytes}
+use Rattle.ob0_scan.specs.declared.lexeme.LexemeKind.{LexemeKind}
+use Rattle.ob0_scan.specs.declared.lexeme.LexemeKind.TheVariants as lexeme
+use Rattle.ob0_scan.specs.declared.lexeme.Token.{Token}
+use Rattle.ob0_scan.specs.declared.lexeme.Span.{Span}
+use Rattle.ob0_scan.specs.Lexed.{Lexeme}
+use Rattle.ob0_text.specs.declared.edits.Edit.{Edit}
+use Rattle.ob0_text.specs.declared.edits.Indent.{Indent}
+use Rattle.ob0_text.specs.declared.positions.Range.{Range}
+use Rattle.ob0_text.specs.Texts.{position_of}
+use Rattle.ob0_layout.specs.declared.gap.Gap.{Gap}
+use Rattle.ob0_layout.specs.declared.gap.Gap.TheVariants.{Nothing, Line}
+use Rattle.ob0_layout.specs.declared.sites.Site.{Site}
+use Rattle.ob0_layout.specs.declared.sites.Next.{Next}
+use Rattle.ob0_layout.specs.declared.sites.Next.TheVariants as next
+use Rattle.ob0_layout.specs.declared.sites.Solid.{Solid}
+use Rattle.ob0_layout.specs.declared.standing.Standing.{Standing}
+use Rattle.ob0_layout.specs.Layout.{next_line, next_standing, holds_break, comment_standing, gap_between, gap_text}
+
+-- the gap before a token or comment, and the one behind the last: nothing at the text's start
+abbrev pub gap_before : Option Solid → LexemeKind → Standing → Gap
+gap_before None kind standing = Nothing
+gap_before (Some b) kind standing = gap_between b.kind b.standing kind standing
+
+abbrev pub last_gap : Option Solid → Gap
+last_gap None = Nothing
+last_gap (Some b) = Line 0
+
+-- The gaps of a text that goes on with these lexemes at a place, each with what is to stand there. The first of them began at `from`, behind
+-- a token or comment or at the text's start; `level`, `broken` and `ss` are those of `placed`.
+abbrev pub sites : Option Solid → ℕ → Bool → List Standing → ℕ → ℕ → List Lexeme → List Site
+sites before level broken ss from at [] = record { start = from; end = at; gap = last_gap before } ∷ []
+sites before level broken ss from at (l ∷ ls) = elim (l.kind) [
+  | lexeme.Space ↦ sites before level (broken || holds_break l.text) ss from (at + length l.text) ls
+  | lexeme.Comment ↦
+      let standing = comment_standing broken (next_line level ss) in
+      record { start = from; end = at; gap = gap_before before lexeme.Comment standing }
+      ∷ sites (Some (record { kind = lexeme.Comment; standing = standing })) level false ss (at + length l.text) (at + length l.text) ls
+  | lexeme.Token k ↦
+      record { start = from; end = at; gap = gap_before before (lexeme.Token k) (next_standing ss) }
+      ∷ sites (Some (record { kind = lexeme.Token k; standing = next_standing ss })) (next_line level ss) false (drop 1 ss) (at + length l.text) (at + length l.text) ls
+]
+
+-- the gaps of a text with these standings of its tokens
+abbrev pub all_sites : List Standing → List Lexeme → List Site
+all_sites ss lexemes = sites None 0 true ss 0 0 lexemes
+
+-- of a list of tokens and a list of comments, which begins first
+abbrev pub next_of : List Token → List Span → Option Next
+next_of [] [] = None
+next_of [] (c ∷ cs) = Some (next.Comment c)
+next_of (t ∷ ts) [] = Some (next.Token t)
+next_of (t ∷ ts) (c ∷ cs) = if nat_lt c.start t.span.start then Some (next.Comment c) else Some (next.Token t)
+
+-- whether what stands in a gap isn't what is to stand there
+abbrev pub is_changed : Indent → List ℕ → Site → Bool
+is_changed indent text g = not (bytes_eq (slice_range text g.start g.end) (gap_text indent g.gap))
+
+-- the gaps that change
+abbrev pub changed_sites : Indent → List ℕ → List Site → List Site
+changed_sites indent text gs = filter (is_changed indent text) gs
+
+-- what an edit says: where, and what is to stand there
+pub record Said : Type 0 where
+  pub range : Range
+  pub text : List ℕ
+
+-- the edit of a gap replaces the whole gap by what is to stand there
+abbrev pub edit_of : Indent → (ℕ → ℕ) → List ℕ → Site → Said
+edit_of indent width content g = record {
+  range = record { start = position_of width content g.start; end = position_of width content g.end };
+  text = gap_text indent g.gap;
+}
+
+abbrev pub said : Edit → Said
+said e = record { range = e.range; text = string_bytes e.text }
+
+-- a gap lies in a text of this length
+pub record LiesIn (len : ℕ) (g : Site) : Type 0 where
+  pub ordered : g.start ≤ g.end
+  pub within : g.end ≤ len
+
+-- the length of a text of which these gaps are laid out, counted from a place on
+abbrev pub laid_len : Indent → ℕ → ℕ → List Site → ℕ
+laid_len indent len at [] = len - at
+laid_len indent len at (g ∷ gs) = (g.start - at) + (length (gap_text indent g.gap) + laid_len indent len g.end gs)

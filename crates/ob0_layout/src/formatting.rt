@@ -1,0 +1,127 @@
+//! The edits that lay out a module's text.
+
+ghost use Rattle.std.specs.Prelude.{◌≡◌, ◌≤◌, ◌<◌, ◌⊎◌, ◌↔◌, IsTrue, IfOk, IfErr, IsErrOf, map, filter, length, string_bytes};
+ghost use Rattle.std.specs.List.{All};
+ghost use Rattle.std.specs.Str.{chars};
+ghost use Rattle.ob0_scan.specs.Scanned.{IsScan, max_text};
+ghost use Rattle.ob0_text.specs.Units.{width_of};
+ghost use Rattle.ob0_text.specs.declared.refusals.EditRefusal.TheVariants.{TooLong, Memory};
+ghost use Rattle.ob0_tree.specs.Parsed.{tree_of};
+ghost use Rattle.ob0_layout.specs.Layout.{gap_text, layout};
+ghost use Rattle.ob0_layout.specs.Standings.{standings};
+ghost use Rattle.ob0_layout.specs.Sites.{all_sites, is_changed, changed_sites, said, edit_of, LiesIn, laid_len};
+ghost use Rattle.ob0_layout.specs.declared.sites.Site as site;
+
+use crate::sites::{Site, all_sites};
+use crate::walk::standings;
+use ob0_scan::MAX_TEXT;
+use ob0_text::{Edit, EditRefusal, Indent, Range, TextStore};
+use ob0_tree::tree::Module;
+use std::alloc::{AllocError, Global};
+
+/// One edit for each gap that the layout changes, in text order: it replaces the whole gap by what is to stand there. Refused where the
+/// layout is longer than a text may be.
+pub fn format<T: TextStore>(
+    alloc: Global,
+    store: &T,
+    module: &Module,
+    indent: Indent,
+) -> Result<Vec<Edit>, EditRefusal>
+    ensures edits { (scan : IsScan module.now.source) → IfOk result (λ edits. map said edits.items ≡
+        map (edit_of indent (width_of (T.unit_of store.now)) (T.content store.now)) (changed_sites indent module.now.source.text (all_sites (standings 0 (tree_of module.now)) scan.lexemes))) }
+    ensures fits { (scan : IsScan module.now.source) → IfOk result (λ _. laid_len indent (length module.now.source.text) 0 (all_sites (standings 0 (tree_of module.now)) scan.lexemes) ≤ max_text) }
+    ensures too_long { (scan : IsScan module.now.source) → IsErrOf result TooLong → max_text < laid_len indent (length module.now.source.text) 0 (all_sites (standings 0 (tree_of module.now)) scan.lexemes) }
+    ensures refusals { IfErr result (λ refusal. (refusal ≡ TooLong) ⊎ (refusal ≡ Memory)) }
+{
+    let tokens = module.tokens();
+    let text = tokens.text().as_bytes();
+    let standings = standings(alloc, module)?;
+    let sites = all_sites(alloc, tokens, &standings)?;
+    if !fits(&sites, text.len(), indent) {
+        return Err(EditRefusal::TooLong);
+    }
+    let changed = changed(alloc, text, &sites, indent)?;
+    Ok(edits(alloc, store, &changed, indent)?)
+}
+
+/// Whether a text of this length isn't too long when its gaps are laid out.
+fn fits(sites: &[Site], len: usize, indent: Indent) -> bool
+    requires length { len ≤ max_text }
+    requires within { All (LiesIn len) sites.now }
+    ensures { IsTrue result ↔ laid_len indent len 0 sites.now ≤ max_text }
+{
+    let mut made = 0;
+    let mut at = 0;
+    for site in sites {
+        made += site.start.saturating_sub(at) + site.gap.len(indent);
+        if made > MAX_TEXT {
+            return false;
+        }
+        at = site.end;
+    }
+    made + len.saturating_sub(at) <= MAX_TEXT
+}
+
+/// The gaps that change.
+fn changed(
+    alloc: Global,
+    text: &[u8],
+    sites: &[Site],
+    indent: Indent,
+) -> Result<Vec<Site>, AllocError>
+    requires { All (LiesIn (length text.now)) sites.now }
+    ensures { IfOk result (λ changed. changed.items ≡ changed_sites indent text.now sites.now) }
+{
+    let mut changed = Vec::new(alloc);
+    for site in sites {
+        if is_changed(alloc, text, *site, indent)? {
+            changed.push(*site)?;
+        }
+    }
+    Ok(changed)
+}
+
+fn is_changed(alloc: Global, text: &[u8], site: Site, indent: Indent) -> Result<bool, AllocError>
+    requires { LiesIn (length text.now) site }
+    ensures { IfOk result (λ changes. changes ≡ is_changed indent text.now site) }
+{
+    let new = site.gap.text(alloc, indent)?;
+    Ok(new.as_bytes() != &text[site.start..site.end])
+}
+
+/// The edits of gaps.
+fn edits<T: TextStore>(
+    alloc: Global,
+    store: &T,
+    sites: &[Site],
+    indent: Indent,
+) -> Result<Vec<Edit>, AllocError>
+    ensures { IfOk result (λ edits. map said edits.items ≡ map (edit_of indent (width_of (T.unit_of store.now)) (T.content store.now)) sites.now) }
+{
+    let starts = starts(alloc, sites)?;
+    let ends = ends(alloc, sites)?;
+    let from = store.positions(alloc, &starts)?;
+    let to = store.positions(alloc, &ends)?;
+    let mut edits = Vec::new(alloc);
+    for (i, site) in sites.iter().enumerate() {
+        let range = Range {
+            start: from[i],
+            end: to[i],
+        };
+        let text = site.gap.text(alloc, indent)?;
+        edits.push(Edit { range, text })?;
+    }
+    Ok(edits)
+}
+
+fn starts(alloc: Global, sites: &[Site]) -> Result<Vec<usize>, AllocError>
+    ensures { IfOk result (λ offsets. offsets.items ≡ map (λ site. site.start) sites.now) }
+{
+    sites.iter().map(|site| site.start).collect(alloc)
+}
+
+fn ends(alloc: Global, sites: &[Site]) -> Result<Vec<usize>, AllocError>
+    ensures { IfOk result (λ offsets. offsets.items ≡ map (λ site. site.end) sites.now) }
+{
+    sites.iter().map(|site| site.end).collect(alloc)
+}

@@ -1,0 +1,27 @@
+//! Laws of the layout: each is the contract of a function that does nothing.
+
+ghost use Rattle.std.specs.Prelude.{◌≡◌, ℕ, List};
+ghost use Rattle.ob0_scan.specs.Lexed.{Lexed};
+ghost use Rattle.ob0_scan.specs.Scanned.{Scanned, IsScan};
+ghost use Rattle.ob0_text.specs.declared.edits.Indent.{Indent};
+ghost use Rattle.ob0_tree.specs.Tree.{Tree, module_text};
+ghost use Rattle.ob0_tree.specs.Module.{ModuleOf};
+ghost use Rattle.ob0_layout.specs.Layout.{solid, laid_out, layout};
+
+/// The layout of a module's text is cut into the lexemes that are laid out, and its tokens and comments are those of the text.
+pub fn lexemes_stay()
+    ensures lexed { (indent : Indent) (s : Scanned) (scan : IsScan s) (tree : Tree (List ℕ) module_text) → ModuleOf s tree → Lexed (layout indent tree scan.lexemes) (laid_out indent tree scan.lexemes) }
+    ensures solid { (indent : Indent) (s : Scanned) (scan : IsScan s) (tree : Tree (List ℕ) module_text) → ModuleOf s tree → solid (laid_out indent tree scan.lexemes) ≡ solid scan.lexemes }
+{}
+
+/// So it is a text of the same module, where it is scanned.
+pub fn module_stays()
+    ensures { (indent : Indent) (s : Scanned) (scan : IsScan s) (tree : Tree (List ℕ) module_text) → ModuleOf s tree
+        → (t : Scanned) → IsScan t → t.text ≡ layout indent tree scan.lexemes → ModuleOf t tree }
+{}
+
+/// The layout of the layout is the layout.
+pub fn laid_out_once()
+    ensures { (indent : Indent) (s : Scanned) (scan : IsScan s) (tree : Tree (List ℕ) module_text) → ModuleOf s tree
+        → (t : Scanned) (again : IsScan t) → t.text ≡ layout indent tree scan.lexemes → layout indent tree again.lexemes ≡ layout indent tree scan.lexemes }
+{}

@@ -1,0 +1,186 @@
+//! The gaps of a text, each with what is to stand there.
+
+ghost use Rattle.std.specs.Prelude.{◌≡◌, ◌||◌, ◌==◌, IfOk, is_none, drop};
+ghost use Rattle.ob0_scan.specs.Scanned.{IsScan};
+ghost use Rattle.ob0_layout.specs.Layout.{next_line, next_standing, comment_standing, holds_break};
+ghost use Rattle.ob0_layout.specs.Sites.{all_sites, next_of, gap_before, last_gap};
+
+use crate::gap::{Gap, gap_between};
+use crate::standing::Standing;
+use ob0_scan::{LexemeKind, Span, Token, Tokens};
+use std::alloc::{AllocError, Global};
+
+/// A gap of a text: where it begins and ends, and what is to stand there.
+#[derive(Clone, Copy)]
+pub struct Site {
+    pub start: usize,
+    pub end: usize,
+    pub gap: Gap,
+}
+
+/// A token or comment, and how it stands.
+#[derive(Clone, Copy)]
+pub struct Solid {
+    pub kind: LexemeKind,
+    pub standing: Standing,
+}
+
+/// What comes next in a text, white space aside.
+#[derive(Clone, Copy)]
+pub enum Next {
+    Token(Token),
+    Comment(Span),
+}
+
+/// The gaps of a text in text order, where its tokens stand so.
+pub fn all_sites(
+    alloc: Global,
+    tokens: &Tokens,
+    standings: &[Standing],
+) -> Result<Vec<Site>, AllocError>
+    ensures { (scan : IsScan tokens.now) → IfOk result (λ sites. sites.items ≡ all_sites standings.now scan.lexemes) }
+{
+    let text = tokens.text().as_bytes();
+    let mut left = tokens.tokens();
+    let mut comments = tokens.comments();
+    let mut standings = standings;
+    let mut sites = Vec::new(alloc);
+    let mut before: Option<Solid> = None;
+    let mut level = 0;
+    let mut start = 0;
+    while let Some(next) = next_of(left, comments) {
+        match next {
+            Next::Comment(span) => {
+                let broken = begins_anew(before, &text[start..span.start]);
+                let standing = comment_standing(broken, next_line(level, standings));
+                let kind = LexemeKind::Comment;
+                let gap = gap_before(before, kind, standing);
+                let end = span.start;
+                sites.push(Site { start, end, gap })?;
+                before = Some(Solid { kind, standing });
+                start = span.end;
+                comments = behind_first(comments);
+            }
+            Next::Token(token) => {
+                let standing = next_standing(standings);
+                let kind = LexemeKind::Token(token.kind);
+                let gap = gap_before(before, kind, standing);
+                let end = token.span.start;
+                sites.push(Site { start, end, gap })?;
+                before = Some(Solid { kind, standing });
+                level = next_line(level, standings);
+                standings = behind_first(standings);
+                start = token.span.end;
+                left = behind_first(left);
+            }
+        }
+    }
+    let end = text.len();
+    let gap = last_gap(before);
+    sites.push(Site { start, end, gap })?;
+    Ok(sites)
+}
+
+/// Of the tokens and comments that are left, which comes first.
+fn next_of(left: &[Token], comments: &[Span]) -> Option<Next>
+    ensures { result ≡ next_of left.now comments.now }
+{
+    if left.is_empty() {
+        if comments.is_empty() {
+            return None;
+        }
+        return Some(Next::Comment(comments[0]));
+    }
+    if comments.is_empty() {
+        return Some(Next::Token(left[0]));
+    }
+    if comments[0].start < left[0].span.start {
+        Some(Next::Comment(comments[0]))
+    } else {
+        Some(Next::Token(left[0]))
+    }
+}
+
+/// The gap before a token or comment.
+fn gap_before(before: Option<Solid>, kind: LexemeKind, standing: Standing) -> Gap
+    ensures { result ≡ gap_before before kind standing }
+{
+    match before {
+        None => Gap::Nothing,
+        Some(b) => gap_between(b.kind, b.standing, kind, standing),
+    }
+}
+
+/// The gap behind the last token or comment.
+fn last_gap(before: Option<Solid>) -> Gap
+    ensures { result ≡ last_gap before }
+{
+    match before {
+        None => Gap::Nothing,
+        Some(_) => Gap::Line(0),
+    }
+}
+
+/// The level of the line in which the next token stands.
+fn next_line(level: u32, standings: &[Standing]) -> u32
+    ensures { result ≡ next_line level standings.now }
+{
+    if standings.is_empty() {
+        return 0;
+    }
+    match standings[0] {
+        Standing::Begins(begun) => begun,
+        Standing::Opening => level,
+        Standing::Joining => level,
+        Standing::Plain => level,
+    }
+}
+
+fn next_standing(standings: &[Standing]) -> Standing
+    ensures { result ≡ next_standing standings.now }
+{
+    if standings.is_empty() {
+        return Standing::Plain;
+    }
+    standings[0]
+}
+
+/// All of a list but the first.
+fn behind_first<T>(items: &[T]) -> &[T]
+    ensures { result.now ≡ drop 1 items.now }
+{
+    if items.is_empty() {
+        return items;
+    }
+    &items[1..]
+}
+
+/// How a comment stands before which a line break stands or not.
+fn comment_standing(broken: bool, level: u32) -> Standing
+    ensures { result ≡ comment_standing broken level }
+{
+    if broken {
+        Standing::Begins(level)
+    } else {
+        Standing::Plain
+    }
+}
+
+/// Whether a line break stands in a gap. The text's start counts as one.
+fn begins_anew(before: Option<Solid>, gap: &[u8]) -> bool
+    ensures { result ≡ (is_none before || holds_break gap.now) }
+{
+    before.is_none() || holds_break(gap)
+}
+
+/// Whether white space holds a line break.
+fn holds_break(gap: &[u8]) -> bool
+    ensures { result ≡ holds_break gap.now }
+{
+    for b in gap {
+        if *b == b'\n' || *b == b'\r' {
+            return true;
+        }
+    }
+    false
+}

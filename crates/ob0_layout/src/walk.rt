@@ -1,0 +1,436 @@
+//! The walk over a module that tells how each of its tokens stands.
+
+ghost use Rattle.std.specs.Prelude.{◌≡◌, ◌++◌, ◌∷◌, [], IfOk};
+ghost use Rattle.ob0_layout.specs.declared.standing.Standing.TheVariants.{Begins, Plain};
+ghost use Rattle.ob0_layout.specs.Standings.{standings, deeper, sign_standing, separated};
+ghost use Rattle.ob0_tree.specs.Parsed.{tree_of};
+ghost use Rattle.ob0_tree.specs.Tree.{then_name};
+ghost use Rattle.ob0_tree.specs.View.{items_of, expression_of, simple_of, term_of, factor_of, selector_of, designator_of, assignment_of, arguments_in, call_of, statement_of, if_of, elsifs_in, sequence_in, type_of, record_in, fields_of, section_of, formals_of, constants_of, types_of, variables_of, body_of, procedure_of, block_of};
+
+use crate::standing::Standing;
+use ob0_tree::tree::{
+    Assignment, Block, Call, Constant, Designator, Elsif, Expression, Factor, Fields, If, Module,
+    Names, Procedure, RecordType, Section, Selector, Sign, Simple, Statement, Term,
+    TypeDeclaration, Variables, WrittenType,
+};
+use std::alloc::{AllocError, Global};
+
+/// How the tokens of a module stand, in text order.
+pub fn standings(alloc: Global, module: &Module) -> Result<Vec<Standing>, AllocError>
+    ensures { IfOk result (λ out. out.items ≡ standings 0 (tree_of module.now)) }
+{
+    let mut out = Vec::new(alloc);
+    out.push(Standing::Begins(0))?;
+    plain(&mut out)?;
+    plain(&mut out)?;
+    block(&mut out, 0, module.block())?;
+    out.push(Standing::Begins(0))?;
+    plain(&mut out)?;
+    plain(&mut out)?;
+    Ok(out)
+}
+
+/// The next level.
+fn deeper(level: u32) -> u32
+    ensures { result ≡ deeper level }
+{
+    level.saturating_add(1)
+}
+
+/// A token of which no more is asked than of its kind.
+fn plain(out: &mut Vec<Standing>) -> Result<(), AllocError>
+    ensures { IfOk result (λ _. out.new.items ≡ out.old.items ++ (Plain ∷ [])) }
+{
+    out.push(Standing::Plain)?;
+    Ok(())
+}
+
+#[cycle(expressions)]
+fn expression(out: &mut Vec<Standing>, e: &Expression) -> Result<(), AllocError>
+    ensures { IfOk result (λ _. out.new.items ≡ out.old.items ++ standings 0 (expression_of e.now)) }
+{
+    simple(out, &e.left)?;
+    if let Some(compared) = &e.compared {
+        plain(out)?;
+        simple(out, &compared.right)?;
+    }
+    Ok(())
+}
+
+fn sign(out: &mut Vec<Standing>, sign: Option<Sign>) -> Result<(), AllocError>
+    ensures { IfOk result (λ _. out.new.items ≡ out.old.items ++ sign_standing sign) }
+{
+    if sign.is_some() {
+        out.push(Standing::Joining)?;
+    }
+    Ok(())
+}
+
+#[cycle(expressions)]
+fn simple(out: &mut Vec<Standing>, s: &Simple) -> Result<(), AllocError>
+    ensures { IfOk result (λ _. out.new.items ≡ out.old.items ++ standings 0 (simple_of s.now)) }
+{
+    sign(out, s.sign)?;
+    term(out, &s.first)?;
+    for addend in &s.more {
+        plain(out)?;
+        term(out, &addend.term)?;
+    }
+    Ok(())
+}
+
+#[cycle(expressions)]
+fn term(out: &mut Vec<Standing>, t: &Term) -> Result<(), AllocError>
+    ensures { IfOk result (λ _. out.new.items ≡ out.old.items ++ standings 0 (term_of t.now)) }
+{
+    factor(out, &t.first)?;
+    for multiplier in &t.more {
+        plain(out)?;
+        factor(out, &multiplier.factor)?;
+    }
+    Ok(())
+}
+
+#[cycle(expressions)]
+fn factor(out: &mut Vec<Standing>, f: &Factor) -> Result<(), AllocError>
+    ensures { IfOk result (λ _. out.new.items ≡ out.old.items ++ standings 0 (factor_of f.now)) }
+{
+    match f {
+        Factor::Designator(d) => designator(out, d),
+        Factor::Integer(_) => plain(out),
+        Factor::Parenthesised(e) => {
+            plain(out)?;
+            expression(out, e)?;
+            plain(out)
+        }
+        Factor::Not(f) => {
+            plain(out)?;
+            factor(out, f)
+        }
+    }
+}
+
+#[cycle(expressions)]
+fn designator(out: &mut Vec<Standing>, d: &Designator) -> Result<(), AllocError>
+    ensures { IfOk result (λ _. out.new.items ≡ out.old.items ++ standings 0 (designator_of d.now)) }
+{
+    plain(out)?;
+    for s in &d.selectors {
+        selector(out, s)?;
+    }
+    Ok(())
+}
+
+#[cycle(expressions)]
+fn selector(out: &mut Vec<Standing>, s: &Selector) -> Result<(), AllocError>
+    ensures { IfOk result (λ _. out.new.items ≡ out.old.items ++ standings 0 (selector_of s.now)) }
+{
+    match s {
+        Selector::Field(_) => {
+            out.push(Standing::Joining)?;
+            plain(out)
+        }
+        Selector::Index(e) => {
+            plain(out)?;
+            expression(out, e)?;
+            plain(out)
+        }
+    }
+}
+
+/// What stands before an item of a list: nothing before the first, a `;` or `,` before the others.
+fn separator(out: &mut Vec<Standing>, first: bool) -> Result<(), AllocError>
+    ensures { IfOk result (λ _. out.new.items ≡ out.old.items ++ separated first) }
+{
+    if !first {
+        plain(out)?;
+    }
+    Ok(())
+}
+
+/// Statements of this level. Between two of them stands a `;`.
+#[cycle(statements)]
+fn sequence(out: &mut Vec<Standing>, level: u32, statements: &Vec<Statement>) -> Result<(), AllocError>
+    ensures { IfOk result (λ _. out.new.items ≡ out.old.items ++ standings level (sequence_in statements.now)) }
+{
+    let mut first = true;
+    for s in statements {
+        separator(out, first)?;
+        statement(out, level, s)?;
+        first = false;
+    }
+    Ok(())
+}
+
+#[cycle(statements)]
+fn statement(out: &mut Vec<Standing>, level: u32, s: &Statement) -> Result<(), AllocError>
+    ensures { IfOk result (λ _. out.new.items ≡ out.old.items ++ standings level (statement_of s.now)) }
+{
+    match s {
+        Statement::Empty => Ok(()),
+        Statement::Assign(a) => assignment(out, level, a),
+        Statement::Call(c) => call(out, level, c),
+        Statement::If(i) => branches(out, level, i),
+        Statement::While(w) => {
+            out.push(Standing::Begins(level))?;
+            expression(out, &w.condition)?;
+            plain(out)?;
+            sequence(out, deeper(level), &w.body)?;
+            begin(out, level)
+        }
+        Statement::Repeat(r) => {
+            out.push(Standing::Begins(level))?;
+            sequence(out, deeper(level), &r.body)?;
+            out.push(Standing::Begins(level))?;
+            expression(out, &r.condition)
+        }
+    }
+}
+
+/// A token that begins a line.
+fn begin(out: &mut Vec<Standing>, level: u32) -> Result<(), AllocError>
+    ensures { IfOk result (λ _. out.new.items ≡ out.old.items ++ (Begins level ∷ [])) }
+{
+    out.push(Standing::Begins(level))?;
+    Ok(())
+}
+
+fn assignment(out: &mut Vec<Standing>, level: u32, a: &Assignment) -> Result<(), AllocError>
+    ensures { IfOk result (λ _. out.new.items ≡ out.old.items ++ standings level (assignment_of a.now)) }
+{
+    begin(out, level)?;
+    for s in &a.target.selectors {
+        selector(out, s)?;
+    }
+    plain(out)?;
+    expression(out, &a.value)
+}
+
+fn call(out: &mut Vec<Standing>, level: u32, c: &Call) -> Result<(), AllocError>
+    ensures { IfOk result (λ _. out.new.items ≡ out.old.items ++ standings level (call_of c.now)) }
+{
+    begin(out, level)?;
+    match &c.arguments {
+        Some(given) => arguments(out, given),
+        None => Ok(()),
+    }
+}
+
+fn arguments(out: &mut Vec<Standing>, given: &Vec<Expression>) -> Result<(), AllocError>
+    ensures { IfOk result (λ _. out.new.items ≡ out.old.items ++ standings 0 (arguments_in given.now)) }
+{
+    out.push(Standing::Opening)?;
+    let mut first = true;
+    for e in given {
+        separator(out, first)?;
+        expression(out, e)?;
+        first = false;
+    }
+    plain(out)
+}
+
+#[cycle(statements)]
+fn branches(out: &mut Vec<Standing>, level: u32, i: &If) -> Result<(), AllocError>
+    ensures { IfOk result (λ _. out.new.items ≡ out.old.items ++ standings level (if_of i.now)) }
+{
+    begin(out, level)?;
+    expression(out, &i.condition)?;
+    plain(out)?;
+    sequence(out, deeper(level), &i.then)?;
+    elsifs(out, level, &i.elsifs)?;
+    match &i.otherwise {
+        Some(statements) => {
+            begin(out, level)?;
+            sequence(out, deeper(level), statements)?;
+            begin(out, level)
+        }
+        None => begin(out, level),
+    }
+}
+
+#[cycle(statements)]
+fn elsifs(out: &mut Vec<Standing>, level: u32, parts: &Vec<Elsif>) -> Result<(), AllocError>
+    ensures { IfOk result (λ _. out.new.items ≡ out.old.items ++ standings level (elsifs_in parts.now)) }
+{
+    for e in parts {
+        begin(out, level)?;
+        expression(out, &e.condition)?;
+        plain(out)?;
+        sequence(out, deeper(level), &e.then)?;
+    }
+    Ok(())
+}
+
+/// Names of which the first stands so.
+fn names(out: &mut Vec<Standing>, first: Standing, ns: &Names) -> Result<(), AllocError>
+    ensures { IfOk result (λ _. out.new.items ≡ out.old.items ++ (first ∷ standings 0 (items_of then_name ns.now.more.items))) }
+{
+    out.push(first)?;
+    for _name in &ns.more {
+        plain(out)?;
+        plain(out)?;
+    }
+    Ok(())
+}
+
+#[cycle(types)]
+fn written_type(out: &mut Vec<Standing>, t: &WrittenType) -> Result<(), AllocError>
+    ensures { IfOk result (λ _. out.new.items ≡ out.old.items ++ standings 0 (type_of t.now)) }
+{
+    match t {
+        WrittenType::Named(_) => plain(out),
+        WrittenType::Array(a) => {
+            plain(out)?;
+            expression(out, &a.size)?;
+            plain(out)?;
+            written_type(out, &a.element)
+        }
+        WrittenType::Record(r) => record(out, r),
+    }
+}
+
+#[cycle(types)]
+fn record(out: &mut Vec<Standing>, r: &RecordType) -> Result<(), AllocError>
+    ensures { IfOk result (λ _. out.new.items ≡ out.old.items ++ standings 0 (record_in r.now)) }
+{
+    plain(out)?;
+    let mut first = true;
+    for group in &r.groups {
+        separator(out, first)?;
+        fields(out, group)?;
+        first = false;
+    }
+    plain(out)
+}
+
+#[cycle(types)]
+fn fields(out: &mut Vec<Standing>, f: &Fields) -> Result<(), AllocError>
+    ensures { IfOk result (λ _. out.new.items ≡ out.old.items ++ standings 0 (fields_of f.now)) }
+{
+    match f {
+        Fields::Empty => Ok(()),
+        Fields::Listed(l) => {
+            names(out, Standing::Plain, &l.names)?;
+            plain(out)?;
+            written_type(out, &l.written)
+        }
+    }
+}
+
+fn formals(out: &mut Vec<Standing>, sections: &Option<Vec<Section>>) -> Result<(), AllocError>
+    ensures { IfOk result (λ _. out.new.items ≡ out.old.items ++ standings 0 (formals_of sections.now)) }
+{
+    let Some(sections) = sections else {
+        return Ok(());
+    };
+    out.push(Standing::Opening)?;
+    let mut first = true;
+    for s in sections {
+        separator(out, first)?;
+        section(out, s)?;
+        first = false;
+    }
+    plain(out)
+}
+
+fn section(out: &mut Vec<Standing>, s: &Section) -> Result<(), AllocError>
+    ensures { IfOk result (λ _. out.new.items ≡ out.old.items ++ standings 0 (section_of s.now)) }
+{
+    if s.by_reference {
+        plain(out)?;
+    }
+    names(out, Standing::Plain, &s.names)?;
+    plain(out)?;
+    written_type(out, &s.written)
+}
+
+/// The constants of a block of this level.
+fn constants(out: &mut Vec<Standing>, level: u32, declared: &Option<Vec<Constant>>) -> Result<(), AllocError>
+    ensures { IfOk result (λ _. out.new.items ≡ out.old.items ++ standings level (constants_of declared.now)) }
+{
+    let Some(declared) = declared else {
+        return Ok(());
+    };
+    begin(out, level)?;
+    for c in declared {
+        begin(out, deeper(level))?;
+        plain(out)?;
+        expression(out, &c.value)?;
+        plain(out)?;
+    }
+    Ok(())
+}
+
+fn types(out: &mut Vec<Standing>, level: u32, declared: &Option<Vec<TypeDeclaration>>) -> Result<(), AllocError>
+    ensures { IfOk result (λ _. out.new.items ≡ out.old.items ++ standings level (types_of declared.now)) }
+{
+    let Some(declared) = declared else {
+        return Ok(());
+    };
+    begin(out, level)?;
+    for d in declared {
+        begin(out, deeper(level))?;
+        plain(out)?;
+        written_type(out, &d.written)?;
+        plain(out)?;
+    }
+    Ok(())
+}
+
+fn variables(out: &mut Vec<Standing>, level: u32, declared: &Option<Vec<Variables>>) -> Result<(), AllocError>
+    ensures { IfOk result (λ _. out.new.items ≡ out.old.items ++ standings level (variables_of declared.now)) }
+{
+    let Some(declared) = declared else {
+        return Ok(());
+    };
+    begin(out, level)?;
+    for v in declared {
+        names(out, Standing::Begins(deeper(level)), &v.names)?;
+        plain(out)?;
+        written_type(out, &v.written)?;
+        plain(out)?;
+    }
+    Ok(())
+}
+
+fn body(out: &mut Vec<Standing>, level: u32, statements: &Option<Vec<Statement>>) -> Result<(), AllocError>
+    ensures { IfOk result (λ _. out.new.items ≡ out.old.items ++ standings level (body_of statements.now)) }
+{
+    match statements {
+        Some(statements) => {
+            begin(out, level)?;
+            sequence(out, deeper(level), statements)
+        }
+        None => Ok(()),
+    }
+}
+
+/// A block of this level.
+#[cycle(blocks)]
+fn block(out: &mut Vec<Standing>, level: u32, b: &Block) -> Result<(), AllocError>
+    ensures { IfOk result (λ _. out.new.items ≡ out.old.items ++ standings level (block_of b.now)) }
+{
+    constants(out, level, &b.constants)?;
+    types(out, level, &b.types)?;
+    variables(out, level, &b.variables)?;
+    for p in &b.procedures {
+        procedure(out, level, p)?;
+    }
+    body(out, level, &b.body)
+}
+
+/// A procedure that a block of this level declares.
+#[cycle(blocks)]
+fn procedure(out: &mut Vec<Standing>, level: u32, p: &Procedure) -> Result<(), AllocError>
+    ensures { IfOk result (λ _. out.new.items ≡ out.old.items ++ standings level (procedure_of p.now)) }
+{
+    let inner = deeper(level);
+    begin(out, inner)?;
+    plain(out)?;
+    formals(out, &p.formals)?;
+    plain(out)?;
+    block(out, inner, &p.block)?;
+    begin(out, inner)?;
+    plain(out)?;
+    plain(out)
+}

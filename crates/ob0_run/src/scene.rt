@@ -1,0 +1,171 @@
+//! What the expressions of a module are evaluated in: what its names stand for, and the store.
+
+ghost use Rattle.std.specs.Prelude.{◌≡◌, option_map, option_and_then, pos};
+ghost use Rattle.ob0_scope.specs.Names.{label_text};
+ghost use Rattle.ob0_tree.specs.Places.{value_at};
+ghost use Rattle.ob0_types.specs.Expressions.{value_of};
+ghost use Rattle.ob0_values.specs.Stored.{given, store_of};
+ghost use Rattle.ob0_run.specs.Scenes.{Answers, label_in, meant_by, object_of, ordinal_in, stop_of};
+
+use ob0_scan::{TokenKind, Tokens};
+use ob0_values::scalar::{Fault, Scalar};
+use ob0_values::value::{Place, Value, read_place};
+use std::alloc::{AllocError, AllocFailed, Global};
+
+/// How a run ends where it doesn't reach the end of the module's body.
+#[derive(Clone, Copy, Debug, PartialEq, Eq)]
+pub enum Ending {
+    Overflow,
+    Divisor,
+    Index,
+    InputEnd,
+    CallBound,
+    TurnBound,
+    /// A step that has no meaning. No run of a well-typed module has one.
+    Stuck,
+}
+
+/// Why a step of a run gives nothing.
+#[derive(Clone, Copy, Debug, PartialEq, Eq)]
+pub enum Stop {
+    Ended(Ending),
+    /// Memory was refused.
+    Memory,
+}
+
+impl From<AllocError> for Stop {
+    ghost use Rattle.ob0_run.specs.declared.scene.Stop.TheVariants.{Memory};
+
+    ghost from_gives = { λ _ e. e ≡ Memory };
+
+    fn from(_: AllocError) -> Stop {
+        Stop::Memory
+    }
+}
+
+impl<T: Drop> From<AllocFailed<T>> for Stop {
+    ghost use Rattle.ob0_run.specs.declared.scene.Stop.TheVariants.{Memory};
+
+    ghost from_gives = { λ _ e. e ≡ Memory };
+
+    fn from(_: AllocFailed<T>) -> Stop {
+        Stop::Memory
+    }
+}
+
+/// The standard procedures.
+#[derive(Clone, Copy, Debug, PartialEq, Eq)]
+pub enum Standard {
+    Read,
+    Write,
+    WriteLn,
+}
+
+/// What a declaration is to the statements of a run.
+#[derive(Drop)]
+pub enum Meant<'t> {
+    Constant(Value<'t>),
+    Variable(Place<'t>),
+    /// A procedure, by how its arguments are passed: true for a VAR parameter.
+    Procedure(Vec<bool>),
+    Standard(Standard),
+    /// Nothing that a statement can use.
+    Nothing,
+}
+
+/// What names stand for, by the ordinals that the tokens have, and what the variables hold.
+#[derive(Clone, Copy)]
+pub struct Scene<'r, 't> {
+    pub alloc: Global,
+    pub tokens: &'t Tokens,
+    /// The ordinal of each token that is bound to a declaration.
+    pub ordinals: &'r [Option<usize>],
+    /// What each ordinal stands for.
+    pub meant: &'r [Meant<'t>],
+    pub store: &'r [Value<'t>],
+}
+
+/// How an operation's fault ends a run.
+pub fn stopped_by(fault: Fault) -> Stop
+    ensures { result ≡ stop_of fault }
+{
+    match fault {
+        Fault::Overflow => Stop::Ended(Ending::Overflow),
+        Fault::Divisor => Stop::Ended(Ending::Divisor),
+        Fault::Operand => Stop::Ended(Ending::Stuck),
+    }
+}
+
+impl<'r, 't> Scene<'r, 't> {
+    /// The ordinal of the declaration that a name is bound to.
+    pub fn ordinal(&self, name: usize) -> Option<usize>
+        ensures { result ≡ ordinal_in self.now.ordinals.now name }
+    {
+        if name < self.ordinals.len() {
+            self.ordinals[name]
+        } else {
+            None
+        }
+    }
+
+    /// What a name stands for.
+    pub fn meant(&self, name: usize) -> Option<&'r Meant<'t>>
+        ensures { option_and_then object_of (option_map (λ m. m.now) result) ≡ meant_by self.now (label_in self.now name) }
+    {
+        match self.ordinal(name) {
+            Some(ordinal) => self.meant.get(ordinal),
+            None => None,
+        }
+    }
+
+    /// The name that a field's token writes. A token that is bound to a declaration writes none.
+    pub fn written(&self, name: usize) -> &'t str
+        ensures { result.now ≡ label_text (label_in self.now name) }
+    {
+        match self.ordinal(name) {
+            Some(_) => "",
+            None => {
+                if name < self.tokens.tokens().len() {
+                    self.tokens.token_text(name)
+                } else {
+                    ""
+                }
+            }
+        }
+    }
+
+    /// The number that a token writes.
+    pub fn number(&self, token: usize) -> i32
+        ensures { result ≡ pos (value_at self.now.tokens.now token) }
+    {
+        let _text = self.tokens.text();
+        let tokens = self.tokens.tokens();
+        if token < tokens.len() {
+            match tokens[token].kind {
+                TokenKind::Integer(value) => value as i32,
+                TokenKind::Identifier => 0,
+                TokenKind::Reserved(_) => 0,
+                TokenKind::Symbol(_) => 0,
+            }
+        } else {
+            0
+        }
+    }
+
+    /// What the variable or constant of a name holds.
+    pub fn held(&self, name: usize) -> Result<&'r Value<'t>, Stop>
+        ensures { Answers given result (value_of (store_of self.now.store.now) (meant_by self.now (label_in self.now name))) }
+    {
+        match self.meant(name) {
+            None => Err(Stop::Ended(Ending::Stuck)),
+            Some(Meant::Constant(value)) => Ok(value),
+            Some(Meant::Variable(place)) => match read_place(self.store, place) {
+                Some(value) => Ok(value),
+                None => Err(Stop::Ended(Ending::Stuck)),
+            },
+            Some(Meant::Procedure(_)) => Err(Stop::Ended(Ending::Stuck)),
+            Some(Meant::Standard(_)) => Err(Stop::Ended(Ending::Stuck)),
+            Some(Meant::Nothing) => Err(Stop::Ended(Ending::Stuck)),
+        }
+    }
+}

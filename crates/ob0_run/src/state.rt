@@ -1,0 +1,143 @@
+//! What a run has come to: what the variables hold, the rest of the input, and what was put out.
+
+ghost use Rattle.std.specs.Prelude.{◌≡◌, ℕ};
+ghost use Rattle.ob0_scope.specs.Names.{Label};
+ghost use Rattle.ob0_tree.specs.View.{assignment_of, expression_of, items_of, selector_of};
+ghost use Rattle.ob0_types.specs.Expressions.{designate, evaluate};
+ghost use Rattle.ob0_run.specs.Scenes.{Answers, label_with, condition_in, meaning_with, read_with, truth_of};
+ghost use Rattle.ob0_values.specs.Stored.{place_of, value_of};
+ghost use Rattle.ob0_run.specs.Runs.{Calls, execute, put_out, read_number, running, store_at};
+ghost use Rattle.ob0_run.specs.States.{Runs, item_of, state_of};
+
+use crate::operands::scalar_of;
+use crate::scene::{Ending, Meant, Scene, Stop};
+use ob0_scan::Tokens;
+use ob0_tree::tree::{Assignment, Designator, Expression};
+use ob0_values::scalar::Scalar;
+use ob0_values::value::{Place, Value, write_place};
+use std::alloc::Global;
+
+/// What the names of a module stand for, by the ordinals that the tokens have.
+#[derive(Clone, Copy)]
+pub struct Names<'r, 't> {
+    pub alloc: Global,
+    pub tokens: &'t Tokens,
+    pub ordinals: &'r [Option<usize>],
+    pub meant: &'r [Meant<'t>],
+}
+
+/// What a run puts out.
+#[derive(Clone, Copy, Debug, PartialEq, Eq)]
+pub enum Item {
+    Number(i32),
+    Line,
+}
+
+#[derive(Drop)]
+pub struct State<'i, 't> {
+    pub store: Vec<Value<'t>>,
+    /// The numbers that weren't read yet.
+    pub input: &'i [i32],
+    pub output: Vec<Item>,
+}
+
+/// The truth that a value is.
+fn truth(value: &Value) -> Result<bool, Stop>
+    ensures { Answers (λ b. b) result (truth_of (value_of value.now)) }
+{
+    match scalar_of(value) {
+        Some(Scalar::Truth(truth)) => Ok(truth),
+        Some(Scalar::Number(_)) => Err(Stop::Ended(Ending::Stuck)),
+        None => Err(Stop::Ended(Ending::Stuck)),
+    }
+}
+
+impl<'i, 't> State<'i, 't> {
+    /// What expressions are evaluated in, now.
+    fn scene<'s>(&'s self, names: Names<'s, 't>) -> Scene<'s, 't>
+        ensures tokens { result.tokens.now ≡ names.entry.tokens.now }
+        ensures ordinals { result.ordinals.now ≡ names.entry.ordinals.now }
+        ensures meant { result.meant.now ≡ names.entry.meant.now }
+        ensures store { result.store.now ≡ self.now.store.items }
+    {
+        Scene {
+            alloc: names.alloc,
+            tokens: names.tokens,
+            ordinals: names.ordinals,
+            meant: names.meant,
+            store: self.store.as_slice(),
+        }
+    }
+
+    /// The place of a designator, now.
+    fn designate(&self, names: Names<'_, 't>, d: &Designator) -> Result<Place<'t>, Stop>
+        ensures { Answers place_of result (designate (meaning_with names.entry.meant.now) (state_of self.now).store (label_with names.entry.tokens.now names.entry.ordinals.now d.now.name) (read_with names.entry.tokens.now names.entry.ordinals.now (items_of selector_of d.now.selectors.items))) }
+    {
+        self.scene(names).designate(d)
+    }
+
+    /// What an expression is worth, now.
+    fn evaluate(&self, names: Names<'_, 't>, e: &Expression) -> Result<Value<'t>, Stop>
+        ensures { Answers value_of result (evaluate (meaning_with names.entry.meant.now) (state_of self.now).store (read_with names.entry.tokens.now names.entry.ordinals.now (expression_of e.now))) }
+    {
+        self.scene(names).expression(e)
+    }
+
+    /// Whether a condition holds.
+    ///
+    /// # Errors
+    ///
+    /// How its evaluation ends the run, or want of memory.
+    pub fn condition(&self, names: Names<'_, 't>, e: &Expression) -> Result<bool, Stop>
+        ensures { Answers (λ b. b) result (condition_in (meaning_with names.entry.meant.now) (state_of self.now).store (read_with names.entry.tokens.now names.entry.ordinals.now (expression_of e.now))) }
+    {
+        let value = self.evaluate(names, e)?;
+        truth(&value)
+    }
+
+    /// An assignment finds its place, then evaluates its right side, then stores a copy.
+    ///
+    /// # Errors
+    ///
+    /// How it ends the run, or want of memory.
+    pub fn assign(&mut self, names: Names<'_, 't>, a: &Assignment) -> Result<(), Stop>
+        ensures { (enter : Calls Label) (t : ℕ) → Runs result self.new (execute (meaning_with names.entry.meant.now) enter t (read_with names.entry.tokens.now names.entry.ordinals.now (assignment_of a.now)) (state_of self.old)) }
+    {
+        let place = self.designate(names, &a.target)?;
+        let value = self.evaluate(names, &a.value)?;
+        self.store_at(&place, value)
+    }
+
+    /// Stores a value at a place.
+    pub fn store_at(&mut self, place: &Place<'t>, value: Value<'t>) -> Result<(), Stop>
+        ensures { Runs result self.new (store_at (state_of self.old) (place_of place.now) (value_of value.entry)) }
+    {
+        if write_place(&mut self.store, place, value) {
+            Ok(())
+        } else {
+            Err(Stop::Ended(Ending::Stuck))
+        }
+    }
+
+    /// `Read`: stores the next number of the input.
+    pub fn read_number(&mut self, place: &Place<'t>) -> Result<(), Stop>
+        ensures { Runs result self.new (read_number (state_of self.old) (place_of place.now) (state_of self.old).input) }
+    {
+        match self.input {
+            [] => Err(Stop::Ended(Ending::InputEnd)),
+            [next, rest @ ..] => {
+                let number = *next;
+                self.input = rest;
+                self.store_at(place, Value::Scalar(Scalar::Number(number)))
+            }
+        }
+    }
+
+    /// `Write` and `WriteLn`: puts out a number or a line.
+    pub fn put_out(&mut self, item: Item) -> Result<(), Stop>
+        ensures { Runs result self.new (running (put_out (state_of self.old) (item_of item))) }
+    {
+        self.output.push(item)?;
+        Ok(())
+    }
+}

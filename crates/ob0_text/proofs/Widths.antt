@@ -1,0 +1,24 @@
+-- How many units a character has in each unit.
+use Rattle.std.proofs.Common.{ℕ, ◌<◌, ◌≤◌, arith}
+use Rattle.std.specs.Char.{len_utf8}
+use Rattle.std.proofs.lemmas.Bool.Decides.{nat_tests}
+use Rattle.std.proofs.lemmas.Str.{len_utf8_bounds}
+use Rattle.ob0_text.specs.declared.positions.Unit.{Unit}
+use Rattle.ob0_text.specs.declared.positions.Unit.TheVariants.{Utf16, Utf8}
+use Rattle.ob0_text.specs.Texts.{utf16_width}
+use Rattle.ob0_text.specs.Units.{width_of}
+
+narrow_utf16 : (c : ℕ) → utf16_width c ≤ len_utf8 c
+narrow_utf16 c = grind (arith, nat_tests)
+
+wide_utf16 : (c : ℕ) → 0 < utf16_width c
+wide_utf16 c = grind (arith, nat_tests)
+
+-- at least one, and at most as many as it has bytes
+pub narrow : (u : Unit) (c : ℕ) → width_of u c ≤ len_utf8 c
+narrow Utf16 c = narrow_utf16 c
+narrow Utf8 c = omega arith
+
+pub wide : (u : Unit) (c : ℕ) → 0 < width_of u c
+wide Utf16 c = wide_utf16 c
+wide Utf8 c = omega (arith, (len_utf8_bounds c).0)

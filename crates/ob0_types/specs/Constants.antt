@@ -1,0 +1,33 @@
+-- The types of variables, and the steps of a constant's evaluation.
+use Rattle.std.specs.Prelude.{cond, [], Some, None, Option, option_and_then}
+use Rattle.ob0_tree.specs.declared.tree.AddOperator.{AddOperator}
+use Rattle.ob0_tree.specs.declared.tree.MultiplyOperator.{MultiplyOperator}
+use Rattle.ob0_tree.specs.Tree.{Tree, addend, adds, item, multiplier, multiplies}
+use Rattle.ob0_scope.specs.Names.{Label}
+use Rattle.ob0_types.specs.Expressions.{Meanings, Object, a_variable, evaluate_factor, evaluate_term}
+use Rattle.ob0_types.specs.KnownTables.{Tables, known_meaning}
+use Rattle.ob0_types.specs.Typing.{constants_only, given_value}
+use Rattle.ob0_values.specs.Values.{Place, Shape, Value, add, add_is_settled, multiply, multiply_is_settled}
+
+-- the type of a variable or parameter
+abbrev pub variable_of : {P : Type 0} → Option (Object Shape P) → Option Shape
+variable_of (Some (a_variable s)) = Some s
+variable_of _ = None
+
+-- what names stand for where a constant expression is evaluated
+abbrev pub constants_in : Tables → Meanings Label Place (Unit {0})
+constants_in t = constants_only (known_meaning t)
+
+-- an operation, which needs no right operand where the left one settles it
+abbrev pub sum_value : AddOperator → Option Value → Value → Option Value
+sum_value o right x = cond (add_is_settled o x) (Some x) (option_and_then (λ y. given_value (add o x y)) right)
+
+abbrev pub product_value : MultiplyOperator → Option Value → Value → Option Value
+product_value o right x = cond (multiply_is_settled o x) (Some x) (option_and_then (λ y. given_value (multiply o x y)) right)
+
+-- the value behind one more operand
+abbrev pub value_added : Meanings Label Place (Unit {0}) → Value → Tree Label (item addend) → Option Value
+value_added meaning x (adds o t) = sum_value o (given_value (evaluate_term meaning [] t)) x
+
+abbrev pub value_multiplied : Meanings Label Place (Unit {0}) → Value → Tree Label (item multiplier) → Option Value
+value_multiplied meaning x (multiplies o f) = product_value o (given_value (evaluate_factor meaning [] f)) x

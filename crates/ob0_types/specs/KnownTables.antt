@@ -1,0 +1,53 @@
+-- The tables of the checker: the shapes made so far, and the declarations so far.
+use Rattle.std.specs.Prelude.{ℕ, true, false, List, [], ◌∷◌, length, All, slice_get, if◌then◌else◌, None, Option, option_and_then}
+use Rattle.ob0_values.specs.Values.{Shape}
+use Rattle.ob0_types.specs.declared.known.Shape as code
+use Rattle.ob0_types.specs.declared.known.Shape.TheVariants as made
+use Rattle.ob0_types.specs.declared.known.Entry.{Entry}
+use Rattle.ob0_types.specs.declared.known.Object as declaration
+use Rattle.ob0_types.specs.declared.known.Object.TheVariants as kind
+use Rattle.ob0_types.specs.declared.known.Standard.TheVariants as standards
+use Rattle.ob0_types.specs.declared.types.TypeId.TheVariants as type
+use Rattle.ob0_values.specs.declared.scalar.Scalar.TheVariants as scalar
+use Rattle.ob0_scope.specs.Names.{Label, as_written, declared, label_text}
+use Rattle.ob0_types.specs.Expressions.{Object}
+use Rattle.ob0_types.specs.Tables.{AreMadeInOrder, ObjectIsMade, object_in, shapes_from}
+use Rattle.ob0_types.specs.WellTyped.{Signature, Typed}
+
+pub record Tables : Type 0 where
+  pub shapes : List code.Shape
+  pub entries : List Entry
+
+abbrev pub shapes_of : Tables → List Shape
+shapes_of t = shapes_from [] t.shapes
+
+pub record AreTables (t : Tables) : Type 0 where
+  pub in_order : AreMadeInOrder [] t.shapes
+  pub entries_made : All (λ e. ObjectIsMade (length t.shapes) e.object) t.entries
+
+-- what an entry is, where it is in sight
+abbrev pub seen_entry : List Shape → Entry → Option (Object Shape Signature)
+seen_entry shapes e = if e.in_sight then object_in shapes e.object else None
+
+abbrev pub seen_in : Tables → ℕ → Option (Object Shape Signature)
+seen_in t k = option_and_then (seen_entry (shapes_of t)) (slice_get t.entries k)
+
+-- what labels stand for
+abbrev pub label_object : Tables → Label → Option (Object Shape Signature)
+label_object t (declared k) = seen_in t k
+label_object t (as_written x) = None
+
+abbrev pub known_meaning : Tables → Typed Label
+known_meaning t = record { stands_for = label_object t; written = label_text }
+
+-- an entry in sight
+abbrev pub in_sight : declaration.Object → Entry
+in_sight o = record { object = o; in_sight = true }
+
+-- the tables of the predeclared names: INTEGER, BOOLEAN, TRUE, FALSE, Read, Write, WriteLn
+abbrev pub predeclared : Tables
+predeclared = record {
+  shapes = made.Integer ∷ made.Boolean ∷ [];
+  entries = in_sight (kind.Named type.Integer) ∷ in_sight (kind.Named type.Boolean) ∷ in_sight (kind.Constant (scalar.Truth true)) ∷ in_sight (kind.Constant (scalar.Truth false))
+      ∷ in_sight (kind.Standard standards.Read) ∷ in_sight (kind.Standard standards.Write) ∷ in_sight (kind.Standard standards.WriteLn) ∷ [];
+}

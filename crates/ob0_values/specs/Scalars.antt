@@ -1,0 +1,26 @@
+-- What the code's numbers and truths stand for, and what an operation's result says.
+use Rattle.std.specs.Prelude.{ℤ, Some, None, Ok, Err, Option, Result}
+use Rattle.ob0_values.specs.declared.scalar.Fault.{Fault}
+use Rattle.ob0_values.specs.declared.scalar.Fault.TheVariants as fault
+use Rattle.ob0_values.specs.declared.scalar.Scalar.{Scalar}
+use Rattle.ob0_values.specs.declared.scalar.Scalar.TheVariants as scalar
+use Rattle.ob0_values.specs.Values.{Divisor, End, Outcome, Overflow, Stuck, Value, ends, gives, number, truth}
+
+abbrev pub scalar_value : Scalar → Value
+scalar_value (scalar.Number n) = number n
+scalar_value (scalar.Truth b) = truth b
+
+-- how a run ends at a fault
+abbrev pub end_of : Fault → End
+end_of fault.Overflow = Overflow
+end_of fault.Divisor = Divisor
+end_of fault.Operand = Stuck
+
+abbrev pub scalar_outcome : Result Scalar Fault → Outcome Value
+scalar_outcome (Ok s) = gives (scalar_value s)
+scalar_outcome (Err f) = ends (end_of f)
+
+-- a number that is there is given, one that isn't is past the 32 bits
+abbrev pub number_outcome : Option ℤ → Outcome Value
+number_outcome None = ends Overflow
+number_outcome (Some n) = gives (number n)

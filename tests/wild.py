@@ -1,0 +1,117 @@
+"""Modules that the grammar allows, of few names and with no regard to scopes and types: each has many faults, or by
+chance none."""
+import random
+
+NAMES = ["a", "b", "c", "d", "T", "U", "P", "Q", "f", "g"]
+PREDECLARED = ["INTEGER", "BOOLEAN", "TRUE", "FALSE", "Read", "Write", "WriteLn"]
+NUMBERS = ["0", "1", "2", "3", "7", "255", "256", "65536", "65537", "2147483647"]
+
+
+class Wild:
+    def __init__(self, seed):
+        self.chance = random.Random(f"wild {seed}")
+        # names of a kind, so that by far not everything is wrong
+        self.known = {"const": ["TRUE", "FALSE"], "type": ["INTEGER", "BOOLEAN"], "var": ["a"], "procedure": ["Read", "Write", "WriteLn"]}
+
+    def name(self, kind=None):
+        if kind and self.chance.random() < 0.85:
+            return self.chance.choice(self.known[kind])
+        return self.chance.choice(NAMES + PREDECLARED)
+
+    def declared(self, kind):
+        name = self.chance.choice(NAMES + PREDECLARED[:1] * (self.chance.random() < 0.05))
+        for names in self.known.values():
+            if name in names and len(names) > 1:
+                names.remove(name)
+        self.known[kind].append(name)
+        return name
+
+    def some(self, most, make):
+        return [make() for _ in range(self.chance.randrange(most + 1))]
+
+    def designator(self, kind="var", depth=0):
+        found = self.name(kind)
+        while self.chance.random() < 0.25:
+            found += f".{self.chance.choice('fgab')}" if self.chance.random() < 0.5 else f"[{self.expression('var', depth + 2)}]"
+        return found
+
+    def factor(self, kind, depth):
+        way = self.chance.random()
+        if way < 0.35 or depth > 3:
+            return self.chance.choice(NUMBERS)
+        if way < 0.75:
+            return self.designator(self.chance.choice([kind, "const"]), depth)
+        if way < 0.85:
+            return "~" + self.factor(kind, depth + 1)
+        return f"({self.expression(kind, depth + 1)})"
+
+    def term(self, kind, depth):
+        found = self.factor(kind, depth)
+        while self.chance.random() < 0.2:
+            found += f" {self.chance.choice(['*', 'DIV', 'MOD', '&'])} {self.factor(kind, depth)}"
+        return found
+
+    def simple(self, kind, depth):
+        found = self.chance.choice(["", "", "", "-", "+"]) + self.term(kind, depth)
+        while self.chance.random() < 0.2:
+            found += f" {self.chance.choice(['+', '-', 'OR'])} {self.term(kind, depth)}"
+        return found
+
+    def expression(self, kind="var", depth=0):
+        found = self.simple(kind, depth)
+        if self.chance.random() < 0.2:
+            found += f" {self.chance.choice(['=', '#', '<', '<=', '>', '>='])} {self.simple(kind, depth)}"
+        return found
+
+    def type(self, depth=0):
+        way = self.chance.random()
+        if way < 0.55 or depth > 3:
+            return self.name("type")
+        if way < 0.8:
+            return f"ARRAY {self.chance.choice(['2', '3', '256', self.expression('const', 2)])} OF {self.type(depth + 1)}"
+        fields = "; ".join(self.some(3, lambda: f"{', '.join([self.chance.choice('fgab'), *self.some(1, lambda: self.chance.choice('fgab'))])}: {self.type(depth + 1)}"))
+        return f"RECORD {fields} END"
+
+    def statement(self, depth):
+        way = self.chance.random()
+        if way < 0.5 or depth > 2:
+            return f"{self.designator(depth=1)} := {self.expression()}"
+        if way < 0.75:
+            arguments = ", ".join(self.some(2, lambda: self.designator() if self.chance.random() < 0.5 else self.expression()))
+            return self.name("procedure") + (f"({arguments})" if arguments or self.chance.random() < 0.3 else "")
+        body = self.body(depth + 1)
+        if way < 0.85:
+            return f"IF {self.expression()} THEN {body} ELSIF {self.expression()} THEN {body} ELSE {self.body(depth + 1)} END"
+        return f"WHILE {self.expression()} DO {body} END" if way < 0.93 else f"REPEAT {body} UNTIL {self.expression()}"
+
+    def body(self, depth=0):
+        return "; ".join(self.some(4, lambda: self.statement(depth)))
+
+    def block(self, depth):
+        found = ""
+        constants = self.some(3, lambda: f"{{}} = {self.expression('const')};")
+        if constants:
+            # (a right side is made before its name is known)
+            found += "CONST " + " ".join(it.replace("{}", self.declared("const"), 1) for it in constants) + "\n"
+        types = self.some(2, lambda: f"{{}} = {self.type()};")
+        if types:
+            found += "TYPE " + " ".join(it.replace("{}", self.declared("type"), 1) for it in types) + "\n"
+        if self.chance.random() < 0.9:
+            found += "VAR " + " ".join(f"{', '.join([self.declared('var'), *self.some(1, lambda: self.declared('var'))])}: {self.type()};" for _ in range(3)) + "\n"
+        if depth < 3:
+            found += "".join(self.some(2, lambda: self.procedure(depth)))
+        return found + (f"BEGIN {self.body()}\n" if self.chance.random() < 0.8 else "")
+
+    def procedure(self, depth):
+        name = self.declared("procedure")
+        sections = "; ".join(self.some(2, lambda: f"{self.chance.choice(['', 'VAR '])}{', '.join([self.declared('var'), *self.some(1, lambda: self.declared('var'))])}: {self.type(3)}"))
+        formals = f"({sections})" if sections or self.chance.random() < 0.2 else ""
+        closing = name if self.chance.random() < 0.95 else self.name()
+        return f"PROCEDURE {name}{formals};\n{self.block(depth + 1)}END {closing};\n"
+
+    def module(self):
+        return f"MODULE M;\n{self.block(0)}END {'M' if self.chance.random() < 0.95 else 'N'}.\n"
+
+
+def module(seed):
+    return Wild(seed).module()
