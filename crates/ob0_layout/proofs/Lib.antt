@@ -7,3 +7,4 @@ pub mod Modules
 pub mod Walks
 pub mod Ahead
 pub mod EditSteps
+pub mod Pieced

@@ -1,3 +1,4 @@
 pub mod Standings
 pub mod Layout
 pub mod Sites
+pub mod Cuts

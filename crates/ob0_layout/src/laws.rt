@@ -1,12 +1,15 @@
 //! Laws of the layout: each is the contract of a function that does nothing.
 
-ghost use Rattle.std.specs.Prelude.{◌≡◌, ℕ, List};
+ghost use Rattle.std.specs.Prelude.{◌≡◌, ℕ, List, length};
 ghost use Rattle.ob0_scan.specs.Lexed.{Lexed};
 ghost use Rattle.ob0_scan.specs.Scanned.{Scanned, IsScan};
 ghost use Rattle.ob0_text.specs.declared.edits.Indent.{Indent};
 ghost use Rattle.ob0_tree.specs.Tree.{Tree, module_text};
 ghost use Rattle.ob0_tree.specs.Module.{ModuleOf};
+ghost use Rattle.ob0_layout.specs.Cuts.{made_of};
 ghost use Rattle.ob0_layout.specs.Layout.{solid, laid_out, layout};
+ghost use Rattle.ob0_layout.specs.Sites.{all_sites, changed_sites, laid_len};
+ghost use Rattle.ob0_layout.specs.Standings.{standings};
 
 /// The layout of a module's text is cut into the lexemes that are laid out, and its tokens and comments are those of the text.
 pub fn lexemes_stay()
@@ -24,4 +27,12 @@ pub fn module_stays()
 pub fn laid_out_once()
     ensures { (indent : Indent) (s : Scanned) (scan : IsScan s) (tree : Tree (List ℕ) module_text) → ModuleOf s tree
         → (t : Scanned) (again : IsScan t) → t.text ≡ layout indent tree scan.lexemes → layout indent tree again.lexemes ≡ layout indent tree scan.lexemes }
+{}
+
+/// What is to stand in the gaps that change makes of the text its layout, and the length that is counted is the layout's.
+pub fn gaps_make_the_layout()
+    ensures made { (indent : Indent) (s : Scanned) (scan : IsScan s) (tree : Tree (List ℕ) module_text)
+        → made_of indent s.text (changed_sites indent s.text (all_sites (standings 0 tree) scan.lexemes)) ≡ layout indent tree scan.lexemes }
+    ensures length { (indent : Indent) (s : Scanned) (scan : IsScan s) (tree : Tree (List ℕ) module_text)
+        → laid_len indent (length s.text) 0 (all_sites (standings 0 tree) scan.lexemes) ≡ length (layout indent tree scan.lexemes) }
 {}
