@@ -163,7 +163,8 @@ fn kinds(alloc: Global, context: &str) -> Option<usize> {
     ) else {
         return None;
     };
-    match asked(alloc, "textDocument/codeAction", params.as_str()) {
+    let call = asked(alloc, "textDocument/codeAction", params.as_str());
+    match &call {
         Ok(
             Call::CodeAction {
                 uri: _,
