@@ -14,11 +14,11 @@ are_distinct [] = true
 are_distinct (x ∷ xs) = not (is_among x xs) && are_distinct xs
 
 -- a record declares a field once
-abbrev pub group_fields : Tree Name fields → List Name
+abbrev pub group_fields : {N : Type 0} → Tree N fields → List N
 group_fields no_fields = []
 group_fields (some_fields ns t) = names_listed ns
 
-abbrev pub groups_fields : Tree Name (items further_fields) → List Name
+abbrev pub groups_fields : {N : Type 0} → Tree N (items further_fields) → List N
 groups_fields end = []
 groups_fields (more (then_fields g) rest) = group_fields g ++ groups_fields rest
 

@@ -13,7 +13,7 @@ use Rattle.ob0_tree.specs.Tree.{Tree, module_text, mapped, occurrences, identifi
 use Rattle.ob0_tree.specs.Parsed.{Parsed, IsParsed, tree_of, named_tree_of}
 use Rattle.ob0_tree.specs.Places.{text_at, value_at}
 use Rattle.ob0_scope.specs.Names.{Label, Name, as_names, as_written, declared}
-use Rattle.ob0_scope.specs.Scopes.{as_label, numbered}
+use Rattle.ob0_scope.specs.Scopes.{Labels, as_label, numbered, relabelled}
 use Rattle.ob0_scope.specs.Occurrences.{bindings}
 use Rattle.ob0_scope.specs.DeclaredOnce.{declared_once}
 
@@ -79,6 +79,16 @@ pub record Resolution : Type 0 where
 abbrev pub IsNumbering : Parsed → List (Option ℕ) → Type 0
 IsNumbering m ordinals = numbered (named_tree_of m) ≡ mapped (label_at m.source ordinals) (value_at m.source) (tree_of m)
 
+-- The same for any labels: each identifier with its declaration's ordinal and its name.
+abbrev pub with_ordinal : Labels Name (Option ℕ × Name)
+with_ordinal ordinal x = (ordinal, x)
+
+abbrev pub bound_at : Scanned → List (Option ℕ) → ℕ → Option ℕ × Name
+bound_at source ordinals token = (ordinal_in ordinals token, text_at source token)
+
+abbrev pub IsBinding : Parsed → List (Option ℕ) → Type 0
+IsBinding m ordinals = relabelled as_names with_ordinal (named_tree_of m) ≡ mapped (bound_at m.source ordinals) (value_at m.source) (tree_of m)
+
 -- The faults tell whether each name is declared once and each occurrence is bound, and nothing else.
 pub record AreFaultsOf (m : Tree Name module_text) (faults : List Fault) : Type 0 where
   pub declared_twice : list_any is_of_declarations faults ≡ not (declared_once m)
@@ -88,6 +98,7 @@ pub record AreFaultsOf (m : Tree Name module_text) (faults : List Fault) : Type 
 pub record IsResolution (r : Resolution) : Type 0 where
   pub parsed : IsParsed r.module_read
   pub numbering : IsNumbering r.module_read r.ordinals
+  pub binding : IsBinding r.module_read r.ordinals
   pub declaring : r.declarations ≡ declaring_only (identifiers role.Declaring (tree_of r.module_read))
   pub occurring : r.uses ≡ occurrences (tree_of r.module_read)
   pub told : AreFaultsOf (named_tree_of r.module_read) r.faults

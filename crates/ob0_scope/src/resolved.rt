@@ -1,8 +1,11 @@
 //! What is known of a module's names.
 
 ghost use Rattle.std.specs.Prelude.{◌≡◌, ◌-◌, ◌<◌, if◌then◌else◌, ◌+◌, length, slice_get, Some, None};
+ghost use Rattle.ob0_tree.specs.Parsed.{named_tree_of};
+ghost use Rattle.ob0_scope.specs.Occurrences.{binds};
 ghost use Rattle.ob0_scope.specs.Resolution.{IsResolution, ordinal_in, token_declaring};
 
+use crate::table::ordinal_at;
 use ob0_scan::{Fault, Tokens};
 use ob0_tree::tree::Module;
 use std::marker::Model;
@@ -52,16 +55,32 @@ impl<'t> Resolved<'t> {
         self.module.tokens()
     }
 
+    /// The ordinal of the declaration that an occurrence is bound to, where occurrences are counted from 0 in text
+    /// order. None where nothing binds it, or where no occurrence has this number.
+    pub fn declaration_of(&self, occurrence: usize) -> Option<usize>
+        ensures { result ≡ binds (named_tree_of self.now.module_read) occurrence }
+    {
+        let _ = &self.faults;
+        match self.occurrence(occurrence) {
+            Some(token) => self.ordinal_at(token),
+            None => None,
+        }
+    }
+
+    /// The token of an occurrence.
+    fn occurrence(&self, occurrence: usize) -> Option<usize>
+        ensures { result ≡ slice_get self.now.uses occurrence }
+    {
+        self.occurrences.get(occurrence).copied()
+    }
+
     /// The ordinal of the declaration of the identifier at token `token`: of a name that is looked up what binds it,
     /// of a declaring name its own, of a procedure's closing name the procedure's. None at a field, at the module's
     /// name, at a name that nothing binds and at every other token.
     pub fn ordinal_at(&self, token: usize) -> Option<usize>
         ensures { result ≡ ordinal_in self.now.ordinals token }
     {
-        match self.ordinals.get(token) {
-            Some(ordinal) => *ordinal,
-            None => None,
-        }
+        ordinal_at(&self.ordinals, token)
     }
 
     /// The tokens of the names that declare, in text order: the first has the ordinal 7.

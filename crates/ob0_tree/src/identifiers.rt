@@ -13,7 +13,8 @@ use crate::tree::{
 };
 use std::alloc::{AllocError, Global};
 
-type Found = Vec<(Role, usize)>;
+/// Identifiers in text order: what each is where it stands, and the index of its token.
+pub type Found = Vec<(Role, usize)>;
 
 impl<'t> Module<'t> {
     /// Every identifier of the module in text order: what it is where it stands, and the index of its token.
@@ -28,8 +29,9 @@ impl<'t> Module<'t> {
     }
 }
 
+/// The identifiers of an expression.
 #[cycle(expressions)]
-fn expression(found: &mut Found, e: &Expression) -> Result<(), AllocError>
+pub fn expression(found: &mut Found, e: &Expression) -> Result<(), AllocError>
     ensures { IfOk result (λ _. found.new.items ≡ found.old.items ++ identifiers roles.Declaring (expression_of e.now)) }
 {
     simple(found, &e.left)?;
@@ -188,8 +190,9 @@ fn names(found: &mut Found, role: Role, ns: &Names) -> Result<(), AllocError>
     Ok(())
 }
 
+/// The identifiers of a type as it is written.
 #[cycle(types)]
-fn written_type(found: &mut Found, t: &WrittenType) -> Result<(), AllocError>
+pub fn written_type(found: &mut Found, t: &WrittenType) -> Result<(), AllocError>
     ensures { IfOk result (λ _. found.new.items ≡ found.old.items ++ identifiers roles.Declaring (type_of t.now)) }
 {
     match t {
@@ -286,7 +289,8 @@ fn variables(found: &mut Found, declared: &Option<Vec<Variables>>) -> Result<(),
     Ok(())
 }
 
-fn body(found: &mut Found, statements: &Option<Vec<Statement>>) -> Result<(), AllocError>
+/// The identifiers of a block's statements.
+pub fn body(found: &mut Found, statements: &Option<Vec<Statement>>) -> Result<(), AllocError>
     ensures { IfOk result (λ _. found.new.items ≡ found.old.items ++ identifiers roles.Declaring (body_of statements.now)) }
 {
     match statements {

@@ -1,0 +1,152 @@
+-- What a resolution's parts say of each other.
+use Rattle.std.proofs.Common.{◌≡◌, ℕ, Bool, true, false, not, ◌||◌, Option, Some, None, List, [], ◌∷◌, ◌++◌, map, length, refl, sym, ap, ◌∙◌, subst, option_map, option_and_then, is_some, slice_get, if◌then◌else◌, le_refl, replicate, ◌≤◌}
+use Rattle.std.proofs.lemmas.List.{length-replicate}
+use Rattle.std.proofs.lemmas.List.Folds.{list_any-append}
+use Rattle.std.proofs.lemmas.List.Sorted.{list_any-IsPermutation}
+use Rattle.std.proofs.lemmas.Option.{slice_get-map}
+use Rattle.std.specs.List.{list_any}
+use Rattle.std.specs.List.Sorted.{IsPermutation}
+use Rattle.ob0_scan.specs.declared.fault.Code.TheVariants as code
+use Rattle.ob0_scan.specs.declared.fault.Fault.{Fault}
+use Rattle.ob0_scan.specs.declared.fault.Code.{Code}
+use Rattle.ob0_scan.specs.declared.lexeme.Span.{Span}
+use Rattle.ob0_scan.specs.Scanned.{Scanned}
+use Rattle.ob0_tree.specs.declared.tree.Role.TheVariants as role
+use Rattle.ob0_tree.specs.Tree.{occurrences, identifiers}
+use Rattle.ob0_tree.specs.Parsed.{Parsed, IsParsed, tree_of, named_tree_of}
+use Rattle.ob0_tree.specs.Places.{text_at, value_at}
+use Rattle.ob0_scope.specs.DeclaredOnce.{declared_once}
+use Rattle.ob0_scope.specs.Names.{Label, Name, as_names}
+use Rattle.ob0_scope.specs.Occurrences.{bindings, binds, label_ordinal}
+use Rattle.ob0_scope.specs.Resolution.{AreFaultsOf, IsNumbering, IsResolution, Resolution, is_of_declarations, is_of_occurrences, is_unbound, label_at, ordinal_in, span_at, undeclared_at, with_ordinal}
+use Rattle.ob0_scope.specs.Scopes.{as_label, numbered}
+use Rattle.ob0_scope.specs.Visiting.{Visit, started, visit_module, with_marks}
+use Rattle.ob0_scope.proofs.OccurrencesMapped.{occurrences-mapped}
+use Rattle.ob0_scope.proofs.Passing.{HasMarks, module_passed}
+use Rattle.ob0_scope.proofs.Tables.{marks_stand}
+use Rattle.ob0_tree.specs.Order.{Ascending}
+use Rattle.ob0_tree.proofs.Leaves.{leaves_ascend}
+use Rattle.ob0_tree.proofs.Occurring.{looked_up-occurrences}
+
+bindings_by_table : (m : Parsed) (ordinals : List (Option ℕ)) → IsNumbering m ordinals → bindings (named_tree_of m) ≡ map (label_at m.source ordinals) (occurrences (tree_of m))
+bindings_by_table m ordinals numbering = ap occurrences numbering ∙ occurrences-mapped (label_at m.source ordinals) (value_at m.source) (tree_of m)
+
+label_back : (ordinal : Option ℕ) (x : Name) → label_ordinal (as_label as_names ordinal x) ≡ ordinal
+label_back None x = refl
+label_back (Some k) x = refl
+
+bound_back : (source : Scanned) (ordinals : List (Option ℕ)) (found : Option ℕ) → option_and_then label_ordinal (option_map (label_at source ordinals) found) ≡ option_and_then (ordinal_in ordinals) found
+bound_back source ordinals None = refl
+bound_back source ordinals (Some i) = label_back (ordinal_in ordinals i) (text_at source i)
+
+binds_by_table : (m : Parsed) (ordinals : List (Option ℕ)) → IsNumbering m ordinals → (k : ℕ) → binds (named_tree_of m) k ≡ option_and_then (ordinal_in ordinals) (slice_get (occurrences (tree_of m)) k)
+binds_by_table m ordinals numbering k =
+    ap (λ ls. option_and_then label_ordinal (slice_get ls k)) (bindings_by_table m ordinals numbering)
+    ∙ (ap (option_and_then label_ordinal) (slice_get-map (label_at m.source ordinals) (occurrences (tree_of m)) k) ∙ bound_back m.source ordinals (slice_get (occurrences (tree_of m)) k))
+
+pub bound_at : (r : Resolution) → IsResolution r → (k : ℕ) (found : Option ℕ) → found ≡ slice_get r.uses k → option_and_then (ordinal_in r.ordinals) found ≡ binds (named_tree_of r.module_read) k
+bound_at r is k found e =
+    ap (option_and_then (ordinal_in r.ordinals)) (e ∙ ap (λ us. slice_get us k) is.occurring) ∙ sym (binds_by_table r.module_read r.ordinals is.numbering k)
+
+undeclared_none : (o : Option ℕ) (s : Span) (rest : List Fault) → list_any is_of_declarations rest ≡ false → list_any is_of_declarations (if is_some o then rest else record { code = code.Undeclared; span = s } ∷ rest) ≡ false
+undeclared_none None s rest e = e
+undeclared_none (Some k) s rest e = e
+
+undeclared_declares : (source : Scanned) (ordinals : List (Option ℕ)) (is : List ℕ) → list_any is_of_declarations (undeclared_at source ordinals is) ≡ false
+undeclared_declares source ordinals [] = refl
+undeclared_declares source ordinals (i ∷ is) = undeclared_none (ordinal_in ordinals i) (span_at source i) (undeclared_at source ordinals is) (undeclared_declares source ordinals is)
+
+undeclared_one : (o : Option ℕ) (x : Name) (s : Span) (rest : List Fault) (b : Bool) → list_any is_of_occurrences rest ≡ b
+    → list_any is_of_occurrences (if is_some o then rest else record { code = code.Undeclared; span = s } ∷ rest) ≡ (is_unbound (as_label as_names o x) || b)
+undeclared_one None x s rest b e = refl
+undeclared_one (Some k) x s rest b e = e
+
+undeclared_all : (source : Scanned) (ordinals : List (Option ℕ)) (is : List ℕ) → list_any is_of_occurrences (undeclared_at source ordinals is) ≡ list_any is_unbound (map (label_at source ordinals) is)
+undeclared_all source ordinals [] = refl
+undeclared_all source ordinals (i ∷ is) =
+    undeclared_one (ordinal_in ordinals i) (text_at source i) (span_at source i) (undeclared_at source ordinals is) (list_any is_unbound (map (label_at source ordinals) is)) (undeclared_all source ordinals is)
+
+abbrev is_other : Fault → Bool
+is_other fault = not (is_of_declarations fault || is_of_occurrences fault)
+
+undeclared_known : (o : Option ℕ) (s : Span) (rest : List Fault) → list_any is_other rest ≡ false → list_any is_other (if is_some o then rest else record { code = code.Undeclared; span = s } ∷ rest) ≡ false
+undeclared_known None s rest e = e
+undeclared_known (Some k) s rest e = e
+
+undeclared_other : (source : Scanned) (ordinals : List (Option ℕ)) (is : List ℕ) → list_any is_other (undeclared_at source ordinals is) ≡ false
+undeclared_other source ordinals [] = refl
+undeclared_other source ordinals (i ∷ is) = undeclared_known (ordinal_in ordinals i) (span_at source i) (undeclared_at source ordinals is) (undeclared_other source ordinals is)
+
+both_false : (a b : Bool) → (a || b) ≡ false → (a ≡ false) × (b ≡ false)
+both_false true b e = absurd (cc)
+both_false false b e = (refl, e)
+
+not_false : (a : Bool) → not a ≡ false → a ≡ true
+not_false true e = refl
+not_false false e = absurd (cc)
+
+apart : (c : Code) (s : Span) → is_of_declarations (record { code = c; span = s }) ≡ true → is_of_occurrences (record { code = c; span = s }) ≡ false
+apart code.Undeclared s e = absurd (cc)
+apart _ s e = refl
+
+neither : (a b c : Bool) → a ≡ false → b ≡ c → (a || b) ≡ c
+neither true b c e f = absurd (cc)
+neither false b c e f = f
+
+declarations_alone : (fs : List Fault) → list_any (λ f. not (is_of_declarations f)) fs ≡ false → list_any is_of_occurrences fs ≡ false
+declarations_alone [] e = refl
+declarations_alone (f ∷ fs) e =
+    let h = both_false (not (is_of_declarations f)) (list_any (λ f. not (is_of_declarations f)) fs) e in
+    neither (is_of_occurrences f) (list_any is_of_occurrences fs) false (apart f.code f.span (not_false (is_of_declarations f) h.0)) (declarations_alone fs h.1)
+
+known : (a b : Bool) → not a ≡ false → not (a || b) ≡ false
+known true b e = refl
+known false b e = absurd (cc)
+
+declarations_known : (fs : List Fault) → list_any (λ f. not (is_of_declarations f)) fs ≡ false → list_any is_other fs ≡ false
+declarations_known [] e = refl
+declarations_known (f ∷ fs) e =
+    let h = both_false (not (is_of_declarations f)) (list_any (λ f. not (is_of_declarations f)) fs) e in
+    neither (is_other f) (list_any is_other fs) false (known (is_of_declarations f) (is_of_occurrences f) h.0) (declarations_known fs h.1)
+
+no_more : (a b : Bool) → b ≡ false → (a || b) ≡ a
+no_more true b e = refl
+no_more false b e = e
+
+-- the faults of declarations and those of occurrences, in whatever order
+pub faults_told : (m : Parsed) (ordinals : List (Option ℕ)) (once sorted : List Fault) → IsNumbering m ordinals → list_any is_of_declarations once ≡ not (declared_once (named_tree_of m))
+    → list_any (λ f. not (is_of_declarations f)) once ≡ false → IsPermutation (once ++ undeclared_at m.source ordinals (occurrences (tree_of m))) sorted → AreFaultsOf (named_tree_of m) sorted
+faults_told m ordinals once sorted numbering told alone permuted =
+    let unbound = undeclared_at m.source ordinals (occurrences (tree_of m)) in
+    let total = λ (p : Fault → Bool). sym (list_any-IsPermutation p (once ++ unbound) sorted permuted) ∙ list_any-append p once unbound in
+    record {
+      declared_twice = total is_of_declarations ∙ (no_more (list_any is_of_declarations once) (list_any is_of_declarations unbound) (undeclared_declares m.source ordinals (occurrences (tree_of m))) ∙ told);
+      undeclared = total is_of_occurrences ∙ (neither (list_any is_of_occurrences once) (list_any is_of_occurrences unbound) _ (declarations_alone once alone) (undeclared_all m.source ordinals (occurrences (tree_of m)))
+          ∙ ap (list_any is_unbound) (sym (bindings_by_table m ordinals numbering)));
+      no_other = total is_other ∙ neither (list_any is_other once) (list_any is_other unbound) false (declarations_known once alone) (undeclared_other m.source ordinals (occurrences (tree_of m)));
+    }
+
+-- a module gone through, with the table of its marks and its faults, is resolved
+pub resolution_made : (m : Parsed) (v : Visit) (ordinals : List (Option ℕ)) (declarations uses : List ℕ) (once sorted : List Fault) → IsParsed m → v ≡ visit_module (tree_of m) (started m.source)
+    → ordinals ≡ with_marks (replicate (length m.source.tokens) None) v.marks → declarations ≡ v.declarations → uses ≡ v.uses → list_any is_of_declarations once ≡ not (declared_once (named_tree_of m))
+    → list_any (λ f. not (is_of_declarations f)) once ≡ false → IsPermutation (once ++ undeclared_at m.source ordinals uses) sorted
+    → IsResolution (record { module_read = m; ordinals = ordinals; declarations = declarations; uses = uses; faults = sorted })
+resolution_made m v ordinals declarations uses once sorted parsed gone tabled declares occurs told alone permuted =
+    let w = visit_module (tree_of m) (started m.source) in
+    let count = length-replicate (length m.source.tokens) (let nothing : Option ℕ = None in nothing) in
+    let numbered_so = module_passed (ordinal_in ordinals) (as_label as_names) m.source (tree_of m) (started m.source) (record { source = refl; scope = refl; next = refl }) in
+    let table : ordinals ≡ with_marks (replicate (length m.source.tokens) None) w.marks = tabled ∙ ap (λ (v : Visit). with_marks (replicate (length m.source.tokens) None) v.marks) gone in
+    let ascend = subst (λ ts. Ascending 0 ts (length m.source.tokens)) (sym numbered_so.tokens) (leaves_ascend m parsed) in
+    let marks = marks_stand w.marks (replicate (length m.source.tokens) None) 0 (length m.source.tokens) ascend (subst (λ n. length m.source.tokens ≤ n) (sym count) (le_refl (length m.source.tokens))) in
+    let stand = subst (λ (os : List (Option ℕ)). HasMarks (ordinal_in os) w.marks) (sym table) marks in
+    let numbering : IsNumbering m ordinals = (numbered_so.agree stand).1 in
+    let paired = module_passed (ordinal_in ordinals) with_ordinal m.source (tree_of m) (started m.source) (record { source = refl; scope = refl; next = refl }) in
+    let occurring : uses ≡ occurrences (tree_of m) = occurs ∙ (ap (λ (v : Visit). v.uses) gone ∙ (numbered_so.used ∙ looked_up-occurrences role.Declaring (λ n xs. refl) (tree_of m))) in
+    record {
+      parsed = parsed;
+      numbering = numbering;
+      binding = (paired.agree stand).1;
+      declaring = declares ∙ (ap (λ (v : Visit). v.declarations) gone ∙ numbered_so.declared);
+      occurring = occurring;
+      told = faults_told m ordinals once sorted numbering told alone (subst (λ us. IsPermutation (once ++ undeclared_at m.source ordinals us) sorted) occurring permuted);
+    }

@@ -1,0 +1,11 @@
+use Rattle.std.proofs.Common.{◌≡◌, ◌∷◌, sym, ap, ◌∙◌, subst, length, ◌≤◌}
+use Rattle.ob0_scope.specs.Visiting.{numbered_all}
+use Rattle.ob0_scope.proofs.Going.{gone_through, names_further}
+use Rattle.ob0_scope.proofs.numbering.Numbering.names.Goals as goal
+
+pub returns : goal.returns
+returns c =
+    let ns = c.args.ns.now in
+    gone_through numbered_all c.loop-name.invariant c.loop-name-test.false
+    ∙ (ap (λ v. numbered_all c.deref-name-items.result.now v) c.in_ok-number.ensures.numbered
+    ∙ ap (λ xs. numbered_all (ns.first ∷ xs) c.args.self.now) (c.deref-name-items.ensures.value ∙ sym (names_further ns.more.items)))

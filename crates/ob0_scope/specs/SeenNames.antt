@@ -1,0 +1,14 @@
+-- What another name would be bound to in the place of an occurrence.
+use Rattle.std.specs.Prelude.{Option, option_and_then, slice_get, ℕ}
+use Rattle.ob0_tree.specs.Tree.{Tree, module_text, occurrences}
+use Rattle.ob0_scope.specs.Names.{Name, Naming, predeclared_name, same_name}
+use Rattle.ob0_scope.specs.Occurrences.{label_ordinal}
+use Rattle.ob0_scope.specs.Scopes.{as_label, relabelled}
+
+-- a naming under which every name that is looked up is y
+abbrev pub looking_for : Name → Naming Name
+looking_for y = record { same = λ x. same_name y; written = λ x. x; predeclared = predeclared_name }
+
+-- the ordinal of the declaration to which y would be bound in the place of an occurrence; None where nothing would bind it
+abbrev pub sees : Tree Name module_text → ℕ → Name → Option ℕ
+sees m occurrence y = option_and_then label_ordinal (slice_get (occurrences (relabelled (looking_for y) (as_label (looking_for y)) m)) occurrence)

@@ -1,0 +1,282 @@
+//! Names that are declared twice, and closing names that differ.
+
+ghost use Rattle.std.specs.Prelude.{◌≡◌, ◌&&◌, ◌++◌, IfOk, OnOk, map, not, true, false};
+ghost use Rattle.std.specs.List.{list_any};
+ghost use Rattle.ob0_scan.specs.Scanned.{Scanned};
+ghost use Rattle.ob0_tree.specs.Parsed.{named_tree_of};
+ghost use Rattle.ob0_tree.specs.Places.{named, text_at};
+ghost use Rattle.ob0_tree.specs.View.{items_of, names_of, type_of, record_in, fields_of, constants_of, types_of, variables_of, formals_of, procedure_of, block_of, further_fields_of_group};
+ghost use Rattle.ob0_scope.specs.Names.{same_name};
+ghost use Rattle.ob0_scope.specs.Parts.{names_listed, constant_names, named_types, variable_names, formal_names, formal_sections, section_constants, section_types, section_variables};
+ghost use Rattle.ob0_scope.specs.DeclaredOnce.{are_distinct, declared_once, fields_once, group_fields, groups_fields, group_once, types_once, variables_once, formals_once, procedure_names, block_once, procedure_once};
+ghost use Rattle.ob0_scope.specs.Resolution.{is_of_declarations, span_at};
+
+use crate::numbering::token_text;
+use crate::table::token_span;
+use ob0_scan::{Code, Fault, Tokens};
+use ob0_tree::tree::{
+    Block, Constant, Fields, Module, Names, Procedure, RecordType, Section, TypeDeclaration,
+    Variables, WrittenType,
+};
+use std::alloc::{AllocError, Global};
+use std::collections::BTreeSet;
+use std::marker::Model;
+
+/// The faults of declarations so far. A clause sees whether there is none.
+#[derive(Drop)]
+struct Checks {
+    alloc: Global,
+    faults: Vec<Fault>,
+}
+
+impl Model for Checks {
+    ghost use Rattle.std.specs.Prelude.{◌≡◌, Bool, not, false};
+    ghost use Rattle.std.specs.List.{list_any};
+    ghost use Rattle.ob0_scope.specs.Resolution.{is_of_declarations};
+
+    ghost Value = { Bool };
+
+    ghost view = { λ c. not (list_any is_of_declarations c.faults.items) };
+
+    ghost invariant = { λ c. list_any (λ fault. not (is_of_declarations fault)) c.faults.items ≡ false };
+}
+
+/// The second declarations of a module, and its closing names that differ.
+pub(crate) fn check<'t>(alloc: Global, read: &'t Module<'t>) -> Result<Vec<Fault>, AllocError>
+    ensures told { IfOk result (λ faults. list_any is_of_declarations faults.items ≡ not (declared_once (named_tree_of read.now))) }
+    ensures alone { IfOk result (λ faults. list_any (λ fault. not (is_of_declarations fault)) faults.items ≡ false) }
+{
+    let mut checks = Checks {
+        alloc,
+        faults: Vec::new(alloc),
+    };
+    checks.closing(read.tokens(), read.name(), read.closing())?;
+    checks.block(read.tokens(), Vec::new(alloc), read.block())?;
+    Ok(checks.into_faults())
+}
+
+/// Whether two identifiers are written alike.
+fn is_same(tokens: &Tokens, a: usize, b: usize) -> bool
+    ensures { result ≡ same_name (text_at tokens.now a) (text_at tokens.now b) }
+{
+    token_text(tokens, a) == token_text(tokens, b)
+}
+
+fn add_names(out: &mut Vec<usize>, ns: &Names) -> Result<(), AllocError>
+    ensures { OnOk result (out.new.items ≡ out.old.items ++ names_listed (names_of ns.now)) }
+{
+    out.push(ns.first)?;
+    for name in &ns.more {
+        out.push(*name)?;
+    }
+    Ok(())
+}
+
+fn add_fields(out: &mut Vec<usize>, group: &Fields) -> Result<(), AllocError>
+    ensures { OnOk result (out.new.items ≡ out.old.items ++ group_fields (fields_of group.now)) }
+{
+    match group {
+        Fields::Empty => Ok(()),
+        Fields::Listed(list) => add_names(out, &list.names),
+    }
+}
+
+fn add_constants(out: &mut Vec<usize>, section: &Option<Vec<Constant>>) -> Result<(), AllocError>
+    ensures { OnOk result (out.new.items ≡ out.old.items ++ constant_names (section_constants (constants_of section.now))) }
+{
+    if let Some(constants) = section {
+        for c in constants {
+            out.push(c.name)?;
+        }
+    }
+    Ok(())
+}
+
+fn add_types(out: &mut Vec<usize>, section: &Option<Vec<TypeDeclaration>>) -> Result<(), AllocError>
+    ensures { OnOk result (out.new.items ≡ out.old.items ++ named_types (section_types (types_of section.now))) }
+{
+    if let Some(types) = section {
+        for t in types {
+            out.push(t.name)?;
+        }
+    }
+    Ok(())
+}
+
+fn add_variables(out: &mut Vec<usize>, section: &Option<Vec<Variables>>) -> Result<(), AllocError>
+    ensures { OnOk result (out.new.items ≡ out.old.items ++ variable_names (section_variables (variables_of section.now))) }
+{
+    if let Some(variables) = section {
+        for v in variables {
+            add_names(out, &v.names)?;
+        }
+    }
+    Ok(())
+}
+
+fn add_formals(out: &mut Vec<usize>, formals: &Option<Vec<Section>>) -> Result<(), AllocError>
+    ensures { OnOk result (out.new.items ≡ out.old.items ++ formal_names (formal_sections (formals_of formals.now))) }
+{
+    if let Some(sections) = formals {
+        for s in sections {
+            add_names(out, &s.names)?;
+        }
+    }
+    Ok(())
+}
+
+fn add_procedures(out: &mut Vec<usize>, procedures: &[Procedure]) -> Result<(), AllocError>
+    ensures { OnOk result (out.new.items ≡ out.old.items ++ procedure_names (items_of procedure_of procedures.now)) }
+{
+    for p in procedures {
+        out.push(p.name)?;
+    }
+    Ok(())
+}
+
+impl Checks {
+    fn into_faults(self) -> Vec<Fault>
+        ensures told { list_any is_of_declarations result.items ≡ not self }
+        ensures alone { list_any (λ fault. not (is_of_declarations fault)) result.items ≡ false }
+    {
+        let Checks { alloc: _, faults } = self;
+        faults
+    }
+
+    /// Tells of a fault where something doesn't hold.
+    fn expect(&mut self, holds: bool, fault: Fault) -> Result<(), AllocError>
+        requires { is_of_declarations fault ≡ true }
+        ensures { OnOk result (self.new ≡ (self.old && holds)) }
+    {
+        if !holds {
+            self.faults.push(fault)?;
+        }
+        Ok(())
+    }
+
+    /// A closing name is its module's or procedure's name.
+    fn closing(&mut self, tokens: &Tokens, name: usize, closing: usize) -> Result<(), AllocError>
+        ensures { OnOk result (self.new ≡ (self.old && same_name (text_at tokens.now name) (text_at tokens.now closing))) }
+    {
+        let fault = Fault {
+            code: Code::EndName,
+            span: token_span(tokens, closing),
+        };
+        self.expect(is_same(tokens, name, closing), fault)
+    }
+
+    /// No name stands twice.
+    fn distinct(&mut self, tokens: &Tokens, names: &[usize]) -> Result<(), AllocError>
+        ensures { OnOk result (self.new ≡ (self.old && are_distinct (map (text_at tokens.now) names.now))) }
+    {
+        let mut seen = BTreeSet::new(self.alloc);
+        for name in names {
+            let added = seen.insert(token_text(tokens, *name))?;
+            let fault = Fault {
+                code: Code::Duplicate,
+                span: token_span(tokens, *name),
+            };
+            self.expect(added, fault)?;
+        }
+        Ok(())
+    }
+
+    #[cycle(types)]
+    fn written(&mut self, tokens: &Tokens, t: &WrittenType) -> Result<(), AllocError>
+        ensures { OnOk result (self.new ≡ (self.old && fields_once (named tokens.now (type_of t.now)))) }
+    {
+        match t {
+            WrittenType::Named(_) => Ok(()),
+            WrittenType::Array(a) => self.written(tokens, &a.element),
+            WrittenType::Record(r) => self.record(tokens, r),
+        }
+    }
+
+    #[cycle(types)]
+    fn record(&mut self, tokens: &Tokens, r: &RecordType) -> Result<(), AllocError>
+        ensures { OnOk result (self.new ≡ (self.old && fields_once (named tokens.now (record_in r.now)))) }
+    {
+        let mut names = Vec::new(self.alloc);
+        for group in &r.groups {
+            add_fields(&mut names, group)?;
+        }
+        self.distinct(tokens, &names)?;
+        for group in &r.groups {
+            self.group(tokens, group)?;
+        }
+        Ok(())
+    }
+
+    #[cycle(types)]
+    fn group(&mut self, tokens: &Tokens, f: &Fields) -> Result<(), AllocError>
+        ensures { OnOk result (self.new ≡ (self.old && group_once (named tokens.now (fields_of f.now)))) }
+    {
+        match f {
+            Fields::Empty => Ok(()),
+            Fields::Listed(l) => self.written(tokens, &l.written),
+        }
+    }
+
+    fn types(&mut self, tokens: &Tokens, section: &Option<Vec<TypeDeclaration>>) -> Result<(), AllocError>
+        ensures { OnOk result (self.new ≡ (self.old && types_once (section_types (named tokens.now (types_of section.now))))) }
+    {
+        if let Some(types) = section {
+            for t in types {
+                self.written(tokens, &t.written)?;
+            }
+        }
+        Ok(())
+    }
+
+    fn variables(&mut self, tokens: &Tokens, section: &Option<Vec<Variables>>) -> Result<(), AllocError>
+        ensures { OnOk result (self.new ≡ (self.old && variables_once (section_variables (named tokens.now (variables_of section.now))))) }
+    {
+        if let Some(variables) = section {
+            for v in variables {
+                self.written(tokens, &v.written)?;
+            }
+        }
+        Ok(())
+    }
+
+    fn formals(&mut self, tokens: &Tokens, formals: &Option<Vec<Section>>) -> Result<(), AllocError>
+        ensures { OnOk result (self.new ≡ (self.old && formals_once (formal_sections (named tokens.now (formals_of formals.now))))) }
+    {
+        if let Some(sections) = formals {
+            for s in sections {
+                self.written(tokens, &s.written)?;
+            }
+        }
+        Ok(())
+    }
+
+    #[cycle(blocks)]
+    fn procedure(&mut self, tokens: &Tokens, p: &Procedure) -> Result<(), AllocError>
+        ensures { OnOk result (self.new ≡ (self.old && procedure_once (named tokens.now (procedure_of p.now)))) }
+    {
+        self.closing(tokens, p.name, p.closing)?;
+        self.formals(tokens, &p.formals)?;
+        let mut own = Vec::new(self.alloc);
+        add_formals(&mut own, &p.formals)?;
+        self.block(tokens, own, &p.block)
+    }
+
+    /// A block, with the names of the parameters that are declared in it.
+    #[cycle(blocks)]
+    fn block(&mut self, tokens: &Tokens, own: Vec<usize>, b: &Block) -> Result<(), AllocError>
+        ensures { OnOk result (self.new ≡ (self.old && block_once (map (text_at tokens.now) own.items) (named tokens.now (block_of b.now)))) }
+    {
+        let mut names = own;
+        add_constants(&mut names, &b.constants)?;
+        add_types(&mut names, &b.types)?;
+        add_variables(&mut names, &b.variables)?;
+        add_procedures(&mut names, &b.procedures)?;
+        self.distinct(tokens, &names)?;
+        self.types(tokens, &b.types)?;
+        self.variables(tokens, &b.variables)?;
+        for p in &b.procedures {
+            self.procedure(tokens, p)?;
+        }
+        Ok(())
+    }
+}

@@ -1,0 +1,348 @@
+//! Goes through the declarations of a module in text order, and gives each identifier the ordinal of its declaration.
+
+ghost use Rattle.std.specs.Prelude.{◌≡◌, ◌+◌, [], OnOk, IfOk, length, map, Some, None};
+ghost use Rattle.ob0_tree.specs.declared.tree.Role.TheVariants as roles;
+ghost use Rattle.ob0_tree.specs.Places.{text_at};
+ghost use Rattle.ob0_tree.specs.Parsed.{tree_of};
+ghost use Rattle.ob0_tree.specs.View.{expression_of, body_of, type_of, names_of, constant_of, constants_of, type_declaration_of, types_of, variable_of, variables_of, section_of, formals_of, procedure_of, block_of};
+ghost use Rattle.ob0_scope.specs.Names.{as_names};
+ghost use Rattle.ob0_scope.specs.Parts.{names_listed};
+ghost use Rattle.ob0_scope.specs.Scopes.{predeclared_scope};
+ghost use Rattle.ob0_scope.specs.Visiting.{marked, numbered_at, numbered_all, shown, shown_from, left_to, found, found_all, used, visit_constant, visit_constant_section, visit_type, visit_type_section, visit_variable, visit_variable_section, visit_section, visit_formals, visit_procedure, visit_block, visit_module, started};
+
+use crate::resolved::PREDECLARED;
+use crate::visible::Visible;
+use ob0_scan::Tokens;
+use ob0_tree::identifiers;
+use ob0_tree::tree::{
+    Block, Constant, Expression, Module, Names, Procedure, Role, Section, Statement,
+    TypeDeclaration, Variables, WrittenType,
+};
+use std::alloc::{AllocError, Global};
+use std::marker::Model;
+
+/// An identifier's token, and the ordinal of its declaration.
+#[derive(Clone, Copy)]
+pub(crate) struct Mark {
+    pub(crate) token: usize,
+    pub(crate) ordinal: Option<usize>,
+}
+
+/// What is known in the middle of a module.
+#[derive(Drop)]
+pub(crate) struct Numbering<'t> {
+    alloc: Global,
+    tokens: &'t Tokens,
+    visible: Visible<'t>,
+    declarations: Vec<usize>,
+    occurrences: Vec<usize>,
+    marks: Vec<Mark>,
+}
+
+impl<'t> Model for Numbering<'t> {
+    ghost use Rattle.ob0_scope.specs.Visiting.{Visit};
+
+    ghost Value = { Visit };
+
+    ghost view = { λ n. record { source = n.tokens.now; scope = n.visible; declarations = n.declarations.items; uses = n.occurrences.items; marks = n.marks.items } };
+}
+
+/// How a token is written; nothing where there is no such token.
+pub(crate) fn token_text<'t>(tokens: &'t Tokens, token: usize) -> &'t str
+    ensures { result.now ≡ text_at tokens.now token }
+{
+    if token < tokens.tokens().len() {
+        tokens.token_text(token)
+    } else {
+        ""
+    }
+}
+
+/// The predeclared names, visible.
+fn predeclared<'t>(alloc: Global) -> Result<Visible<'t>, AllocError>
+    ensures { IfOk result (λ v. v ≡ predeclared_scope as_names) }
+{
+    let mut visible = Visible::new(alloc);
+    visible.declare("INTEGER", 0)?;
+    visible.declare("BOOLEAN", 1)?;
+    visible.declare("TRUE", 2)?;
+    visible.declare("FALSE", 3)?;
+    visible.declare("Read", 4)?;
+    visible.declare("Write", 5)?;
+    visible.declare("WriteLn", 6)?;
+    Ok(visible)
+}
+
+/// Goes through a module.
+pub(crate) fn number<'t>(
+    alloc: Global,
+    read: &'t Module<'t>,
+) -> Result<Numbering<'t>, AllocError>
+    ensures { IfOk result (λ n. n ≡ visit_module (tree_of read.now) (started read.now.source)) }
+{
+    let mut numbering = Numbering {
+        alloc,
+        tokens: read.tokens(),
+        visible: predeclared(alloc)?,
+        declarations: Vec::new(alloc),
+        occurrences: Vec::new(alloc),
+        marks: Vec::new(alloc),
+    };
+    numbering.mark(read.name(), None)?;
+    numbering.block(read.block())?;
+    numbering.mark(read.closing(), None)?;
+    Ok(numbering)
+}
+
+impl<'t> Numbering<'t> {
+    /// The declaring tokens, the tokens of the occurrences, and the marks.
+    pub(crate) fn into_parts(self) -> (Vec<usize>, Vec<usize>, Vec<Mark>)
+        ensures declarations { result.0.items ≡ self.entry.declarations }
+        ensures uses { result.1.items ≡ self.entry.uses }
+        ensures marks { result.2.items ≡ self.entry.marks }
+    {
+        let Numbering {
+            alloc: _,
+            tokens: _,
+            visible: _,
+            declarations,
+            occurrences,
+            marks,
+        } = self;
+        (declarations, occurrences, marks)
+    }
+
+    /// How many declarations there are so far, the predeclared ones not counted.
+    fn declared(&self) -> usize
+        ensures { result ≡ length self.now.declarations }
+    {
+        self.declarations.len()
+    }
+
+    /// How many names are visible.
+    fn bindings(&self) -> usize
+        ensures { result ≡ length self.now.scope }
+    {
+        self.visible.len()
+    }
+
+    fn mark(&mut self, token: usize, ordinal: Option<usize>) -> Result<(), AllocError>
+        ensures { OnOk result (self.new ≡ marked token ordinal self.old) }
+    {
+        self.marks.push(Mark { token, ordinal })?;
+        Ok(())
+    }
+
+    /// Gives a declaring name the next ordinal.
+    fn number(&mut self, token: usize) -> Result<usize, AllocError>
+        ensures next { IfOk result (λ ordinal. ordinal ≡ 7 + length self.old.declarations) }
+        ensures numbered { OnOk result (self.new ≡ numbered_at token self.old) }
+    {
+        let ordinal = PREDECLARED + self.declarations.len();
+        self.declarations.push(token)?;
+        self.mark(token, Some(ordinal))?;
+        Ok(ordinal)
+    }
+
+    /// Makes the name of a declaration visible.
+    fn show(&mut self, token: usize, ordinal: usize) -> Result<(), AllocError>
+        ensures { OnOk result (self.new ≡ shown token ordinal self.old) }
+    {
+        let name = token_text(self.tokens, token);
+        self.visible.declare(name, ordinal)
+    }
+
+    /// Makes the names of the declarations from this one on visible.
+    fn show_from(&mut self, first: usize) -> Result<(), AllocError>
+        ensures { OnOk result (self.new ≡ shown_from first self.old) }
+    {
+        for index in first..self.declarations.len() {
+            let token = self.declarations[index];
+            self.show(token, PREDECLARED + index)?;
+        }
+        Ok(())
+    }
+
+    /// Gives up the newest bindings until so many are left.
+    fn leave_to(&mut self, len: usize) -> Result<(), AllocError>
+        ensures { OnOk result (self.new ≡ left_to len self.old) }
+    {
+        self.visible.leave_to(len)
+    }
+
+    /// Looks a name up.
+    fn look_up(&mut self, token: usize) -> Result<(), AllocError>
+        ensures { OnOk result (self.new ≡ found roles.LookedUp token self.old) }
+    {
+        let name = token_text(self.tokens, token);
+        let ordinal = self.visible.look_up(name);
+        self.occurrences.push(token)?;
+        self.mark(token, ordinal)
+    }
+
+    /// An identifier of a part that declares nothing.
+    fn identifier(&mut self, role: Role, token: usize) -> Result<(), AllocError>
+        ensures { OnOk result (self.new ≡ found role token self.old) }
+    {
+        match role {
+            Role::LookedUp => self.look_up(token),
+            Role::Declaring => self.mark(token, None),
+            Role::ClosingName => self.mark(token, None),
+            Role::FieldName => self.mark(token, None),
+            Role::ModuleName => self.mark(token, None),
+        }
+    }
+
+    /// The identifiers of a part that declares nothing.
+    fn find(&mut self, found: &[(Role, usize)]) -> Result<(), AllocError>
+        ensures { OnOk result (self.new ≡ found_all found.now self.old) }
+    {
+        for (role, token) in found {
+            self.identifier(*role, *token)?;
+        }
+        Ok(())
+    }
+
+    fn expression(&mut self, e: &Expression) -> Result<(), AllocError>
+        ensures { OnOk result (self.new ≡ used (expression_of e.now) self.old) }
+    {
+        let mut found = Vec::new(self.alloc);
+        identifiers::expression(&mut found, e)?;
+        self.find(&found)
+    }
+
+    fn written(&mut self, t: &WrittenType) -> Result<(), AllocError>
+        ensures { OnOk result (self.new ≡ used (type_of t.now) self.old) }
+    {
+        let mut found = Vec::new(self.alloc);
+        identifiers::written_type(&mut found, t)?;
+        self.find(&found)
+    }
+
+    fn body(&mut self, statements: &Option<Vec<Statement>>) -> Result<(), AllocError>
+        ensures { OnOk result (self.new ≡ used (body_of statements.now) self.old) }
+    {
+        let mut found = Vec::new(self.alloc);
+        identifiers::body(&mut found, statements)?;
+        self.find(&found)
+    }
+
+    fn names(&mut self, ns: &Names) -> Result<(), AllocError>
+        ensures { OnOk result (self.new ≡ numbered_all (names_listed (names_of ns.now)) self.old) }
+    {
+        self.number(ns.first)?;
+        for name in &ns.more {
+            self.number(*name)?;
+        }
+        Ok(())
+    }
+
+    fn constant(&mut self, c: &Constant) -> Result<(), AllocError>
+        ensures { OnOk result (self.new ≡ visit_constant (constant_of c.now) self.old) }
+    {
+        let first = self.declared();
+        self.number(c.name)?;
+        self.expression(&c.value)?;
+        self.show_from(first)
+    }
+
+    fn type_declaration(&mut self, t: &TypeDeclaration) -> Result<(), AllocError>
+        ensures { OnOk result (self.new ≡ visit_type (type_declaration_of t.now) self.old) }
+    {
+        let first = self.declared();
+        self.number(t.name)?;
+        self.written(&t.written)?;
+        self.show_from(first)
+    }
+
+    fn variables(&mut self, v: &Variables) -> Result<(), AllocError>
+        ensures { OnOk result (self.new ≡ visit_variable (variable_of v.now) self.old) }
+    {
+        let first = self.declared();
+        self.names(&v.names)?;
+        self.written(&v.written)?;
+        self.show_from(first)
+    }
+
+    fn section(&mut self, s: &Section) -> Result<(), AllocError>
+        ensures { OnOk result (self.new ≡ visit_section (section_of s.now) self.old) }
+    {
+        let first = self.declared();
+        self.names(&s.names)?;
+        self.written(&s.written)?;
+        self.show_from(first)
+    }
+
+    fn constants(&mut self, section: &Option<Vec<Constant>>) -> Result<(), AllocError>
+        ensures { OnOk result (self.new ≡ visit_constant_section (constants_of section.now) self.old) }
+    {
+        if let Some(constants) = section {
+            for c in constants {
+                self.constant(c)?;
+            }
+        }
+        Ok(())
+    }
+
+    fn types(&mut self, section: &Option<Vec<TypeDeclaration>>) -> Result<(), AllocError>
+        ensures { OnOk result (self.new ≡ visit_type_section (types_of section.now) self.old) }
+    {
+        if let Some(types) = section {
+            for t in types {
+                self.type_declaration(t)?;
+            }
+        }
+        Ok(())
+    }
+
+    fn variable_section(&mut self, section: &Option<Vec<Variables>>) -> Result<(), AllocError>
+        ensures { OnOk result (self.new ≡ visit_variable_section (variables_of section.now) self.old) }
+    {
+        if let Some(variables) = section {
+            for v in variables {
+                self.variables(v)?;
+            }
+        }
+        Ok(())
+    }
+
+    fn heading(&mut self, formals: &Option<Vec<Section>>) -> Result<(), AllocError>
+        ensures { OnOk result (self.new ≡ visit_formals (formals_of formals.now) self.old) }
+    {
+        if let Some(sections) = formals {
+            for s in sections {
+                self.section(s)?;
+            }
+        }
+        Ok(())
+    }
+
+    #[cycle(blocks)]
+    fn procedure(&mut self, p: &Procedure) -> Result<(), AllocError>
+        ensures { OnOk result (self.new ≡ visit_procedure (procedure_of p.now) self.old) }
+    {
+        let own = self.declared();
+        let outside = self.bindings();
+        let ordinal = self.number(p.name)?;
+        self.heading(&p.formals)?;
+        self.leave_to(outside)?;
+        self.show_from(own)?;
+        self.block(&p.block)?;
+        self.leave_to(outside)?;
+        self.show(p.name, ordinal)?;
+        self.mark(p.closing, Some(ordinal))
+    }
+
+    #[cycle(blocks)]
+    fn block(&mut self, b: &Block) -> Result<(), AllocError>
+        ensures { OnOk result (self.new ≡ visit_block (block_of b.now) self.old) }
+    {
+        self.constants(&b.constants)?;
+        self.types(&b.types)?;
+        self.variable_section(&b.variables)?;
+        for p in &b.procedures {
+            self.procedure(p)?;
+        }
+        self.body(&b.body)
+    }
+}

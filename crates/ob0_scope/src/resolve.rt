@@ -1,0 +1,32 @@
+//! Binds the names of a module to their declarations.
+
+ghost use Rattle.std.specs.Prelude.{◌≡◌, IfOk};
+ghost use Rattle.ob0_scope.specs.Resolution.{IsResolution};
+
+use crate::checks::check;
+use crate::numbering::number;
+use crate::resolved::Resolved;
+use crate::table::{table, undeclared};
+use ob0_tree::tree::Module;
+use std::alloc::{AllocError, Global};
+
+/// Binds each name of a module to its declaration, by the rules of scope of Wirth's Compiler Construction: a name is
+/// visible from behind its declaration to the end of its block, and an inner block may declare it anew.
+pub fn resolve<'t>(alloc: Global, module: &'t Module<'t>) -> Result<Resolved<'t>, AllocError>
+    ensures { IfOk result (λ r. (r.module_read ≡ «module».now) × IsResolution r) }
+{
+    let tokens = module.tokens();
+    let numbering = number(alloc, module)?;
+    let (declarations, occurrences, marks) = numbering.into_parts();
+    let ordinals = table(alloc, tokens.tokens().len(), &marks)?;
+    let mut faults = check(alloc, module)?;
+    undeclared(&mut faults, tokens, &ordinals, &occurrences)?;
+    faults.sort_by_key(|fault| fault.span.start)?;
+    Ok(Resolved {
+        module,
+        ordinals,
+        declarations,
+        occurrences,
+        faults,
+    })
+}

@@ -1,0 +1,66 @@
+//! Tables of ordinals by token, and what is wrong with the names.
+
+ghost use Rattle.std.specs.Prelude.{◌≡◌, ◌++◌, IfOk, OnOk, replicate};
+ghost use Rattle.ob0_scope.specs.Visiting.{with_marks};
+ghost use Rattle.ob0_scope.specs.Resolution.{ordinal_in, span_at, undeclared_at};
+
+use crate::numbering::Mark;
+use ob0_scan::{Code, Fault, Span, Tokens};
+use std::alloc::{AllocError, Global};
+
+/// The ordinal at each of so many tokens.
+pub(crate) fn table(
+    alloc: Global,
+    len: usize,
+    marks: &[Mark],
+) -> Result<Vec<Option<usize>>, AllocError>
+    ensures { IfOk result (λ t. t.items ≡ with_marks (replicate len None) marks.now) }
+{
+    let mut table = vec![in alloc; None; len]?;
+    for mark in marks {
+        if mark.token < table.len() {
+            table[mark.token] = mark.ordinal;
+        }
+    }
+    Ok(table)
+}
+
+/// The ordinal that a table has at a token.
+pub(crate) fn ordinal_at(ordinals: &[Option<usize>], token: usize) -> Option<usize>
+    ensures { result ≡ ordinal_in ordinals.now token }
+{
+    match ordinals.get(token) {
+        Some(ordinal) => *ordinal,
+        None => None,
+    }
+}
+
+/// Where a token stands; the text's start where there is no such token.
+pub(crate) fn token_span(tokens: &Tokens, token: usize) -> Span
+    ensures { result ≡ span_at tokens.now token }
+{
+    match tokens.tokens().get(token) {
+        Some(found) => found.span,
+        None => Span { start: 0, end: 0 },
+    }
+}
+
+/// Tells of each occurrence that a table binds to nothing.
+pub(crate) fn undeclared(
+    faults: &mut Vec<Fault>,
+    tokens: &Tokens,
+    ordinals: &[Option<usize>],
+    occurrences: &[usize],
+) -> Result<(), AllocError>
+    ensures { OnOk result (faults.new.items ≡ faults.old.items ++ undeclared_at tokens.now ordinals.now occurrences.now) }
+{
+    for token in occurrences {
+        if ordinal_at(ordinals, *token).is_none() {
+            faults.push(Fault {
+                code: Code::Undeclared,
+                span: token_span(tokens, *token),
+            })?;
+        }
+    }
+    Ok(())
+}

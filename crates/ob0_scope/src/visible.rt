@@ -1,0 +1,111 @@
+//! The names that are visible at a place of a module.
+
+ghost use Rattle.std.specs.Prelude.{◌≡◌, ◌≤◌, ◌+◌, [], ◌∷◌, OnOk, IfOk, length, drop, ◌-◌};
+ghost use Rattle.ob0_scope.specs.Names.{as_names};
+ghost use Rattle.ob0_scope.specs.Scopes.{ordinal_of};
+
+use std::alloc::{AllocError, Global};
+use std::collections::BTreeMap;
+use std::marker::Model;
+
+/// A declaration that is visible, with the index of the binding that it hides.
+#[derive(Drop)]
+pub(crate) struct Binding<'t> {
+    name: &'t str,
+    ordinal: usize,
+    hidden: Option<usize>,
+}
+
+/// The bindings of a place, oldest first. For each name the index of its newest binding is kept, so that a name is looked
+/// up in logarithmic time.
+#[derive(Drop)]
+pub(crate) struct Visible<'t> {
+    newest: BTreeMap<&'t str, usize>,
+    bindings: Vec<Binding<'t>>,
+}
+
+impl<'t> Model for Visible<'t> {
+    ghost use Rattle.ob0_scope.specs.Scopes.{Scope};
+    ghost use Rattle.ob0_scope.specs.Names.{Name};
+    ghost use Rattle.ob0_scope.specs.Shadowing.{scope_of, IsNewest};
+
+    ghost Value = { Scope Name };
+
+    ghost view = { λ v. scope_of v.bindings.items };
+
+    ghost invariant = { λ v. IsNewest v.newest v.bindings.items };
+}
+
+impl<'t> Visible<'t> {
+    pub(crate) fn new(alloc: Global) -> Visible<'t>
+        ensures { result ≡ [] }
+    {
+        Visible {
+            newest: BTreeMap::new(alloc),
+            bindings: Vec::new(alloc),
+        }
+    }
+
+    /// How many bindings there are.
+    pub(crate) fn len(&self) -> usize
+        ensures { result ≡ length self.now }
+    {
+        self.bindings.len()
+    }
+
+    /// The ordinal of the declaration to which a name is bound.
+    pub(crate) fn look_up(&self, name: &str) -> Option<usize>
+        ensures { result ≡ ordinal_of as_names self.now name.now }
+    {
+        match self.newest.get(name) {
+            Some(index) => Some(self.bindings[*index].ordinal),
+            None => None,
+        }
+    }
+
+    /// Binds a name anew.
+    pub(crate) fn declare(&mut self, name: &'t str, ordinal: usize) -> Result<(), AllocError>
+        ensures { OnOk result (self.new ≡ (name.entry.now, ordinal) ∷ self.old) }
+    {
+        let index = self.bindings.len();
+        let hidden = self.newest.get(name).copied();
+        self.bindings.push(Binding {
+            name,
+            ordinal,
+            hidden,
+        })?;
+        if let Err(failed) = self.newest.insert(name, index) {
+            self.bindings.pop();
+            return Err(failed.into());
+        }
+        Ok(())
+    }
+
+    /// Gives up the newest bindings until so many are left.
+    pub(crate) fn leave_to(&mut self, len: usize) -> Result<(), AllocError>
+        ensures { OnOk result (self.new ≡ drop (length self.old - len) self.old) }
+    {
+        for _left in 0..self.len().saturating_sub(len) {
+            self.leave()?;
+        }
+        Ok(())
+    }
+
+    /// Gives up the newest binding, so that what it hid is visible again.
+    fn leave(&mut self) -> Result<(), AllocError>
+        ensures { OnOk result (self.new ≡ drop 1 self.old) }
+    {
+        let Some(left) = self.bindings.pop() else {
+            return Ok(());
+        };
+        match left.hidden {
+            Some(index) => {
+                self.newest.insert(left.name, index)?;
+            }
+            None => {
+                self.newest.remove(left.name);
+            }
+        }
+        Ok(())
+    }
+}
