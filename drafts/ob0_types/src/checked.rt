@@ -9,6 +9,7 @@ use ob0_scope::resolved::{PREDECLARED, Resolved};
 use ob0_tree::tree::Module;
 use ob0_values::scalar::Scalar;
 use std::alloc::{AllocError, Global};
+use std::collections::BTreeMap;
 
 /// The most faults that are kept.
 pub const MOST_FAULTS: usize = 100;
@@ -39,6 +40,7 @@ pub fn check<'t>(
         next: 0,
         fits: true,
         faults: Vec::new(alloc),
+        supposed: BTreeMap::new(alloc),
     };
     checker.block(resolved.module().block())?;
     let Checker {
@@ -48,6 +50,7 @@ pub fn check<'t>(
         next: _,
         fits,
         faults,
+        supposed: _,
     } = checker;
     let faults = all_faults(alloc, resolved, fits, faults)?;
     Ok(Checked {

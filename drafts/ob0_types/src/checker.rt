@@ -7,7 +7,9 @@ use crate::places::{first_token, last_token};
 use ob0_scan::Span;
 use ob0_scope::resolved::Resolved;
 use ob0_tree::tree::Expression;
+use crate::types::TypeId;
 use std::alloc::{AllocError, Global};
+use std::collections::BTreeMap;
 
 /// A module on its way through the checker.
 #[derive(Drop)]
@@ -20,6 +22,15 @@ pub struct Checker<'t> {
     /// Whether all that was checked so far fits.
     pub fits: bool,
     pub faults: Vec<Fault>,
+    /// The scalars and the depth of types with unknown parts, by their places in the table: what is unknown counts nothing.
+    pub supposed: BTreeMap<usize, Measure>,
+}
+
+/// How many scalars a type has, and how deep it is.
+#[derive(Clone, Copy, Debug)]
+pub struct Measure {
+    pub scalars: usize,
+    pub depth: usize,
 }
 
 impl<'t> Checker<'t> {
@@ -29,6 +40,24 @@ impl<'t> Checker<'t> {
             known: &self.known,
             resolved: self.resolved,
             only_constants,
+        }
+    }
+
+    /// What is counted of a type; its unknown parts count nothing.
+    pub fn measure(&self, of: TypeId) -> Measure {
+        let whole = Measure {
+            scalars: self.known.scalars(of),
+            depth: self.known.depth(of),
+        };
+        match of {
+            TypeId::Unknown => Measure {
+                scalars: 0,
+                depth: 0,
+            },
+            TypeId::Array(place) => self.supposed.get(&place).copied().unwrap_or(whole),
+            TypeId::Record(place) => self.supposed.get(&place).copied().unwrap_or(whole),
+            TypeId::Integer => whole,
+            TypeId::Boolean => whole,
         }
     }
 

@@ -1,8 +1,8 @@
 //! The types that texts of types denote.
 
-use crate::checker::Checker;
+use crate::checker::{Checker, Measure};
 use ob0_scan::Code;
-use crate::known::{Field, MOST_SCALARS, Object};
+use crate::known::{Field, MOST_DEPTH, MOST_SCALARS, Object};
 use crate::types::TypeId;
 use ob0_tree::tree::{ArrayType, FieldList, Fields, Names, RecordType, WrittenType};
 use ob0_values::scalar::Scalar;
@@ -185,13 +185,39 @@ impl<'t> Checker<'t> {
         let Some(length) = length else {
             return Ok(TypeId::Unknown);
         };
-        match self.known.make_array(ordinal, length, element)? {
-            Some(of) => Ok(of),
-            None => {
-                self.tell_at(Code::TypeTooLarge, a.token)?;
-                Ok(TypeId::Unknown)
-            }
+        let part = self.measure(element);
+        let measure = Measure {
+            scalars: part.scalars.saturating_mul(length),
+            depth: part.depth.saturating_add(1),
+        };
+        let made = self.known.make_array(ordinal, length, element)?;
+        self.suppose_made(made, measure, a.token)
+    }
+
+    /// A type that was made, or is unknown: too large, which is told, or known in too few parts.
+    fn suppose_made(
+        &mut self,
+        made: Option<TypeId>,
+        measure: Measure,
+        token: usize,
+    ) -> Result<TypeId, AllocError> {
+        if measure.scalars > MOST_SCALARS || measure.depth > MOST_DEPTH {
+            self.tell_at(Code::TypeTooLarge, token)?;
+            return Ok(TypeId::Unknown);
         }
+        let Some(of) = made else {
+            return Ok(TypeId::Unknown);
+        };
+        match of {
+            TypeId::Array(place) => {
+                self.supposed.insert(place, measure)?;
+            }
+            TypeId::Record(place) => {
+                self.supposed.insert(place, measure)?;
+            }
+            _ => {}
+        }
+        Ok(of)
     }
 
     #[cycle(supposing)]
@@ -204,13 +230,19 @@ impl<'t> Checker<'t> {
                 self.suppose_fields(list, &mut fields)?;
             }
         }
-        match self.known.make_record(ordinal, fields)? {
-            Some(of) => Ok(of),
-            None => {
-                self.tell_at(Code::TypeTooLarge, r.token)?;
-                Ok(TypeId::Unknown)
-            }
+        let mut scalars = 0usize;
+        let mut depth = 0usize;
+        for field in &fields {
+            let part = self.measure(field.of);
+            scalars = scalars.saturating_add(part.scalars);
+            depth = depth.max(part.depth);
         }
+        let measure = Measure {
+            scalars: scalars.max(1),
+            depth: depth.saturating_add(1),
+        };
+        let made = self.known.make_record(ordinal, fields)?;
+        self.suppose_made(made, measure, r.token)
     }
 
     #[cycle(supposing)]

@@ -78,3 +78,9 @@ fn constants(rt: HostRuntime) -> Result<(), Fail> {
     is(&rt, told(alloc, "MODULE M; CONST c = 2147483647 + 1; d = -(-2147483647 - 1); e = (1 = 2) & (1 DIV 0 = 1); f = e OR INTEGER; END M."), "ConstFault 20-34; ConstFault 40-58; WrongKind 98-105; ")?;
     is(&rt, told(alloc, "MODULE M; VAR x: INTEGER; PROCEDURE P; CONST c = x; END P; BEGIN TRUE := FALSE; INTEGER := 1; Read(1); Read(TRUE); x(1); P(u) END M."), "NotConstant 49-50; NotVariable 65-69; WrongKind 80-87; NotVariable 99-100; NotVariable 108-112; WrongKind 115-116; ArgumentCount 121-122; Undeclared 123-124; ")
 }
+
+#[test]
+fn unknown_parts_count_nothing(rt: HostRuntime) -> Result<(), Fail> {
+    let alloc = rt.alloc();
+    is(&rt, told(alloc, "MODULE M; VAR a: ARRAY 256 OF RECORD f, g: ARRAY 256 OF ARRAY 3 OF Write END; END M."), "WrongKind 67-72; ")
+}
