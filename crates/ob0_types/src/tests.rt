@@ -1,0 +1,36 @@
+//! The tables of the checker, run with ample memory.
+
+use crate::known::{Field, Known, Object};
+use crate::types::TypeId;
+use std::test::Fail;
+
+#[test]
+fn types_are_made_within_the_limits(rt: HostRuntime) -> Result<(), Fail> {
+    let mut known = Known::new(rt.alloc())?;
+    assert_eq!(rt; known.count(), 7);
+    let row = known.make_array(0, 256, TypeId::Integer)?.ok_or("a row")?;
+    assert_eq!(rt; known.scalars(row), 256);
+    let square = known.make_array(1, 256, row)?.ok_or("a square")?;
+    assert_eq!(rt; known.scalars(square), 65536);
+    assert_eq!(rt; known.depth(square), 2);
+    assert_eq!(rt; known.element(square), Some(row));
+    assert_eq!(rt; known.make_array(2, 257, row)?, None);
+    let mut fields = Vec::new(rt.alloc());
+    fields.push(Field {
+        name: "x",
+        of: TypeId::Boolean,
+    })?;
+    fields.push(Field {
+        name: "y",
+        of: row,
+    })?;
+    let record = known.make_record(3, fields)?.ok_or("a record")?;
+    assert_eq!(rt; known.scalars(record), 257);
+    assert_eq!(rt; known.field(record, "y"), Some(row));
+    assert_eq!(rt; known.field(record, "z"), None);
+    known.reserve()?;
+    assert!(rt; known.seen(7).is_none());
+    known.define(7, Object::Variable(record));
+    assert!(rt; known.seen(7).is_some());
+    Ok(())
+}
