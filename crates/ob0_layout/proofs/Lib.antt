@@ -8,3 +8,4 @@ pub mod Walks
 pub mod Ahead
 pub mod EditSteps
 pub mod Pieced
+pub mod Unnamed

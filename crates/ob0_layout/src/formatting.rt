@@ -1,16 +1,14 @@
 //! The edits that lay out a module's text.
 
-ghost use Rattle.std.specs.Prelude.{◌≡◌, ◌≤◌, ◌<◌, ◌⊎◌, ◌↔◌, IsTrue, IfOk, IfErr, IsErrOf, map, filter, length, string_bytes};
+ghost use Rattle.std.specs.Prelude.{◌≡◌, ◌≤◌, ◌<◌, ◌⊎◌, ◌↔◌, IsTrue, IfOk, IfErr, IsErrOf, map, length};
 ghost use Rattle.std.specs.List.{All};
-ghost use Rattle.std.specs.Str.{chars};
 ghost use Rattle.ob0_scan.specs.Scanned.{IsScan, max_text};
 ghost use Rattle.ob0_text.specs.Units.{width_of};
 ghost use Rattle.ob0_text.specs.declared.refusals.EditRefusal.TheVariants.{TooLong, Memory};
-ghost use Rattle.ob0_tree.specs.Parsed.{tree_of};
-ghost use Rattle.ob0_layout.specs.Layout.{gap_text, layout};
+ghost use Rattle.ob0_tree.specs.Parsed.{named_tree_of};
+ghost use Rattle.ob0_layout.specs.Layout.{layout};
 ghost use Rattle.ob0_layout.specs.Standings.{standings};
 ghost use Rattle.ob0_layout.specs.Sites.{all_sites, is_changed, changed_sites, said, edit_of, LiesIn, laid_len};
-ghost use Rattle.ob0_layout.specs.declared.sites.Site as site;
 
 use crate::sites::{Site, all_sites};
 use crate::walk::standings;
@@ -28,9 +26,9 @@ pub fn format<T: TextStore>(
     indent: Indent,
 ) -> Result<Vec<Edit>, EditRefusal>
     ensures edits { (scan : IsScan module.now.source) → IfOk result (λ edits. map said edits.items ≡
-        map (edit_of indent (width_of (T.unit_of store.now)) (T.content store.now)) (changed_sites indent module.now.source.text (all_sites (standings 0 (tree_of module.now)) scan.lexemes))) }
-    ensures fits { (scan : IsScan module.now.source) → IfOk result (λ _. laid_len indent (length module.now.source.text) 0 (all_sites (standings 0 (tree_of module.now)) scan.lexemes) ≤ max_text) }
-    ensures too_long { (scan : IsScan module.now.source) → IsErrOf result TooLong → max_text < laid_len indent (length module.now.source.text) 0 (all_sites (standings 0 (tree_of module.now)) scan.lexemes) }
+        map (edit_of indent (width_of (T.unit_of store.now)) (T.content store.now)) (changed_sites indent module.now.source.text (all_sites (standings 0 (named_tree_of module.now)) scan.lexemes))) }
+    ensures fits { (scan : IsScan module.now.source) → IfOk result (λ _. length (layout indent (named_tree_of module.now) scan.lexemes) ≤ max_text) }
+    ensures too_long { (scan : IsScan module.now.source) → IsErrOf result TooLong → max_text < length (layout indent (named_tree_of module.now) scan.lexemes) }
     ensures refusals { IfErr result (λ refusal. (refusal ≡ TooLong) ⊎ (refusal ≡ Memory)) }
 {
     let tokens = module.tokens();

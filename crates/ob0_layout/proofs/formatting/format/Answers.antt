@@ -5,7 +5,12 @@ use Rattle.std.specs.Prelude.{nat_lt}
 use Rattle.std.proofs.lemmas.Bool.{ltb-true, ltb-false}
 use Rattle.ob0_scan.specs.Scanned.{Scanned, IsScan, max_text}
 use Rattle.ob0_text.specs.Units.{width_of}
-use Rattle.ob0_tree.specs.Parsed.{tree_of}
+use Rattle.ob0_text.specs.declared.edits.Indent.{Indent}
+use Rattle.ob0_tree.specs.Parsed.{Parsed, tree_of, named_tree_of}
+use Rattle.ob0_tree.specs.Places.{text_at, value_at}
+use Rattle.ob0_layout.specs.Layout.{laid_out, layout}
+use Rattle.ob0_layout.proofs.Pieced.{all_length}
+use Rattle.ob0_layout.proofs.Unnamed.{standings_mapped}
 use Rattle.ob0_layout.specs.declared.sites.Site.{Site}
 use Rattle.ob0_layout.specs.declared.standing.Standing.{Standing}
 use Rattle.ob0_layout.specs.Standings.{standings}
@@ -21,6 +26,13 @@ lie_in_source : {s t : Scanned} (e : s ≡ t) (bytes : List ℕ) (read : List Si
 lie_in_source {t = t} e bytes read is scan b h =
     let there = subst IsScan e scan in
     subst (λ (xs : List ℕ). All (LiesIn (length xs)) read) (sym b) (subst (λ (gs : List Site). All (LiesIn (length t.text)) gs) (sym (h there)) (all_lie t there is))
+
+-- the length that is counted is that of the layout
+counted : (m : Parsed) (indent : Indent) (scan : IsScan m.source) → laid_len indent (length m.source.text) 0 (all_sites (standings 0 (tree_of m)) scan.lexemes) ≡ length (layout indent (named_tree_of m) scan.lexemes)
+unfolding laid_out
+counted m indent scan =
+    ap (λ (ss : List Standing). laid_len indent (length m.source.text) 0 (all_sites ss scan.lexemes)) (sym (standings_mapped (text_at m.source) (value_at m.source) 0 (tree_of m)))
+    ∙ all_length indent m.source scan (standings 0 (named_tree_of m))
 
 past : (b : Bool) (n m : ℕ) → (n ≤ m → IsTrue b) → b ≡ false → m < n
 past b n m h e = by_test (nat_lt m n) refl
@@ -45,7 +57,7 @@ pub returns-then-not-fits-clause-too_long : goal.returns-then-not-fits-clause-to
 returns-then-not-fits-clause-too_long g c = λ scan told.
     let text = c.as_bytes-text.ensures.value ∙ c.text.ensures.value ∙ ap (λ (x : Scanned). x.text) c.tokens-tokens.ensures.source in
     let same = of_source c.tokens-tokens.ensures.source c.in_ok-sites.sites.items c.deref-2.result.now c.deref.result.now (standings 0 (tree_of c.args.module.now)) c.deref-2.ensures.value (c.deref.ensures.value ∙ c.in_ok-standings.ensures) c.in_ok-sites.ensures scan in
-    subst (λ (n : ℕ). max_text < n) (λ i. laid_len c.args.indent (length (text i)) 0 (same i)) (past c.fits.result _ max_text c.fits.ensures.1 c.if-not-fits.true)
+    subst (λ (n : ℕ). max_text < n) ((λ i. laid_len c.args.indent (length (text i)) 0 (same i)) ∙ counted c.args.module.now c.args.indent scan) (past c.fits.result _ max_text c.fits.ensures.1 c.if-not-fits.true)
 
 pub returns-clause-edits : goal.returns-clause-edits
 returns-clause-edits g c = λ scan.
@@ -53,10 +65,11 @@ returns-clause-edits g c = λ scan.
     let same = of_source c.tokens-tokens.ensures.source c.in_ok-sites.sites.items c.deref-3.result.now c.deref.result.now (standings 0 (tree_of c.args.module.now)) c.deref-3.ensures.value (c.deref.ensures.value ∙ c.in_ok-standings.ensures) c.in_ok-sites.ensures scan in
     c.in_ok-edits.ensures
     ∙ ap (map (edit_of c.args.indent (width_of (g.T.TextStore.unit_of c.args.store.now)) (g.T.TextStore.content c.args.store.now)))
-    (c.deref-4.ensures.value ∙ c.in_ok-changed.ensures ∙ (λ i. changed_sites c.args.indent (text i) (same i)))
+    (c.deref-4.ensures.value ∙ c.in_ok-changed.ensures ∙ (λ i. changed_sites c.args.indent (text i) (same i))
+    ∙ ap (λ (ss : List Standing). changed_sites c.args.indent c.args.module.now.source.text (all_sites ss scan.lexemes)) (sym (standings_mapped (text_at c.args.module.now.source) (value_at c.args.module.now.source) 0 (tree_of c.args.module.now))))
 
 pub returns-clause-fits : goal.returns-clause-fits
 returns-clause-fits g c = λ scan.
     let text = c.as_bytes-text.ensures.value ∙ c.text.ensures.value ∙ ap (λ (x : Scanned). x.text) c.tokens-tokens.ensures.source in
     let same = of_source c.tokens-tokens.ensures.source c.in_ok-sites.sites.items c.deref-2.result.now c.deref.result.now (standings 0 (tree_of c.args.module.now)) c.deref-2.ensures.value (c.deref.ensures.value ∙ c.in_ok-standings.ensures) c.in_ok-sites.ensures scan in
-    subst (λ (n : ℕ). n ≤ max_text) (λ i. laid_len c.args.indent (length (text i)) 0 (same i)) (c.fits.ensures.0 c.if-not-fits.false)
+    subst (λ (n : ℕ). n ≤ max_text) ((λ i. laid_len c.args.indent (length (text i)) 0 (same i)) ∙ counted c.args.module.now c.args.indent scan) (c.fits.ensures.0 c.if-not-fits.false)

@@ -1,0 +1,60 @@
+-- The standings of a tree don't depend on its names.
+use Rattle.std.proofs.Common.{◌≡◌, ℕ, List, [], ◌∷◌, ◌++◌, refl}
+use Rattle.ob0_tree.specs.Tree.{Sort, Tree, none, one, end, more, compares, relates, sum, adds, product, multiplies, designator, integer, parenthesised, negation, field, index, empty, assigns, calls, branches, while_loop, repeat_loop, no_arguments, some_arguments, then_argument, runs, then_statement, elsif_branch, else_branch, listed, then_name, named_type, array_type, record_type, no_fields, some_fields, then_fields, no_formals, some_formals, value_section, variable_section, then_section, declares_constant, declares_constants, declares_type, declares_types, declares_variable, declares_variables, declares_procedure, declares, begins, has_body, is_module, mapped}
+use Rattle.ob0_layout.specs.declared.standing.Standing.TheVariants.{Begins, Opening, Joining, Plain}
+use Rattle.ob0_layout.specs.Standings.{standings, deeper, in_line, sign_standing}
+
+pub standings_mapped : {N M : Type 0} {s : Sort} (u : N → M) (v : ℕ → ℕ) (k : ℕ) (t : Tree N s) → standings k (mapped u v t) ≡ standings k t
+standings_mapped u v k none = refl
+standings_mapped u v k (one t) = λ j. standings_mapped u v k t j
+standings_mapped u v k end = refl
+standings_mapped u v k (more t ts) = λ j. standings_mapped u v k t j ++ standings_mapped u v k ts j
+standings_mapped u v k (compares left compared) = λ j. standings_mapped u v k left j ++ standings_mapped u v k compared j
+standings_mapped u v k (relates relation right) = λ j. Plain ∷ standings_mapped u v k right j
+standings_mapped u v k (sum sign first terms) = λ j. sign_standing sign ++ (standings_mapped u v k first j ++ standings_mapped u v k terms j)
+standings_mapped u v k (adds operator t) = λ j. Plain ∷ standings_mapped u v k t j
+standings_mapped u v k (product first factors) = λ j. standings_mapped u v k first j ++ standings_mapped u v k factors j
+standings_mapped u v k (multiplies operator f) = λ j. Plain ∷ standings_mapped u v k f j
+standings_mapped u v k (designator name selectors) = λ j. Plain ∷ standings_mapped u v k selectors j
+standings_mapped u v k (integer n) = refl
+standings_mapped u v k (parenthesised e) = λ j. Plain ∷ (standings_mapped u v k e j ++ (Plain ∷ []))
+standings_mapped u v k (negation f) = λ j. Plain ∷ standings_mapped u v k f j
+standings_mapped u v k (field name) = refl
+standings_mapped u v k (index e) = λ j. Plain ∷ (standings_mapped u v k e j ++ (Plain ∷ []))
+standings_mapped u v k empty = refl
+standings_mapped u v k (assigns name selectors e) = λ j. Begins k ∷ (standings_mapped u v 0 selectors j ++ (Plain ∷ standings_mapped u v 0 e j))
+standings_mapped u v k (calls name args) = λ j. Begins k ∷ standings_mapped u v 0 args j
+standings_mapped u v k (branches condition s elsifs rest) = λ j. Begins k ∷ (standings_mapped u v 0 condition j ++ (Plain ∷ (standings_mapped u v (deeper k) s j ++ (standings_mapped u v k elsifs j ++ (standings_mapped u v k rest j ++ (Begins k ∷ []))))))
+standings_mapped u v k (while_loop condition s) = λ j. Begins k ∷ (standings_mapped u v 0 condition j ++ (Plain ∷ (standings_mapped u v (deeper k) s j ++ (Begins k ∷ []))))
+standings_mapped u v k (repeat_loop s condition) = λ j. Begins k ∷ (standings_mapped u v (deeper k) s j ++ (Begins k ∷ standings_mapped u v 0 condition j))
+standings_mapped u v k no_arguments = refl
+standings_mapped u v k (some_arguments e es) = λ j. Opening ∷ (standings_mapped u v k e j ++ (standings_mapped u v k es j ++ (Plain ∷ [])))
+standings_mapped u v k (then_argument e) = λ j. Plain ∷ standings_mapped u v k e j
+standings_mapped u v k (runs first statements) = λ j. standings_mapped u v k first j ++ standings_mapped u v k statements j
+standings_mapped u v k (then_statement s) = λ j. Plain ∷ standings_mapped u v k s j
+standings_mapped u v k (elsif_branch condition s) = λ j. Begins k ∷ (standings_mapped u v 0 condition j ++ (Plain ∷ standings_mapped u v (deeper k) s j))
+standings_mapped u v k (else_branch s) = λ j. Begins k ∷ standings_mapped u v (deeper k) s j
+standings_mapped u v k (listed name others) = λ j. Plain ∷ standings_mapped u v k others j
+standings_mapped u v k (then_name name) = refl
+standings_mapped u v k (named_type name) = refl
+standings_mapped u v k (array_type size t) = λ j. Plain ∷ (standings_mapped u v k size j ++ (Plain ∷ standings_mapped u v k t j))
+standings_mapped u v k (record_type first others) = λ j. Plain ∷ (standings_mapped u v k first j ++ (standings_mapped u v k others j ++ (Plain ∷ [])))
+standings_mapped u v k no_fields = refl
+standings_mapped u v k (some_fields ns t) = λ j. standings_mapped u v k ns j ++ (Plain ∷ standings_mapped u v k t j)
+standings_mapped u v k (then_fields f) = λ j. Plain ∷ standings_mapped u v k f j
+standings_mapped u v k no_formals = refl
+standings_mapped u v k (some_formals first others) = λ j. Opening ∷ (standings_mapped u v k first j ++ (standings_mapped u v k others j ++ (Plain ∷ [])))
+standings_mapped u v k (value_section ns t) = λ j. standings_mapped u v k ns j ++ (Plain ∷ standings_mapped u v k t j)
+standings_mapped u v k (variable_section ns t) = λ j. Plain ∷ (standings_mapped u v k ns j ++ (Plain ∷ standings_mapped u v k t j))
+standings_mapped u v k (then_section s) = λ j. Plain ∷ standings_mapped u v k s j
+standings_mapped u v k (declares_constant name e) = λ j. Begins (deeper k) ∷ Plain ∷ (standings_mapped u v 0 e j ++ (Plain ∷ []))
+standings_mapped u v k (declares_constants cs) = λ j. Begins k ∷ standings_mapped u v k cs j
+standings_mapped u v k (declares_type name t) = λ j. Begins (deeper k) ∷ Plain ∷ (standings_mapped u v 0 t j ++ (Plain ∷ []))
+standings_mapped u v k (declares_types ts) = λ j. Begins k ∷ standings_mapped u v k ts j
+standings_mapped u v k (declares_variable ns t) = λ j. in_line (deeper k) (standings_mapped u v 0 ns j) ++ (Plain ∷ (standings_mapped u v 0 t j ++ (Plain ∷ [])))
+standings_mapped u v k (declares_variables vs) = λ j. Begins k ∷ standings_mapped u v k vs j
+standings_mapped u v k (declares_procedure name fs b closing) = λ j. Begins (deeper k) ∷ Plain ∷ (standings_mapped u v 0 fs j ++ (Plain ∷ (standings_mapped u v (deeper k) b j ++ (Begins (deeper k) ∷ Plain ∷ Plain ∷ []))))
+standings_mapped u v k (declares cs ts vs ps) = λ j. standings_mapped u v k cs j ++ (standings_mapped u v k ts j ++ (standings_mapped u v k vs j ++ standings_mapped u v k ps j))
+standings_mapped u v k (begins s) = λ j. Begins k ∷ standings_mapped u v (deeper k) s j
+standings_mapped u v k (has_body ds b) = λ j. standings_mapped u v k ds j ++ standings_mapped u v k b j
+standings_mapped u v k (is_module name b closing) = λ j. Begins k ∷ Plain ∷ Plain ∷ (standings_mapped u v k b j ++ (Begins k ∷ Plain ∷ Plain ∷ []))
