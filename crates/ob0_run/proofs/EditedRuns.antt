@@ -1,6 +1,6 @@
 -- The run of an edited module is the module's.
 use Rattle.std.proofs.Common.{List, None, Option, Some, [], ap, arith, false, if◌then◌else◌, le_refl, length, map, option_and_then, option_map, refl, subst, subst₂, suc, sym, true, zero, ℕ, ℤ, ⊎_elim, ◌++◌, ◌+◌, ◌<◌, ◌∙◌, ◌∷◌, ◌≡◌, ◌≤◌}
-use Rattle.ob0_tree.specs.Tree.{Tree, begins, block, body, constant, declares, declares_procedure, declares_variable, end, formals, further_section, has_body, is_module, item, items, maybe, module_text, more, none, occurrences, one, procedure, sequence, then_section, value_section, variable, variable_section}
+use Rattle.ob0_tree.specs.Tree.{Tree, begins, block, body, declares, declares_procedure, declares_variable, end, formals, further_section, has_body, is_module, item, items, maybe, module_text, more, none, occurrences, one, procedure, sequence, then_section, value_section, variable, variable_section}
 use Rattle.ob0_scope.specs.Names.{Name, as_names, same_name}
 use Rattle.ob0_scope.specs.Parts.{block_statements, constant_names, formal_names, formal_sections, named_types, names_listed, procedure_formals, procedure_name, section_constants, section_types, section_variables, variable_names}
 use Rattle.ob0_scope.proofs.EditedTrees.{Edit, SameAt, edited, edited_block, edited_procedure, edited_procedures, inline-nothing, leaf, leaving_out, left-module, with_names-same, writing, written-module}

@@ -10,6 +10,7 @@ use Rattle.ob0_run.proofs.EditedRuns.{run-edited}
 
 pub inlining_everywhere_keeps_modules-holds : InliningEverywhereKeepsModules
 unfolding run
-inlining_everywhere_keeps_modules-holds m d w v c seen well =
-    (inlining_everywhere_keeps_well_typed-holds m d w v c seen well,
-    λ input c' t. ap (λ a. run_over as_names a input c' t) (sym (gone-module (all_bound_to m d) v d m)) ∙ run-edited (everywhere (all_bound_to m d) v d) w m (everywhere-fitted m d w v c seen well) input c' t)
+inlining_everywhere_keeps_modules-holds m d w v c seen well = (
+  inlining_everywhere_keeps_well_typed-holds m d w v c seen well,
+  λ input c' t. ap (λ a. run_over as_names a input c' t) (sym (gone-module (all_bound_to m d) v d m)) ∙ run-edited (everywhere (all_bound_to m d) v d) w m (everywhere-fitted m d w v c seen well) input c' t,
+)

@@ -1,6 +1,6 @@
 -- In a block that fits, a constant's names stand alone as factors.
 use Rattle.std.proofs.Common.{Bool, List, None, Option, Some, ap, arith, eq-eqb, if◌then◌else◌, le_of_lt, le_refl, length, map, ne_eqb, option_and_then, option_map, refl, subst, suc, sym, true, true≢false, ℕ, ◌&&◌, ◌++◌, ◌+◌, ◌<◌, ◌==◌, ◌∙◌, ◌∷◌, ◌≡◌, ◌≤◌}
-use Rattle.ob0_tree.specs.Tree.{Tree, begins, block, body, constant, declares, declares_constant, declares_procedure, declares_type, declares_variable, end, further_section, has_body, item, items, maybe, more, none, occurrences, one, procedure, then_section, type_name, variable, variables, written_type}
+use Rattle.ob0_tree.specs.Tree.{Tree, begins, block, body, constant, declares, declares_constant, declares_procedure, declares_type, declares_variable, end, further_section, has_body, item, items, maybe, more, none, occurrences, one, procedure, then_section, type_name, variable, written_type}
 use Rattle.ob0_scope.specs.Elsewhere.{names_elsewhere}
 use Rattle.ob0_scope.specs.Names.{Name, as_names}
 use Rattle.ob0_scope.specs.Parts.{block_constants, block_types, block_variables, constant_names, formal_names, formal_sections, named_types, names_listed, section_constants, section_names, section_type, section_types, section_variables, variable_names}
@@ -8,7 +8,6 @@ use Rattle.ob0_scope.specs.Scopes.{Scope, after_block, after_names, after_proced
 use Rattle.ob0_scope.proofs.EditedTrees.{Edit, edited_block, edited_constants, leaf}
 use Rattle.ob0_scope.proofs.NoneLeft.{NoneOf}
 use Rattle.ob0_scope.proofs.Ordinals.{after_names-append, le-after_names, le-after_procedure}
-use Rattle.ob0_scope.proofs.Peeling.{both}
 use Rattle.ob0_scope.proofs.Places.{EachBlock, EachConstant, EachProcedure, EachSection, EachType, EachVariable, Placed}
 use Rattle.ob0_values.specs.Values.{Shape, Value, fits}
 use Rattle.ob0_types.specs.ConstantValues.{no_constant, value_among, value_in_block, value_in_procedure, value_in_procedures}
@@ -61,14 +60,19 @@ alone-constants {V} {P} edit w X p j k marks s seven (more (declares_constant x 
     let known : constant_value (meanings as_names (knowns marks)) e ≡ Some v = known-value p marks e ∙ ev in
     let choice : Bool → Option Value = λ t. if t then Some v else value_among ((x, a_constant v) ∷ knowns marks) edit.constant (suc k) cs in
     let value : k ≤ edit.constant → edit.constant < n → choice (k == edit.constant) ≡ Some w = λ l m.
-    sym (ap (option_and_then (λ v. if k == edit.constant then Some v else value_among ((x, a_constant v) ∷ knowns marks) edit.constant (suc k) cs)) known) ∙ worth l m in
-    (constant_value-elsewhere (IsOf edit.constant (scope_marked marks)) (read_meanings p marks) w (stands-constant edit w X p k marks s) e v ev,
-    alone-constants edit w X p (j + length (occurrences e)) (suc k) (record { name = x; ordinal = k; object = a_constant v } ∷ marks)
-    (le_refl (suc k), record {
-      worth = λ t. ap a_constant (some_inverse (sym (ap choice (eq-eqb k edit.constant t)) ∙ value (omega (arith, t)) (omega (arith, t, below))));
-      yes_is = λ t. absurd (omega (arith, t, seven));
-      no_is = λ t. absurd (omega (arith, t, seven));
-    }, tt, s) (omega (arith, seven)) cs (λ l m. sym (ap choice (ne_eqb k edit.constant (λ t. omega (arith, t, l)))) ∙ value (omega (arith, l)) m) env h₁)
+    sym (ap (option_and_then (λ v. if k == edit.constant then Some v else value_among ((x, a_constant v) ∷ knowns marks) edit.constant (suc k) cs)) known) ∙ worth l m in (
+      constant_value-elsewhere (IsOf edit.constant (scope_marked marks)) (read_meanings p marks) w (stands-constant edit w X p k marks s) e v ev,
+      alone-constants edit w X p (j + length (occurrences e)) (suc k) (record { name = x; ordinal = k; object = a_constant v } ∷ marks) (
+        le_refl (suc k),
+        record {
+          worth = λ t. ap a_constant (some_inverse (sym (ap choice (eq-eqb k edit.constant t)) ∙ value (omega (arith, t)) (omega (arith, t, below))));
+          yes_is = λ t. absurd (omega (arith, t, seven));
+          no_is = λ t. absurd (omega (arith, t, seven));
+        },
+        tt,
+        s,
+      ) (omega (arith, seven)) cs (λ l m. sym (ap choice (ne_eqb k edit.constant (λ t. omega (arith, t, l)))) ∙ value (omega (arith, l)) m) env h₁,
+    )
 
 pub alone-types : {V P Q : Type 0} (edit : Edit) (w : Value) (X : Marks V P → Name → ℕ → P → Type 0) (p : ℕ → P → Q) (i j k : ℕ) (marks : Marks V P) → Sound edit w X k marks → 7 ≤ k → (ds : Tree Name (items type_name))
     → Outside edit k (after_names k (named_types ds)) → (env : Environment Name V Q) → declare_types as_names (read p marks) i ds ≡ Some env → EachType (StandsAlone edit.constant) j (scope_marked marks) k ds
@@ -76,10 +80,11 @@ unfolding declare_types
 alone-types edit w X p i j k marks s seven end outside env h = tt
 alone-types edit w X p i j k marks s seven (more (declares_type x t) ds) outside env h =
     let (shape, es, h₁) = then_some (denoted (read_meanings p marks) i t) (λ s. declare_types as_names ((x, a_type s) ∷ read p marks) (i + constructors t) ds) env h in
-    let below : suc k ≤ after_names (suc k) (named_types ds) = le-after_names (suc k) (named_types ds) in
-    (denoted-elsewhere (IsOf edit.constant (scope_marked marks)) (read_meanings p marks) w (stands-constant edit w X p k marks s) i t shape es,
-    alone-types edit w X p (i + constructors t) (j + length (occurrences t)) (suc k) (record { name = x; ordinal = k; object = a_type shape } ∷ marks)
-    (le_refl (suc k), outside-right edit w x k (a_type shape) seven (λ a b. outside a (omega (arith, a, b, below))), tt, s) (omega (arith, seven)) ds (λ a b. outside (omega (arith, a)) b) env h₁)
+    let below : suc k ≤ after_names (suc k) (named_types ds) = le-after_names (suc k) (named_types ds) in (
+      denoted-elsewhere (IsOf edit.constant (scope_marked marks)) (read_meanings p marks) w (stands-constant edit w X p k marks s) i t shape es,
+      alone-types edit w X p (i + constructors t) (j + length (occurrences t)) (suc k) (record { name = x; ordinal = k; object = a_type shape } ∷ marks)
+          (le_refl (suc k), outside-right edit w x k (a_type shape) seven (λ a b. outside a (omega (arith, a, b, below))), tt, s) (omega (arith, seven)) ds (λ a b. outside (omega (arith, a)) b) env h₁,
+    )
 
 pub alone-variables : (edit : Edit) (w : Value) (i j k : ℕ) (marks : Marks Shape Signature) → Checked edit w k marks → 7 ≤ k → (gs : Tree Name (items variable))
     → Outside edit k (after_names k (variable_names gs)) → (env : TypeEnvironment Name) → declare_typed as_names i gs (read as_signed marks) ≡ Some env → EachVariable (StandsAlone edit.constant) j (scope_marked marks) k gs
@@ -94,11 +99,12 @@ alone-variables edit w i j k marks s seven (more (declares_variable ns t) gs) ou
     let whole : after_names k (xs ++ ys) ≡ after_names n ys = after_names-append k xs ys in
     let last : n ≤ after_names n ys = le-after_names n ys in
     let inner : Marks Shape Signature = mark_all k (with_value shape xs) marks in
-    let bound = typed-names edit w k xs shape marks s seven (λ l m. outside l (omega (arith, m, whole, last))) in
-    (denoted-elsewhere (IsOf edit.constant (scope_marked marks)) (read_meanings as_signed marks) w (stands-constant edit w anything as_signed k marks s) i t shape es,
-    subst (λ scope. EachVariable (StandsAlone edit.constant) (j + length (occurrences t)) scope n gs) bound.0.scoped
-    (alone-variables edit w (i + constructors t) (j + length (occurrences t)) n inner bound.0.sound (omega (arith, seven, above)) gs (λ l m. outside (omega (arith, l, above)) (omega (arith, m, whole))) env
-    (ap (declare_typed as_names (i + constructors t) gs) (sym bound.1) ∙ h₁)))
+    let bound = typed-names edit w k xs shape marks s seven (λ l m. outside l (omega (arith, m, whole, last))) in (
+      denoted-elsewhere (IsOf edit.constant (scope_marked marks)) (read_meanings as_signed marks) w (stands-constant edit w anything as_signed k marks s) i t shape es,
+      subst (λ scope. EachVariable (StandsAlone edit.constant) (j + length (occurrences t)) scope n gs) bound.0.scoped
+          (alone-variables edit w (i + constructors t) (j + length (occurrences t)) n inner bound.0.sound (omega (arith, seven, above)) gs (λ l m. outside (omega (arith, l, above)) (omega (arith, m, whole))) env
+          (ap (declare_typed as_names (i + constructors t) gs) (sym bound.1) ∙ h₁)),
+    )
 
 pub alone-sections : (edit : Edit) (w : Value) (i j k : ℕ) (marks : Marks Shape Signature) → Checked edit w k marks → 7 ≤ k → (fs : Tree Name (items further_section))
     → Outside edit k (after_names k (formal_names fs)) → (ps : List (TypedParameter Name)) → typed_parameters as_names (read as_signed marks) i fs ≡ Some ps → EachSection (StandsAlone edit.constant) j (scope_marked marks) k fs
@@ -117,11 +123,12 @@ alone-sections edit w i j k marks s seven (more (then_section f) fs) outside ps 
     let whole : after_names k (xs ++ ys) ≡ after_names n ys = after_names-append k xs ys in
     let last : n ≤ after_names n ys = le-after_names n ys in
     let inner : Marks Shape Signature = mark_all k (with_value shape xs) marks in
-    let bound = typed-names edit w k xs shape marks s seven (λ l m. outside l (omega (arith, m, whole, last))) in
-    (denoted-elsewhere (IsOf edit.constant (scope_marked marks)) (read_meanings as_signed marks) w (stands-constant edit w anything as_signed k marks s) i t shape es,
-    subst (λ scope. EachSection (StandsAlone edit.constant) (j + length (occurrences f)) scope n fs) bound.0.scoped
-    (alone-sections edit w (i + constructors t) (j + length (occurrences f)) n inner bound.0.sound (omega (arith, seven, above)) fs (λ l m. outside (omega (arith, l, above)) (omega (arith, m, whole))) rest
-    (ap (λ env. typed_parameters as_names env (i + constructors t) fs) (sym bound.1) ∙ er)))
+    let bound = typed-names edit w k xs shape marks s seven (λ l m. outside l (omega (arith, m, whole, last))) in (
+      denoted-elsewhere (IsOf edit.constant (scope_marked marks)) (read_meanings as_signed marks) w (stands-constant edit w anything as_signed k marks s) i t shape es,
+      subst (λ scope. EachSection (StandsAlone edit.constant) (j + length (occurrences f)) scope n fs) bound.0.scoped
+          (alone-sections edit w (i + constructors t) (j + length (occurrences f)) n inner bound.0.sound (omega (arith, seven, above)) fs (λ l m. outside (omega (arith, l, above)) (omega (arith, m, whole))) rest
+          (ap (λ env. typed_parameters as_names env (i + constructors t) fs) (sym bound.1) ∙ er)),
+    )
 
 pub alone-body : (edit : Edit) (w : Value) (n : ℕ) (marks : Marks Shape Signature) → Checked edit w n marks → (statements : Tree Name (maybe body)) → body_fits as_names (read as_signed marks) statements ≡ true → NoneOf (IsOf edit.constant (scope_marked marks)) (names_elsewhere statements)
 unfolding body_fits
@@ -165,16 +172,17 @@ mutual
       (declarations-edited edit w lit i j k marks s seven b here worth) env₂ e₂ in
       let later = alone-procedures edit w lit (after_variables i b) jp js (first_procedure k b) inner₂ left₂.sound (omega (arith, seven, above, types, variables)) statements ps
       (subst (λ scope. EachProcedure (Here edit w) jp scope (first_procedure k b) ps) (sym left₂.scoped) here.3) (procedures-worth edit w (knowns marks) (knowns inner₂) k b worth left₂.value)
-      (ap (λ env. procedures_fit as_names env (after_variables i b) statements ps) r₂ ∙ fits) in
-      (alone-constants edit w anything as_signed j k marks s seven (section_constants cs) (constants-worth edit w (knowns marks) k b worth) env₀ e₀,
-      subst (λ scope. EachType (StandsAlone d) jt scope (first_type k b) (section_types ts)) left₀.scoped
-      (alone-types edit w anything as_signed i jt (first_type k b) inner₀ left₀.sound (omega (arith, seven, above)) (section_types ts) (λ l m. types-outside edit w (knowns marks) k b worth l (omega (arith, m, variables))) env₁
-      (ap (λ env. declare_types as_names env i (section_types ts)) r₀ ∙ f₀)),
-      subst (λ scope. EachVariable (StandsAlone d) jv scope (first_variable k b) (section_variables vs)) left₁.scoped
-      (alone-variables edit w (after_types i b) jv (first_variable k b) inner₁ left₁.sound (omega (arith, seven, above, types)) (section_variables vs) (λ l m. types-outside edit w (knowns marks) k b worth (omega (arith, l, types)) m) env₂
-      (ap (declare_typed as_names (after_types i b) (section_variables vs)) r₁ ∙ f₁)),
-      subst (λ scope. EachProcedure (StandsAlone d) jp scope (first_procedure k b) ps) left₂.scoped later.0,
-      subst (λ scope. NoneOf (IsOf d (declare_procedure_names (first_procedure k b) ps scope)) (names_elsewhere statements)) left₂.scoped later.1)
+      (ap (λ env. procedures_fit as_names env (after_variables i b) statements ps) r₂ ∙ fits) in (
+        alone-constants edit w anything as_signed j k marks s seven (section_constants cs) (constants-worth edit w (knowns marks) k b worth) env₀ e₀,
+        subst (λ scope. EachType (StandsAlone d) jt scope (first_type k b) (section_types ts)) left₀.scoped
+            (alone-types edit w anything as_signed i jt (first_type k b) inner₀ left₀.sound (omega (arith, seven, above)) (section_types ts) (λ l m. types-outside edit w (knowns marks) k b worth l (omega (arith, m, variables))) env₁
+            (ap (λ env. declare_types as_names env i (section_types ts)) r₀ ∙ f₀)),
+        subst (λ scope. EachVariable (StandsAlone d) jv scope (first_variable k b) (section_variables vs)) left₁.scoped
+            (alone-variables edit w (after_types i b) jv (first_variable k b) inner₁ left₁.sound (omega (arith, seven, above, types)) (section_variables vs) (λ l m. types-outside edit w (knowns marks) k b worth (omega (arith, l, types)) m) env₂
+            (ap (declare_typed as_names (after_types i b) (section_variables vs)) r₁ ∙ f₁)),
+        subst (λ scope. EachProcedure (StandsAlone d) jp scope (first_procedure k b) ps) left₂.scoped later.0,
+        subst (λ scope. NoneOf (IsOf d (declare_procedure_names (first_procedure k b) ps scope)) (names_elsewhere statements)) left₂.scoped later.1,
+      )
 
   pub alone-procedures : (edit : Edit) (w : Value) → Literal edit w → (i j js k : ℕ) (marks : Marks Shape Signature) → Checked edit w k marks → 7 ≤ k → (statements : Tree Name (maybe body)) (ps : Tree Name (items procedure))
       → EachProcedure (Here edit w) j (scope_marked marks) k ps → Worth edit w k (after_procedures k ps) (value_in_procedures (knowns marks) edit.constant k ps)
@@ -207,11 +215,17 @@ mutual
       subst (λ ys. LeftTyped edit w (after_names (suc k) ys) (declare_names (suc k) ys (scope_marked inner)) (Some (bind_names ys no_constant (knowns inner))) (mark_all (suc k) pairs inner)) listed_names
       (all-left edit w anything (suc k) pairs inner sound (omega (arith, seven)) (λ l m. outside' l (subst (λ ys. edit.constant < after_names (suc k) ys) listed_names m))) in
       let last = alone-procedures edit w lit (i + procedure_constructors p) jr js (after_procedure (suc k) p) inner (Sound-weaken edit w anything (suc k) (after_procedure (suc k) p) inner behind sound) (omega (arith, seven, behind)) statements rest
-      here.1 (rest-worth edit w (knowns marks) k p rest worth) both.1 in
-      (((alone-sections edit w i j (suc k) marks later (omega (arith, seven)) (formal_sections fs) outside' ps e,
-      subst (λ scope. EachBlock (StandsAlone d) jb scope n b) left.scoped
-      (alone-block edit w lit (i + formals_constructors (formal_sections fs)) jb n (mark_all (suc k) pairs inner) left.sound (omega (arith, seven, above)) b
-      (subst (λ scope. EachBlock (Here edit w) jb scope n b) (sym left.scoped) here.0.1)
-      (subst (λ known. Worth edit w n (after_block n b) (value_in_block known edit.constant n b)) (some_inverse left.value) (body-worth edit w ((x, no_constant) ∷ knowns marks) k x closing fs b mine))
-      (sym (ap (λ env. block_fits as_names env (i + formals_constructors (formal_sections fs)) b) (bind_typed-all ps (heading x ps (read as_signed marks)) ∙ read-all as_signed (suc k) pairs inner)) ∙ both.0))),
-      last.0), last.1)
+      here.1 (rest-worth edit w (knowns marks) k p rest worth) both.1 in (
+        (
+          (
+            alone-sections edit w i j (suc k) marks later (omega (arith, seven)) (formal_sections fs) outside' ps e,
+            subst (λ scope. EachBlock (StandsAlone d) jb scope n b) left.scoped
+                (alone-block edit w lit (i + formals_constructors (formal_sections fs)) jb n (mark_all (suc k) pairs inner) left.sound (omega (arith, seven, above)) b
+                (subst (λ scope. EachBlock (Here edit w) jb scope n b) (sym left.scoped) here.0.1)
+                (subst (λ known. Worth edit w n (after_block n b) (value_in_block known edit.constant n b)) (some_inverse left.value) (body-worth edit w ((x, no_constant) ∷ knowns marks) k x closing fs b mine))
+                (sym (ap (λ env. block_fits as_names env (i + formals_constructors (formal_sections fs)) b) (bind_typed-all ps (heading x ps (read as_signed marks)) ∙ read-all as_signed (suc k) pairs inner)) ∙ both.0)),
+          ),
+          last.0,
+        ),
+        last.1,
+      )

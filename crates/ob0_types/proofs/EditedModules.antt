@@ -1,6 +1,6 @@
 -- Modules edited: what an edit maker knows is what the parts of a module need, and the edited module is well-typed.
 use Rattle.std.proofs.Common.{IsTrue, List, None, Option, Some, [], add-zero, ap, arith, codes, false, if◌then◌else◌, le_refl, lit<, ltb-false, nat_lt, option_and_then, refl, slice_get, subst, suc, sym, true, true≢false, zero-add, ℕ, ◌+◌, ◌<◌, ◌∙◌, ◌∷◌, ◌≡◌, ◌≢◌, ◌≤◌}
-use Rattle.ob0_tree.specs.Tree.{Tree, constant, factor, is_module, module_text, occurrences}
+use Rattle.ob0_tree.specs.Tree.{Tree, factor, is_module, module_text, occurrences}
 use Rattle.ob0_scope.specs.Inlining.{Uses, inline_in}
 use Rattle.ob0_scope.specs.Occurrences.{binds, label_ordinal}
 use Rattle.ob0_scope.specs.Parts.{module_block}

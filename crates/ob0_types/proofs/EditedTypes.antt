@@ -1,6 +1,6 @@
 -- An edited module fits where the module does.
 use Rattle.std.proofs.Common.{List, None, Option, Some, [], ap, arith, false, if◌then◌else◌, le_of_lt, le_refl, le_trans, length, map, nat_lt, negsuc, option_and_then, option_map, pos, refl, subst, subst₂, suc, sym, true, ℕ, ⊎_elim, ◌&&◌, ◌++◌, ◌+◌, ◌<◌, ◌∙◌, ◌∷◌, ◌≡◌, ◌≤◌}
-use Rattle.ob0_tree.specs.Tree.{Tree, adds, begins, block, body, compares, constant, declares, declares_procedure, declares_variable, end, factor, further_section, has_body, integer, item, items, mark, maybe, more, none, occurrences, one, parenthesised, procedure, product, sequence, sum, then_section, variable, written_type}
+use Rattle.ob0_tree.specs.Tree.{Tree, adds, begins, block, body, compares, declares, declares_procedure, declares_variable, end, factor, further_section, has_body, integer, item, items, maybe, more, none, occurrences, one, parenthesised, procedure, product, sequence, sum, then_section, variable, written_type}
 use Rattle.ob0_scope.specs.Names.{Name, as_names}
 use Rattle.ob0_scope.specs.Parts.{block_constants, block_types, block_variables, constant_names, formal_names, formal_sections, named_types, names_listed, section_constants, section_names, section_type, section_types, section_variables, variable_names}
 use Rattle.ob0_scope.specs.Scopes.{Scope, after_block, after_names, after_procedure, after_procedures, declare_names, declare_procedure_names, first_procedure, first_type, first_variable, procedures_scope, variables_scope}

@@ -1,6 +1,6 @@
 -- A constant inlined everywhere keeps a module well-typed.
 use Rattle.std.proofs.Common.{List, Some, [], ap, arith, codes, eq-eqb, false, if◌then◌else◌, le_refl, nat_lt, negsuc, option_and_then, pos, refl, slice_get, subst, suc, sym, true, true≢false, zero-add, ℕ, ⊎_elim, ◌∙◌, ◌∷◌, ◌≡◌, ◌≤◌}
-use Rattle.ob0_tree.specs.Tree.{Sort, Tree, adds, compares, constant, end, factor, integer, is_module, module_text, more, none, occurrences, parenthesised, product, sum}
+use Rattle.ob0_tree.specs.Tree.{Sort, Tree, adds, compares, end, factor, integer, is_module, module_text, more, none, occurrences, parenthesised, product, sum}
 use Rattle.ob0_scope.specs.Inlining.{Uses, all_bound_to}
 use Rattle.ob0_scope.specs.Names.{Label, Name, as_names}
 use Rattle.ob0_scope.specs.Occurrences.{bindings, binds, label_ordinal}
@@ -60,21 +60,24 @@ none-of-unshown edit w j scope (x ∷ xs) e told gives_way =
 
 -- where the constant's names stand alone as factors, none is left
 pub here-everywhere : (edit : Edit) (w : Value) → Literal edit w → (s : Sort) (j : ℕ) (scope : Scope Name) (t : Tree Name s) → Told edit w s j scope t → StandsAlone edit.constant s j scope t → Here edit w s j scope t
-here-everywhere edit w lit s j scope t told alone_there =
-    (told.0, all-stay edit scope (occurrences (leaf edit j t))
-    (⊎_elim
-    (λ yes_shown. none-left edit.uses edit.literal (IsOf edit.constant scope) (literal-names edit.constant w edit.literal lit.written lit.ordinal scope yes_shown) j t told.1 alone_there)
-    (λ not_shown. subst (λ a. NoneOf (IsOf edit.constant scope) (occurrences a)) (sym (inline-nothing edit.uses edit.literal j t (none-used edit w j scope (occurrences t) not_shown told.0)))
-    (none-of-unshown edit w j scope (occurrences t) not_shown told.0 told.1))
-    (cases_Bool (shown w scope))))
+here-everywhere edit w lit s j scope t told alone_there = (
+  told.0,
+  all-stay edit scope (occurrences (leaf edit j t))
+      (⊎_elim
+      (λ yes_shown. none-left edit.uses edit.literal (IsOf edit.constant scope) (literal-names edit.constant w edit.literal lit.written lit.ordinal scope yes_shown) j t told.1 alone_there)
+      (λ not_shown. subst (λ a. NoneOf (IsOf edit.constant scope) (occurrences a)) (sym (inline-nothing edit.uses edit.literal j t (none-used edit w j scope (occurrences t) not_shown told.0)))
+      (none-of-unshown edit w j scope (occurrences t) not_shown told.0 told.1))
+      (cases_Bool (shown w scope))),
+)
 
 told-from : (edit : Edit) (w : Value) (j : ℕ) (scope : Scope Name) (xs : List Name) → Each (Both as_names (looking_for (truth_name w)) (IsUseOf edit.uses edit.constant) (IsShownAs edit.uses w)) j scope xs
     → Each (Writes edit w) j scope xs × AllGiveWay edit.uses (IsOf edit.constant scope) j xs
 told-from edit w j scope [] both = (tt, tt)
 told-from edit w j scope (x ∷ xs) both =
-    let rest = told-from edit w (suc j) scope xs both.1 in
-    (((λ e. sym (label_ordinal-of as_names scope x) ∙ both.0.0.0 e, λ e. shown-from edit.uses w j scope x both.0.1 e), rest.0),
-    (λ k. both.0.0.1 (label_ordinal-of as_names scope x ∙ k), rest.1))
+    let rest = told-from edit w (suc j) scope xs both.1 in (
+      ((λ e. sym (label_ordinal-of as_names scope x) ∙ both.0.0.0 e, λ e. shown-from edit.uses w j scope x both.0.1 e), rest.0),
+      (λ k. both.0.0.1 (label_ordinal-of as_names scope x ∙ k), rest.1),
+    )
 
 -- nothing is edited
 no_writes : (v : Tree Name factor) (d : ℕ) (w : Value) (j : ℕ) (scope : Scope Name) (xs : List Name) → Each (Writes (writing no_uses v d) w) j scope xs

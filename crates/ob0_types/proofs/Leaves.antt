@@ -1,6 +1,6 @@
 -- Edited expressions and types at a place: over the environment that an edit leaves they mean what they meant.
 use Rattle.std.proofs.Common.{Bool, List, None, Option, Some, [], ap, codes, eqb-true, false, option_map, refl, suc, sym, true, true≢false, ℕ, ⊎_elim, ◌∙◌, ◌∷◌, ◌≡◌, ◌≤◌}
-use Rattle.ob0_tree.specs.Tree.{Tree, constant, expression, occurrences, written_type}
+use Rattle.ob0_tree.specs.Tree.{Tree, expression, occurrences, written_type}
 use Rattle.ob0_scope.specs.Mapping.{with_names}
 use Rattle.ob0_scope.specs.Names.{Name, as_names}
 use Rattle.ob0_scope.specs.Scopes.{Scope, ordinal_of, same_ordinal}
@@ -71,9 +71,10 @@ read-stands_for q marks x = ap newest (read-from q marks x) ∙ read-stands q ma
 pub uses-read : {V P Q : Type 0} (edit : Edit) (w : Value) (X : Marks V P → Name → ℕ → P → Type 0) (p : ℕ → P → Q) (n : ℕ) (marks : Marks V P) → Sound edit w X n marks → (j : ℕ) (xs : List Name)
     → Each (Writes edit w) j (scope_marked marks) xs → UsesAre edit.uses (StandsFor (read_meanings p marks) w) j xs
 uses-read edit w X p n marks s j [] told = tt
-uses-read edit w X p n marks s j (x ∷ xs) told =
-    (λ u. read-stands_for p marks x ∙ worth-found edit w p (found marks x) (found-right edit w X n marks x s) (sym (ordinal-found marks x) ∙ told.0.0 u),
-    uses-read edit w X p n marks s (suc j) xs told.1)
+uses-read edit w X p n marks s j (x ∷ xs) told = (
+  λ u. read-stands_for p marks x ∙ worth-found edit w p (found marks x) (found-right edit w X n marks x s) (sym (ordinal-found marks x) ∙ told.0.0 u),
+  uses-read edit w X p n marks s (suc j) xs told.1,
+)
 
 pub seen-read : {V P Q : Type 0} (edit : Edit) (w : Value) (X : Marks V P → Name → ℕ → P → Type 0) (p : ℕ → P → Q) (n : ℕ) (marks : Marks V P) → Sound edit w X n marks
     → shown w (scope_marked marks) ≡ true → IsSeen (read_meanings p marks) w
@@ -167,9 +168,10 @@ plain-same {V} {P} {Q} p q (Some b) = of_object b.object
 
 pub edited-same : {V P Q : Type 0} (edit : Edit) (p q : ℕ → P → Q) (marks : Marks V P) (xs : List Name) → AllStay edit (scope_marked marks) xs → SameAt (plain_tag (read_edited edit q marks)) (plain_tag (read p marks)) xs
 edited-same edit p q marks [] stay = tt
-edited-same edit p q marks (x ∷ xs) stay =
-    (λ i. record { object = (ap (option_map plain_object) (edited-stands_for edit q marks x stay.0) ∙ (plain-same q p (found marks x) ∙ sym (ap (option_map plain_object) (read-stands_for p marks x)))) i; text = [] },
-    edited-same edit p q marks xs stay.1)
+edited-same edit p q marks (x ∷ xs) stay = (
+  λ i. record { object = (ap (option_map plain_object) (edited-stands_for edit q marks x stay.0) ∙ (plain-same q p (found marks x) ∙ sym (ap (option_map plain_object) (read-stands_for p marks x)))) i; text = [] },
+  edited-same edit p q marks xs stay.1,
+)
 
 -- a constant expression, and a type's text
 
