@@ -1,0 +1,5 @@
+//! Examples of texts, from their tokens to the tree or the fault.
+#![tactic(auto)]
+
+#[cfg(test)]
+mod tests;
