@@ -121,7 +121,17 @@ module _ (text : List ℕ) (before : Option Solid) (level : ℕ) (ss : List Stan
       → Ahead (at + length t) (broken || holds_break t) ls → Ahead at broken (record { kind = lexeme.Space; text = t } ∷ ls)
   over_space at broken t ls here there (inl n) = inl (record { up = omega (arith, n.up); tokens = n.tokens; comments = n.comments; gaps = n.gaps })
   over_space at broken t ls here there (inr (inl n)) = inr (inl (record {
-    kind = n.kind; place = n.place; size = n.size; ls = n.ls; up = omega (arith, n.up); some = n.some; stand = n.stand; tokens = n.tokens; comments = n.comments; gaps = n.gaps }))
+    kind = n.kind;
+    place = n.place;
+    size = n.size;
+    ls = n.ls;
+    up = omega (arith, n.up);
+    some = n.some;
+    stand = n.stand;
+    tokens = n.tokens;
+    comments = n.comments;
+    gaps = n.gaps;
+  }))
   over_space at broken t ls here there (inr (inr n)) =
       let further : n.place - at ≡ length t + (n.place - (at + length t)) = omega (arith, n.up) in
       let parts : slice_range text at n.place ≡ t ++ slice_range text (at + length t) n.place =
@@ -129,8 +139,16 @@ module _ (text : List ℕ) (before : Option Solid) (level : ℕ) (ss : List Stan
       let same : ((broken || holds_break t) || holds_break (slice_range text (at + length t) n.place)) ≡ (broken || holds_break (slice_range text at n.place)) =
       or_assoc broken (holds_break t) _ ∙ ap (λ b. broken || b) (sym (ap holds_break parts ∙ break_append t (slice_range text (at + length t) n.place))) in
       inr (inr (record {
-        place = n.place; size = n.size; ls = n.ls; up = omega (arith, n.up); some = n.some; stand = n.stand; tokens = n.tokens; comments = n.comments;
-        gaps = n.gaps ∙ ap (λ b. with_comment (comment_standing b (next_line level ss)) n.place n.size n.ls) same }))
+        place = n.place;
+        size = n.size;
+        ls = n.ls;
+        up = omega (arith, n.up);
+        some = n.some;
+        stand = n.stand;
+        tokens = n.tokens;
+        comments = n.comments;
+        gaps = n.gaps ∙ ap (λ b. with_comment (comment_standing b (next_line level ss)) n.place n.size n.ls) same;
+      }))
 
   over_kind : (k : LexemeKind) (at : ℕ) (broken : Bool) (t : List ℕ) (ls : List Lexeme) → StandFrom text at (record { kind = k; text = t } ∷ ls) []
       → StandFrom text (at + length t) ls [] → Ahead (at + length t) (broken || holds_break t) ls → Ahead at broken (record { kind = k; text = t } ∷ ls)
@@ -141,11 +159,29 @@ module _ (text : List ℕ) (before : Option Solid) (level : ℕ) (ss : List Stan
       let nothing : slice_range text at at ≡ [] = ap (λ n. take n (drop at text)) zero in
       let same : broken ≡ (broken || holds_break (slice_range text at at)) = sym (ap (λ g. broken || holds_break g) nothing ∙ or_false broken) in
       inr (inr (record {
-        place = at; size = length t; ls = ls; up = omega arith; some = nonempty lexeme.Comment t s.each.0.belongs; stand = s'; tokens = refl; comments = refl;
-        gaps = ap (λ b. with_comment (comment_standing b (next_line level ss)) at (length t) ls) same }))
+        place = at;
+        size = length t;
+        ls = ls;
+        up = omega arith;
+        some = nonempty lexeme.Comment t s.each.0.belongs;
+        stand = s';
+        tokens = refl;
+        comments = refl;
+        gaps = ap (λ b. with_comment (comment_standing b (next_line level ss)) at (length t) ls) same;
+      }))
   over_kind (lexeme.Token k) at broken t ls s s' more =
       inr (inl (record {
-        kind = k; place = at; size = length t; ls = ls; up = omega arith; some = nonempty (lexeme.Token k) t s.each.0.belongs; stand = s'; tokens = refl; comments = refl; gaps = refl }))
+        kind = k;
+        place = at;
+        size = length t;
+        ls = ls;
+        up = omega arith;
+        some = nonempty (lexeme.Token k) t s.each.0.belongs;
+        stand = s';
+        tokens = refl;
+        comments = refl;
+        gaps = refl;
+      }))
 
   pub ahead : (at : ℕ) (broken : Bool) (rest : List Lexeme) → StandFrom text at rest [] → Ahead at broken rest
   ahead at broken [] s =

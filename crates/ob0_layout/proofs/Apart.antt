@@ -33,7 +33,7 @@ use Rattle.ob0_layout.specs.Layout.{Placed, placed, next_line, next_standing, ho
 use Rattle.ob0_layout.proofs.Pairs.{Calm, calm_next, calm_paren, is_paren, is_star, calm_spelled}
 
 -- a token or comment
-abbrev IsSolid : LexemeKind → Type 0
+abbrev pub IsSolid : LexemeKind → Type 0
 IsSolid lexeme.Space = ⊥
 IsSolid other = Unit {0}
 
@@ -82,7 +82,7 @@ not_blank (lexeme.Token (token.Integer n)) solid e = cc
 not_blank (lexeme.Token (token.Symbol s)) solid e = cc
 
 -- its first byte is no white space
-solid_first : (k : LexemeKind) (text : List ℕ) → IsSolid k → Belongs k text → is_space (get_or text 0 0) ≡ false
+pub solid_first : (k : LexemeKind) (text : List ℕ) → IsSolid k → Belongs k text → is_space (get_or text 0 0) ≡ false
 solid_first k text solid h = false_from_ne_true (is_space (get_or text 0 0)) (λ blank. not_blank k solid (sym (family-blank (get_or text 0 0) blank) ∙ head_family k text h))
 
 differ : false ≡ true → ⊥

@@ -9,3 +9,6 @@ pub mod Ahead
 pub mod EditSteps
 pub mod Pieced
 pub mod Unnamed
+pub mod LastBytes
+pub mod TextCuts
+pub mod Patched

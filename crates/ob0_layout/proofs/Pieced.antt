@@ -147,7 +147,7 @@ module _ (indent : Indent) (text : List ℕ) where
       let s' = next_from text at l ls [] s in
       first_kind l.kind at l.text ls (s.rest ∙ append-nil (l.text ++ joined ls)) (laid_from ls (at + length l.text) s') (first_laid ls (at + length l.text) s')
 
-  chain_changed : (at : ℕ) (gs : List Site) → Chain at (map (cut_of indent) gs) → Chain at (map (cut_of indent) (changed_sites indent text gs))
+  pub chain_changed : (at : ℕ) (gs : List Site) → Chain at (map (cut_of indent) gs) → Chain at (map (cut_of indent) (changed_sites indent text gs))
   chain_changed at [] chain = tt
   chain_changed at (g ∷ gs) chain = elim (is_changed indent text g) as (λ b. Chain at (map (cut_of indent) (cond b (g ∷ changed_sites indent text gs) (changed_sites indent text gs)))) [
     | true ↦ (chain.0, chain.1, chain_changed g.end gs chain.2)

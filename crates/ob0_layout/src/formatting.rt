@@ -1,8 +1,10 @@
 //! The edits that lay out a module's text.
 
-ghost use Rattle.std.specs.Prelude.{◌≡◌, ◌≤◌, ◌<◌, ◌⊎◌, ◌↔◌, IsTrue, IfOk, IfErr, IsErrOf, map, length};
+ghost use Rattle.std.specs.Prelude.{◌≡◌, ◌≤◌, ◌<◌, ◌⊎◌, ◌↔◌, IsTrue, Some, IfOk, IfErr, IsErrOf, map, length};
 ghost use Rattle.std.specs.List.{All};
+ghost use Rattle.std.specs.Str.{chars};
 ghost use Rattle.ob0_scan.specs.Scanned.{IsScan, max_text};
+ghost use Rattle.ob0_text.specs.Patches.{patched};
 ghost use Rattle.ob0_text.specs.Units.{width_of};
 ghost use Rattle.ob0_text.specs.declared.refusals.EditRefusal.TheVariants.{TooLong, Memory};
 ghost use Rattle.ob0_tree.specs.Parsed.{named_tree_of};
@@ -17,8 +19,8 @@ use ob0_text::{Edit, EditRefusal, Indent, Range, TextStore};
 use ob0_tree::tree::Module;
 use std::alloc::{AllocError, Global};
 
-/// One edit for each gap that the layout changes, in text order: it replaces the whole gap by what is to stand there. Refused where the
-/// layout is longer than a text may be.
+/// One edit for each gap that the layout changes, in text order: it replaces the whole gap by what is to stand there. Made at once in
+/// the text of the module, which the store is to hold, they give the layout. Refused where that is longer than a text may be.
 pub fn format<T: TextStore>(
     alloc: Global,
     store: &T,
@@ -29,6 +31,8 @@ pub fn format<T: TextStore>(
         map (edit_of indent (width_of (T.unit_of store.now)) (T.content store.now)) (changed_sites indent module.now.source.text (all_sites (standings 0 (named_tree_of module.now)) scan.lexemes))) }
     ensures fits { (scan : IsScan module.now.source) → IfOk result (λ _. length (layout indent (named_tree_of module.now) scan.lexemes) ≤ max_text) }
     ensures too_long { (scan : IsScan module.now.source) → IsErrOf result TooLong → max_text < length (layout indent (named_tree_of module.now) scan.lexemes) }
+    ensures patched { (scan : IsScan module.now.source) → T.content store.now ≡ chars module.now.source.text → IfOk result (λ edits.
+        patched (width_of (T.unit_of store.now)) (T.content store.now) edits.items ≡ Some (chars (layout indent (named_tree_of module.now) scan.lexemes))) }
     ensures refusals { IfErr result (λ refusal. (refusal ≡ TooLong) ⊎ (refusal ≡ Memory)) }
 {
     let tokens = module.tokens();

@@ -1,6 +1,7 @@
 //! Laws of the layout: each is the contract of a function that does nothing.
 
 ghost use Rattle.std.specs.Prelude.{◌≡◌, ℕ, List, length};
+ghost use Rattle.std.specs.Str.{IsUtf8};
 ghost use Rattle.ob0_scan.specs.Lexed.{Lexed};
 ghost use Rattle.ob0_scan.specs.Scanned.{Scanned, IsScan};
 ghost use Rattle.ob0_text.specs.declared.edits.Indent.{Indent};
@@ -29,8 +30,9 @@ pub fn laid_out_once()
         → (t : Scanned) (again : IsScan t) → t.text ≡ layout indent tree scan.lexemes → layout indent tree again.lexemes ≡ layout indent tree scan.lexemes }
 {}
 
-/// What is to stand in the gaps that change makes of the text its layout, and the length that is counted is the layout's.
+/// What is to stand in the gaps that change makes of the text its layout, which is UTF-8, and the length that is counted is the layout's.
 pub fn gaps_make_the_layout()
+    ensures utf8 { (indent : Indent) (s : Scanned) (scan : IsScan s) (tree : Tree (List ℕ) module_text) → IsUtf8 (layout indent tree scan.lexemes) }
     ensures made { (indent : Indent) (s : Scanned) (scan : IsScan s) (tree : Tree (List ℕ) module_text)
         → made_of indent s.text (changed_sites indent s.text (all_sites (standings 0 tree) scan.lexemes)) ≡ layout indent tree scan.lexemes }
     ensures length { (indent : Indent) (s : Scanned) (scan : IsScan s) (tree : Tree (List ℕ) module_text)

@@ -150,7 +150,11 @@ fn separator(out: &mut Vec<Standing>, first: bool) -> Result<(), AllocError>
 
 /// Statements of this level. Between two of them stands a `;`.
 #[cycle(statements)]
-fn sequence(out: &mut Vec<Standing>, level: u32, statements: &Vec<Statement>) -> Result<(), AllocError>
+fn sequence(
+    out: &mut Vec<Standing>,
+    level: u32,
+    statements: &Vec<Statement>,
+) -> Result<(), AllocError>
     ensures { IfOk result (λ _. out.new.items ≡ out.old.items ++ standings level (sequence_in statements.now)) }
 {
     let mut first = true;
@@ -345,7 +349,11 @@ fn section(out: &mut Vec<Standing>, s: &Section) -> Result<(), AllocError>
 }
 
 /// The constants of a block of this level.
-fn constants(out: &mut Vec<Standing>, level: u32, declared: &Option<Vec<Constant>>) -> Result<(), AllocError>
+fn constants(
+    out: &mut Vec<Standing>,
+    level: u32,
+    declared: &Option<Vec<Constant>>,
+) -> Result<(), AllocError>
     ensures { IfOk result (λ _. out.new.items ≡ out.old.items ++ standings level (constants_of declared.now)) }
 {
     let Some(declared) = declared else {
@@ -361,7 +369,11 @@ fn constants(out: &mut Vec<Standing>, level: u32, declared: &Option<Vec<Constant
     Ok(())
 }
 
-fn types(out: &mut Vec<Standing>, level: u32, declared: &Option<Vec<TypeDeclaration>>) -> Result<(), AllocError>
+fn types(
+    out: &mut Vec<Standing>,
+    level: u32,
+    declared: &Option<Vec<TypeDeclaration>>,
+) -> Result<(), AllocError>
     ensures { IfOk result (λ _. out.new.items ≡ out.old.items ++ standings level (types_of declared.now)) }
 {
     let Some(declared) = declared else {
@@ -377,7 +389,11 @@ fn types(out: &mut Vec<Standing>, level: u32, declared: &Option<Vec<TypeDeclarat
     Ok(())
 }
 
-fn variables(out: &mut Vec<Standing>, level: u32, declared: &Option<Vec<Variables>>) -> Result<(), AllocError>
+fn variables(
+    out: &mut Vec<Standing>,
+    level: u32,
+    declared: &Option<Vec<Variables>>,
+) -> Result<(), AllocError>
     ensures { IfOk result (λ _. out.new.items ≡ out.old.items ++ standings level (variables_of declared.now)) }
 {
     let Some(declared) = declared else {
@@ -393,7 +409,11 @@ fn variables(out: &mut Vec<Standing>, level: u32, declared: &Option<Vec<Variable
     Ok(())
 }
 
-fn body(out: &mut Vec<Standing>, level: u32, statements: &Option<Vec<Statement>>) -> Result<(), AllocError>
+fn body(
+    out: &mut Vec<Standing>,
+    level: u32,
+    statements: &Option<Vec<Statement>>,
+) -> Result<(), AllocError>
     ensures { IfOk result (λ _. out.new.items ≡ out.old.items ++ standings level (body_of statements.now)) }
 {
     match statements {

@@ -9,6 +9,8 @@ use Rattle.ob0_text.specs.declared.edits.Indent.{Indent}
 use Rattle.ob0_tree.specs.Parsed.{Parsed, tree_of, named_tree_of}
 use Rattle.ob0_tree.specs.Places.{text_at, value_at}
 use Rattle.ob0_layout.specs.Layout.{laid_out, layout}
+use Rattle.ob0_text.specs.Patches.{patched}
+use Rattle.ob0_layout.proofs.Patched.{gaps_patched}
 use Rattle.ob0_layout.proofs.Pieced.{all_length}
 use Rattle.ob0_layout.proofs.Unnamed.{standings_mapped}
 use Rattle.ob0_layout.specs.declared.sites.Site.{Site}
@@ -73,3 +75,14 @@ returns-clause-fits g c = λ scan.
     let text = c.as_bytes-text.ensures.value ∙ c.text.ensures.value ∙ ap (λ (x : Scanned). x.text) c.tokens-tokens.ensures.source in
     let same = of_source c.tokens-tokens.ensures.source c.in_ok-sites.sites.items c.deref-2.result.now c.deref.result.now (standings 0 (tree_of c.args.module.now)) c.deref-2.ensures.value (c.deref.ensures.value ∙ c.in_ok-standings.ensures) c.in_ok-sites.ensures scan in
     subst (λ (n : ℕ). n ≤ max_text) ((λ i. laid_len c.args.indent (length (text i)) 0 (same i)) ∙ counted c.args.module.now c.args.indent scan) (c.fits.ensures.0 c.if-not-fits.false)
+
+pub returns-clause-patched : goal.returns-clause-patched
+unfolding laid_out
+returns-clause-patched g c = λ scan held.
+    let unit = g.T.TextStore.unit_of c.args.store.now in
+    let m = c.args.module.now in
+    let edits = c.in_ok-edits.field-0.items in
+    let gs = changed_sites c.args.indent m.source.text (all_sites (standings 0 (named_tree_of m)) scan.lexemes) in
+    let made = gaps_patched unit c.args.indent m.source scan (standings 0 (named_tree_of m)) edits
+    (returns-clause-edits g c scan ∙ ap (λ (t : List ℕ). map (edit_of c.args.indent (width_of unit) t) gs) held) in
+    ap (λ (t : List ℕ). patched (width_of unit) t edits) held ∙ made
