@@ -52,12 +52,7 @@ fn assigns_a_sum(rt: HostRuntime) -> Result<(), Fail> {
     let Ok(tokens) = scan(alloc, "MODULE M; BEGIN x := 1 + 2 * 3 END M.") else {
         return Err("no tokens".into());
     };
-    let mut ordinals = Vec::new(alloc);
-    let mut i = 0;
-    while i < 5 {
-        ordinals.push(if i == 4 { Some(0) } else { None })?;
-        i += 1;
-    }
+    let ordinals = vec![in alloc; None, None, None, None, Some(0)]?;
     let mut meant = Vec::new(alloc);
     meant.push(Meant::Variable(Place {
         variable: 0,
