@@ -145,13 +145,13 @@ for key, given in TALKS.items():
 
 @test("program: command lines that are refused are status 2, on standard error")
 def refused_lines():
-    for words in ([], ["x"], ["serve", "x"], ["serve", "--x"], ["--x"]):
+    for words in ([], ["x"], ["serve", "x"], ["serve", "--x"], ["--x"], ["help"], ["help", "serve"]):
         found = run(words)
         same((found.out, bool(found.err), found.status), (b"", True, 2), f"ob0 {' '.join(words)}")
 
 
 @test("program: help is told on standard output, status 0")
 def helped():
-    for words in (["--help"], ["help"], ["help", "serve"], ["serve", "--help"]):
+    for words in (["--help"], ["-h"], ["serve", "--help"]):
         found = run(words)
         same((b"Usage:" in found.out, found.err, found.status), (True, b"", 0), f"ob0 {' '.join(words)}")
