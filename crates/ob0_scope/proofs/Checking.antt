@@ -138,7 +138,6 @@ nothing_seen text all start seen empty_is =
       so_far = refl;
     }
 
-
 -- names and parts of a tree, by their texts
 pub names_texts : (src : Scanned) (ns : Tree ℕ names) → map (text_at src) (names_listed ns) ≡ names_listed (named src ns)
 names_texts src (listed x rest) = ap (λ l. text_at src x ∷ l) (further_texts rest)
@@ -216,8 +215,8 @@ pub block_tested : (src : Scanned) (start : Bool) (own : List ℕ) (cs : Tree �
     → after ≡ (varied && procedures_once (named src ps)) → after ≡ (start && block_once (map (text_at src) own) (named src (has_body (declares cs ts vs ps) statements)))
 block_tested src start own cs ts vs ps statements all distinct typed varied after are d t v p =
     let texts : map (text_at src) all ≡ map (text_at src) own ++ block_names (named src (has_body (declares cs ts vs ps) statements)) =
-        ap (map (text_at src)) are ∙ (five_texts (text_at src) own (constant_names (section_constants cs)) (named_types (section_types ts)) (variable_names (section_variables vs)) (procedure_names ps)
-        ∙ (λ i. map (text_at src) own ++ (constant_section_texts src cs i ++ (type_section_texts src ts i ++ (variable_section_texts src vs i ++ procedures_texts src ps i))))) in
+    ap (map (text_at src)) are ∙ (five_texts (text_at src) own (constant_names (section_constants cs)) (named_types (section_types ts)) (variable_names (section_variables vs)) (procedure_names ps)
+    ∙ (λ i. map (text_at src) own ++ (constant_section_texts src cs i ++ (type_section_texts src ts i ++ (variable_section_texts src vs i ++ procedures_texts src ps i))))) in
     let T = types_once (section_types (named src ts)) in
     let V = variables_once (section_variables (named src vs)) in
     let P = procedures_once (named src ps) in

@@ -51,9 +51,10 @@ gone-constants : (uses : Uses) (v : Tree Name factor) (d j k : ℕ) (cs : Tree N
 gone-constants uses v d j k end = refl
 gone-constants uses v d j k (more (declares_constant x e) cs) =
     (elim (k == d) as (λ b. k == d ≡ b → (if b then edited_constants (everywhere uses v d) (j + length (occurrences e)) (suc k) cs else more (declares_constant x (inline_in uses v j e)) (edited_constants (everywhere uses v d) (j + length (occurrences e)) (suc k) cs))
-    ≡ (if b then inline_in uses v (j + length (occurrences e)) cs else more (declares_constant x (inline_in uses v j e)) (without d (suc k) (inline_in uses v (j + length (occurrences e)) cs))))
-    [ true ↦ λ h. gone-later uses v d (j + length (occurrences e)) (suc k) cs (omega (arith, eqb-true k d h))
-    | false ↦ λ h i. more (declares_constant x (inline_in uses v j e)) (gone-constants uses v d (j + length (occurrences e)) (suc k) cs i) ]) refl
+    ≡ (if b then inline_in uses v (j + length (occurrences e)) cs else more (declares_constant x (inline_in uses v j e)) (without d (suc k) (inline_in uses v (j + length (occurrences e)) cs)))) [
+      | true ↦ λ h. gone-later uses v d (j + length (occurrences e)) (suc k) cs (omega (arith, eqb-true k d h))
+      | false ↦ λ h i. more (declares_constant x (inline_in uses v j e)) (gone-constants uses v d (j + length (occurrences e)) (suc k) cs i)
+    ]) refl
 
 gone-section : (uses : Uses) (v : Tree Name factor) (d j k : ℕ) (cs : Tree Name (maybe constants)) → edited_section (everywhere uses v d) j k cs ≡ section_without d k (inline_in uses v j cs)
 gone-section uses v d j k none = refl

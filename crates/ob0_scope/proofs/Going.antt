@@ -39,8 +39,8 @@ shown_step v i token less here =
     let split : drop i v.declarations ≡ token ∷ drop (i + 1) v.declarations = drop_more v.declarations i token less ∙ ap (λ y. y ∷ drop (i + 1) v.declarations) (sym here) in
     let next : suc (7 + i) ≡ 7 + (i + 1) = omega arith in
     let all : declare_names (7 + i) (map (text_at v.source) (drop i v.declarations)) v.scope ≡ declare_names (7 + (i + 1)) (map (text_at v.source) (drop (i + 1) v.declarations)) ((text_at v.source token, 7 + i) ∷ v.scope) =
-        ap (λ l. declare_names (7 + i) (map (text_at v.source) l) v.scope) split
-        ∙ ap (λ k. declare_names k (map (text_at v.source) (drop (i + 1) v.declarations)) ((text_at v.source token, 7 + i) ∷ v.scope)) next in
+    ap (λ l. declare_names (7 + i) (map (text_at v.source) l) v.scope) split
+    ∙ ap (λ k. declare_names k (map (text_at v.source) (drop (i + 1) v.declarations)) ((text_at v.source token, 7 + i) ∷ v.scope)) next in
     ap (λ s. record v { scope = s }) all
 
 pub shows_on : {first : ℕ} {start : Visit} {index : ℕ} {now : Visit} (token : ℕ) (next : Visit) → Showing first start index now → index < length now.declarations → token ≡ get_or now.declarations index token

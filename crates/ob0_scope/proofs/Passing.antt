@@ -96,7 +96,11 @@ found_one : (table : ℕ → Option ℕ) (src : Scanned) (r : Role) (i : ℕ) (v
 found_one table src role.LookedUp i v =
     let m : Mark = record { token = i; ordinal = ordinal_of as_names v.scope (text_at v.source i) } in
     record {
-      source = refl; scope = refl; kept = refl; used = refl; tokens = mark_added v.marks m;
+      source = refl;
+      scope = refl;
+      kept = refl;
+      used = refl;
+      tokens = mark_added v.marks m;
       agree = λ e h.
           let parts = marks_split table v.marks (m ∷ []) h in
           (parts.0, (parts.1.0 ∙ ap (λ z. ordinal_of as_names v.scope (text_at z i)) e, tt));
@@ -252,7 +256,7 @@ module _ {M : Type 0} (table : ℕ → Option ℕ) (label : Labels Name M) (src 
   show_passed {a = a} {b = b} {xs = xs} {s' = s'} {k = k} ns at are p =
       let left : drop (length a.declarations) b.declarations ≡ declaring_only xs = ap (drop (length a.declarations)) p.declared ∙ drop_past a.declarations (declaring_only xs) in
       let visible : declare_names (7 + length a.declarations) (map (text_at b.source) (drop (length a.declarations) b.declarations)) b.scope ≡ declare_names k ns s' =
-          (λ i. declare_names (at.next i) (map (text_at (p.at.source i)) (left i)) (p.at.scope i)) ∙ ap (λ ns. declare_names k ns s') are in
+      (λ i. declare_names (at.next i) (map (text_at (p.at.source i)) (left i)) (p.at.scope i)) ∙ ap (λ ns. declare_names k ns s') are in
       record { at = record { source = p.at.source; scope = visible; next = p.at.next }; declared = p.declared; used = p.used; tokens = p.tokens; agree = p.agree }
 
   listed_declaring : (xs : List ℕ) → declaring_only (all_declaring xs) ≡ xs
@@ -377,7 +381,10 @@ module _ {M : Type 0} (table : ℕ → Option ℕ) (label : Labels Name M) (src 
   left_passed {b = b} {s = s} outer count extends p =
       record {
         at = record { source = p.at.source; scope = (λ i. drop (length (p.at.scope i) - count i) (p.at.scope i)) ∙ left_extends extends; next = p.at.next };
-        declared = p.declared; used = p.used; tokens = p.tokens; agree = p.agree;
+        declared = p.declared;
+        used = p.used;
+        tokens = p.tokens;
+        agree = p.agree;
       }
 
   mutual
@@ -431,9 +438,9 @@ module _ {M : Type 0} (table : ℕ → Option ℕ) (label : Labels Name M) (src 
         let e = extends_then (extends_then (one_extends (name, k) s) (names_extend (suc k) formal ((name, k) ∷ s))) (block_extends k₁ (named src b) inside) in
         let behind = left_passed outside count e whole in
         let shown_again : At (behind_block x (7 + own) outside (visit_block b v₃)) src ((name, k) ∷ s) (after_block k₁ (named src b)) =
-            record { source = behind.at.source; scope = (λ i. (text_at (behind.at.source i) x, at.next i) ∷ behind.at.scope i); next = behind.at.next } in
+        record { source = behind.at.source; scope = (λ i. (text_at (behind.at.source i) x, at.next i) ∷ behind.at.scope i); next = behind.at.next } in
         let visible : Passes v (behind_block x (7 + own) outside (visit_block b v₃)) (((role.Declaring, x) ∷ identifiers role.Declaring fs) ++ identifiers role.Declaring b) ((name, k) ∷ s) (after_block k₁ (named src b)) _ =
-            record { at = shown_again; declared = behind.declared; used = behind.used; tokens = behind.tokens; agree = behind.agree } in
+        record { at = shown_again; declared = behind.declared; used = behind.used; tokens = behind.tokens; agree = behind.agree } in
         let last = mark_passed role.ClosingName closing (Some (7 + own)) (behind_block x (7 + own) outside (visit_block b v₃)) ((name, k) ∷ s) (after_block k₁ (named src b)) refl refl shown_again in
         pass_is (append_assoc ((role.Declaring, x) ∷ identifiers role.Declaring fs) (identifiers role.Declaring b) ((role.ClosingName, closing) ∷ []) ∙ append_assoc ((role.Declaring, x) ∷ []) (identifiers role.Declaring fs) (identifiers role.Declaring b ++ ((role.ClosingName, closing) ∷ []))) refl refl
         (pass_to (pass_then visible last)

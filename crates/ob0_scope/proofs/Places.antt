@@ -196,18 +196,20 @@ module _ (K L M : Placed) (make : (s : Sort) (j : ℕ) (scope : Scope Name) (t :
   mutual
     pub both-block : (j : ℕ) (scope : Scope Name) (k : ℕ) (b : Tree Name block) → EachBlock K j scope k b → EachBlock L j scope k b → EachBlock M j scope k b
     both-block j scope k (has_body (declares cs ts vs ps) statements) f g =
-        let b : Tree Name block = has_body (declares cs ts vs ps) statements in
-        (both-constants j scope k (section_constants cs) f.0 g.0,
-        both-types (j + length (occurrences cs)) (types_scope k b scope) (first_type k b) (section_types ts) f.1 g.1,
-        both-variables (j + length (occurrences cs) + length (occurrences ts)) (variables_scope k b scope) (first_variable k b) (section_variables vs) f.2 g.2,
-        both-procedures (j + length (occurrences cs) + length (occurrences ts) + length (occurrences vs)) (procedures_scope k b scope) (first_procedure k b) ps f.3 g.3,
-        make (maybe body) (j + length (occurrences (declares cs ts vs ps))) (body_scope k b scope) statements f.4 g.4)
+        let b : Tree Name block = has_body (declares cs ts vs ps) statements in (
+          both-constants j scope k (section_constants cs) f.0 g.0,
+          both-types (j + length (occurrences cs)) (types_scope k b scope) (first_type k b) (section_types ts) f.1 g.1,
+          both-variables (j + length (occurrences cs) + length (occurrences ts)) (variables_scope k b scope) (first_variable k b) (section_variables vs) f.2 g.2,
+          both-procedures (j + length (occurrences cs) + length (occurrences ts) + length (occurrences vs)) (procedures_scope k b scope) (first_procedure k b) ps f.3 g.3,
+          make (maybe body) (j + length (occurrences (declares cs ts vs ps))) (body_scope k b scope) statements f.4 g.4,
+        )
 
     both-procedures : (j : ℕ) (scope : Scope Name) (k : ℕ) (ps : Tree Name (items procedure)) → EachProcedure K j scope k ps → EachProcedure L j scope k ps → EachProcedure M j scope k ps
     both-procedures j scope k end f g = tt
     both-procedures j scope k (more p rest) f g = (both-one j scope k p f.0 g.0, both-procedures (j + length (occurrences p)) ((procedure_name p, k) ∷ scope) (after_procedure (suc k) p) rest f.1 g.1)
 
     both-one : (j : ℕ) (scope : Scope Name) (k : ℕ) (p : Tree Name (item procedure)) → OneProcedure K j scope k p → OneProcedure L j scope k p → OneProcedure M j scope k p
-    both-one j scope k (declares_procedure x fs b closing) f g =
-        (both-sections j scope (suc k) (formal_sections fs) f.0 g.0,
-        both-block (j + length (occurrences fs)) (declare_names (suc k) (formal_names (formal_sections fs)) ((x, k) ∷ scope)) (after_names (suc k) (formal_names (formal_sections fs))) b f.1 g.1)
+    both-one j scope k (declares_procedure x fs b closing) f g = (
+      both-sections j scope (suc k) (formal_sections fs) f.0 g.0,
+      both-block (j + length (occurrences fs)) (declare_names (suc k) (formal_names (formal_sections fs)) ((x, k) ∷ scope)) (after_names (suc k) (formal_names (formal_sections fs))) b f.1 g.1,
+    )

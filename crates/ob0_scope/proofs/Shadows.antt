@@ -50,14 +50,15 @@ pub latest_ordinal : (x : Name) (bs : List Binding) (i : ℕ) (d : Binding) → 
 latest_ordinal x [] i d e = absurd (cc)
 latest_ordinal x (b ∷ bs) i d e =
     elim (latest_step (same_name x b.name.now) (length bs) i (latest x bs) e) [
-      inl h ↦
-        let here : get_or (reverse (b ∷ bs)) i d ≡ b =
-            ap (λ l. get_or l i d) (flipped b bs) ∙ (ap (λ n. get_or (reverse bs ++ (b ∷ [])) n d) (sym (length-reverse bs ∙ h.1)) ∙ get_or-append_seam (reverse bs) b [] d) in
-        ordinal_here (same_name x b.name.now) b.ordinal (ordinal_of as_names (map shown bs) x) h.0 ∙ ap (λ (z : Binding). Some z.ordinal) (sym here)
+      | inl h ↦
+          let here : get_or (reverse (b ∷ bs)) i d ≡ b =
+          ap (λ l. get_or l i d) (flipped b bs) ∙ (ap (λ n. get_or (reverse bs ++ (b ∷ [])) n d) (sym (length-reverse bs ∙ h.1)) ∙ get_or-append_seam (reverse bs) b [] d) in
+          ordinal_here (same_name x b.name.now) b.ordinal (ordinal_of as_names (map shown bs) x) h.0 ∙ ap (λ (z : Binding). Some z.ordinal) (sym here)
       | inr h ↦
-        let below : i < length (reverse bs) = subst (λ n. i < n) (sym (length-reverse bs)) (latest_below x bs i h.1) in
-        let there : get_or (reverse (b ∷ bs)) i d ≡ get_or (reverse bs) i d = ap (λ l. get_or l i d) (flipped b bs) ∙ get_or-append (reverse bs) (b ∷ []) d i below in
-        ordinal_there (same_name x b.name.now) b.ordinal (ordinal_of as_names (map shown bs) x) h.0 ∙ (latest_ordinal x bs i d h.1 ∙ ap (λ (z : Binding). Some z.ordinal) (sym there)) ]
+          let below : i < length (reverse bs) = subst (λ n. i < n) (sym (length-reverse bs)) (latest_below x bs i h.1) in
+          let there : get_or (reverse (b ∷ bs)) i d ≡ get_or (reverse bs) i d = ap (λ l. get_or l i d) (flipped b bs) ∙ get_or-append (reverse bs) (b ∷ []) d i below in
+          ordinal_there (same_name x b.name.now) b.ordinal (ordinal_of as_names (map shown bs) x) h.0 ∙ (latest_ordinal x bs i d h.1 ∙ ap (λ (z : Binding). Some z.ordinal) (sym there))
+    ]
 
 pub latest_none : (x : Name) (bs : List Binding) → latest x bs ≡ None → ordinal_of as_names (map shown bs) x ≡ None
 latest_none x [] e = refl

@@ -217,7 +217,11 @@ impl Checks {
         }
     }
 
-    fn types(&mut self, tokens: &Tokens, section: &Option<Vec<TypeDeclaration>>) -> Result<(), AllocError>
+    fn types(
+        &mut self,
+        tokens: &Tokens,
+        section: &Option<Vec<TypeDeclaration>>,
+    ) -> Result<(), AllocError>
         ensures { OnOk result (self.new ≡ (self.old && types_once (section_types (named tokens.now (types_of section.now))))) }
     {
         if let Some(types) = section {
@@ -228,7 +232,11 @@ impl Checks {
         Ok(())
     }
 
-    fn variables(&mut self, tokens: &Tokens, section: &Option<Vec<Variables>>) -> Result<(), AllocError>
+    fn variables(
+        &mut self,
+        tokens: &Tokens,
+        section: &Option<Vec<Variables>>,
+    ) -> Result<(), AllocError>
         ensures { OnOk result (self.new ≡ (self.old && variables_once (section_variables (named tokens.now (variables_of section.now))))) }
     {
         if let Some(variables) = section {

@@ -74,10 +74,7 @@ fn predeclared<'t>(alloc: Global) -> Result<Visible<'t>, AllocError>
 }
 
 /// Goes through a module.
-pub(crate) fn number<'t>(
-    alloc: Global,
-    read: &'t Module<'t>,
-) -> Result<Numbering<'t>, AllocError>
+pub(crate) fn number<'t>(alloc: Global, read: &'t Module<'t>) -> Result<Numbering<'t>, AllocError>
     ensures { IfOk result (λ n. n ≡ visit_module (tree_of read.now) (started read.now.source)) }
 {
     let mut numbering = Numbering {

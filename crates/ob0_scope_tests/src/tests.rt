@@ -41,9 +41,18 @@ fn places_of(alloc: Global, text: &str) -> Result<Vec<(usize, usize, Code)>, Fai
 
 #[test]
 fn binds_a_procedure_in_its_own_body(rt: HostRuntime) -> Result<(), Fail> {
-    let text = "MODULE M; PROCEDURE F(n: INTEGER); BEGIN IF n > 0 THEN Write(n); F(n - 1) END END F; BEGIN F(2) END M.";
+    let text =
+        "MODULE M; PROCEDURE F(n: INTEGER); BEGIN IF n > 0 THEN Write(n); F(n - 1) END END F; BEGIN F(2) END M.";
     let bound = bindings_of(rt.alloc(), text)?;
-    let wanted = [Some(0), Some(8), Some(5), Some(8), Some(7), Some(8), Some(7)];
+    let wanted = [
+        Some(0),
+        Some(8),
+        Some(5),
+        Some(8),
+        Some(7),
+        Some(8),
+        Some(7),
+    ];
     assert_eq!(rt; bound.as_slice(), wanted.as_slice());
     assert_eq!(rt; faults_of(rt.alloc(), text)?.len(), 0);
     Ok(())
@@ -51,7 +60,8 @@ fn binds_a_procedure_in_its_own_body(rt: HostRuntime) -> Result<(), Fail> {
 
 #[test]
 fn binds_to_the_inner_block_first(rt: HostRuntime) -> Result<(), Fail> {
-    let text = "MODULE M; VAR x: INTEGER; PROCEDURE P; VAR x: INTEGER; BEGIN x := 1 END P; BEGIN P; Write(x) END M.";
+    let text =
+        "MODULE M; VAR x: INTEGER; PROCEDURE P; VAR x: INTEGER; BEGIN x := 1 END P; BEGIN P; Write(x) END M.";
     let bound = bindings_of(rt.alloc(), text)?;
     let wanted = [Some(0), Some(0), Some(9), Some(8), Some(5), Some(7)];
     assert_eq!(rt; bound.as_slice(), wanted.as_slice());
@@ -99,7 +109,8 @@ fn tells_second_declarations(rt: HostRuntime) -> Result<(), Fail> {
 
 #[test]
 fn tells_faults_in_text_order(rt: HostRuntime) -> Result<(), Fail> {
-    let text = "MODULE M;\nCONST k = 1 DIV 0; m = 1;\nVAR i: INTEGER; b: BOOLEAN;\nPROCEDURE P(VAR j: INTEGER); BEGIN j := 1 END Q;\nBEGIN i := b; P(3); P; z := 1; i.f := 1; i[0] := 1; Write(P); m := 2 END N.";
+    let text =
+        "MODULE M;\nCONST k = 1 DIV 0; m = 1;\nVAR i: INTEGER; b: BOOLEAN;\nPROCEDURE P(VAR j: INTEGER); BEGIN j := 1 END Q;\nBEGIN i := b; P(3); P; z := 1; i.f := 1; i[0] := 1; Write(P); m := 2 END N.";
     let places = places_of(rt.alloc(), text)?;
     let wanted = [
         (110, 111, Code::EndName),
@@ -112,7 +123,10 @@ fn tells_faults_in_text_order(rt: HostRuntime) -> Result<(), Fail> {
 
 #[test]
 fn gives_the_ordinals_of_tokens(rt: HostRuntime) -> Result<(), Fail> {
-    let tokens = scan(rt.alloc(), "MODULE M; VAR a: RECORD f: INTEGER END; PROCEDURE P; BEGIN a.f := 1 END P; END M.")?;
+    let tokens = scan(
+        rt.alloc(),
+        "MODULE M; VAR a: RECORD f: INTEGER END; PROCEDURE P; BEGIN a.f := 1 END P; END M.",
+    )?;
     let module = parse(rt.alloc(), &tokens)?;
     let resolved = resolve(rt.alloc(), &module)?;
     assert_eq!(rt; resolved.declarations(), [4, 13].as_slice());

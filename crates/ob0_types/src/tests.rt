@@ -20,10 +20,7 @@ fn types_are_made_within_the_limits(rt: HostRuntime) -> Result<(), Fail> {
         name: "x",
         of: TypeId::Boolean,
     })?;
-    fields.push(Field {
-        name: "y",
-        of: row,
-    })?;
+    fields.push(Field { name: "y", of: row })?;
     let record = known.make_record(3, fields)?.ok_or("a record")?;
     assert_eq!(rt; known.scalars(record), 257);
     assert_eq!(rt; known.field(record, "y"), Some(row));

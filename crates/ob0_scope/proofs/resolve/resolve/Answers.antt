@@ -13,8 +13,8 @@ invariant_of-result c =
     let sorted = c.sort_by_key.new.self.items in
     let once = c.in_ok-faults.faults.items in
     let tabled = c.in_ok-ordinals.ensures
-        ∙ ((λ i. with_marks (replicate (length (c.tokens.ensures i)) None) (c.deref.ensures.value i))
-        ∙ (λ i. with_marks (replicate (length (c.tokens-tokens.ensures.source i).tokens) None) (parts.ensures.marks i))) in
+    ∙ ((λ i. with_marks (replicate (length (c.tokens.ensures i)) None) (c.deref.ensures.value i))
+    ∙ (λ i. with_marks (replicate (length (c.tokens-tokens.ensures.source i).tokens) None) (parts.ensures.marks i))) in
     let all = c.in_ok-undeclared.ensures ∙ (λ i. once ++ undeclared_at (c.tokens-tokens.ensures.source i) (c.deref-2.ensures.value i) (c.deref-3.ensures.value i)) in
     resolution_made m c.in_ok-numbering.numbering c.in_ok-ordinals.ordinals.items parts.result.0.items parts.result.1.items once sorted
     c.tokens-tokens.ensures.parsed c.in_ok-numbering.ensures tabled parts.ensures.declarations parts.ensures.uses c.in_ok-faults.ensures.told c.in_ok-faults.ensures.alone
@@ -27,9 +27,11 @@ returns c =
     let sorted = c.sort_by_key.new.self.items in
     let once = c.in_ok-faults.faults.items in
     let tabled = c.in_ok-ordinals.ensures
-        ∙ ((λ i. with_marks (replicate (length (c.tokens.ensures i)) None) (c.deref.ensures.value i))
-        ∙ (λ i. with_marks (replicate (length (c.tokens-tokens.ensures.source i).tokens) None) (parts.ensures.marks i))) in
-    let all = c.in_ok-undeclared.ensures ∙ (λ i. once ++ undeclared_at (c.tokens-tokens.ensures.source i) (c.deref-2.ensures.value i) (c.deref-3.ensures.value i)) in
-    (refl, resolution_made m c.in_ok-numbering.numbering c.in_ok-ordinals.ordinals.items parts.result.0.items parts.result.1.items once sorted
-    c.tokens-tokens.ensures.parsed c.in_ok-numbering.ensures tabled parts.ensures.declarations parts.ensures.uses c.in_ok-faults.ensures.told c.in_ok-faults.ensures.alone
-    (subst (λ (fs : List Fault). IsPermutation fs sorted) all c.in_ok-sort_by_key.ensures.permutation))
+    ∙ ((λ i. with_marks (replicate (length (c.tokens.ensures i)) None) (c.deref.ensures.value i))
+    ∙ (λ i. with_marks (replicate (length (c.tokens-tokens.ensures.source i).tokens) None) (parts.ensures.marks i))) in
+    let all = c.in_ok-undeclared.ensures ∙ (λ i. once ++ undeclared_at (c.tokens-tokens.ensures.source i) (c.deref-2.ensures.value i) (c.deref-3.ensures.value i)) in (
+      refl,
+      resolution_made m c.in_ok-numbering.numbering c.in_ok-ordinals.ordinals.items parts.result.0.items parts.result.1.items once sorted
+          c.tokens-tokens.ensures.parsed c.in_ok-numbering.ensures tabled parts.ensures.declarations parts.ensures.uses c.in_ok-faults.ensures.told c.in_ok-faults.ensures.alone
+          (subst (λ (fs : List Fault). IsPermutation fs sorted) all c.in_ok-sort_by_key.ensures.permutation),
+    )

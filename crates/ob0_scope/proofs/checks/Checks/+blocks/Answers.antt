@@ -14,11 +14,11 @@ block-returns t c =
     let src = c.args.tokens.now in
     let b = out-Block c.args.b.now in
     let found = c.in_ok-add_procedures.ensures
-        ∙ (λ i. (c.in_ok-add_variables.ensures ∙ ap (λ z. z ++ variable_names (section_variables (variables_of b.variables)))
-        (c.in_ok-add_types.ensures ∙ ap (λ z. z ++ named_types (section_types (types_of b.types))) c.in_ok-add_constants.ensures)) i ++ procedure_names (items_of procedure_of (c.deref.ensures.value i))) in
+    ∙ (λ i. (c.in_ok-add_variables.ensures ∙ ap (λ z. z ++ variable_names (section_variables (variables_of b.variables)))
+    (c.in_ok-add_types.ensures ∙ ap (λ z. z ++ named_types (section_types (types_of b.types))) c.in_ok-add_constants.ensures)) i ++ procedure_names (items_of procedure_of (c.deref.ensures.value i))) in
     let distinct = c.in_ok-distinct.ensures ∙ ap (λ xs. c.args.self.now && are_distinct (map (text_at src) xs)) c.deref-2.ensures.value in
     let rest = held (λ xs. procedures_once (named src (items_of procedure_of xs))) refl c.loop-p.invariant c.loop-p-test.false
-        ∙ ap (λ xs. c.variables.new.self && procedures_once (named src (items_of procedure_of xs))) c.deref-p-items.ensures.value in
+    ∙ ap (λ xs. c.variables.new.self && procedures_once (named src (items_of procedure_of xs))) c.deref-p-items.ensures.value in
     block_tested src c.args.self.now c.args.own.items (constants_of b.constants) (types_of b.types) (variables_of b.variables) (items_of procedure_of b.procedures.items) (body_of b.body)
     c.add_procedures.new.out.items c.distinct.new.self c.types.new.self c.variables.new.self c.loop-p.self found distinct c.in_ok-types.ensures c.in_ok-variables.ensures rest
     ∙ ap (λ t. c.args.self.now && block_once (map (text_at src) c.args.own.items) (named src t)) (sym (block_parts c.args.b.now))

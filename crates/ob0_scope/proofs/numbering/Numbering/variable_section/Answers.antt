@@ -5,5 +5,5 @@ use Rattle.ob0_scope.proofs.Going.{gone_through}
 use Rattle.ob0_scope.proofs.numbering.Numbering.variable_section.Goals as goal
 
 pub returns-after-loop-v : goal.returns-after-loop-v
-returns-after-loop-v c = gone_through (λ xs. visit_variables (items_of variable_of xs)) c.loop-v.invariant c.loop-v-test.false 
+returns-after-loop-v c = gone_through (λ xs. visit_variables (items_of variable_of xs)) c.loop-v.invariant c.loop-v-test.false
     ∙ (ap (λ xs. visit_variables (items_of variable_of xs) c.args.self.now) c.deref-v-items.ensures.value ∙ sym (ap (λ s. visit_variable_section (variables_of s) c.args.self.now) c.in-Some.is))
