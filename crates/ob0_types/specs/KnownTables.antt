@@ -1,10 +1,11 @@
 -- The tables of the checker: the shapes made so far, and the declarations so far.
-use Rattle.std.specs.Prelude.{ℕ, true, false, List, [], ◌∷◌, length, All, slice_get, if◌then◌else◌, None, Option, option_and_then}
+use Rattle.std.specs.Prelude.{ℕ, ◌<◌, IfSome, true, false, ◌==◌, List, [], ◌∷◌, length, All, slice_get, if◌then◌else◌, Some, None, Option, option_and_then}
 use Rattle.ob0_values.specs.Values.{Shape}
 use Rattle.ob0_types.specs.declared.known.Shape as code
 use Rattle.ob0_types.specs.declared.known.Shape.TheVariants as made
 use Rattle.ob0_types.specs.declared.known.Entry.{Entry}
 use Rattle.ob0_types.specs.declared.known.Object as declaration
+use Rattle.ob0_types.specs.declared.known.Shadowed.{Shadowed}
 use Rattle.ob0_types.specs.declared.known.Object.TheVariants as kind
 use Rattle.ob0_types.specs.declared.known.Standard.TheVariants as standards
 use Rattle.ob0_types.specs.declared.types.TypeId.TheVariants as type
@@ -31,6 +32,26 @@ seen_entry shapes e = if e.in_sight then object_in shapes e.object else None
 
 abbrev pub seen_in : Tables → ℕ → Option (Object Shape Signature)
 seen_in t k = option_and_then (seen_entry (shapes_of t)) (slice_get t.entries k)
+
+-- what is declared at an ordinal, where it is in sight
+abbrev pub object_seen : Entry → Option declaration.Object
+object_seen e = if e.in_sight then Some e.object else None
+
+abbrev pub seen_object : Tables → ℕ → Option declaration.Object
+seen_object t k = option_and_then object_seen (slice_get t.entries k)
+
+-- what ordinals stand for, but for one that stands for something else
+abbrev pub put_at : {A : Type 0} → ℕ → Option A → (ℕ → Option A) → ℕ → Option A
+put_at ordinal o seen k = if k == ordinal then o else seen k
+
+-- what was in sight before a binding can be put back
+abbrev pub CanBePutBack : Tables → Shadowed → Type 0
+CanBePutBack t s = (s.ordinal < length t.entries) × IfSome s.before (ObjectIsMade (length t.shapes))
+
+-- what was in sight before bindings, of which the first is the oldest
+abbrev pub before_all : List Shadowed → (ℕ → Option declaration.Object) → ℕ → Option declaration.Object
+before_all [] seen = seen
+before_all (s ∷ later) seen = put_at s.ordinal s.before (before_all later seen)
 
 -- what labels stand for
 abbrev pub label_object : Tables → Label → Option (Object Shape Signature)

@@ -9,6 +9,7 @@ use crate::types::TypeId;
 use ob0_values::scalar::Scalar;
 use std::alloc::{AllocError, Global};
 use std::marker::Model;
+use std::mem;
 
 /// The greatest length of an array, and the most scalars that a type may have.
 pub const MOST_SCALARS: usize = 65536;
@@ -85,6 +86,13 @@ struct Entry {
     in_sight: bool,
 }
 
+/// What was in sight at an ordinal before it was bound to something else.
+#[derive(Debug, Drop)]
+pub struct Shadowed {
+    pub ordinal: usize,
+    pub before: Option<Object>,
+}
+
 /// The shapes of the types made so far, and the declarations so far by their ordinals, each in sight or not.
 #[derive(Debug, Drop)]
 pub struct Known<'t> {
@@ -122,9 +130,9 @@ impl<'t> Model for Known<'t> {
 }
 
 impl<'t> Known<'t> {
-    ghost use Rattle.std.specs.Prelude.{◌≡◌, ◌++◌, ◌∷◌, [], true, false, length, option_map, option_and_then, slice_get, slice_set, slice_index_or, MatchOption, All, ◌^◌, IfOk, OnOk, IfSome};
+    ghost use Rattle.std.specs.Prelude.{◌≡◌, ℕ, ◌<◌, ◌++◌, ◌∷◌, [], true, false, Some, length, option_map, option_and_then, slice_get, slice_set, slice_index_or, MatchOption, All, ◌^◌, IfOk, OnOk, IfSome, None};
     ghost use Rattle.ob0_types.specs.declared.known.Object.TheVariants as kind;
-    ghost use Rattle.ob0_types.specs.KnownTables.{predeclared, seen_in, shapes_of};
+    ghost use Rattle.ob0_types.specs.KnownTables.{AreTables, predeclared, put_at, seen_in, seen_object, shapes_of};
     ghost use Rattle.ob0_types.specs.Tables.{object_in, IsCounted, IsEntry, ObjectIsMade, IsMade, made_shape, no_shape};
     ghost use Rattle.ob0_types.specs.Typing.{depth, element_type, field_depth, field_scalars, field_type, scalars, within_limits};
     ghost use Rattle.ob0_values.specs.Values.{array_shape, integer_shape, record_shape};
@@ -188,9 +196,83 @@ impl<'t> Known<'t> {
         }
     }
 
+    /// Makes room for an ordinal, out of sight.
+    fn reach(&mut self, ordinal: usize) -> Result<(), AllocError>
+        ensures shapes { OnOk result (self.new.shapes ≡ self.old.shapes) }
+        ensures seen { OnOk result ((k : ℕ) → seen_object self.new k ≡ seen_object self.old k) }
+        ensures room { OnOk result (ordinal < length self.new.entries) }
+        ensures longer { OnOk result (length self.old.entries ≤ length self.new.entries) }
+    {
+        while self.entries.len() <= ordinal {
+            self.reserve()?;
+        }
+        Ok(())
+    }
+
+    /// Puts a declaration in place of what was in sight at an ordinal, and gives that.
+    fn exchange(&mut self, ordinal: usize, object: Object) -> Option<Object>
+        requires made { ObjectIsMade (length self.old.shapes) object }
+        requires room { ordinal < length self.old.entries }
+        ensures shapes { self.new.shapes ≡ self.old.shapes }
+        ensures seen { (k : ℕ) → seen_object self.new k ≡ put_at ordinal (Some object) (seen_object self.old) k }
+        ensures before { result ≡ seen_object self.old ordinal }
+        ensures made { IfSome result (ObjectIsMade (length self.old.shapes)) }
+        ensures long { length self.new.entries ≡ length self.old.entries }
+    {
+        let entry = Entry {
+            object,
+            in_sight: true,
+        };
+        let before = mem::replace(&mut self.entries[ordinal], entry);
+        let Entry { object, in_sight } = before;
+        if !in_sight {
+            return None;
+        }
+        Some(object)
+    }
+
+    /// Binds an ordinal to what is declared there, in sight, and gives what was in sight there before.
+    pub fn bind(&mut self, ordinal: usize, object: Object) -> Result<Option<Object>, AllocError>
+        requires { ObjectIsMade (length self.old.shapes) object }
+        ensures shapes { OnOk result (self.new.shapes ≡ self.old.shapes) }
+        ensures seen { OnOk result ((k : ℕ) → seen_object self.new k ≡ put_at ordinal (Some object) (seen_object self.old) k) }
+        ensures before { IfOk result (λ b. b ≡ seen_object self.old ordinal) }
+        ensures made { IfOk result (λ b. IfSome b (ObjectIsMade (length self.old.shapes))) }
+        ensures room { OnOk result (ordinal < length self.new.entries) }
+        ensures longer { OnOk result (length self.old.entries ≤ length self.new.entries) }
+    {
+        self.reach(ordinal)?;
+        Ok(self.exchange(ordinal, object))
+    }
+
+    /// Takes what is declared at an ordinal out of sight.
+    fn hide(&mut self, ordinal: usize)
+        requires { ordinal < length self.old.entries }
+        ensures shapes { self.new.shapes ≡ self.old.shapes }
+        ensures seen { (k : ℕ) → seen_object self.new k ≡ put_at ordinal None (seen_object self.old) k }
+        ensures long { length self.new.entries ≡ length self.old.entries }
+    {
+        self.entries[ordinal].in_sight = false;
+    }
+
+    /// Puts back in sight what was in sight at an ordinal before it was bound to something else.
+    pub fn put_back(&mut self, ordinal: usize, before: Option<Object>)
+        requires made { IfSome before (ObjectIsMade (length self.old.shapes)) }
+        requires room { ordinal < length self.old.entries }
+        ensures shapes { self.new.shapes ≡ self.old.shapes }
+        ensures seen { (k : ℕ) → seen_object self.new k ≡ put_at ordinal before (seen_object self.old) k }
+        ensures long { length self.new.entries ≡ length self.old.entries }
+    {
+        match before {
+            Some(object) => self.define(ordinal, object),
+            None => self.hide(ordinal),
+        }
+    }
+
     /// How many declarations there are.
     pub fn count(&self) -> usize
-        ensures { result ≡ length self.now.entries }
+        ensures count { result ≡ length self.now.entries }
+        ensures tables { AreTables self.now }
     {
         self.entries.len()
     }

@@ -1,0 +1,204 @@
+-- What is in sight agrees with an environment: after a binding, after types were added, and at the beginning.
+use Rattle.std.proofs.Common.{◌≡◌, ℕ, zero, suc, ◌<◌, ◌≤◌, Bool, true, false, ◌==◌, cond, List, [], ◌∷◌, ◌++◌, All, IfSome, ◌⊎◌, inl, inr, ◌≢◌, length, map, slice_get, get_or, Some, None, Option, option_and_then, sym, refl, ap, ◌∙◌, subst, arith, append_assoc, append-nil}
+use Rattle.std.proofs.lemmas.Bool.Decides.{eqb_tells}
+use Rattle.std.proofs.lemmas.List.Elements.{All-head, All-tail}
+use Rattle.ob0_scope.specs.Names.{Label, Name, as_labels, as_written, declared, label_text, same_label}
+use Rattle.ob0_values.specs.Values.{Shape}
+use Rattle.ob0_types.specs.declared.known.Entry.{Entry}
+use Rattle.ob0_types.specs.declared.known.Formal as formal
+use Rattle.ob0_types.specs.declared.known.Shadowed.{Shadowed}
+use Rattle.ob0_types.specs.declared.known.Object as declaration
+use Rattle.ob0_types.specs.declared.known.Object.TheVariants as kind
+use Rattle.ob0_types.specs.Checking.{Agrees, Follows}
+use Rattle.ob0_types.specs.Environments.{from_binding, meanings, newest, outermost}
+use Rattle.ob0_types.specs.Expressions.{Object, a_constant, a_procedure, a_standard, a_type, a_variable}
+use Rattle.ob0_types.specs.KnownTables.{AreTables, Tables, before_all, label_object, object_seen, predeclared, put_at, seen_entry, seen_in, seen_object, shapes_of}
+use Rattle.ob0_types.specs.Tables.{IsMade, ObjectIsMade, formal_in, mode_of, object_in, type_shape}
+use Rattle.ob0_types.specs.WellTyped.{Signature, TypeEnvironment}
+use Rattle.ob0_types.proofs.Sighted.{before_all-append}
+use Rattle.ob0_types.proofs.Tables.{length-table, type_shape-more}
+
+-- what an ordinal stands for, by the object in sight
+seen_entry-object : (shapes : List Shape) (e : Option Entry) → option_and_then (seen_entry shapes) e ≡ option_and_then (object_in shapes) (option_and_then object_seen e)
+seen_entry-object shapes None = refl
+seen_entry-object shapes (Some e) = by_sight e.in_sight
+  where
+    by_sight : (b : Bool) → cond b (object_in shapes e.object) None ≡ option_and_then (object_in shapes) (cond b (Some e.object) None)
+    by_sight true = refl
+    by_sight false = refl
+
+pub seen_in-object : (t : Tables) (k : ℕ) → seen_in t k ≡ option_and_then (object_in (shapes_of t)) (seen_object t k)
+seen_in-object t k = seen_entry-object (shapes_of t) (slice_get t.entries k)
+
+-- what is in sight was made
+made_entry : (n : ℕ) (e : Entry) → ObjectIsMade n e.object → IfSome (object_seen e) (ObjectIsMade n)
+made_entry n e h = by_sight e.in_sight
+  where
+    by_sight : (b : Bool) → IfSome (cond b (Some e.object) None) (ObjectIsMade n)
+    by_sight true = h
+    by_sight false = tt
+
+made_at : (n : ℕ) (es : List Entry) (k : ℕ) → All (λ e. ObjectIsMade n e.object) es → IfSome (option_and_then object_seen (slice_get es k)) (ObjectIsMade n)
+made_at n [] k h = tt
+made_at n (e ∷ es) zero h = made_entry n e (All-head (λ e. ObjectIsMade n e.object) e es h)
+made_at n (e ∷ es) (suc k) h = made_at n es k (All-tail (λ e. ObjectIsMade n e.object) e es h)
+
+-- more shapes change no object that was made
+formals-more : (shapes later : List Shape) (fs : List formal.Formal) → All (λ f. IsMade (length shapes) f.of) fs → map (formal_in (shapes ++ later)) fs ≡ map (formal_in shapes) fs
+formals-more shapes later [] h = refl
+formals-more shapes later (f ∷ fs) h = λ i.
+    record { mode = mode_of f.by_place; shape = type_shape-more shapes later f.of (All-head (λ f. IsMade (length shapes) f.of) f fs h) i }
+    ∷ formals-more shapes later fs (All-tail (λ f. IsMade (length shapes) f.of) f fs h) i
+
+pub object_in-more : (shapes later : List Shape) (o : declaration.Object) → ObjectIsMade (length shapes) o → object_in (shapes ++ later) o ≡ object_in shapes o
+object_in-more shapes later (kind.Named t) h = λ i. Some (a_type (type_shape-more shapes later t h i))
+object_in-more shapes later (kind.Constant v) h = refl
+object_in-more shapes later kind.FaultyConstant h = refl
+object_in-more shapes later (kind.Variable t) h = λ i. Some (a_variable (type_shape-more shapes later t h i))
+object_in-more shapes later (kind.Procedure fs) h = λ i. Some (a_procedure (formals-more shapes later fs.items h i))
+object_in-more shapes later (kind.Standard s) h = refl
+
+objects-more : (shapes later : List Shape) (o : Option declaration.Object) → IfSome o (ObjectIsMade (length shapes)) → option_and_then (object_in (shapes ++ later)) o ≡ option_and_then (object_in shapes) o
+objects-more shapes later None h = refl
+objects-more shapes later (Some o) h = object_in-more shapes later o h
+
+-- the same is in sight, and types were added
+pub seen_in-same : (t u : Tables) (later : List Shape) (k : ℕ) → AreTables t → seen_object u k ≡ seen_object t k → shapes_of u ≡ shapes_of t ++ later → seen_in u k ≡ seen_in t k
+seen_in-same t u later k h seen shapes =
+    seen_in-object u k
+    ∙ ap (λ s. option_and_then (object_in s) (seen_object u k)) shapes
+    ∙ ap (option_and_then (object_in (shapes_of t ++ later))) seen
+    ∙ objects-more (shapes_of t) later (seen_object t k) (subst (λ n. IfSome (seen_object t k) (ObjectIsMade n)) (sym (length-table t.shapes)) (made_at (length t.shapes) t.entries k h.entries_made))
+    ∙ sym (seen_in-object t k)
+
+pub agrees_by_label : (env : TypeEnvironment Label) (t : Tables) → ((x : Label) → newest (from_binding as_labels env x) ≡ label_object t x) → Agrees env t
+agrees_by_label env t h = λ i. record { stands_for = λ x. h x i; written = label_text }
+
+pub agrees_at : (env : TypeEnvironment Label) (t : Tables) → Agrees env t → (x : Label) → newest (from_binding as_labels env x) ≡ label_object t x
+agrees_at env t h x = λ i. (h i).stands_for x
+
+pub agrees_same : (env : TypeEnvironment Label) (t u : Tables) (later : List Shape) → AreTables t → ((k : ℕ) → seen_object u k ≡ seen_object t k) → shapes_of u ≡ shapes_of t ++ later → Agrees env t → Agrees env u
+agrees_same env t u later h seen shapes agrees = agrees_by_label env u by_label
+  where
+    by_label : (x : Label) → newest (from_binding as_labels env x) ≡ label_object u x
+    by_label (declared k) = agrees_at env t agrees (declared k) ∙ sym (seen_in-same t u later k h (seen k) shapes)
+    by_label (as_written x) = agrees_at env t agrees (as_written x)
+
+-- a label that is only written binds nothing
+pub agrees_unbound : (env : TypeEnvironment Label) (t : Tables) (x : Name) (o : Object Shape Signature) → Agrees env t → Agrees ((as_written x, o) ∷ env) t
+agrees_unbound env t x o agrees = agrees_by_label ((as_written x, o) ∷ env) t by_label
+  where
+    by_label : (y : Label) → newest (from_binding as_labels ((as_written x, o) ∷ env) y) ≡ label_object t y
+    by_label (declared k) = agrees_at env t agrees (declared k)
+    by_label (as_written y) = agrees_at env t agrees (as_written y)
+
+newest-if : (b : Bool) (x : Label) (o : Object Shape Signature) (env rest : TypeEnvironment Label) → newest (elim b [ true ↦ (x, o) ∷ env | false ↦ rest ]) ≡ cond b (Some o) (newest rest)
+newest-if true x o env rest = refl
+newest-if false x o env rest = refl
+
+seen-if : (shapes : List Shape) (b : Bool) (object : declaration.Object) (other : Option declaration.Object) → option_and_then (object_in shapes) (cond b (Some object) other) ≡ cond b (object_in shapes object) (option_and_then (object_in shapes) other)
+seen-if shapes true object other = refl
+seen-if shapes false object other = refl
+
+-- a declaration is bound at its ordinal
+pub agrees_bound : (env : TypeEnvironment Label) (t u : Tables) (k : ℕ) (object : declaration.Object) (o : Object Shape Signature)
+    → u.shapes ≡ t.shapes → ((j : ℕ) → seen_object u j ≡ put_at k (Some object) (seen_object t) j) → object_in (shapes_of t) object ≡ Some o → Agrees env t → Agrees ((declared k, o) ∷ env) u
+agrees_bound env t u k object o shapes seen stands agrees = agrees_by_label ((declared k, o) ∷ env) u by_label
+  where
+    same_shapes : shapes_of u ≡ shapes_of t
+    same_shapes = ap (λ s. shapes_of (record { shapes = s; entries = [] })) shapes
+
+    by_label : (y : Label) → newest (from_binding as_labels ((declared k, o) ∷ env) y) ≡ label_object u y
+    by_label (declared j) =
+        newest-if (j == k) (declared k) o env (from_binding as_labels env (declared j))
+        ∙ ap (cond (j == k) (Some o)) (agrees_at env t agrees (declared j) ∙ seen_in-object t j)
+        ∙ ap (λ s. cond (j == k) s (option_and_then (object_in (shapes_of t)) (seen_object t j))) (sym stands)
+        ∙ sym (seen-if (shapes_of t) (j == k) object (seen_object t j))
+        ∙ ap (option_and_then (object_in (shapes_of t))) (sym (seen j))
+        ∙ ap (λ s. option_and_then (object_in s) (seen_object u j)) (sym same_shapes)
+        ∙ sym (seen_in-object u j)
+    by_label (as_written y) = agrees_at env t agrees (as_written y)
+
+-- the predeclared names
+other : (k j : ℕ) (o : Object Shape Signature) (env : TypeEnvironment Label) → j < k → newest (from_binding as_labels ((declared j, o) ∷ env) (declared k)) ≡ newest (from_binding as_labels env (declared k))
+other k j o env less = newest-if (k == j) (declared j) o env (from_binding as_labels env (declared k)) ∙ ap (λ b. cond b (Some o) (newest (from_binding as_labels env (declared k)))) (differs (eqb_tells k j))
+  where
+    differs : ((k == j) ≡ true) × (k ≡ j) ⊎ ((k == j) ≡ false) × (k ≢ j) → (k == j) ≡ false
+    differs (inl h) = absurd (omega (arith, h.1))
+    differs (inr h) = h.0
+
+past : (k : ℕ) → 6 < k → newest (from_binding as_labels (outermost as_labels) (declared k)) ≡ None
+past k less =
+    other k 6 _ _ (omega arith) ∙ other k 5 _ _ (omega arith) ∙ other k 4 _ _ (omega arith) ∙ other k 3 _ _ (omega arith)
+    ∙ other k 2 _ _ (omega arith) ∙ other k 1 _ _ (omega arith) ∙ other k 0 _ _ (omega arith)
+
+pub agrees_outermost : Agrees (outermost as_labels) predeclared
+agrees_outermost = agrees_by_label (outermost as_labels) predeclared by_label
+  where
+    by_label : (y : Label) → newest (from_binding as_labels (outermost as_labels) y) ≡ label_object predeclared y
+    by_label (as_written y) = refl
+    by_label (declared zero) = refl
+    by_label (declared (suc zero)) = refl
+    by_label (declared (suc (suc zero))) = refl
+    by_label (declared (suc (suc (suc zero)))) = refl
+    by_label (declared (suc (suc (suc (suc zero))))) = refl
+    by_label (declared (suc (suc (suc (suc (suc zero)))))) = refl
+    by_label (declared (suc (suc (suc (suc (suc (suc zero))))))) = refl
+    by_label (declared (suc (suc (suc (suc (suc (suc (suc k)))))))) = past (suc (suc (suc (suc (suc (suc (suc k))))))) (omega arith)
+
+-- tables follow themselves, and those that they follow
+pub follows_itself : (t : Tables) (bound : List Shadowed) → Follows t t bound bound
+follows_itself t bound = record {
+  shapes = ([], sym (append-nil (shapes_of t)));
+  longer = omega arith;
+  goes_back = ([], sym (append-nil bound), λ k. refl);
+}
+
+pub follows_on : (t u v : Tables) (a b c : List Shadowed) → Follows t u a b → Follows u v b c → Follows t v a c
+follows_on t u v a b c f g = record {
+  shapes = (f.shapes.0 ++ g.shapes.0, g.shapes.1 ∙ ap (λ s. s ++ g.shapes.0) f.shapes.1 ∙ append_assoc (shapes_of t) f.shapes.0 g.shapes.0);
+  longer = omega (arith, f.longer, g.longer);
+  goes_back = (
+    f.goes_back.0 ++ g.goes_back.0,
+    g.goes_back.1 ∙ ap (λ s. s ++ g.goes_back.0) f.goes_back.1 ∙ append_assoc a f.goes_back.0 g.goes_back.0,
+    λ k. ap (λ seen. seen k) (before_all-append f.goes_back.0 g.goes_back.0 (seen_object v))
+        ∙ ap (λ (seen : ℕ → Option declaration.Object). before_all f.goes_back.0 seen k) (λ i j. g.goes_back.2 j i)
+        ∙ f.goes_back.2 k,
+  );
+}
+
+-- tables in which types were added
+pub follows_more : (t u : Tables) (a : List Shadowed) (later : List Shape) → shapes_of u ≡ shapes_of t ++ later → length t.shapes ≤ length u.shapes → ((k : ℕ) → seen_object u k ≡ seen_object t k) → Follows t u a a
+follows_more t u a later shapes longer seen = record {
+  shapes = (later, shapes);
+  longer = longer;
+  goes_back = ([], sym (append-nil a), seen);
+}
+
+put_back-if : (b : Bool) (object : declaration.Object) (other : Option declaration.Object) → cond b other (cond b (Some object) other) ≡ other
+put_back-if true object other = refl
+put_back-if false object other = refl
+
+at_itself : (k j : ℕ) (seen : ℕ → Option declaration.Object) (o : Option declaration.Object) → cond (j == k) (seen k) (cond (j == k) o (seen j)) ≡ seen j
+at_itself k j seen o = by_cases (eqb_tells j k)
+  where
+    by_cases : ((j == k) ≡ true) × (j ≡ k) ⊎ ((j == k) ≡ false) × (j ≢ k) → cond (j == k) (seen k) (cond (j == k) o (seen j)) ≡ seen j
+    by_cases (inl h) = ap (λ b. cond b (seen k) (cond b o (seen j))) h.0 ∙ ap seen (sym h.1)
+    by_cases (inr h) = ap (λ b. cond b (seen k) (cond b o (seen j))) h.0
+
+-- a binding that can be put back
+pub follows_bound : (t u : Tables) (a b : List Shadowed) (k : ℕ) (object : declaration.Object) (before : Option declaration.Object)
+    → u.shapes ≡ t.shapes → ((j : ℕ) → seen_object u j ≡ put_at k (Some object) (seen_object t) j) → before ≡ seen_object t k → b ≡ a ++ record { ordinal = k; before = before } ∷ [] → Follows t u a b
+follows_bound t u a b k object before shapes seen was added = record {
+  shapes = ([], ap (λ s. shapes_of (record { shapes = s; entries = [] })) shapes ∙ sym (append-nil (shapes_of t)));
+  longer = omega (arith, ap length shapes);
+  goes_back = (
+    record { ordinal = k; before = before } ∷ [],
+    added,
+    λ j. ap (λ o. cond (j == k) o (seen_object u j)) was ∙ ap (cond (j == k) (seen_object t k)) (seen j) ∙ at_itself k j (seen_object t) (Some object),
+  );
+}
+
+-- what went back to earlier tables follows what they follow
+pub follows_back : (t u v : Tables) (a b c : List Shadowed) (later : List Shape) → Follows t u a b → c ≡ b → ((k : ℕ) → seen_object v k ≡ seen_object u k) → shapes_of v ≡ shapes_of u ++ later → length u.shapes ≤ length v.shapes → Follows t v a c
+follows_back t u v a b c later f same seen shapes longer = subst (Follows t v a) (sym same) (follows_on t u v a b b f (follows_more u v b later shapes longer seen))
