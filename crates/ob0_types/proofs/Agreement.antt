@@ -1,22 +1,28 @@
 -- What is in sight agrees with an environment: after a binding, after types were added, and at the beginning.
-use Rattle.std.proofs.Common.{◌≡◌, ℕ, zero, suc, ◌<◌, ◌≤◌, Bool, true, false, ◌==◌, cond, List, [], ◌∷◌, ◌++◌, All, IfSome, ◌⊎◌, inl, inr, ◌≢◌, length, map, slice_get, get_or, Some, None, Option, option_and_then, sym, refl, ap, ◌∙◌, subst, arith, append_assoc, append-nil}
+use Rattle.std.proofs.Common.{◌≡◌, ℕ, zero, suc, ◌<◌, ◌≤◌, Bool, true, false, ◌==◌, cond, List, [], ◌∷◌, ◌++◌, All, IfSome, ◌⊎◌, inl, inr, ◌≢◌, length, map, slice_get, get_or, Some, None, Option, option_and_then, sym, refl, ap, ◌∙◌, subst, arith, append_assoc, append-nil, length-append}
 use Rattle.std.proofs.lemmas.Bool.Decides.{eqb_tells}
-use Rattle.std.proofs.lemmas.List.Elements.{All-head, All-tail}
-use Rattle.ob0_scope.specs.Names.{Label, Name, as_labels, as_written, declared, label_text, same_label}
+use Rattle.std.proofs.lemmas.List.{get_or_append_left}
+use Rattle.std.proofs.lemmas.List.Elements.{All-head, All-push, All-tail}
+use Rattle.std.proofs.Math.Seq.{get_or-append_seam}
+use Rattle.ob0_tree.specs.Places.{text_at}
+use Rattle.ob0_scope.specs.Resolution.{Resolution, ordinal_in}
+use Rattle.ob0_scope.specs.Scopes.{as_label}
+use Rattle.ob0_types.specs.InLabels.{label_in}
+use Rattle.ob0_scope.specs.Names.{Label, Name, as_labels, as_names, as_written, declared, label_text, same_label}
 use Rattle.ob0_values.specs.Values.{Shape}
 use Rattle.ob0_types.specs.declared.known.Entry.{Entry}
 use Rattle.ob0_types.specs.declared.known.Formal as formal
 use Rattle.ob0_types.specs.declared.known.Shadowed.{Shadowed}
 use Rattle.ob0_types.specs.declared.known.Object as declaration
 use Rattle.ob0_types.specs.declared.known.Object.TheVariants as kind
-use Rattle.ob0_types.specs.Checking.{Agrees, Follows}
+use Rattle.ob0_types.specs.Checking.{Agrees, Follows, Walking}
 use Rattle.ob0_types.specs.Environments.{from_binding, meanings, newest, outermost}
 use Rattle.ob0_types.specs.Expressions.{Object, a_constant, a_procedure, a_standard, a_type, a_variable}
-use Rattle.ob0_types.specs.KnownTables.{AreTables, Tables, before_all, label_object, object_seen, predeclared, put_at, seen_entry, seen_in, seen_object, shapes_of}
+use Rattle.ob0_types.specs.KnownTables.{AreTables, CanBePutBack, Tables, before_all, label_object, object_seen, predeclared, put_at, seen_entry, seen_in, seen_object, shapes_of}
 use Rattle.ob0_types.specs.Tables.{IsMade, ObjectIsMade, formal_in, mode_of, object_in, type_shape}
 use Rattle.ob0_types.specs.WellTyped.{Signature, TypeEnvironment}
-use Rattle.ob0_types.proofs.Sighted.{before_all-append}
-use Rattle.ob0_types.proofs.Tables.{length-table, type_shape-more}
+use Rattle.ob0_types.proofs.Sighted.{before_all-append, last_of}
+use Rattle.ob0_types.proofs.Tables.{ObjectIsMade-more, length-table, type_shape-more}
 
 -- what an ordinal stands for, by the object in sight
 seen_entry-object : (shapes : List Shape) (e : Option Entry) → option_and_then (seen_entry shapes) e ≡ option_and_then (object_in shapes) (option_and_then object_seen e)
@@ -146,38 +152,37 @@ agrees_outermost = agrees_by_label (outermost as_labels) predeclared by_label
     by_label (declared (suc (suc (suc (suc (suc (suc zero))))))) = refl
     by_label (declared (suc (suc (suc (suc (suc (suc (suc k)))))))) = past (suc (suc (suc (suc (suc (suc (suc k))))))) (omega arith)
 
--- tables follow themselves, and those that they follow
-pub follows_itself : (t : Tables) (bound : List Shadowed) → Follows t t bound bound
-follows_itself t bound = record {
-  shapes = ([], sym (append-nil (shapes_of t)));
+-- a walk follows itself, and what it follows
+pub follows_itself : (w : Walking) → Follows w w
+follows_itself w = record {
+  same = refl;
+  shapes = ([], sym (append-nil (shapes_of w.known)));
   longer = omega arith;
-  goes_back = ([], sym (append-nil bound), λ k. refl);
+  goes_back = ([], sym (append-nil w.bound), λ k. refl);
 }
 
-pub follows_on : (t u v : Tables) (a b c : List Shadowed) → Follows t u a b → Follows u v b c → Follows t v a c
-follows_on t u v a b c f g = record {
-  shapes = (f.shapes.0 ++ g.shapes.0, g.shapes.1 ∙ ap (λ s. s ++ g.shapes.0) f.shapes.1 ∙ append_assoc (shapes_of t) f.shapes.0 g.shapes.0);
+pub follows_on : (u v w : Walking) → Follows u v → Follows v w → Follows u w
+follows_on u v w f g = record {
+  same = g.same ∙ f.same;
+  shapes = (f.shapes.0 ++ g.shapes.0, g.shapes.1 ∙ ap (λ s. s ++ g.shapes.0) f.shapes.1 ∙ append_assoc (shapes_of u.known) f.shapes.0 g.shapes.0);
   longer = omega (arith, f.longer, g.longer);
   goes_back = (
     f.goes_back.0 ++ g.goes_back.0,
-    g.goes_back.1 ∙ ap (λ s. s ++ g.goes_back.0) f.goes_back.1 ∙ append_assoc a f.goes_back.0 g.goes_back.0,
-    λ k. ap (λ seen. seen k) (before_all-append f.goes_back.0 g.goes_back.0 (seen_object v))
+    g.goes_back.1 ∙ ap (λ s. s ++ g.goes_back.0) f.goes_back.1 ∙ append_assoc u.bound f.goes_back.0 g.goes_back.0,
+    λ k. ap (λ seen. seen k) (before_all-append f.goes_back.0 g.goes_back.0 (seen_object w.known))
         ∙ ap (λ (seen : ℕ → Option declaration.Object). before_all f.goes_back.0 seen k) (λ i j. g.goes_back.2 j i)
         ∙ f.goes_back.2 k,
   );
 }
 
--- tables in which types were added
-pub follows_more : (t u : Tables) (a : List Shadowed) (later : List Shape) → shapes_of u ≡ shapes_of t ++ later → length t.shapes ≤ length u.shapes → ((k : ℕ) → seen_object u k ≡ seen_object t k) → Follows t u a a
-follows_more t u a later shapes longer seen = record {
+-- types were added, and the same is in sight
+pub follows_more : (v w : Walking) (later : List Shape) → w.resolved ≡ v.resolved → shapes_of w.known ≡ shapes_of v.known ++ later → length v.known.shapes ≤ length w.known.shapes → w.bound ≡ v.bound → ((k : ℕ) → seen_object w.known k ≡ seen_object v.known k) → Follows v w
+follows_more v w later same shapes longer bound seen = record {
+  same = same;
   shapes = (later, shapes);
   longer = longer;
-  goes_back = ([], sym (append-nil a), seen);
+  goes_back = ([], bound ∙ sym (append-nil v.bound), seen);
 }
-
-put_back-if : (b : Bool) (object : declaration.Object) (other : Option declaration.Object) → cond b other (cond b (Some object) other) ≡ other
-put_back-if true object other = refl
-put_back-if false object other = refl
 
 at_itself : (k j : ℕ) (seen : ℕ → Option declaration.Object) (o : Option declaration.Object) → cond (j == k) (seen k) (cond (j == k) o (seen j)) ≡ seen j
 at_itself k j seen o = by_cases (eqb_tells j k)
@@ -187,18 +192,62 @@ at_itself k j seen o = by_cases (eqb_tells j k)
     by_cases (inr h) = ap (λ b. cond b (seen k) (cond b o (seen j))) h.0
 
 -- a binding that can be put back
-pub follows_bound : (t u : Tables) (a b : List Shadowed) (k : ℕ) (object : declaration.Object) (before : Option declaration.Object)
-    → u.shapes ≡ t.shapes → ((j : ℕ) → seen_object u j ≡ put_at k (Some object) (seen_object t) j) → before ≡ seen_object t k → b ≡ a ++ record { ordinal = k; before = before } ∷ [] → Follows t u a b
-follows_bound t u a b k object before shapes seen was added = record {
-  shapes = ([], ap (λ s. shapes_of (record { shapes = s; entries = [] })) shapes ∙ sym (append-nil (shapes_of t)));
+pub follows_bound : (v w : Walking) (k : ℕ) (object : declaration.Object) (before : Option declaration.Object)
+    → w.resolved ≡ v.resolved → w.known.shapes ≡ v.known.shapes → ((j : ℕ) → seen_object w.known j ≡ put_at k (Some object) (seen_object v.known) j) → before ≡ seen_object v.known k
+    → w.bound ≡ v.bound ++ record { ordinal = k; before = before } ∷ [] → Follows v w
+follows_bound v w k object before same shapes seen was added = record {
+  same = same;
+  shapes = ([], ap (λ s. shapes_of (record { shapes = s; entries = [] })) shapes ∙ sym (append-nil (shapes_of v.known)));
   longer = omega (arith, ap length shapes);
   goes_back = (
     record { ordinal = k; before = before } ∷ [],
     added,
-    λ j. ap (λ o. cond (j == k) o (seen_object u j)) was ∙ ap (cond (j == k) (seen_object t k)) (seen j) ∙ at_itself k j (seen_object t) (Some object),
+    λ j. ap (λ o. cond (j == k) o (seen_object w.known j)) was ∙ ap (cond (j == k) (seen_object v.known k)) (seen j) ∙ at_itself k j (seen_object v.known) (Some object),
   );
 }
 
--- what went back to earlier tables follows what they follow
-pub follows_back : (t u v : Tables) (a b c : List Shadowed) (later : List Shape) → Follows t u a b → c ≡ b → ((k : ℕ) → seen_object v k ≡ seen_object u k) → shapes_of v ≡ shapes_of u ++ later → length u.shapes ≤ length v.shapes → Follows t v a c
-follows_back t u v a b c later f same seen shapes longer = subst (Follows t v a) (sym same) (follows_on t u v a b b f (follows_more u v b later shapes longer seen))
+-- what can be put back, where more is known
+before-more : (n m : ℕ) (o : Option declaration.Object) → n ≤ m → IfSome o (ObjectIsMade n) → IfSome o (ObjectIsMade m)
+before-more n m None less h = tt
+before-more n m (Some o) less h = ObjectIsMade-more n m o less h
+
+pub held-more : (t u : Tables) (bs : List Shadowed) → length t.entries ≤ length u.entries → length t.shapes ≤ length u.shapes → All (CanBePutBack t) bs → All (CanBePutBack u) bs
+held-more t u bs entries shapes h = λ k d less. (
+  omega (arith, (h k d less).0),
+  before-more (length t.shapes) (length u.shapes) (get_or bs k d).before shapes (h k d less).1,
+)
+
+pub held-push : (t u : Tables) (bs cs : List Shadowed) (s : Shadowed) → length t.entries ≤ length u.entries → length t.shapes ≤ length u.shapes → All (CanBePutBack t) bs → CanBePutBack u s → cs ≡ bs ++ s ∷ [] → All (CanBePutBack u) cs
+held-push t u bs cs s entries shapes h last added = subst (All (CanBePutBack u)) (sym added) (All-push (CanBePutBack u) bs s (held-more t u bs entries shapes h) last)
+
+pub held-last : (t : Tables) (bs cs : List Shadowed) (s : Shadowed) → All (CanBePutBack t) bs → bs ≡ cs ++ s ∷ [] → CanBePutBack t s
+held-last t bs cs s h e =
+    let all : All (CanBePutBack t) (cs ++ s ∷ []) = subst (All (CanBePutBack t)) e h in
+    subst (CanBePutBack t) (get_or-append_seam cs s [] s) (all (length cs) s (omega (arith, length-append cs (s ∷ []))))
+
+pub held-rest : (t : Tables) (bs cs : List Shadowed) (s : Shadowed) → All (CanBePutBack t) bs → bs ≡ cs ++ s ∷ [] → All (CanBePutBack t) cs
+held-rest t bs cs s h e =
+    let all : All (CanBePutBack t) (cs ++ s ∷ []) = subst (All (CanBePutBack t)) e h in
+    λ k d less. subst (CanBePutBack t) (get_or_append_left cs (s ∷ []) d k less) (all k d (omega (arith, length-append cs (s ∷ []))))
+
+-- the label of a token, by its ordinal
+pub label_bound : (r : Resolution) (token k : ℕ) → ordinal_in r.ordinals token ≡ Some k → label_in r token ≡ declared k
+label_bound r token k e = ap (λ o. as_label as_names o (text_at r.module_read.source token)) e
+
+pub label_unbound : (r : Resolution) (token : ℕ) → ordinal_in r.ordinals token ≡ None → label_in r token ≡ as_written (text_at r.module_read.source token)
+label_unbound r token e = ap (λ o. as_label as_names o (text_at r.module_read.source token)) e
+
+-- one binding less
+pub goes_back_more : (v w : Tables) (first more rest : List Shadowed) (s : Shadowed) → first ++ more ≡ rest ++ s ∷ [] → length first < length (first ++ more)
+    → ((k : ℕ) → seen_object w k ≡ put_at s.ordinal s.before (seen_object v) k)
+    → (seen : ℕ → Option declaration.Object) → ((k : ℕ) → before_all more (seen_object v) k ≡ seen k)
+    → (left : List Shadowed) × (rest ≡ first ++ left) × ((k : ℕ) → before_all left (seen_object w) k ≡ seen k)
+goes_back_more v w first more rest s e less put seen so_far =
+    let found = last_of first more rest s e less in (
+      found.0,
+      found.2,
+      λ k. ap (λ (f : ℕ → Option declaration.Object). before_all found.0 f k) (λ i j. put j i)
+          ∙ ap (λ f. f k) (sym (before_all-append found.0 (s ∷ []) (seen_object v)))
+          ∙ ap (λ bs. before_all bs (seen_object v) k) (sym found.1)
+          ∙ so_far k,
+    )
