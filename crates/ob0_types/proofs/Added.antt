@@ -31,11 +31,11 @@ pub record Adding (r : Resolution) (tokens : List ℕ) (t : TypeId) (before : Li
 pub adding_begins : (r : Resolution) (tokens : List ℕ) (t : TypeId) (before : List Field) → Adding r tokens t before 0 before
 adding_begins r tokens t before = record { shapes = λ shapes. refl; made = λ n h m. h }
 
-pub adding_goes_on : {r : Resolution} {tokens : List ℕ} {t : TypeId} {before now : List Field} {done : ℕ} (x : ℕ) (f : Field) (later : List Field)
-    → Adding r tokens t before done now → done < length tokens → x ≡ get_or tokens done x → f.of ≡ t → f.name.now ≡ label_text (label_in r x) → later ≡ now ++ f ∷ []
+pub adding_goes_on : {r : Resolution} {tokens : List ℕ} {t : TypeId} {before now : List Field} {done : ℕ} (x d : ℕ) (f : Field) (later : List Field)
+    → Adding r tokens t before done now → done < length tokens → x ≡ get_or tokens done d → f.of ≡ t → f.name.now ≡ label_text (label_in r x) → later ≡ now ++ f ∷ []
     → Adding r tokens t before (done + 1) later
-adding_goes_on {r} {tokens} {t} {before} {now} {done} x f later h less here of name put =
-    let split : drop done tokens ≡ x ∷ drop (done + 1) tokens = drop_more tokens done x less ∙ ap (λ y. y ∷ drop (done + 1) tokens) (sym here) in
+adding_goes_on {r} {tokens} {t} {before} {now} {done} x d f later h less here of name put =
+    let split : drop done tokens ≡ x ∷ drop (done + 1) tokens = drop_more tokens done d less ∙ ap (λ y. y ∷ drop (done + 1) tokens) (sym here) in
     record {
       shapes = λ shapes.
           let left = fields_named r (drop (done + 1) tokens) (type_shape shapes t) in

@@ -1,11 +1,12 @@
 -- The fields of a record, gathered from its first group on, are those that its text denotes.
-use Rattle.std.proofs.Common.{◌≡◌, ℕ, suc, ◌+◌, ◌<◌, ◌≤◌, List, [], ◌∷◌, ◌++◌, All, map, length, get_or, drop, Option, Some, None, option_and_then, option_map, refl, sym, ap, ◌∙◌, subst, arith, append_assoc, append-nil, add-zero, add_assoc}
+use Rattle.std.proofs.Common.{◌≡◌, ℕ, suc, ◌+◌, ◌<◌, ◌≤◌, List, [], ◌∷◌, ◌++◌, All, map, length, get_or, drop, Option, Some, None, option_and_then, option_map, refl, sym, ap, ◌∙◌, subst, arith, append_assoc, append-nil, add-zero, zero-add, add_assoc}
 use Rattle.std.proofs.lemmas.List.{drop_all, drop_more}
 use Rattle.ob0_tree.specs.declared.tree.FieldList.{FieldList}
 use Rattle.ob0_tree.specs.declared.tree.Fields as group
 use Rattle.ob0_tree.specs.declared.tree.Names as tree_names
-use Rattle.ob0_tree.specs.Tree.{Tree, end, fields, further_fields, further_name, items, more, names, no_fields, record_type, some_fields, then_fields, then_name, written_type}
+use Rattle.ob0_tree.specs.Tree.{Tree, array_type, end, fields, further_fields, further_name, items, mapped, more, named_type, names, no_fields, record_type, some_fields, then_fields, then_name, written_type}
 use Rattle.ob0_tree.specs.View.{fields_of, further_fields_of_group, items_of, names_of, record_listed, type_of}
+use Rattle.ob0_tree.specs.Places.{value_at}
 use Rattle.ob0_scope.specs.Names.{Label, label_text}
 use Rattle.ob0_scope.specs.Parts.{further_names, names_listed}
 use Rattle.ob0_scope.specs.Resolution.{Resolution}
@@ -21,7 +22,6 @@ use Rattle.ob0_types.specs.WellTyped.{Typed}
 use Rattle.ob0_types.proofs.Added.{joined-assoc, joined-nothing}
 use Rattle.ob0_types.proofs.Judged.{then-assoc}
 use Rattle.ob0_types.proofs.Tables.{IsMade-more, fields_shape-more, length-table}
-use Rattle.ob0_types.proofs.TypeNaturality.{constructors-map}
 use Rattle.ob0_values.specs.Values.{FieldShapes, Shape, next_field_shape, no_field_shape, record_shape}
 
 -- tables that grow
@@ -51,6 +51,21 @@ further_names-all (x ∷ xs) = ap (λ ys. x ∷ ys) (further_names-all xs)
 
 names-labels : (r : Resolution) (ns : tree_names.Names) → names_listed (in_labels r (names_of ns)) ≡ map (label_in r) (ns.first ∷ ns.more.items)
 names-labels r ns = ap (λ xs. label_in r ns.first ∷ xs) (further_names-labels r (items_of then_name ns.more.items) ∙ ap (map (label_in r)) (further_names-all ns.more.items))
+
+-- labels are as many as tokens
+mutual
+  constructors-mapped : (f : ℕ → Label) (g : ℕ → ℕ) (t : Tree ℕ written_type) → constructors (mapped f g t) ≡ constructors t
+  constructors-mapped f g (named_type x) = refl
+  constructors-mapped f g (array_type e t) = ap suc (constructors-mapped f g t)
+  constructors-mapped f g (record_type fs rest) = λ i. suc (group_constructors-mapped f g fs i + groups_constructors-mapped f g rest i)
+
+  group_constructors-mapped : (f : ℕ → Label) (g : ℕ → ℕ) (t : Tree ℕ fields) → group_constructors (mapped f g t) ≡ group_constructors t
+  group_constructors-mapped f g no_fields = refl
+  group_constructors-mapped f g (some_fields ns t) = constructors-mapped f g t
+
+  groups_constructors-mapped : (f : ℕ → Label) (g : ℕ → ℕ) (t : Tree ℕ (items further_fields)) → groups_constructors (mapped f g t) ≡ groups_constructors t
+  groups_constructors-mapped f g end = refl
+  groups_constructors-mapped f g (more (then_fields fs) rest) = λ i. group_constructors-mapped f g fs i + groups_constructors-mapped f g rest i
 
 -- what one more group denotes
 behind-fields : (xs : List _) (s : Shape) (d : Option Shape) (o : Option FieldShapes) → d ≡ Some s
@@ -128,7 +143,8 @@ gathered_empty {r} {before} {now} {k} {gs} {done} {behind} {found} g h less here
           ∙ ap (option_map (joined (fields_shape (shapes_of now) found))) (sym (group-empty m behind left))
           ∙ sym (ap (λ xs. option_map (joined (fields_shape (shapes_of now) found)) (denoted_groups m behind (in_labels r (items_of further_fields_of_group xs)))) split)
           ∙ h.value;
-      counted = sym (ap (λ xs. behind + groups_constructors (items_of further_fields_of_group xs)) split) ∙ h.counted;
+      counted = ap (λ n. behind + n) (sym (zero-add (groups_constructors (items_of further_fields_of_group (drop (done + 1) gs)))))
+          ∙ sym (ap (λ xs. behind + groups_constructors (items_of further_fields_of_group xs)) split) ∙ h.counted;
     }
 
 joined-twice : (a b : FieldShapes) (o : Option FieldShapes) → option_map (joined (joined a b)) o ≡ option_map (joined a) (option_map (joined b) o)
@@ -161,7 +177,7 @@ module _ {r : Resolution} {before now : Tables} {k : ℕ} {gs : List group.Field
       let here_named : with_fields (map label_text (names_listed ns)) s no_field_shape ≡ fields_named r (list.names.first ∷ list.names.more.items) s = ap (λ xs. with_fields (map label_text xs) s no_field_shape) (names-labels r list.names) in
       let all : fields_shape (shapes_of later) more_found ≡ joined so_far (with_fields (map label_text (names_listed ns)) s no_field_shape) =
           added.shapes (shapes_of later) ∙ (λ i. joined (fields-kept now later found grown h.made i) (sym here_named i)) in
-      let number : next ≡ behind + constructors text = counted ∙ ap (λ n. behind + n) (sym (constructors-map _ _ (type_of list.written))) in
+      let number : next ≡ behind + constructors text = counted ∙ ap (λ n. behind + n) (sym (constructors-mapped (label_in r) (value_at r.module_read.source) (type_of list.written))) in
       record {
         grown = grown-trans h.grown grown;
         made = added.made (length later.shapes) (made-kept (length now.shapes) (length later.shapes) found grown.longer h.made) made;

@@ -98,8 +98,10 @@ fn denote_name<'t>(
         resolved,
         only_constants: false,
     };
-    let of = names.named_type(name)?;
-    Some(Denoted { of, next })
+    match names.named_type(name) {
+        None => None,
+        Some(of) => Some(Denoted { of, next }),
+    }
 }
 
 /// How many elements an array has, where its text says a length.
