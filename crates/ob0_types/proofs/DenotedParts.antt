@@ -1,5 +1,5 @@
 -- What the text of a type denotes, by its parts.
-use Rattle.std.proofs.Common.{◌≡◌, ℕ, suc, ◌+◌, ◌≤◌, List, length, IfSome, Option, Some, None, option_and_then, option_map, refl, sym, ap, ◌∙◌, arith, add-zero, add-one}
+use Rattle.std.proofs.Common.{◌≡◌, ℕ, suc, ◌+◌, ◌≤◌, List, length, IfSome, Option, Some, None, option_and_then, option_map, refl, sym, ap, ◌∙◌, subst, arith, add-zero, add-one}
 use Rattle.ob0_tree.specs.declared.tree.ArrayType.{ArrayType}
 use Rattle.ob0_tree.specs.declared.tree.Fields as group
 use Rattle.ob0_tree.specs.Tree.{Tree, array_type, expression, named_type, written_type}
@@ -120,3 +120,12 @@ record_denotes {r} {s} {t} {u} {k} {inner} {done} {behind} {fields} gs found num
       made = made-with_next (length u.shapes) behind found made;
       next = next-with_next behind (k + constructors (record_listed gs)) found (omega (arith, counted_ends g all, number, record-counted gs));
     }
+
+-- the same by equal parts
+pub denotes_as : {r : Resolution} {t u : Tables} {k : ℕ} {text same : Tree ℕ written_type} {found kept : Option Denoted} → text ≡ same → found ≡ kept → Denotes r t u k text found → Denotes r t u k same kept
+denotes_as {r} {t} {u} {k} {text} {same} {found} {kept} e f d = subst (λ z. Denotes r t u k z kept) e (subst (Denotes r t u k text) f d)
+
+pub gathered_as : {r : Resolution} {t u later : Tables} {k : ℕ} {gs : List group.Fields} {done behind next : ℕ} {found : List Field} {fields : List Field} → later ≡ u → next ≡ behind → fields ≡ found
+    → Gathered r t u k gs done behind found → Gathered r t later k gs done next fields
+gathered_as {r} {t} {u} {later} {k} {gs} {done} {behind} {next} {found} {fields} e f h g =
+    subst (λ z. Gathered r t z k gs done next fields) (sym e) (subst (λ n. Gathered r t u k gs done n fields) (sym f) (subst (Gathered r t u k gs done behind) (sym h) g))

@@ -176,7 +176,7 @@ module _ {r : Resolution} {before now : Tables} {k : ℕ} {gs : List group.Field
       let denotes : denoted m behind text ≡ Some s = sym (value ∙ ap (λ z. denoted z behind text) h.grown.meaning) in
       let here_named : with_fields (map label_text (names_listed ns)) s no_field_shape ≡ fields_named r (list.names.first ∷ list.names.more.items) s = ap (λ xs. with_fields (map label_text xs) s no_field_shape) (names-labels r list.names) in
       let all : fields_shape (shapes_of later) more_found ≡ joined so_far (with_fields (map label_text (names_listed ns)) s no_field_shape) =
-          added.shapes (shapes_of later) ∙ (λ i. joined (fields-kept now later found grown h.made i) (sym here_named i)) in
+      added.shapes (shapes_of later) ∙ (λ i. joined (fields-kept now later found grown h.made i) (sym here_named i)) in
       let number : next ≡ behind + constructors text = counted ∙ ap (λ n. behind + n) (sym (constructors-mapped (label_in r) (value_at r.module_read.source) (type_of list.written))) in
       record {
         grown = grown-trans h.grown grown;

@@ -165,8 +165,7 @@ fn denote_record<'t>(
         match group {
             Fields::Empty => {}
             Fields::Listed(list) => {
-                let Some(found) = denote_text(alloc, known, resolved, behind, &list.written)?
-                else {
+                let Some(found) = denote_text(alloc, known, resolved, behind, &list.written)? else {
                     return Ok(None);
                 };
                 add_fields(known, resolved, list, found.of, &mut fields)?;
