@@ -132,7 +132,7 @@ impl<'t> Model for Known<'t> {
 impl<'t> Known<'t> {
     ghost use Rattle.std.specs.Prelude.{◌≡◌, ℕ, ◌<◌, ◌++◌, ◌∷◌, [], true, false, Some, length, option_map, option_and_then, slice_get, slice_set, slice_index_or, MatchOption, All, ◌^◌, IfOk, OnOk, IfSome, None};
     ghost use Rattle.ob0_types.specs.declared.known.Object.TheVariants as kind;
-    ghost use Rattle.ob0_types.specs.KnownTables.{AreTables, predeclared, put_at, seen_in, seen_object, shapes_of};
+    ghost use Rattle.ob0_types.specs.KnownTables.{AreTables, known_meaning, predeclared, put_at, seen_in, seen_object, shapes_of};
     ghost use Rattle.ob0_types.specs.Tables.{object_in, IsCounted, IsEntry, ObjectIsMade, IsMade, made_shape, no_shape};
     ghost use Rattle.ob0_types.specs.Typing.{depth, element_type, field_depth, field_scalars, field_type, scalars, within_limits};
     ghost use Rattle.ob0_values.specs.Values.{array_shape, integer_shape, record_shape};
@@ -410,6 +410,7 @@ impl<'t> Known<'t> {
         ensures place { IfOk result (λ i. i ≡ length self.old.shapes) }
         ensures shapes { OnOk result (self.new.shapes ≡ self.old.shapes ++ shape.entry ∷ []) }
         ensures entries { OnOk result (self.new.entries ≡ self.old.entries) }
+        ensures meaning { OnOk result (known_meaning self.new ≡ known_meaning self.old) }
     {
         let place = self.shapes.len();
         self.shapes.push(shape)?;
@@ -429,6 +430,7 @@ impl<'t> Known<'t> {
         ensures entries { OnOk result (self.new.entries ≡ self.old.entries) }
         ensures shapes { OnOk result ((later : List shape.Shape) × (shapes_of self.new ≡ shapes_of self.old ++ later)) }
         ensures longer { OnOk result (length self.old.shapes ≤ length self.new.shapes) }
+        ensures meaning { OnOk result (known_meaning self.new ≡ known_meaning self.old) }
     {
         let Some(scalars) = size.checked_mul(self.scalars(element)) else {
             return Ok(None);
@@ -487,6 +489,7 @@ impl<'t> Known<'t> {
         ensures entries { OnOk result (self.new.entries ≡ self.old.entries) }
         ensures shapes { OnOk result ((later : List shape.Shape) × (shapes_of self.new ≡ shapes_of self.old ++ later)) }
         ensures longer { OnOk result (length self.old.shapes ≤ length self.new.shapes) }
+        ensures meaning { OnOk result (known_meaning self.new ≡ known_meaning self.old) }
     {
         let Some(sum) = self.field_scalars(fields.as_slice()) else {
             return Ok(None);
