@@ -9,7 +9,7 @@ use Rattle.ob0_scope.specs.Resolution.{Resolution, ordinal_in}
 use Rattle.ob0_scope.specs.Scopes.{as_label}
 use Rattle.ob0_types.specs.InLabels.{label_in}
 use Rattle.ob0_scope.specs.Names.{Label, Name, as_labels, as_names, as_written, declared, label_text, same_label}
-use Rattle.ob0_values.specs.Values.{Shape}
+use Rattle.ob0_values.specs.Values.{Shape, boolean_shape, integer_shape, truth}
 use Rattle.ob0_types.specs.declared.known.Entry.{Entry}
 use Rattle.ob0_types.specs.declared.known.Formal as formal
 use Rattle.ob0_types.specs.declared.known.Shadowed.{Shadowed}
@@ -17,7 +17,7 @@ use Rattle.ob0_types.specs.declared.known.Object as declaration
 use Rattle.ob0_types.specs.declared.known.Object.TheVariants as kind
 use Rattle.ob0_types.specs.Checking.{Agrees, Follows, Walking}
 use Rattle.ob0_types.specs.Environments.{from_binding, meanings, newest, outermost}
-use Rattle.ob0_types.specs.Expressions.{Object, a_constant, a_procedure, a_standard, a_type, a_variable}
+use Rattle.ob0_types.specs.Expressions.{Object, a_constant, a_procedure, a_standard, a_type, a_variable, reads, writes, writes_line}
 use Rattle.ob0_types.specs.KnownTables.{AreTables, CanBePutBack, Tables, before_all, label_object, object_seen, predeclared, put_at, seen_entry, seen_in, seen_object, shapes_of}
 use Rattle.ob0_types.specs.Tables.{IsMade, ObjectIsMade, formal_in, mode_of, object_in, type_shape}
 use Rattle.ob0_types.specs.WellTyped.{Signature, TypeEnvironment}
@@ -133,10 +133,37 @@ other k j o env less = newest-if (k == j) (declared j) o env (from_binding as_la
     differs (inl h) = absurd (omega (arith, h.1))
     differs (inr h) = h.0
 
-past : (k : ℕ) → 6 < k → newest (from_binding as_labels (outermost as_labels) (declared k)) ≡ None
+-- the bindings of the predeclared names, one by one
+abbrev first_1 : TypeEnvironment Label
+first_1 = (declared 0, a_type integer_shape) ∷ []
+
+abbrev first_2 : TypeEnvironment Label
+first_2 = (declared 1, a_type boolean_shape) ∷ first_1
+
+abbrev first_3 : TypeEnvironment Label
+first_3 = (declared 2, a_constant (truth true)) ∷ first_2
+
+abbrev first_4 : TypeEnvironment Label
+first_4 = (declared 3, a_constant (truth false)) ∷ first_3
+
+abbrev first_5 : TypeEnvironment Label
+first_5 = (declared 4, a_standard reads) ∷ first_4
+
+abbrev first_6 : TypeEnvironment Label
+first_6 = (declared 5, a_standard writes) ∷ first_5
+
+abbrev first_7 : TypeEnvironment Label
+first_7 = (declared 6, a_standard writes_line) ∷ first_6
+
+past : (k : ℕ) → 6 < k → newest (from_binding as_labels first_7 (declared k)) ≡ None
 past k less =
-    other k 6 _ _ (omega arith) ∙ other k 5 _ _ (omega arith) ∙ other k 4 _ _ (omega arith) ∙ other k 3 _ _ (omega arith)
-    ∙ other k 2 _ _ (omega arith) ∙ other k 1 _ _ (omega arith) ∙ other k 0 _ _ (omega arith)
+    other k 6 (a_standard writes_line) first_6 (omega arith)
+    ∙ other k 5 (a_standard writes) first_5 (omega arith)
+    ∙ other k 4 (a_standard reads) first_4 (omega arith)
+    ∙ other k 3 (a_constant (truth false)) first_3 (omega arith)
+    ∙ other k 2 (a_constant (truth true)) first_2 (omega arith)
+    ∙ other k 1 (a_type boolean_shape) first_1 (omega arith)
+    ∙ other k 0 (a_type integer_shape) [] (omega arith)
 
 pub agrees_outermost : Agrees (outermost as_labels) predeclared
 agrees_outermost = agrees_by_label (outermost as_labels) predeclared by_label

@@ -1,2 +1,25 @@
-use Rattle.std.proofs.Common.{◌≡◌, sym, ap, ◌∙◌}
+use Rattle.std.proofs.Common.{Some, option_map, sym, ap, ◌∙◌}
+use Rattle.ob0_tree.specs.View.{type_of}
+use Rattle.ob0_types.specs.declared.denoting.Denoted.{Denoted}
+use Rattle.ob0_types.specs.InLabels.{in_labels}
+use Rattle.ob0_types.specs.KnownTables.{known_meaning, shapes_of}
+use Rattle.ob0_types.specs.Tables.{type_shape}
+use Rattle.ob0_types.specs.Typing.{denoted}
 use Rattle.ob0_types.proofs.walk.Walk.denote.Goals as goal
+
+pub returns-clause-agrees : goal.returns-clause-agrees
+returns-clause-agrees c = λ env agrees. agrees ∙ sym (ap (λ w. known_meaning w.known) c.self.view_is) ∙ sym c.in_ok-denote.ensures.meaning
+
+pub returns-in-None-clause-value : goal.returns-in-None-clause-value
+returns-in-None-clause-value c = λ env agrees.
+    sym (ap (option_map (λ (d : Denoted). type_shape (shapes_of c.denote.new.known) d.of)) c.in-None.is)
+    ∙ c.in_ok-denote.ensures.value
+    ∙ ap (λ w. denoted (known_meaning w.known) w.next (in_labels w.resolved (type_of c.args.t.now))) c.self.view_is
+    ∙ ap (λ m. denoted m c.args.self.next (in_labels c.args.self.resolved (type_of c.args.t.now))) (sym agrees)
+
+pub returns-clause-value : goal.returns-clause-value
+returns-clause-value c = λ env agrees.
+    sym (ap (option_map (λ (d : Denoted). type_shape (shapes_of c.denote.new.known) d.of)) c.in-Some.is)
+    ∙ c.in_ok-denote.ensures.value
+    ∙ ap (λ w. denoted (known_meaning w.known) w.next (in_labels w.resolved (type_of c.args.t.now))) c.self.view_is
+    ∙ ap (λ m. denoted m c.args.self.next (in_labels c.args.self.resolved (type_of c.args.t.now))) (sym agrees)
