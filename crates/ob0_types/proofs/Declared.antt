@@ -1,5 +1,5 @@
 -- One declaration: behind its text, and behind its binding.
-use Rattle.std.proofs.Common.{◌≡◌, ℕ, ◌+◌, ◌<◌, ◌≤◌, List, [], ◌∷◌, map, length, get_or, drop, IfSome, Some, None, Option, option_and_then, option_map, refl, sym, ap, ◌∙◌, subst, arith}
+use Rattle.std.proofs.Common.{◌≡◌, ℕ, zero, suc, ◌+◌, ◌<◌, ◌≤◌, List, [], ◌∷◌, map, length, get_or, drop, IfSome, Some, None, Option, option_and_then, option_map, refl, sym, ap, ◌∙◌, subst, arith}
 use Rattle.std.proofs.lemmas.List.{drop_all, drop_more}
 use Rattle.ob0_tree.specs.declared.tree.Names as tree_names
 use Rattle.ob0_tree.specs.Tree.{Tree, declares_constant, declares_type, declares_variable, end, expression, more, names, written_type}
@@ -128,6 +128,15 @@ binds_on {to = to} {xs = xs} {w = w} {v = v} {done = done} u x g less here b =
       follows = follows_on w v u g.follows b.follows;
       next = b.next ∙ g.next;
     }
+
+any_default : {A : Type 0} (xs : List A) (i : ℕ) (d e : A) → i < length xs → get_or xs i d ≡ get_or xs i e
+any_default [] i d e less = absurd (omega arith)
+any_default (x ∷ xs) zero d e less = refl
+any_default (x ∷ xs) (suc i) d e less = any_default xs i d e (omega arith)
+
+-- the same of an element that is read with a default
+pub binds_read : {A : Type 0} {to : A → ℕ × TypeId} {xs : List A} {w v : Walking} {done : ℕ} (u : Walking) (d : A) → Binds to xs w v done → done < length xs → Binding v u (to (get_or xs done d)).0 (kind.Variable (to (get_or xs done d)).1) → Binds to xs w u (done + 1)
+binds_read {xs = xs} {done = done} u d g less b = binds_on u (get_or xs done d) g less (any_default xs done d (get_or xs done d) less) b
 
 pub binds_end : {A : Type 0} {to : A → ℕ × TypeId} {xs : List A} {w v : Walking} {done : ℕ} → Binds to xs w v done → length xs ≤ done → (env : TypeEnvironment Label) → Agrees env w.known → Agrees (bind_all (map (λ x. variable_at w (to x)) xs) env) v.known
 binds_end {to = to} {xs = xs} {w = w} {v = v} {done = done} g all env agrees =

@@ -1,0 +1,43 @@
+use Rattle.std.proofs.Common.{◌+◌, IfOk, Some, None, sym, subst}
+use Rattle.ob0_tree.proofs.Viewed.{block_parts}
+use Rattle.ob0_tree.specs.declared.tree.Block.{out-Block}
+use Rattle.ob0_tree.specs.Tree.{declares, has_body}
+use Rattle.ob0_tree.specs.View.{block_of, body_of, constants_of, items_of, procedure_of, types_of, variables_of}
+use Rattle.ob0_scope.specs.Names.{as_labels}
+use Rattle.ob0_scope.specs.Parts.{block_types, block_variables, section_constants, section_types, section_variables}
+use Rattle.ob0_types.specs.Checking.{Declares, declare_block}
+use Rattle.ob0_types.specs.Declarations.{declare_constants, declare_types, types_constructors, variables_constructors}
+use Rattle.ob0_types.specs.InLabels.{in_labels}
+use Rattle.ob0_types.specs.WellTyped.{declare_typed}
+use Rattle.ob0_types.proofs.Procedures.{block_declared, block_without_constants, block_without_types, ifok_map}
+use Rattle.ob0_types.proofs.walk.Walk.declarations.Goals as goal
+
+pub returns-in-None : goal.returns-in-None
+returns-in-None c =
+    let w = c.args.self in
+    let b = out-Block c.args.b.now in
+    subst (λ t. Declares w (types_constructors (block_types t) + variables_constructors (block_variables t)) (λ env. declare_block as_labels env w.next (in_labels w.resolved t)) None) (sym (block_parts c.args.b.now))
+    (block_without_constants w _ (constants_of b.constants) (types_of b.types) (variables_of b.variables) (items_of procedure_of b.procedures.items) (body_of b.body)
+    (subst (Declares w 0 (λ env. declare_constants as_labels env (section_constants (in_labels w.resolved (constants_of b.constants))))) c.in-None.is c.in_ok-constants_of.ensures))
+
+pub returns-in-None-2 : goal.returns-in-None-2
+returns-in-None-2 c =
+    let w = c.args.self in
+    let v = c.in-Some.walk in
+    let b = out-Block c.args.b.now in
+    subst (λ t. Declares w (types_constructors (block_types t) + variables_constructors (block_variables t)) (λ env. declare_block as_labels env w.next (in_labels w.resolved t)) None) (sym (block_parts c.args.b.now))
+    (block_without_types w v _ (constants_of b.constants) (types_of b.types) (variables_of b.variables) (items_of procedure_of b.procedures.items) (body_of b.body)
+    (subst (Declares w 0 (λ env. declare_constants as_labels env (section_constants (in_labels w.resolved (constants_of b.constants))))) c.in-Some.is c.in_ok-constants_of.ensures)
+    (subst (Declares v (types_constructors (section_types (types_of b.types))) (λ env. declare_types as_labels env v.next (section_types (in_labels v.resolved (types_of b.types))))) c.in-None-2.is c.in_ok-types_of.ensures))
+
+pub returns : goal.returns
+returns c =
+    let w = c.args.self in
+    let v = c.in-Some.walk in
+    let u = c.in-Some-2.walk in
+    let b = out-Block c.args.b.now in
+    subst (λ t. IfOk c.variables_of.result (Declares w (types_constructors (block_types t) + variables_constructors (block_variables t)) (λ env. declare_block as_labels env w.next (in_labels w.resolved t)))) (sym (block_parts c.args.b.now))
+    (ifok_map _ _ c.variables_of.result (λ r. block_declared w v u (constants_of b.constants) (types_of b.types) (variables_of b.variables) (items_of procedure_of b.procedures.items) (body_of b.body) r
+    (subst (Declares w 0 (λ env. declare_constants as_labels env (section_constants (in_labels w.resolved (constants_of b.constants))))) c.in-Some.is c.in_ok-constants_of.ensures)
+    (subst (Declares v (types_constructors (section_types (types_of b.types))) (λ env. declare_types as_labels env v.next (section_types (in_labels v.resolved (types_of b.types))))) c.in-Some-2.is c.in_ok-types_of.ensures))
+    c.variables_of.ensures)
