@@ -6,10 +6,11 @@ use Rattle.std.specs.declared.alloc.Global.{Global}
 use Rattle.ob0_tree.specs.declared.tree.Procedure.{Procedure, out-Procedure, roll-out-Procedure}
 use Rattle.ob0_tree.specs.Places.{value_at}
 use Rattle.ob0_tree.specs.Tree.{Tree, block, body, constants, declares, declares_procedure, end, formals, has_body, item, items, maybe, more, procedure, type_names, variables}
-use Rattle.ob0_tree.specs.View.{block_of, formals_of, items_of, procedure_of}
-use Rattle.ob0_tree.proofs.Viewed.{procedure_made}
+use Rattle.ob0_tree.specs.View.{block_of, body_of, constants_of, formals_of, items_of, procedure_of, types_of, variables_of}
+use Rattle.ob0_tree.specs.declared.tree.Block.{Block, out-Block}
+use Rattle.ob0_tree.proofs.Viewed.{block_parts, procedure_made}
 use Rattle.ob0_scope.specs.Names.{Label, as_labels}
-use Rattle.ob0_scope.specs.Parts.{formal_sections, procedure_formals, procedure_name, section_constants, section_types, section_variables}
+use Rattle.ob0_scope.specs.Parts.{block_types, block_variables, formal_sections, procedure_formals, procedure_name, section_constants, section_types, section_variables}
 use Rattle.ob0_scope.specs.Resolution.{Resolution}
 use Rattle.ob0_types.specs.declared.known.Formal as formal
 use Rattle.ob0_types.specs.declared.known.Object.TheVariants as kind
@@ -306,3 +307,59 @@ pub block_next : (w v u : Walking) (cs : Tree ℕ (maybe constants)) (ts : Tree 
     → Walked (procedures_left st) procedures_constructors procedure_of ps v u done → length ps ≤ done
     → u.next ≡ w.next + block_constructors (has_body (declares cs ts vs (items_of procedure_of ps)) st)
 block_next w v u cs ts vs ps st done given d g all = omega (arith, d.next, g.next, ap (λ (ys : List Procedure). procedures_constructors (items_of procedure_of ys)) (drop_all done ps all))
+
+-- the same of a block of the code
+abbrev pub DeclaresBlock : Walking → Block → Option Walking → Type 0
+DeclaresBlock w b r = Declares w (types_constructors (block_types (block_of b)) + variables_constructors (block_variables (block_of b))) (λ env. declare_block as_labels env w.next (in_labels w.resolved (block_of b))) r
+
+abbrev pub parted : Block → List Procedure → Tree ℕ block
+parted b ps = has_body (declares (constants_of (out-Block b).constants) (types_of (out-Block b).types) (variables_of (out-Block b).variables) (items_of procedure_of ps)) (body_of (out-Block b).body)
+
+parted_declares : (w : Walking) (b : Block) (ps : List Procedure) (r : Option Walking) → ps ≡ (out-Block b).procedures.items → DeclaresBlock w b r
+    → Declares w (types_constructors (section_types (types_of (out-Block b).types)) + variables_constructors (section_variables (variables_of (out-Block b).variables))) (λ env. declare_block as_labels env w.next (in_labels w.resolved (parted b ps))) r
+parted_declares w b ps r same d =
+    subst (λ ys. Declares w (types_constructors (section_types (types_of (out-Block b).types)) + variables_constructors (section_variables (variables_of (out-Block b).variables))) (λ env. declare_block as_labels env w.next (in_labels w.resolved (parted b ys))) r) (sym same)
+    (subst (λ t. Declares w (types_constructors (block_types t) + variables_constructors (block_variables t)) (λ env. declare_block as_labels env w.next (in_labels w.resolved t)) r) (block_parts b) d)
+
+whole_block : (b : Block) (ps : List Procedure) → ps ≡ (out-Block b).procedures.items → parted b ps ≡ block_of b
+whole_block b ps same = ap (parted b) same ∙ sym (block_parts b)
+
+pub undeclared_block : (w : Walking) (m : ℕ) (b : Block) → DeclaresBlock w b None → Decides w m (λ env. block_fits as_labels env w.next (in_labels w.resolved (block_of b))) None
+undeclared_block w m b d =
+    subst (λ t. Decides w m (λ env. block_fits as_labels env w.next (in_labels w.resolved t)) None) (whole_block b (out-Block b).procedures.items refl)
+    (block_undeclared w _ m (constants_of (out-Block b).constants) (types_of (out-Block b).types) (variables_of (out-Block b).variables) (items_of procedure_of (out-Block b).procedures.items) (body_of (out-Block b).body) (parted_declares w b (out-Block b).procedures.items None refl d))
+
+pub stopped_block : (w v u : Walking) (m : ℕ) (b : Block) (ps : List Procedure) (done : ℕ) (x : Procedure) → DeclaresBlock w b (Some v) → ps ≡ (out-Block b).procedures.items
+    → Walked (procedures_left (body_of (out-Block b).body)) procedures_constructors procedure_of ps v u done → done < length ps → x ≡ get_or ps done x → Declares u (procedure_constructors (procedure_of x)) (procedure_given u.resolved u.next (procedure_of x)) None
+    → Decides w m (λ env. block_fits as_labels env w.next (in_labels w.resolved (block_of b))) None
+stopped_block w v u m b ps done x d same g less here p =
+    subst (λ t. Decides w m (λ env. block_fits as_labels env w.next (in_labels w.resolved t)) None) (whole_block b ps same)
+    (block_stops w v u m (constants_of (out-Block b).constants) (types_of (out-Block b).types) (variables_of (out-Block b).variables) ps (body_of (out-Block b).body) done x (parted_declares w b ps (Some v) same d) g less here p)
+
+whole_fits : (w v u : Walking) (b : Block) (ps : List Procedure) (done : ℕ) (fits : Bool) → DeclaresBlock w b (Some v) → ps ≡ (out-Block b).procedures.items
+    → Walked (procedures_left (body_of (out-Block b).body)) procedures_constructors procedure_of ps v u done → length ps ≤ done
+    → ((env : TypeEnvironment Label) → Agrees env u.known → fits ≡ body_fits as_labels env (in_labels u.resolved (body_of (out-Block b).body)))
+    → (env : TypeEnvironment Label) → Agrees env w.known → fits ≡ block_fits as_labels env w.next (in_labels w.resolved (block_of b))
+whole_fits w v u b ps done fits d same g all holds env agrees =
+    block_ends w v u (constants_of (out-Block b).constants) (types_of (out-Block b).types) (variables_of (out-Block b).variables) ps (body_of (out-Block b).body) done fits (parted_declares w b ps (Some v) same d) g all holds env agrees
+    ∙ ap (λ t. block_fits as_labels env w.next (in_labels w.resolved t)) (whole_block b ps same)
+
+pub fitting_block : (w v u : Walking) (b : Block) (ps : List Procedure) (done : ℕ) (fits : Bool) → DeclaresBlock w b (Some v) → ps ≡ (out-Block b).procedures.items
+    → Walked (procedures_left (body_of (out-Block b).body)) procedures_constructors procedure_of ps v u done → length ps ≤ done
+    → ((env : TypeEnvironment Label) → Agrees env u.known → fits ≡ body_fits as_labels env (in_labels u.resolved (body_of (out-Block b).body))) → fits ≡ true
+    → Decides w (block_constructors (block_of b)) (λ env. block_fits as_labels env w.next (in_labels w.resolved (block_of b))) (Some u)
+fitting_block w v u b ps done fits d same g all holds is = record {
+  decided = λ env agrees. sym is ∙ whole_fits w v u b ps done fits d same g all holds env agrees;
+  follows = follows_on w v u d.follows g.follows;
+  next = block_next w v u (constants_of (out-Block b).constants) (types_of (out-Block b).types) (variables_of (out-Block b).variables) ps (body_of (out-Block b).body) done _ (parted_declares w b ps (Some v) same d) g all ∙ ap (λ t. w.next + block_constructors t) (whole_block b ps same);
+}
+
+pub unfit_block : (w v u : Walking) (m : ℕ) (b : Block) (ps : List Procedure) (done : ℕ) (fits : Bool) → DeclaresBlock w b (Some v) → ps ≡ (out-Block b).procedures.items
+    → Walked (procedures_left (body_of (out-Block b).body)) procedures_constructors procedure_of ps v u done → length ps ≤ done
+    → ((env : TypeEnvironment Label) → Agrees env u.known → fits ≡ body_fits as_labels env (in_labels u.resolved (body_of (out-Block b).body))) → fits ≡ false
+    → Decides w m (λ env. block_fits as_labels env w.next (in_labels w.resolved (block_of b))) None
+unfit_block w v u m b ps done fits d same g all holds is = record {
+  decided = λ env agrees. sym is ∙ whole_fits w v u b ps done fits d same g all holds env agrees;
+  follows = tt;
+  next = tt;
+}

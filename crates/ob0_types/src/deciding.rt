@@ -301,7 +301,7 @@ impl<'t> Walk<'t> {
         };
         match body {
             None => true,
-            Some(statements) => names.sequence_fits(statements.as_slice()),
+            Some(statements) => names.sequence_fits(statements),
         }
     }
 }
