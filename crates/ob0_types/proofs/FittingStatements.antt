@@ -1,0 +1,1 @@
+-- Statements that fit, part by part.
