@@ -34,7 +34,7 @@ fit_stops {all = all} {xs = xs} {n = n} x h f less here fails =
     sym (step_at x h f less here ∙ ap (λ b. b && all (drop (n + 1) xs)) fails)
 
 pub fit_ends : {A : Type 0} {all : List A → Bool} {each : A → Bool} {xs : List A} {n : ℕ} → IsEach all each → FitSoFar all xs n → length xs ≤ n → true ≡ all xs
-fit_ends {all = all} {xs = xs} {n = n} h f done = sym (f.so_far ∙ ap all (drop_all xs n done) ∙ h.ended)
+fit_ends {all = all} {xs = xs} {n = n} h f done = sym (f.so_far ∙ ap all (drop_all n xs done) ∙ h.ended)
 
 -- two lists side by side, of one length
 pub record IsPairwise {A B : Type 0} (all : List A → List B → Bool) (each : A → B → Bool) : Type 0 where
@@ -82,4 +82,4 @@ pairs_stop {all = all} {xs = xs} {ys = ys} {n = n} x y h f less below here there
 pub pairs_end : {A B : Type 0} {all : List A → List B → Bool} {each : A → B → Bool} {xs : List A} {ys : List B} {n : ℕ}
     → IsPairwise all each → PairSoFar all xs ys n → length xs ≤ n → length ys ≤ n → true ≡ all xs ys
 pairs_end {all = all} {xs = xs} {ys = ys} {n = n} h f done over =
-    sym (f.so_far ∙ ap (λ z. all z (drop n ys)) (drop_all xs n done) ∙ ap (all []) (drop_all ys n over) ∙ h.ended)
+    sym (f.so_far ∙ ap (λ z. all z (drop n ys)) (drop_all n xs done) ∙ ap (all []) (drop_all n ys over) ∙ h.ended)

@@ -1,5 +1,5 @@
 -- Types that are the same: a type and itself, and fields side by side.
-use Rattle.std.proofs.Common.{◌≡◌, ℕ, ◌+◌, ◌*◌, ◌<◌, ◌≤◌, suc, max, true, false, Bool, ◌&&◌, ◌==◌, List, [], ◌∷◌, length, get_or, refl, sym, ap, ◌∙◌, arith, eq-eqb}
+use Rattle.std.proofs.Common.{◌≡◌, ℕ, ◌+◌, ◌*◌, ◌<◌, ◌≤◌, zero, suc, max, true, false, Bool, ◌&&◌, ◌==◌, List, [], ◌∷◌, length, get_or, refl, sym, ap, ◌∙◌, arith, eq-eqb, ne_eqb, nat_eq}
 use Rattle.std.proofs.lemmas.Cmp.{nat_list_eq_equiv}
 use Rattle.ob0_scope.specs.Names.{same_name}
 use Rattle.ob0_values.specs.Values.{FieldShapes, Shape, array_shape, boolean_shape, integer_shape, next_field_shape, no_field_shape, record_shape}
@@ -45,3 +45,10 @@ field_depth-at shapes [] n f less here = absurd (omega arith)
 field_depth-at shapes (g ∷ fs) zero f less here = rw here (omega arith)
 field_depth-at shapes (g ∷ fs) (suc n) f less here =
     let later = field_depth-at shapes fs n f (omega arith) here in omega arith
+
+-- a record is what has a fault stands for where it has no fields
+pub nothing_kept : (shapes : List Shape) (fs : List Field) (k : ℕ) (empty : Bool) → empty ≡ nat_eq (length fs) 0 → k ≡ 0 → empty ≡ (nat_eq k 0 && same_fields (fields_shape shapes fs) no_field_shape)
+nothing_kept shapes [] k empty e h = e ∙ sym (ap (λ b. b && true) (eq-eqb k 0 h))
+nothing_kept shapes (f ∷ fs) k empty e h =
+    let some : nat_eq (length (f ∷ fs)) 0 ≡ false = ne_eqb (length (f ∷ fs)) 0 (λ z. absurd (omega arith)) in
+    e ∙ some ∙ sym (ap (λ b. b && false) (eq-eqb k 0 h))

@@ -8,10 +8,11 @@ use Rattle.ob0_scope.specs.Names.{Label}
 use Rattle.ob0_scope.specs.Resolution.{Resolution}
 use Rattle.ob0_types.specs.InLabels.{in_labels, label_in}
 use Rattle.ob0_types.specs.Selected.{selectors_in}
-use Rattle.ob0_types.specs.Tables.{fields_shape, type_shape}
+use Rattle.ob0_types.specs.Tables.{made_shape, no_shape}
+use Rattle.ob0_types.specs.declared.known.Shape.TheVariants as made
 use Rattle.ob0_types.specs.declared.sameness.Parts.{Parts}
 use Rattle.ob0_types.specs.declared.sameness.Parts.TheVariants as parts
-use Rattle.ob0_values.specs.Values.{Shape, array_shape, boolean_shape, integer_shape, record_shape}
+use Rattle.ob0_values.specs.Values.{Shape, boolean_shape, integer_shape}
 
 -- a designator's name and its selectors
 abbrev pub designator_parts : Designator → ℕ × Tree ℕ (items selector)
@@ -41,5 +42,6 @@ all_in_labels r es = map (λ e. in_labels r (expression_of e)) es
 abbrev pub parts_shape : List Shape → Parts → Shape
 parts_shape shapes parts.Integer = integer_shape
 parts_shape shapes parts.Boolean = boolean_shape
-parts_shape shapes (parts.Array a) = array_shape a.ordinal a.length (type_shape shapes a.element)
-parts_shape shapes (parts.Record k fs) = record_shape k (fields_shape shapes fs.now)
+parts_shape shapes (parts.Array a) = made_shape shapes (made.Array a)
+parts_shape shapes (parts.Record r) = made_shape shapes (made.Record r.now)
+parts_shape shapes parts.Faulty = no_shape

@@ -1,14 +1,15 @@
 //! Whether two types are the same.
 
-ghost use Rattle.std.specs.Prelude.{◌≡◌, ◌&&◌};
+ghost use Rattle.std.specs.Prelude.{◌≡◌, ◌&&◌, List};
 ghost use Rattle.ob0_scope.specs.Names.{same_name};
-ghost use Rattle.ob0_types.specs.declared.sameness.Parts.TheVariants as parts;
+ghost use Rattle.ob0_types.specs.declared.known.Shape.TheVariants as made;
 ghost use Rattle.ob0_types.specs.FittingParts.{parts_shape};
 ghost use Rattle.ob0_types.specs.KnownTables.{shapes_of};
-ghost use Rattle.ob0_types.specs.Tables.{fields_shape, type_shape};
+ghost use Rattle.ob0_types.specs.Tables.{fields_shape, made_shape, no_shape, type_shape};
 ghost use Rattle.ob0_types.specs.WellTyped.{same_fields, same_shape};
+ghost use Rattle.ob0_values.specs.Values as shape;
 
-use crate::known::{ArrayShape, Field, Known, Shape};
+use crate::known::{ArrayShape, Field, Known, RecordShape, Shape};
 use crate::types::TypeId;
 
 /// A type with its parts. What has a fault is a record without fields.
@@ -17,7 +18,15 @@ enum Parts<'k, 't> {
     Integer,
     Boolean,
     Array(ArrayShape),
-    Record(usize, &'k [Field<'t>]),
+    Record(&'k RecordShape<'t>),
+    Faulty,
+}
+
+/// Whether a record is what has a fault stands for.
+fn is_nothing(entry: &RecordShape) -> bool
+    ensures { (shapes : List shape.Shape) → result ≡ same_shape (made_shape shapes (made.Record entry.now)) no_shape }
+{
+    entry.ordinal == 0 && entry.fields.is_empty()
 }
 
 impl<'t> Known<'t> {
@@ -28,27 +37,24 @@ impl<'t> Known<'t> {
             TypeId::Integer => Parts::Integer,
             TypeId::Boolean => Parts::Boolean,
             TypeId::Array(i) => match self.entry(i) {
-                None => Parts::Record(0, &[]),
+                None => Parts::Faulty,
                 Some(shape) => match shape {
                     Shape::Array(array) => Parts::Array(*array),
-                    Shape::Integer => Parts::Record(0, &[]),
-                    Shape::Boolean => Parts::Record(0, &[]),
-                    Shape::Record(_) => Parts::Record(0, &[]),
+                    Shape::Integer => Parts::Faulty,
+                    Shape::Boolean => Parts::Faulty,
+                    Shape::Record(_) => Parts::Faulty,
                 },
             },
             TypeId::Record(i) => match self.entry(i) {
-                None => Parts::Record(0, &[]),
+                None => Parts::Faulty,
                 Some(shape) => match shape {
-                    Shape::Record(record) => Parts::Record(
-                        record.ordinal,
-                        record.fields.as_slice(),
-                    ),
-                    Shape::Integer => Parts::Record(0, &[]),
-                    Shape::Boolean => Parts::Record(0, &[]),
-                    Shape::Array(_) => Parts::Record(0, &[]),
+                    Shape::Record(record) => Parts::Record(record),
+                    Shape::Integer => Parts::Faulty,
+                    Shape::Boolean => Parts::Faulty,
+                    Shape::Array(_) => Parts::Faulty,
                 },
             },
-            TypeId::Unknown => Parts::Record(0, &[]),
+            TypeId::Unknown => Parts::Faulty,
         }
     }
 
@@ -66,32 +72,51 @@ impl<'t> Known<'t> {
                 Parts::Integer => true,
                 Parts::Boolean => false,
                 Parts::Array(_) => false,
-                Parts::Record(_, _) => false,
+                Parts::Record(_) => false,
+                Parts::Faulty => false,
             },
             Parts::Boolean => match self.parts(b) {
                 Parts::Integer => false,
                 Parts::Boolean => true,
                 Parts::Array(_) => false,
-                Parts::Record(_, _) => false,
+                Parts::Record(_) => false,
+                Parts::Faulty => false,
             },
             Parts::Array(one) => match self.parts(b) {
                 Parts::Integer => false,
                 Parts::Boolean => false,
                 Parts::Array(other) => self.same_array(one, other),
-                Parts::Record(_, _) => false,
+                Parts::Record(_) => false,
+                Parts::Faulty => false,
             },
-            Parts::Record(one, fields) => match self.parts(b) {
+            Parts::Record(one) => match self.parts(b) {
                 Parts::Integer => false,
                 Parts::Boolean => false,
                 Parts::Array(_) => false,
-                Parts::Record(other, others) => one == other && self.same_fields(fields, others),
+                Parts::Record(other) => self.same_record(one, other),
+                Parts::Faulty => is_nothing(one),
+            },
+            Parts::Faulty => match self.parts(b) {
+                Parts::Integer => false,
+                Parts::Boolean => false,
+                Parts::Array(_) => false,
+                Parts::Record(other) => is_nothing(other),
+                Parts::Faulty => true,
             },
         }
     }
 
     #[cycle(sameness)]
+    fn same_record(&self, one: &RecordShape<'t>, other: &RecordShape<'t>) -> bool
+        ensures { result ≡ same_shape (made_shape (shapes_of self.now) (made.Record one.now)) (made_shape (shapes_of self.now) (made.Record other.now)) }
+    {
+        one.ordinal == other.ordinal
+            && self.same_fields(one.fields.as_slice(), other.fields.as_slice())
+    }
+
+    #[cycle(sameness)]
     fn same_array(&self, one: ArrayShape, other: ArrayShape) -> bool
-        ensures { result ≡ same_shape (parts_shape (shapes_of self.now) (parts.Array one)) (parts_shape (shapes_of self.now) (parts.Array other)) }
+        ensures { result ≡ same_shape (made_shape (shapes_of self.now) (made.Array one)) (made_shape (shapes_of self.now) (made.Array other)) }
     {
         one.ordinal == other.ordinal
             && one.length == other.length
