@@ -7,6 +7,7 @@ ghost use Rattle.ob0_types.specs.Expressions.{a_standard};
 ghost use Rattle.ob0_types.specs.InLabels.{in_labels, label_in, meaning_in};
 ghost use Rattle.ob0_types.specs.KnownTables.{shapes_of};
 ghost use Rattle.ob0_types.specs.Tables.{formal_in, standard_of, type_shape};
+ghost use Rattle.ob0_types.specs.Typing.{designated};
 ghost use Rattle.ob0_types.specs.WellTyped.{agree, argument_fits, arguments_fit, condition_fits, else_fits, elsifs_fit, sequence_fits, signature_of, statement_fits, variable_type};
 ghost use Rattle.ob0_values.specs.Values.{Shape};
 
