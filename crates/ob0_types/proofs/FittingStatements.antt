@@ -1,6 +1,6 @@
 -- Statements that fit, part by part.
 use Rattle.std.proofs.Common.{◌≡◌, true, false, Bool, ◌&&◌, List, [], ◌∷◌, map, Some, None, Option, option_map, option_and_then, refl, sym, ap, ◌∙◌, ℕ, length, nat_eq, ne_eqb, arith}
-use Rattle.ob0_tree.specs.Tree.{Tree, assigns, branches, calls, elsif_branch, elsif_part, else_part, end, expression, item, items, maybe, more, one, arguments, repeat_loop, selector, sequence, statement, while_loop}
+use Rattle.ob0_tree.specs.Tree.{Tree, assigns, branches, calls, elsif_branch, elsif_part, else_branch, else_part, empty, end, expression, item, items, maybe, more, none, one, arguments, repeat_loop, selector, sequence, statement, while_loop}
 use Rattle.ob0_tree.specs.View as view
 use Rattle.ob0_tree.specs.View.{arguments_of, elsif_of, elsifs_in, expression_of, further_argument_of, further_statement_of, items_of, sequence_listed, statement_of}
 use Rattle.ob0_tree.specs.declared.tree.Elsif.{Elsif}
@@ -106,6 +106,13 @@ pub all_listed : (r : Resolution) (es : List Expression) → arguments_listed (i
 all_listed r [] = refl
 all_listed r (e ∷ es) = ap (λ z. in_labels r (expression_of e) ∷ z) (further_listed r es)
 
+-- two tests, the second only where the first is true
+pub both_fit : {a b x y : Bool} → x ≡ a → x ≡ true → y ≡ b → y ≡ (a && b)
+both_fit {a = a} {b = b} e h g = g ∙ ap (λ z. z && b) (sym h ∙ e)
+
+pub first_fails : {a x : Bool} (b : Bool) → x ≡ a → x ≡ false → false ≡ (a && b)
+first_fails b e h = ap (λ z. z && b) (sym h ∙ e)
+
 -- statements
 module _ (meaning : Typed Label) where
   pub assigned_fits : (x : Label) (path : Tree Label (items selector)) (e : Tree Label expression) → statement_fits meaning (assigns x path e) ≡ agree (variable_type meaning (Some (x, path))) (type_of meaning e)
@@ -116,10 +123,26 @@ module _ (meaning : Typed Label) where
   unfolding statement_fits
   called_fits x es = refl
 
-  pub branches_fit : (e : Tree Label expression) (a : Tree Label sequence) (rest : Tree Label (items elsif_part)) (last : Tree Label (maybe else_part))
+  branches_fit : (e : Tree Label expression) (a : Tree Label sequence) (rest : Tree Label (items elsif_part)) (last : Tree Label (maybe else_part))
       → statement_fits meaning (branches e a rest last) ≡ (condition_fits meaning e && (sequence_fits meaning a && (elsifs_fit meaning rest && else_fits meaning last)))
   unfolding statement_fits
   branches_fit e a rest last = refl
+
+  pub if_fits : (e : Tree Label expression) (a : Tree Label sequence) (rest : Tree Label (items elsif_part)) (last : Tree Label (maybe else_part))
+      → statement_fits meaning (branches e a rest last) ≡ ((condition_fits meaning e && sequence_fits meaning a) && (elsifs_fit meaning rest && else_fits meaning last))
+  if_fits e a rest last = branches_fit e a rest last ∙ and-assoc (condition_fits meaning e) (sequence_fits meaning a) (elsifs_fit meaning rest && else_fits meaning last)
+
+  pub no_else : else_fits meaning none ≡ true
+  unfolding statement_fits
+  no_else = refl
+
+  pub some_else : (a : Tree Label sequence) → else_fits meaning (one (else_branch a)) ≡ sequence_fits meaning a
+  unfolding statement_fits
+  some_else a = refl
+
+  pub empty_fits : statement_fits meaning empty ≡ true
+  unfolding statement_fits
+  empty_fits = refl
 
   pub while_fits : (e : Tree Label expression) (a : Tree Label sequence) → statement_fits meaning (while_loop e a) ≡ (condition_fits meaning e && sequence_fits meaning a)
   unfolding statement_fits

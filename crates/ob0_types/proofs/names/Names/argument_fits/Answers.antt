@@ -20,5 +20,5 @@ returns-else-formal c =
     let self = c.args.self.now in
     let shapes = shapes_of self.known.now in
     let f = c.args.formal.now in
-    c.agree-2.ensures ∙ ap (agree (Some (type_shape shapes f.of))) c.type_of.ensures
+    c.agree-else-formal.ensures ∙ ap (agree (Some (type_shape shapes f.of))) c.type_of.ensures
     ∙ sym (valued_fits (meaning_in self.known.now self.only_constants) shapes f (in_labels self.resolved.now (expression_of c.args.e.now)) c.if-formal.false)
