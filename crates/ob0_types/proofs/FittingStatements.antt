@@ -123,14 +123,10 @@ module _ (meaning : Typed Label) where
   unfolding statement_fits
   called_fits x es = refl
 
-  branches_fit : (e : Tree Label expression) (a : Tree Label sequence) (rest : Tree Label (items elsif_part)) (last : Tree Label (maybe else_part))
+  pub branches_fit : (e : Tree Label expression) (a : Tree Label sequence) (rest : Tree Label (items elsif_part)) (last : Tree Label (maybe else_part))
       → statement_fits meaning (branches e a rest last) ≡ (condition_fits meaning e && (sequence_fits meaning a && (elsifs_fit meaning rest && else_fits meaning last)))
   unfolding statement_fits
   branches_fit e a rest last = refl
-
-  pub if_fits : (e : Tree Label expression) (a : Tree Label sequence) (rest : Tree Label (items elsif_part)) (last : Tree Label (maybe else_part))
-      → statement_fits meaning (branches e a rest last) ≡ ((condition_fits meaning e && sequence_fits meaning a) && (elsifs_fit meaning rest && else_fits meaning last))
-  if_fits e a rest last = branches_fit e a rest last ∙ and-assoc (condition_fits meaning e) (sequence_fits meaning a) (elsifs_fit meaning rest && else_fits meaning last)
 
   pub no_else : else_fits meaning none ≡ true
   unfolding statement_fits

@@ -1,6 +1,6 @@
 //! Which statements fit: each is asked for just what the language asks of it, and no fault is told.
 
-ghost use Rattle.std.specs.Prelude.{◌≡◌, ◌&&◌, List, Some, map, option_map};
+ghost use Rattle.std.specs.Prelude.{◌≡◌, List, Some, map, option_map};
 ghost use Rattle.ob0_tree.specs.View.{assignment_of, call_of, elsifs_in, expression_of, if_of, sequence_in, statement_of};
 ghost use Rattle.ob0_types.specs.FittingParts.{all_in_labels, designator_in};
 ghost use Rattle.ob0_types.specs.Expressions.{a_standard};
@@ -152,7 +152,7 @@ impl<'a, 't> Names<'a, 't> {
             Statement::Assign(a) => self.assignment_fits(a),
             Statement::Call(c) => self.call_fits(c),
             Statement::If(i) => self.branches_fit(i),
-            Statement::While(w) => self.branch_fits(&w.condition, &w.body),
+            Statement::While(w) => self.condition_fits(&w.condition) && self.sequence_fits(&w.body),
             Statement::Repeat(r) => {
                 self.sequence_fits(&r.body) && self.condition_fits(&r.condition)
             }
@@ -176,7 +176,10 @@ impl<'a, 't> Names<'a, 't> {
     fn branches_fit(&self, i: &If) -> bool
         ensures { result ≡ statement_fits (meaning_in self.now.known.now self.now.only_constants) (in_labels self.now.resolved.now (if_of i.now)) }
     {
-        if !self.branch_fits(&i.condition, &i.then) {
+        if !self.condition_fits(&i.condition) {
+            return false;
+        }
+        if !self.sequence_fits(&i.then) {
             return false;
         }
         if !self.elsifs_fit(&i.elsifs) {
@@ -188,20 +191,15 @@ impl<'a, 't> Names<'a, 't> {
         }
     }
 
-    /// Whether a condition and what it guards fit.
-    #[cycle(statements)]
-    fn branch_fits(&self, condition: &Expression, guarded: &Vec<Statement>) -> bool
-        ensures { result ≡ (condition_fits (meaning_in self.now.known.now self.now.only_constants) (in_labels self.now.resolved.now (expression_of condition.now)) && sequence_fits (meaning_in self.now.known.now self.now.only_constants) (in_labels self.now.resolved.now (sequence_in guarded.now))) }
-    {
-        self.condition_fits(condition) && self.sequence_fits(guarded)
-    }
-
     #[cycle(statements)]
     fn elsifs_fit(&self, parts: &Vec<Elsif>) -> bool
         ensures { result ≡ elsifs_fit (meaning_in self.now.known.now self.now.only_constants) (in_labels self.now.resolved.now (elsifs_in parts.now)) }
     {
         for part in parts {
-            if !self.branch_fits(&part.condition, &part.then) {
+            if !self.condition_fits(&part.condition) {
+                return false;
+            }
+            if !self.sequence_fits(&part.then) {
                 return false;
             }
         }
