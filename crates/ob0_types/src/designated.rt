@@ -28,7 +28,7 @@ fn designated_simple(s: &Simple) -> Option<&Designator>
                 None
             }
         }
-        Some(_) => None,
+        Some(_sign) => None,
     }
 }
 

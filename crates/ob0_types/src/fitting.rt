@@ -30,7 +30,7 @@ static WRITE: [Formal; 1] = [Formal {
 static WRITE_LN: [Formal; 0] = [];
 
 /// The formal parameters of a standard procedure.
-pub fn standard_formals(standard: Standard) -> &'static [Formal]
+fn standard_formals(standard: Standard) -> &'static [Formal]
     ensures { (shapes : List Shape) → Some (map (formal_in shapes) result.now) ≡ signature_of (Some (a_standard (standard_of standard))) }
 {
     match standard {
@@ -84,14 +84,14 @@ impl<'a, 't> Names<'a, 't> {
 
     /// Whether an expression is a condition.
     #[tactic(auto, unfolding(crate::specs::WellTyped::condition_fits))]
-    pub fn condition_fits(&self, e: &Expression) -> bool
+    fn condition_fits(&self, e: &Expression) -> bool
         ensures { result ≡ condition_fits (meaning_in self.now.known.now self.now.only_constants) (in_labels self.now.resolved.now (expression_of e.now)) }
     {
         self.agree(Some(TypeId::Boolean), self.type_of(e))
     }
 
     #[tactic(auto, unfolding(crate::specs::WellTyped::statement_fits))]
-    pub fn assignment_fits(&self, a: &Assignment) -> bool
+    fn assignment_fits(&self, a: &Assignment) -> bool
         ensures { result ≡ statement_fits (meaning_in self.now.known.now self.now.only_constants) (in_labels self.now.resolved.now (assignment_of a.now)) }
     {
         self.agree(self.assigned_type(&a.target), self.type_of(&a.value))
@@ -131,7 +131,7 @@ impl<'a, 't> Names<'a, 't> {
         true
     }
 
-    pub fn call_fits(&self, call: &Call) -> bool
+    fn call_fits(&self, call: &Call) -> bool
         ensures { result ≡ statement_fits (meaning_in self.now.known.now self.now.only_constants) (in_labels self.now.resolved.now (call_of call.now)) }
     {
         match self.formals(call.procedure) {
@@ -144,7 +144,7 @@ impl<'a, 't> Names<'a, 't> {
     }
 
     #[cycle(statements)]
-    pub fn statement_fits(&self, s: &Statement) -> bool
+    fn statement_fits(&self, s: &Statement) -> bool
         ensures { result ≡ statement_fits (meaning_in self.now.known.now self.now.only_constants) (in_labels self.now.resolved.now (statement_of s.now)) }
     {
         match s {

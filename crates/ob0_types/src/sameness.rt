@@ -115,12 +115,10 @@ impl<'t> Known<'t> {
     }
 
     #[cycle(sameness)]
-    fn same_array(&self, one: ArrayShape, other: ArrayShape) -> bool
-        ensures { result ≡ same_shape (made_shape (shapes_of self.now) (made.Array one)) (made_shape (shapes_of self.now) (made.Array other)) }
+    fn same_array(&self, a: ArrayShape, b: ArrayShape) -> bool
+        ensures { result ≡ same_shape (made_shape (shapes_of self.now) (made.Array a)) (made_shape (shapes_of self.now) (made.Array b)) }
     {
-        one.ordinal == other.ordinal
-            && one.length == other.length
-            && self.same(one.element, other.element)
+        a.ordinal == b.ordinal && a.length == b.length && self.same(a.element, b.element)
     }
 
     #[cycle(sameness)]

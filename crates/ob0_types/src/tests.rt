@@ -31,3 +31,25 @@ fn types_are_made_within_the_limits(rt: HostRuntime) -> Result<(), Fail> {
     assert!(rt; known.seen(7).is_some());
     Ok(())
 }
+
+#[test]
+fn types_of_two_constructors_are_two(rt: HostRuntime) -> Result<(), Fail> {
+    let mut known = Known::new(rt.alloc())?;
+    let row = known.make_array(0, 256, TypeId::Integer)?.ok_or("a row")?;
+    let other = known.make_array(1, 256, TypeId::Integer)?.ok_or("another")?;
+    let again = known.make_array(0, 256, TypeId::Integer)?.ok_or("again")?;
+    assert!(rt; known.same(row, row));
+    assert!(rt; known.same(row, again));
+    assert!(rt; !known.same(row, other));
+    let mut records = Vec::new(rt.alloc());
+    for of in [row, again, other] {
+        let mut fields = Vec::new(rt.alloc());
+        fields.push(Field { name: "x", of })?;
+        records.push(known.make_record(2, fields)?.ok_or("a record")?)?;
+    }
+    assert!(rt; known.same(records[0], records[1]));
+    assert!(rt; !known.same(records[0], records[2]));
+    assert!(rt; !known.same(records[0], row));
+    assert!(rt; !known.same(TypeId::Integer, TypeId::Boolean));
+    Ok(())
+}

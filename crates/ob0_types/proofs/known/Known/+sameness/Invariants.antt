@@ -11,7 +11,7 @@ abbrev pub decreases-same : goal.decreases-same
 decreases-same l = 4 * depth (type_shape (shapes_of l.self.now) l.a)
 
 abbrev pub decreases-same_array : goal.decreases-same_array
-decreases-same_array l = 4 * depth (type_shape (shapes_of l.self.now) l.one.element) + 1
+decreases-same_array l = 4 * depth (type_shape (shapes_of l.self.now) l.a.element) + 1
 
 abbrev pub decreases-same_fields : goal.decreases-same_fields
 decreases-same_fields l = 4 * field_depth (fields_shape (shapes_of l.self.now) l.fields.now) + 2
