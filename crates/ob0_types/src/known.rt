@@ -300,7 +300,7 @@ impl<'t> Known<'t> {
     }
 
     /// What the shape at a place of the table is.
-    fn entry(&self, place: usize) -> Option<&Shape<'t>>
+    pub(crate) fn entry(&self, place: usize) -> Option<&Shape<'t>>
         ensures { MatchOption result (slice_index_or (shapes_of self.now) place no_shape ≡ no_shape) (λ m. (slice_index_or (shapes_of self.now) place no_shape ≡ made_shape (shapes_of self.now) m.now) × IsCounted m.now (made_shape (shapes_of self.now) m.now)) }
     {
         if place < self.shapes.len() {

@@ -31,3 +31,34 @@ fn types_are_made_within_the_limits(rt: HostRuntime) -> Result<(), Fail> {
     assert!(rt; known.seen(7).is_some());
     Ok(())
 }
+
+#[test]
+fn types_of_two_constructors_are_two(rt: HostRuntime) -> Result<(), Fail> {
+    let mut known = Known::new(rt.alloc())?;
+    let row = known.make_array(0, 256, TypeId::Integer)?.ok_or("a row")?;
+    let other = known.make_array(1, 256, TypeId::Integer)?.ok_or("another")?;
+    let again = known.make_array(0, 256, TypeId::Integer)?.ok_or("again")?;
+    assert!(rt; known.same(row, row));
+    assert!(rt; known.same(row, again));
+    assert!(rt; !known.same(row, other));
+    let mut fields = Vec::new(rt.alloc());
+    fields.push(Field { name: "x", of: row })?;
+    let one = known.make_record(2, fields)?.ok_or("a record")?;
+    let mut fields = Vec::new(rt.alloc());
+    fields.push(Field {
+        name: "x",
+        of: again,
+    })?;
+    let two = known.make_record(2, fields)?.ok_or("the record again")?;
+    let mut fields = Vec::new(rt.alloc());
+    fields.push(Field {
+        name: "x",
+        of: other,
+    })?;
+    let three = known.make_record(2, fields)?.ok_or("another record")?;
+    assert!(rt; known.same(one, two));
+    assert!(rt; !known.same(one, three));
+    assert!(rt; !known.same(one, row));
+    assert!(rt; !known.same(TypeId::Integer, TypeId::Boolean));
+    Ok(())
+}
