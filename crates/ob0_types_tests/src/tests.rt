@@ -207,3 +207,50 @@ fn unknown_parts_count_nothing(rt: HostRuntime) -> Result<(), Fail> {
         "WrongKind 67-72; ",
     )
 }
+
+#[test]
+fn calls(rt: HostRuntime) -> Result<(), Fail> {
+    let alloc = rt.alloc();
+    is(
+        &rt,
+        told(
+            alloc,
+            "MODULE M; PROCEDURE P(x: INTEGER; VAR y: BOOLEAN); END P; BEGIN P; P(u, TRUE + 1, v); P(TRUE, 1 < 2); Q(~1) END M.",
+        ),
+        "ArgumentCount 64-65; ArgumentCount 67-68; Undeclared 69-70; Undeclared 82-83; TypeMismatch 88-92; NotVariable 94-99; Undeclared 102-103; TypeMismatch 105-106; ",
+    )?;
+    is(
+        &rt,
+        told(
+            alloc,
+            "MODULE M; CONST n = 3; VAR a: ARRAY n * 2 OF INTEGER; b: ARRAY n = 3 OF u; c: ARRAY a[b] OF BOOLEAN; BEGIN Read(n); Read(a); Read(a[n]); Read((a[n])); Read(-a[n]); n[TRUE] := v END M.",
+        ),
+        "TypeMismatch 63-68; Undeclared 72-73; NotConstant 84-85; NotConstant 86-87; NotVariable 112-113; TypeMismatch 121-122; NotVariable 142-148; NotVariable 156-161; NotVariable 164-165; TypeMismatch 166-170; Undeclared 175-176; ",
+    )
+}
+
+#[test]
+fn selectors(rt: HostRuntime) -> Result<(), Fail> {
+    let alloc = rt.alloc();
+    is(
+        &rt,
+        told(
+            alloc,
+            "MODULE M; VAR x: INTEGER; r: RECORD a: INTEGER END; t: T; BEGIN x[TRUE] := 1; x.f := 1; r.b := TRUE; t[1].f := x END M.",
+        ),
+        "Undeclared 55-56; NotArray 65-66; TypeMismatch 66-70; NotRecord 79-80; NoField 90-91; ",
+    )
+}
+
+#[test]
+fn first_fields_and_parameters(rt: HostRuntime) -> Result<(), Fail> {
+    let alloc = rt.alloc();
+    is(
+        &rt,
+        told(
+            alloc,
+            "MODULE M; TYPE T = ARRAY 2 OF RECORD f: BOOLEAN; g: U; f: INTEGER END; VAR t: T; PROCEDURE P(T: INTEGER; x: T); BEGIN t[T].f := x; t[0].f := T; P(t[1].g, t[2].g) END P; END M.",
+        ),
+        "Undeclared 52-53; Duplicate 55-56; WrongKind 108-109; TypeMismatch 141-142; ",
+    )
+}
