@@ -49,6 +49,17 @@ impl Operand {
         self.of != wanted && self.of != TypeId::Unknown && wanted != TypeId::Unknown
     }
 
+    /// The operation on this whose sign stands before it.
+    fn behind_sign(self, of: TypeId, value: Option<Scalar>) -> Operand {
+        Operand {
+            of,
+            value,
+            is_place: false,
+            first: self.first.saturating_sub(1),
+            last: self.last,
+        }
+    }
+
     /// The operation on this and what stands to the right.
     fn with(self, right: Operand, of: TypeId, value: Option<Scalar>) -> Operand {
         Operand {
@@ -154,13 +165,7 @@ impl<'t> Teller<'t> {
 
     fn signed(&mut self, sign: Sign, operand: Operand) -> Result<Operand, AllocError> {
         let of = self.ask(TypeId::Integer, operand)?;
-        Ok(Operand {
-            of,
-            value: evaluating::with_sign(Some(sign), operand.value),
-            is_place: false,
-            first: operand.first.saturating_sub(1),
-            last: operand.last,
-        })
+        Ok(operand.behind_sign(of, evaluating::with_sign(Some(sign), operand.value)))
     }
 
     #[cycle(expressions)]
@@ -213,13 +218,7 @@ impl<'t> Teller<'t> {
 
     fn complement(&mut self, operand: Operand) -> Result<Operand, AllocError> {
         let of = self.ask(TypeId::Boolean, operand)?;
-        Ok(Operand {
-            of,
-            value: evaluating::complement(operand.value),
-            is_place: false,
-            first: operand.first.saturating_sub(1),
-            last: operand.last,
-        })
+        Ok(operand.behind_sign(of, evaluating::complement(operand.value)))
     }
 
     /// A name where a value is asked for.

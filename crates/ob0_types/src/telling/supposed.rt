@@ -49,18 +49,20 @@ pub(crate) static PREDECLARED_MEANINGS: [Meaning; 7] = [
     Meaning::Procedure(Formals { first: 2, count: 0 }),
 ];
 
-/// How many scalars a type has, and how deep it is. What is unknown counts nothing.
+/// How many scalars a type has, and how deep it is.
 #[derive(Clone, Copy)]
 pub(crate) struct Size {
     pub(crate) scalars: usize,
     pub(crate) depth: usize,
 }
 
-const NOTHING: Size = Size {
+/// What an unknown type counts.
+pub(crate) const NOTHING: Size = Size {
     scalars: 0,
     depth: 0,
 };
 
+/// What a number or a truth counts.
 const SCALAR: Size = Size {
     scalars: 1,
     depth: 0,
@@ -81,10 +83,6 @@ pub(crate) struct Composite<'t> {
 }
 
 impl Size {
-    pub(crate) fn none() -> Size {
-        NOTHING
-    }
-
     /// So many of the same beside one another.
     pub(crate) fn times(self, count: usize) -> Size {
         Size {

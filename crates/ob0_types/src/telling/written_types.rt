@@ -2,7 +2,7 @@
 
 use crate::known::MOST_SCALARS;
 use crate::telling::Teller;
-use crate::telling::supposed::{Meaning, Parts, Size};
+use crate::telling::supposed::{Meaning, NOTHING, Parts, Size};
 use crate::types::TypeId;
 use ob0_scan::Code;
 use ob0_tree::tree::{ArrayType, Expression, FieldList, Fields, Names, RecordType, WrittenType};
@@ -84,7 +84,7 @@ impl<'t> Teller<'t> {
     fn record(&mut self, r: &RecordType) -> Result<TypeId, AllocError> {
         let mut gathered = Gathered {
             fields: BTreeMap::new(self.alloc),
-            size: Size::none(),
+            size: NOTHING,
         };
         for group in &r.groups {
             match group {
