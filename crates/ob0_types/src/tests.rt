@@ -1,7 +1,9 @@
 //! The tables of the checker, run with ample memory.
 
+use crate::denoting::array_length;
 use crate::known::{Field, Known, Object};
 use crate::types::TypeId;
+use ob0_values::scalar::Scalar;
 use std::test::Fail;
 
 #[test]
@@ -29,5 +31,16 @@ fn types_are_made_within_the_limits(rt: HostRuntime) -> Result<(), Fail> {
     assert!(rt; known.seen(7).is_none());
     known.define(7, Object::Variable(record));
     assert!(rt; known.seen(7).is_some());
+    Ok(())
+}
+
+#[test]
+fn lengths_of_arrays(rt: HostRuntime) -> Result<(), Fail> {
+    assert_eq!(rt; array_length(Scalar::Number(0)), None);
+    assert_eq!(rt; array_length(Scalar::Number(-1)), None);
+    assert_eq!(rt; array_length(Scalar::Number(1)), Some(1));
+    assert_eq!(rt; array_length(Scalar::Number(65536)), Some(65536));
+    assert_eq!(rt; array_length(Scalar::Number(65537)), None);
+    assert_eq!(rt; array_length(Scalar::Truth(true)), None);
     Ok(())
 }
