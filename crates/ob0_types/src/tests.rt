@@ -44,15 +44,24 @@ fn types_of_two_constructors_are_two(rt: HostRuntime) -> Result<(), Fail> {
     assert!(rt; known.same(row, row));
     assert!(rt; known.same(row, again));
     assert!(rt; !known.same(row, other));
-    let mut records = Vec::new(rt.alloc());
-    for of in [row, again, other] {
-        let mut fields = Vec::new(rt.alloc());
-        fields.push(Field { name: "x", of })?;
-        records.push(known.make_record(2, fields)?.ok_or("a record")?)?;
-    }
-    assert!(rt; known.same(records[0], records[1]));
-    assert!(rt; !known.same(records[0], records[2]));
-    assert!(rt; !known.same(records[0], row));
+    let mut fields = Vec::new(rt.alloc());
+    fields.push(Field { name: "x", of: row })?;
+    let one = known.make_record(2, fields)?.ok_or("a record")?;
+    let mut fields = Vec::new(rt.alloc());
+    fields.push(Field {
+        name: "x",
+        of: again,
+    })?;
+    let two = known.make_record(2, fields)?.ok_or("the record again")?;
+    let mut fields = Vec::new(rt.alloc());
+    fields.push(Field {
+        name: "x",
+        of: other,
+    })?;
+    let three = known.make_record(2, fields)?.ok_or("another record")?;
+    assert!(rt; known.same(one, two));
+    assert!(rt; !known.same(one, three));
+    assert!(rt; !known.same(one, row));
     assert!(rt; !known.same(TypeId::Integer, TypeId::Boolean));
     Ok(())
 }

@@ -24,4 +24,4 @@ returns-else-is_empty c =
 pub returns-in-Some : goal.returns-in-Some
 returns-in-Some c =
     let s = out-Simple c.args.s.now in
-    sym (signed_designated s.sign (term_of s.first) (items_of addend_of s.more.items) c.in-Some.field-0 c.in-Some.is) ∙ sym (ap designated_simple (simple_parts c.args.s.now))
+    sym (signed_designated s.sign (term_of s.first) (items_of addend_of s.more.items) _ c.in-Some.is) ∙ sym (ap designated_simple (simple_parts c.args.s.now))
