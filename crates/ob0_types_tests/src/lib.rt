@@ -1,5 +1,7 @@
-//! Examples of faults of types, from a text to the codes and places of its faults.
+//! Examples of types and their faults, from texts of modules.
 #![tactic(auto)]
 
+#[cfg(test)]
+mod denoting;
 #[cfg(test)]
 mod tests;
