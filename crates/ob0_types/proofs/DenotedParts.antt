@@ -13,7 +13,7 @@ use Rattle.ob0_types.specs.DenotedTables.{Denotes, Grown, array_in}
 use Rattle.ob0_types.specs.InLabels.{in_labels, label_in}
 use Rattle.ob0_types.specs.KnownTables.{Tables, known_meaning, label_object, shapes_of}
 use Rattle.ob0_types.specs.Tables.{IsMade, fields_shape, type_shape}
-use Rattle.ob0_types.specs.Typing.{array_length, constant_value, constructors, denoted, denoted_groups, groups_constructors, type_of_name, within_limits}
+use Rattle.ob0_types.specs.Typing.{array_length, constant_value, constructors, denoted, denoted_groups, type_of_name, within_limits}
 use Rattle.ob0_types.specs.WellTyped.{Typed}
 use Rattle.ob0_types.proofs.Gathered.{Gathered, counted_ends, gathered_ends, grown-refl, grown-trans, record-counted, record-denoted}
 use Rattle.ob0_types.proofs.Judged.{then-assoc}

@@ -13,7 +13,6 @@ use Rattle.ob0_scope.specs.Resolution.{Resolution}
 use Rattle.ob0_types.specs.declared.known.Field.{Field}
 use Rattle.ob0_types.specs.declared.types.TypeId.{TypeId}
 use Rattle.ob0_types.specs.DenotedTables.{AreAdded, Grown, fields_named, joined}
-use Rattle.ob0_types.specs.Expressions.{Meanings}
 use Rattle.ob0_types.specs.InLabels.{in_labels, label_in}
 use Rattle.ob0_types.specs.KnownTables.{Tables, known_meaning, shapes_of}
 use Rattle.ob0_types.specs.Tables.{IsMade, fields_shape, type_shape}

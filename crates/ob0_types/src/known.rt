@@ -3,8 +3,8 @@
 ghost use Rattle.std.specs.Prelude.{◌≡◌, ◌≤◌, ◌++◌, ◌&&◌, nat_le, List, option_map};
 ghost use Rattle.ob0_values.specs.Values as shape;
 ghost use Rattle.ob0_types.specs.Tables.{fields_shape, type_shape};
-ghost use Rattle.ob0_types.specs.Typing.{shape_of_field};
 
+use crate::field_table::FieldTable;
 use crate::types::TypeId;
 use ob0_values::scalar::Scalar;
 use std::alloc::{AllocError, Global};
@@ -38,7 +38,7 @@ pub struct ArrayShape {
 #[derive(Debug, Drop)]
 pub struct RecordShape<'t> {
     pub ordinal: usize,
-    pub fields: Vec<Field<'t>>,
+    pub fields: FieldTable<'t>,
     pub scalars: usize,
     pub depth: usize,
 }
@@ -105,18 +105,6 @@ fn is_within(scalars: usize, depth: usize) -> bool
     ensures { result ≡ (nat_le scalars 65536 && nat_le depth 100) }
 {
     scalars <= MOST_SCALARS && depth <= MOST_DEPTH
-}
-
-/// The type of the first field of this name.
-fn field_in(fields: &[Field], name: &str) -> Option<TypeId>
-    ensures { (shapes : List shape.Shape) → option_map (type_shape shapes) result ≡ shape_of_field (fields_shape shapes fields.now) name.now }
-{
-    for field in fields {
-        if name == field.name {
-            return Some(field.of);
-        }
-    }
-    None
 }
 
 impl<'t> Model for Known<'t> {
@@ -334,7 +322,7 @@ impl<'t> Known<'t> {
     {
         match base {
             TypeId::Record(i) => match self.entry(i)? {
-                Shape::Record(record) => field_in(record.fields.as_slice(), name),
+                Shape::Record(record) => record.fields.find(name),
                 Shape::Integer => None,
                 Shape::Boolean => None,
                 Shape::Array(_) => None,
@@ -501,6 +489,7 @@ impl<'t> Known<'t> {
         if !is_within(scalars, depth) {
             return Ok(None);
         }
+        let fields = FieldTable::new(fields)?;
         let place = self.put(Shape::Record(RecordShape {
             ordinal,
             fields,

@@ -26,7 +26,7 @@ enum Parts<'k, 't> {
 fn is_nothing(entry: &RecordShape) -> bool
     ensures { (shapes : List shape.Shape) → result ≡ same_shape (made_shape shapes (made.Record entry.now)) no_shape }
 {
-    entry.ordinal == 0 && entry.fields.is_empty()
+    entry.ordinal == 0 && entry.fields.as_slice().is_empty()
 }
 
 impl<'t> Known<'t> {

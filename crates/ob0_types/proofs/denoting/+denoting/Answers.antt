@@ -1,8 +1,7 @@
-use Rattle.std.proofs.Common.{◌≡◌, IfOk, IfSome, length, option_map, Some, None, refl, sym, ap, ◌∙◌, subst}
+use Rattle.std.proofs.Common.{IfOk, IfSome, length, option_map, Some, None, refl, sym, ap, ◌∙◌, subst}
 use Rattle.ob0_tree.specs.View.{record_listed, type_of}
 use Rattle.ob0_tree.proofs.Viewed.{record_made}
 use Rattle.ob0_types.specs.DenotedTables.{Denotes, Grown}
-use Rattle.ob0_types.specs.declared.denoting.Denoted.{Denoted}
 use Rattle.ob0_types.specs.KnownTables.{shapes_of}
 use Rattle.ob0_types.specs.Tables.{IsMade, type_shape}
 use Rattle.ob0_types.proofs.DenotedParts.{array_denotes, array_has_no_element, array_has_no_length, denotes_as, gathered_as, record_denotes, record_fails}

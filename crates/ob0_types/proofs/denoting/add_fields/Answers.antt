@@ -1,4 +1,4 @@
-use Rattle.std.proofs.Common.{◌+◌, ◌∷◌, suc, get_or, refl, sym, ap, ◌∙◌, subst, arith, add-one}
+use Rattle.std.proofs.Common.{◌∷◌, get_or, refl, sym, ap, subst, arith, add-one}
 use Rattle.ob0_types.specs.DenotedTables.{AreAdded}
 use Rattle.ob0_types.proofs.Added.{adding_begins, adding_ends, adding_goes_on}
 use Rattle.ob0_types.proofs.denoting.add_fields.Goals as goal

@@ -17,7 +17,7 @@ abbrev pub decreases-same_fields : goal.decreases-same_fields
 decreases-same_fields l = 4 * field_depth (fields_shape (shapes_of l.self.now) l.fields.now) + 2
 
 abbrev pub decreases-same_record : goal.decreases-same_record
-decreases-same_record l = 4 * field_depth (fields_shape (shapes_of l.self.now) l.one.now.fields.items) + 3
+decreases-same_record l = 4 * field_depth (fields_shape (shapes_of l.self.now) l.one.now.fields) + 3
 
 abbrev pub decreases-same_field : goal.decreases-same_field
 decreases-same_field l = 4 * depth (type_shape (shapes_of l.self.now) l.field.now.of) + 1
