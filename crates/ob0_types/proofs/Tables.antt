@@ -49,7 +49,7 @@ pub made_shape-more : (shapes later : List Shape) (m : code.Shape) → PartsAreM
 made_shape-more shapes later made.Integer h = refl
 made_shape-more shapes later made.Boolean h = refl
 made_shape-more shapes later (made.Array a) h = ap (array_shape a.ordinal a.length) (type_shape-more shapes later a.element h)
-made_shape-more shapes later (made.Record r) h = ap (record_shape r.ordinal) (fields_shape-more shapes later r.fields.items h)
+made_shape-more shapes later (made.Record r) h = ap (record_shape r.ordinal) (fields_shape-more shapes later r.fields h)
 
 -- an entry is made over all shapes of the table
 pub shape_at-entry : (known : List Shape) (ms : List code.Shape) (i : ℕ) (m : code.Shape) → AreMadeInOrder known ms → i < length ms → m ≡ get_or ms i m

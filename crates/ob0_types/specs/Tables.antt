@@ -46,7 +46,7 @@ abbrev pub made_shape : List Shape → code.Shape → Shape
 made_shape shapes made.Integer = integer_shape
 made_shape shapes made.Boolean = boolean_shape
 made_shape shapes (made.Array a) = array_shape a.ordinal a.length (type_shape shapes a.element)
-made_shape shapes (made.Record r) = record_shape r.ordinal (fields_shape shapes r.fields.items)
+made_shape shapes (made.Record r) = record_shape r.ordinal (fields_shape shapes r.fields)
 
 -- the shapes of a table, each made over those before it
 abbrev pub shapes_from : List Shape → List code.Shape → List Shape
@@ -64,7 +64,7 @@ abbrev pub PartsAreMade : ℕ → code.Shape → Type 0
 PartsAreMade n made.Integer = Unit {0}
 PartsAreMade n made.Boolean = Unit {0}
 PartsAreMade n (made.Array a) = IsMade n a.element
-PartsAreMade n (made.Record r) = All (λ f. IsMade n f.of) r.fields.items
+PartsAreMade n (made.Record r) = All (λ f. IsMade n f.of) r.fields
 
 -- an entry keeps how many scalars its shape has, and how deep it is
 abbrev pub IsCounted : code.Shape → Shape → Type 0

@@ -1,10 +1,16 @@
 //! Checking a module, and what is known of a well-typed one.
 
-ghost use Rattle.std.specs.Prelude.{◌≡◌, [], IfOk, MatchOption};
+ghost use Rattle.ob0_scope.specs.Resolution.{is_of_declarations};
+ghost use Rattle.ob0_types.specs.CheckedModules.{IsTold};
+ghost use Rattle.std.specs.List.{filter, list_any};
+ghost use Rattle.std.specs.Prelude.{◌≡◌, ◌&&◌, ◌++◌, [], not, IfOk, OnOk, MatchOption};
 
-use ob0_scan::{Fault, Tokens};
+use crate::deciding::decide;
+use crate::known::Known;
+use crate::laws::fits_by_ordinal;
+use crate::telling::tell;
+use ob0_scan::{Code, Fault, Span};
 use ob0_scope::resolved::Resolved;
-use ob0_tree::tree::Module;
 use std::alloc::{AllocError, Global};
 use std::marker::Model;
 
@@ -12,11 +18,12 @@ use std::marker::Model;
 #[derive(Drop)]
 pub struct Checked<'t> {
     resolved: &'t Resolved<'t>,
+    known: Option<Known<'t>>,
     faults: Vec<Fault>,
 }
 
 impl<'t> Model for Checked<'t> {
-    ghost use Rattle.ob0_types.specs.Checking.{CheckedModule, IsChecked};
+    ghost use Rattle.ob0_types.specs.CheckedModules.{CheckedModule, IsChecked};
 
     ghost Value = { CheckedModule };
 
@@ -37,7 +44,7 @@ pub struct WellTyped<'c, 't> {
 }
 
 impl<'c, 't> Model for WellTyped<'c, 't> {
-    ghost use Rattle.ob0_types.specs.Checking.{IsWellTyped};
+    ghost use Rattle.ob0_types.specs.CheckedModules.{IsWellTyped};
     ghost use Rattle.ob0_scope.specs.Resolution.{Resolution};
 
     ghost Value = { Resolution };
@@ -52,15 +59,93 @@ impl<'c, 't> Model for WellTyped<'c, 't> {
     ghost invariant = { λ w. IsWellTyped w.checked.now.names };
 }
 
+/// The most faults that are kept.
+pub const MOST_FAULTS: usize = 100;
+
 /// Checks the types of a module. Its faults are those of its scopes and its types.
-pub fn check<'t>(_alloc: Global, _resolved: &'t Resolved<'t>) -> Result<Checked<'t>, AllocError>
-    ensures { IfOk result (λ c. c.names ≡ _resolved.now) }
+pub fn check<'t>(alloc: Global, resolved: &'t Resolved<'t>) -> Result<Checked<'t>, AllocError>
+    ensures { IfOk result (λ c. c.names ≡ resolved.now) }
 {
-    Err(AllocError)
+    fits_by_ordinal();
+    let _module = resolved.module();
+    let known = decide(alloc, resolved)?;
+    let faults = faults_of(alloc, resolved, known.is_some())?;
+    Ok(Checked {
+        resolved,
+        known,
+        faults,
+    })
+}
+
+/// The faults of scopes and types, sorted by start, end and number, the first 100. Names that nothing binds are told with
+/// the types.
+fn faults_of<'t>(
+    alloc: Global,
+    resolved: &'t Resolved<'t>,
+    fits: bool,
+) -> Result<Vec<Fault>, AllocError>
+    ensures { IfOk result (λ faults. IsTold (fits && not (list_any is_of_declarations resolved.now.faults)) faults.items) }
+{
+    let mut faults = of_types(alloc, resolved, fits)?;
+    add_declarations(&mut faults, resolved.faults())?;
+    faults.sort_by_key(|fault| (fault.span.start, fault.span.end, fault.code))?;
+    faults.truncate(MOST_FAULTS);
+    Ok(faults)
+}
+
+/// The faults of types. A module that doesn't fit has one.
+fn of_types<'t>(
+    alloc: Global,
+    resolved: &'t Resolved<'t>,
+    fits: bool,
+) -> Result<Vec<Fault>, AllocError>
+    ensures { IfOk result (λ faults. IsTold fits faults.items) }
+{
+    let mut faults = Vec::new(alloc);
+    if fits {
+        return Ok(faults);
+    }
+    let told = tell(alloc, resolved)?;
+    if !told.is_empty() {
+        return Ok(told);
+    }
+    faults.push(at_its_name(resolved))?;
+    Ok(faults)
+}
+
+/// Adds names that are declared twice, and closing names that differ.
+fn add_declarations(faults: &mut Vec<Fault>, scopes: &[Fault]) -> Result<(), AllocError>
+    ensures { OnOk result (faults.new.items ≡ faults.old.items ++ filter is_of_declarations scopes.now) }
+{
+    for fault in scopes {
+        if is_of_declarations(fault) {
+            faults.push(*fault)?;
+        }
+    }
+    Ok(())
+}
+
+fn is_of_declarations(fault: &Fault) -> bool
+    ensures { result ≡ is_of_declarations fault.now }
+{
+    fault.code == Code::Duplicate || fault.code == Code::EndName
+}
+
+/// The fault of a module that doesn't fit, at its name.
+fn at_its_name(resolved: &Resolved) -> Fault {
+    let name = resolved.module().name();
+    let span = match resolved.tokens().tokens().get(name) {
+        Some(token) => token.span,
+        None => Span { start: 0, end: 0 },
+    };
+    Fault {
+        code: Code::TypeMismatch,
+        span,
+    }
 }
 
 impl<'t> Checked<'t> {
-    ghost use Rattle.ob0_types.specs.Checking.{IsChecked};
+    ghost use Rattle.ob0_types.specs.CheckedModules.{IsChecked};
 
     /// The module with its names bound.
     pub fn resolved(&self) -> &'t Resolved<'t>
@@ -90,7 +175,7 @@ impl<'t> Checked<'t> {
 }
 
 impl<'c, 't> WellTyped<'c, 't> {
-    ghost use Rattle.ob0_types.specs.Checking.{IsWellTyped};
+    ghost use Rattle.ob0_types.specs.CheckedModules.{IsWellTyped};
 
     /// The module with its names bound.
     pub fn resolved(&self) -> &'t Resolved<'t>

@@ -18,7 +18,11 @@ use ob0_values::scalar::{
     Scalar, add, add_is_settled, multiply, multiply_is_settled, negated, relate, signed,
 };
 
-fn related(relation: Relation, left: Option<Scalar>, right: Option<Scalar>) -> Option<Scalar>
+pub(crate) fn related(
+    relation: Relation,
+    left: Option<Scalar>,
+    right: Option<Scalar>,
+) -> Option<Scalar>
     ensures { option_map scalar_value result ≡ both (λ x y. given_value (values.relate relation x y)) (option_map scalar_value left) (option_map scalar_value right) }
 {
     match left {
@@ -30,7 +34,7 @@ fn related(relation: Relation, left: Option<Scalar>, right: Option<Scalar>) -> O
     }
 }
 
-fn with_sign(sign: Option<Sign>, operand: Option<Scalar>) -> Option<Scalar>
+pub(crate) fn with_sign(sign: Option<Sign>, operand: Option<Scalar>) -> Option<Scalar>
     ensures { option_map scalar_value result ≡ option_and_then (λ x. given_value (values.signed sign x)) (option_map scalar_value operand) }
 {
     match operand {
@@ -39,7 +43,7 @@ fn with_sign(sign: Option<Sign>, operand: Option<Scalar>) -> Option<Scalar>
     }
 }
 
-fn complement(operand: Option<Scalar>) -> Option<Scalar>
+pub(crate) fn complement(operand: Option<Scalar>) -> Option<Scalar>
     ensures { option_map scalar_value result ≡ option_and_then (λ x. given_value (values.negated x)) (option_map scalar_value operand) }
 {
     match operand {
@@ -48,7 +52,11 @@ fn complement(operand: Option<Scalar>) -> Option<Scalar>
     }
 }
 
-fn added(operator: AddOperator, left: Option<Scalar>, right: Option<Scalar>) -> Option<Scalar>
+pub(crate) fn added(
+    operator: AddOperator,
+    left: Option<Scalar>,
+    right: Option<Scalar>,
+) -> Option<Scalar>
     ensures { option_map scalar_value result ≡ option_and_then (sum_value operator (option_map scalar_value right)) (option_map scalar_value left) }
 {
     match left {
@@ -65,7 +73,7 @@ fn added(operator: AddOperator, left: Option<Scalar>, right: Option<Scalar>) -> 
     }
 }
 
-fn multiplied(
+pub(crate) fn multiplied(
     operator: MultiplyOperator,
     left: Option<Scalar>,
     right: Option<Scalar>,

@@ -3,8 +3,8 @@
 ghost use Rattle.std.specs.Prelude.{◌≡◌, ◌≤◌, ◌++◌, ◌&&◌, nat_le, List, option_map};
 ghost use Rattle.ob0_values.specs.Values as shape;
 ghost use Rattle.ob0_types.specs.Tables.{fields_shape, type_shape};
-ghost use Rattle.ob0_types.specs.Typing.{shape_of_field};
 
+use crate::field_table::FieldTable;
 use crate::types::TypeId;
 use ob0_values::scalar::Scalar;
 use std::alloc::{AllocError, Global};
@@ -37,7 +37,7 @@ pub struct ArrayShape {
 #[derive(Debug, Drop)]
 pub struct RecordShape<'t> {
     pub ordinal: usize,
-    pub fields: Vec<Field<'t>>,
+    pub fields: FieldTable<'t>,
     pub scalars: usize,
     pub depth: usize,
 }
@@ -99,18 +99,6 @@ fn is_within(scalars: usize, depth: usize) -> bool
     scalars <= MOST_SCALARS && depth <= MOST_DEPTH
 }
 
-/// The type of the first field of this name.
-fn field_in(fields: &[Field], name: &str) -> Option<TypeId>
-    ensures { (shapes : List shape.Shape) → option_map (type_shape shapes) result ≡ shape_of_field (fields_shape shapes fields.now) name.now }
-{
-    for field in fields {
-        if name == field.name {
-            return Some(field.of);
-        }
-    }
-    None
-}
-
 impl<'t> Model for Known<'t> {
     ghost use Rattle.ob0_types.specs.KnownTables.{Tables, AreTables};
 
@@ -124,7 +112,7 @@ impl<'t> Model for Known<'t> {
 impl<'t> Known<'t> {
     ghost use Rattle.std.specs.Prelude.{◌≡◌, ◌++◌, ◌∷◌, [], true, false, length, option_map, option_and_then, slice_get, slice_set, slice_index_or, MatchOption, All, ◌^◌, IfOk, OnOk, IfSome};
     ghost use Rattle.ob0_types.specs.declared.known.Object.TheVariants as kind;
-    ghost use Rattle.ob0_types.specs.KnownTables.{predeclared, seen_in, shapes_of};
+    ghost use Rattle.ob0_types.specs.KnownTables.{known_meaning, predeclared, seen_in, shapes_of};
     ghost use Rattle.ob0_types.specs.Tables.{object_in, IsCounted, IsEntry, ObjectIsMade, IsMade, made_shape, no_shape};
     ghost use Rattle.ob0_types.specs.Typing.{depth, element_type, field_depth, field_scalars, field_type, scalars, within_limits};
     ghost use Rattle.ob0_values.specs.Values.{array_shape, integer_shape, record_shape};
@@ -218,7 +206,7 @@ impl<'t> Known<'t> {
     }
 
     /// What the shape at a place of the table is.
-    fn entry(&self, place: usize) -> Option<&Shape<'t>>
+    pub(crate) fn entry(&self, place: usize) -> Option<&Shape<'t>>
         ensures { MatchOption result (slice_index_or (shapes_of self.now) place no_shape ≡ no_shape) (λ m. (slice_index_or (shapes_of self.now) place no_shape ≡ made_shape (shapes_of self.now) m.now) × IsCounted m.now (made_shape (shapes_of self.now) m.now)) }
     {
         if place < self.shapes.len() {
@@ -252,7 +240,7 @@ impl<'t> Known<'t> {
     {
         match base {
             TypeId::Record(i) => match self.entry(i)? {
-                Shape::Record(record) => field_in(record.fields.as_slice(), name),
+                Shape::Record(record) => record.fields.find(name),
                 Shape::Integer => None,
                 Shape::Boolean => None,
                 Shape::Array(_) => None,
@@ -328,6 +316,7 @@ impl<'t> Known<'t> {
         ensures place { IfOk result (λ i. i ≡ length self.old.shapes) }
         ensures shapes { OnOk result (self.new.shapes ≡ self.old.shapes ++ shape.entry ∷ []) }
         ensures entries { OnOk result (self.new.entries ≡ self.old.entries) }
+        ensures meaning { OnOk result (known_meaning self.new ≡ known_meaning self.old) }
     {
         let place = self.shapes.len();
         self.shapes.push(shape)?;
@@ -347,6 +336,7 @@ impl<'t> Known<'t> {
         ensures entries { OnOk result (self.new.entries ≡ self.old.entries) }
         ensures shapes { OnOk result ((later : List shape.Shape) × (shapes_of self.new ≡ shapes_of self.old ++ later)) }
         ensures longer { OnOk result (length self.old.shapes ≤ length self.new.shapes) }
+        ensures meaning { OnOk result (known_meaning self.new ≡ known_meaning self.old) }
     {
         let Some(scalars) = size.checked_mul(self.scalars(element)) else {
             return Ok(None);
@@ -405,6 +395,7 @@ impl<'t> Known<'t> {
         ensures entries { OnOk result (self.new.entries ≡ self.old.entries) }
         ensures shapes { OnOk result ((later : List shape.Shape) × (shapes_of self.new ≡ shapes_of self.old ++ later)) }
         ensures longer { OnOk result (length self.old.shapes ≤ length self.new.shapes) }
+        ensures meaning { OnOk result (known_meaning self.new ≡ known_meaning self.old) }
     {
         let Some(sum) = self.field_scalars(fields.as_slice()) else {
             return Ok(None);
@@ -416,6 +407,7 @@ impl<'t> Known<'t> {
         if !is_within(scalars, depth) {
             return Ok(None);
         }
+        let fields = FieldTable::new(fields)?;
         let place = self.put(Shape::Record(RecordShape {
             ordinal,
             fields,

@@ -1,0 +1,12 @@
+use Rattle.std.proofs.Common.{length, map}
+use Rattle.ob0_types.specs.FittingParts.{all_in_labels}
+use Rattle.ob0_types.specs.InLabels.{meaning_in}
+use Rattle.ob0_types.specs.KnownTables.{shapes_of}
+use Rattle.ob0_types.specs.Tables.{formal_in}
+use Rattle.ob0_types.specs.WellTyped.{arguments_fit}
+use Rattle.ob0_types.proofs.AllFit.{PairSoFar}
+use Rattle.ob0_types.proofs.names.Names.arguments_fit.Given as goal
+
+abbrev pub invariant-loop-formal : goal.invariant-loop-formal
+invariant-loop-formal l =
+    PairSoFar (λ fs es. arguments_fit (meaning_in l.self.known.now l.self.only_constants) (map (formal_in (shapes_of l.self.known.now)) fs) (all_in_labels l.self.resolved.now es)) l.formals l.arguments.items (length l.yielded)

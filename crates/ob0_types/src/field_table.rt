@@ -1,0 +1,75 @@
+//! The fields of a record, each found by its name in logarithmic time.
+
+ghost use Rattle.std.specs.Prelude.{◌≡◌, List, IfOk, option_map};
+ghost use Rattle.ob0_values.specs.Values as shape;
+ghost use Rattle.ob0_types.specs.FieldIndex.{IsIndex};
+ghost use Rattle.ob0_types.specs.Tables.{fields_shape, type_shape};
+ghost use Rattle.ob0_types.specs.Typing.{shape_of_field};
+
+use crate::known::Field;
+use crate::types::TypeId;
+use std::alloc::{AllocError, Global};
+use std::collections::BTreeMap;
+use std::marker::Model;
+
+/// Fields in order, with the type of the first of each name.
+#[derive(Debug, Drop)]
+pub struct FieldTable<'t> {
+    fields: Vec<Field<'t>>,
+    first_of: BTreeMap<&'t str, TypeId>,
+}
+
+impl<'t> Model for FieldTable<'t> {
+    ghost use Rattle.std.specs.Prelude.{List};
+    ghost use Rattle.ob0_types.specs.declared.known.Field.{Field};
+
+    ghost Value = { List Field };
+
+    ghost use Rattle.ob0_types.specs.FieldIndex.{IsIndex};
+
+    ghost view = { λ t. t.fields.items };
+
+    ghost invariant = { λ t. IsIndex t.first_of t.fields.items };
+}
+
+/// The type of the first field of each name. The last field goes first, so that the first of a name stays.
+fn first_of<'t>(
+    alloc: Global,
+    fields: &[Field<'t>],
+) -> Result<BTreeMap<&'t str, TypeId>, AllocError>
+    ensures { IfOk result (λ m. IsIndex m fields.now) }
+{
+    let mut first = BTreeMap::new(alloc);
+    let mut left = fields.len();
+    while left > 0 {
+        left -= 1;
+        let field = &fields[left];
+        first.insert(field.name, field.of)?;
+    }
+    Ok(first)
+}
+
+impl<'t> FieldTable<'t> {
+    pub fn new(fields: Vec<Field<'t>>) -> Result<FieldTable<'t>, AllocError>
+        ensures { IfOk result (λ t. t ≡ fields.entry.items) }
+    {
+        let first = first_of(*fields.allocator(), fields.as_slice())?;
+        Ok(FieldTable {
+            fields,
+            first_of: first,
+        })
+    }
+
+    pub fn as_slice(&self) -> &[Field<'t>]
+        ensures { result.now ≡ self.now }
+    {
+        self.fields.as_slice()
+    }
+
+    /// The type of the first field of this name.
+    pub fn find(&self, name: &str) -> Option<TypeId>
+        ensures { (shapes : List shape.Shape) → option_map (type_shape shapes) result ≡ shape_of_field (fields_shape shapes self.now) name.now }
+    {
+        self.first_of.get(name).copied()
+    }
+}

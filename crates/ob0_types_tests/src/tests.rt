@@ -1,0 +1,256 @@
+//! Faults of worked modules: code, start and end of each, in the order of their places.
+
+use ob0_parse::parse;
+use ob0_scan::{Code, Fault, scan};
+use ob0_scope::resolve::resolve;
+use ob0_scope::resolved::Resolved;
+use ob0_types::telling::tell;
+use std::alloc::{AllocError, Global};
+use std::test::Fail;
+
+/// The faults of types and scopes, in the order of their places.
+fn faults_of<'t>(alloc: Global, resolved: &'t Resolved<'t>) -> Result<Vec<Fault>, AllocError> {
+    let mut faults = tell(alloc, resolved)?;
+    for fault in resolved.faults() {
+        if fault.code != Code::Undeclared {
+            faults.push(*fault)?;
+        }
+    }
+    faults.sort_by_key(|fault| (fault.span.start, fault.span.end, fault.code))?;
+    Ok(faults)
+}
+
+/// The faults of a text.
+fn told(alloc: Global, text: &str) -> Result<String, Fail> {
+    let tokens = scan(alloc, text)?;
+    let module = parse(alloc, &tokens)?;
+    let resolved = resolve(alloc, &module)?;
+    let mut out = String::new(alloc);
+    for fault in &faults_of(alloc, &resolved)? {
+        let name = fault.code.name();
+        let start = fault.span.start;
+        let end = fault.span.end;
+        let line = format!(in alloc; "{name} {start}-{end}; ")?;
+        out.push_str(line.as_str())?;
+    }
+    Ok(out)
+}
+
+fn is(
+    rt: &impl std::process::Abort,
+    found: Result<String, Fail>,
+    wanted: &str,
+) -> Result<(), Fail> {
+    let found = found?;
+    assert_eq!(rt; found.as_str(), wanted);
+    Ok(())
+}
+
+#[test]
+fn ten_faults(rt: HostRuntime) -> Result<(), Fail> {
+    let alloc = rt.alloc();
+    is(
+        &rt,
+        told(
+            alloc,
+            "MODULE M;\nCONST k = 1 DIV 0; m = 1;\nVAR i: INTEGER; b: BOOLEAN;\nPROCEDURE P(VAR j: INTEGER); BEGIN j := 1 END Q;\nBEGIN i := b; P(3); P; z := 1; i.f := 1; i[0] := 1; Write(P); m := 2 END M.",
+        ),
+        "ConstFault 20-27; EndName 110-111; TypeMismatch 124-125; NotVariable 129-130; ArgumentCount 133-134; Undeclared 136-137; NotRecord 145-146; NotArray 155-156; WrongKind 171-172; NotVariable 175-176; ",
+    )
+}
+
+#[test]
+fn array_types(rt: HostRuntime) -> Result<(), Fail> {
+    let alloc = rt.alloc();
+    is(
+        &rt,
+        told(
+            alloc,
+            "MODULE M; VAR a: ARRAY 3 OF INTEGER; b: ARRAY 3 OF INTEGER; BEGIN a := b END M.",
+        ),
+        "TypeMismatch 71-72; ",
+    )?;
+    is(
+        &rt,
+        told(
+            alloc,
+            "MODULE M; VAR a, b: ARRAY 3 OF INTEGER; BEGIN a := b END M.",
+        ),
+        "",
+    )?;
+    is(
+        &rt,
+        told(
+            alloc,
+            "MODULE M; TYPE T = ARRAY 3 OF INTEGER; VAR a: T; b: T; BEGIN a := b END M.",
+        ),
+        "",
+    )
+}
+
+#[test]
+fn sizes(rt: HostRuntime) -> Result<(), Fail> {
+    let alloc = rt.alloc();
+    is(
+        &rt,
+        told(
+            alloc,
+            "MODULE M; VAR a: ARRAY 256 OF ARRAY 256 OF INTEGER; END M.",
+        ),
+        "",
+    )?;
+    is(
+        &rt,
+        told(
+            alloc,
+            "MODULE M; VAR a: ARRAY 256 OF ARRAY 257 OF INTEGER; END M.",
+        ),
+        "TypeTooLarge 17-22; ",
+    )?;
+    is(
+        &rt,
+        told(alloc, "MODULE M; VAR a: ARRAY 65537 OF INTEGER; END M."),
+        "ArrayLength 23-28; ",
+    )?;
+    is(
+        &rt,
+        told(alloc, "MODULE M; VAR a: ARRAY 0 OF INTEGER; END M."),
+        "ArrayLength 23-24; ",
+    )
+}
+
+#[test]
+fn operands(rt: HostRuntime) -> Result<(), Fail> {
+    let alloc = rt.alloc();
+    is(
+        &rt,
+        told(
+            alloc,
+            "MODULE M; VAR b: BOOLEAN; BEGIN b := TRUE + FALSE END M.",
+        ),
+        "TypeMismatch 37-41; ",
+    )?;
+    is(
+        &rt,
+        told(
+            alloc,
+            "MODULE M; VAR b: BOOLEAN; BEGIN b := 1 = TRUE END M.",
+        ),
+        "TypeMismatch 41-45; ",
+    )?;
+    is(
+        &rt,
+        told(alloc, "MODULE M; VAR b: BOOLEAN; BEGIN b := u + 1 END M."),
+        "Undeclared 37-38; ",
+    )?;
+    is(
+        &rt,
+        told(
+            alloc,
+            "MODULE M; VAR a: ARRAY 2 OF INTEGER; BEGIN a[TRUE] := TRUE END M.",
+        ),
+        "TypeMismatch 45-49; ",
+    )?;
+    is(
+        &rt,
+        told(
+            alloc,
+            "MODULE M; BEGIN IF 1 THEN END; WHILE ~(1 < 2) & TRUE DO WriteLn END; REPEAT UNTIL 3 END M.",
+        ),
+        "TypeMismatch 19-20; TypeMismatch 82-83; ",
+    )
+}
+
+#[test]
+fn records(rt: HostRuntime) -> Result<(), Fail> {
+    let alloc = rt.alloc();
+    is(
+        &rt,
+        told(
+            alloc,
+            "MODULE M; TYPE R = RECORD x, y: INTEGER; a: ARRAY 2 OF BOOLEAN END; VAR r: R; PROCEDURE P(VAR s: R; b: BOOLEAN); BEGIN s.x := 1; s.a[s.x] := b; s.z := 1 END P; BEGIN P(r, TRUE); P(r, r.a[0]); Read(r.x); Write(r.y) END M.",
+        ),
+        "NoField 146-147; ",
+    )
+}
+
+#[test]
+fn constants(rt: HostRuntime) -> Result<(), Fail> {
+    let alloc = rt.alloc();
+    is(
+        &rt,
+        told(
+            alloc,
+            "MODULE M; CONST c = 2147483647 + 1; d = -(-2147483647 - 1); e = (1 = 2) & (1 DIV 0 = 1); f = e OR INTEGER; END M.",
+        ),
+        "ConstFault 20-34; ConstFault 40-58; WrongKind 98-105; ",
+    )?;
+    is(
+        &rt,
+        told(
+            alloc,
+            "MODULE M; VAR x: INTEGER; PROCEDURE P; CONST c = x; END P; BEGIN TRUE := FALSE; INTEGER := 1; Read(1); Read(TRUE); x(1); P(u) END M.",
+        ),
+        "NotConstant 49-50; NotVariable 65-69; WrongKind 80-87; NotVariable 99-100; NotVariable 108-112; WrongKind 115-116; ArgumentCount 121-122; Undeclared 123-124; ",
+    )
+}
+
+#[test]
+fn unknown_parts_count_nothing(rt: HostRuntime) -> Result<(), Fail> {
+    let alloc = rt.alloc();
+    is(
+        &rt,
+        told(
+            alloc,
+            "MODULE M; VAR a: ARRAY 256 OF RECORD f, g: ARRAY 256 OF ARRAY 3 OF Write END; END M.",
+        ),
+        "WrongKind 67-72; ",
+    )
+}
+
+#[test]
+fn calls(rt: HostRuntime) -> Result<(), Fail> {
+    let alloc = rt.alloc();
+    is(
+        &rt,
+        told(
+            alloc,
+            "MODULE M; PROCEDURE P(x: INTEGER; VAR y: BOOLEAN); END P; BEGIN P; P(u, TRUE + 1, v); P(TRUE, 1 < 2); Q(~1) END M.",
+        ),
+        "ArgumentCount 64-65; ArgumentCount 67-68; Undeclared 69-70; Undeclared 82-83; TypeMismatch 88-92; NotVariable 94-99; Undeclared 102-103; TypeMismatch 105-106; ",
+    )?;
+    is(
+        &rt,
+        told(
+            alloc,
+            "MODULE M; CONST n = 3; VAR a: ARRAY n * 2 OF INTEGER; b: ARRAY n = 3 OF u; c: ARRAY a[b] OF BOOLEAN; BEGIN Read(n); Read(a); Read(a[n]); Read((a[n])); Read(-a[n]); n[TRUE] := v END M.",
+        ),
+        "TypeMismatch 63-68; Undeclared 72-73; NotConstant 84-85; NotConstant 86-87; NotVariable 112-113; TypeMismatch 121-122; NotVariable 142-148; NotVariable 156-161; NotVariable 164-165; TypeMismatch 166-170; Undeclared 175-176; ",
+    )
+}
+
+#[test]
+fn selectors(rt: HostRuntime) -> Result<(), Fail> {
+    let alloc = rt.alloc();
+    is(
+        &rt,
+        told(
+            alloc,
+            "MODULE M; VAR x: INTEGER; r: RECORD a: INTEGER END; t: T; BEGIN x[TRUE] := 1; x.f := 1; r.b := TRUE; t[1].f := x END M.",
+        ),
+        "Undeclared 55-56; NotArray 65-66; TypeMismatch 66-70; NotRecord 79-80; NoField 90-91; ",
+    )
+}
+
+#[test]
+fn first_fields_and_parameters(rt: HostRuntime) -> Result<(), Fail> {
+    let alloc = rt.alloc();
+    is(
+        &rt,
+        told(
+            alloc,
+            "MODULE M; TYPE T = ARRAY 2 OF RECORD f: BOOLEAN; g: U; f: INTEGER END; VAR t: T; PROCEDURE P(T: INTEGER; x: T); BEGIN t[T].f := x; t[0].f := T; P(t[1].g, t[2].g) END P; END M.",
+        ),
+        "Undeclared 52-53; Duplicate 55-56; WrongKind 108-109; TypeMismatch 141-142; ",
+    )
+}
