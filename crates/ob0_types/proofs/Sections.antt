@@ -101,9 +101,9 @@ section_some h g s d made b bound follows next shapes listed =
         ap (parameters_in g.walk.resolved g.walk.known) listed
             ∙ map-append (parameter_in g.walk.resolved (shapes_of g.walk.known)) h.parameters (map (λ n. record { name = n; formal = f }) (s.names.first ∷ s.names.more.items))
             ∙ (λ i. parameters-follow h.walk g.walk h.parameters all made i
-              ++ ((λ j. map (parameter_in (all.same j) (same j)) (map (λ n. record { name = n; formal = f }) (s.names.first ∷ s.names.more.items)))
-              ∙ listed-parameters r (shapes_of d.walk.known) f (s.names.first ∷ s.names.more.items)
-              ∙ (λ j. map (λ x. record { name = x; formal = record { mode = sym (section-mode r s) j; shape = t } }) ((sym (labels_listed r s.names) ∙ sym (section-names r s)) j))) i),
+            ++ ((λ j. map (parameter_in (all.same j) (same j)) (map (λ n. record { name = n; formal = f }) (s.names.first ∷ s.names.more.items)))
+            ∙ listed-parameters r (shapes_of d.walk.known) f (s.names.first ∷ s.names.more.items)
+            ∙ (λ j. map (λ x. record { name = x; formal = record { mode = sym (section-mode r s) j; shape = t } }) ((sym (labels_listed r s.names) ∙ sym (section-names r s)) j))) i),
       );
       follows = all;
       next = omega (arith, b.next, next, section-constructors r s);

@@ -45,12 +45,14 @@ walked_on {D = D} {S = S} {n = n} {N = N} {f = f} {xs = xs} {w = w} {v = v} {don
     record {
       on = λ env agrees.
           let at = g.on env agrees in
-          let then_ = d.leaves at.0 at.1 in
-          (then_.0, then_.2,
-          (λ j. D (d.follows.same j) (d.next j) rest then_.0)
-          ∙ sym (h.goes v.resolved v.next (f x) rest at.0 then_.0 then_.1)
-          ∙ ap (λ ts. D v.resolved v.next ts at.0) (sym cut)
-          ∙ at.2);
+          let then_ = d.leaves at.0 at.1 in (
+            then_.0,
+            then_.2,
+            (λ j. D (d.follows.same j) (d.next j) rest then_.0)
+                ∙ sym (h.goes v.resolved v.next (f x) rest at.0 then_.0 then_.1)
+                ∙ ap (λ ts. D v.resolved v.next ts at.0) (sym cut)
+                ∙ at.2,
+          );
       follows = follows_on w v u g.follows d.follows;
       next = omega (arith, d.next, g.next, ap N cut, h.counts (f x) rest);
     }

@@ -1,20 +1,18 @@
-//! Checking a module: its faults, of which it has none exactly where it is well-typed.
+//! Checking a module, and what is known of a well-typed one.
 
-ghost use Rattle.std.specs.Prelude.{◌≡◌, ◌≤◌, ◌<◌, ◌++◌, ◌↔◌, [], true, false, length, filter, is_some, IfOk};
-ghost use Rattle.ob0_tree.specs.Parsed.{named_tree_of};
 ghost use Rattle.ob0_scope.specs.Resolution.{is_of_declarations};
-ghost use Rattle.ob0_types.specs.WellTyped.{WellTyped};
+ghost use Rattle.ob0_types.specs.CheckedModules.{IsTold};
+ghost use Rattle.std.specs.List.{filter, list_any};
+ghost use Rattle.std.specs.Prelude.{◌≡◌, ◌&&◌, ◌++◌, [], not, IfOk, OnOk, MatchOption};
 
 use crate::deciding::decide;
 use crate::known::Known;
+use crate::laws::fits_by_ordinal;
 use crate::telling::tell;
 use ob0_scan::{Code, Fault, Span};
 use ob0_scope::resolved::Resolved;
 use std::alloc::{AllocError, Global};
 use std::marker::Model;
-
-/// The most faults that are kept.
-pub const MOST_FAULTS: usize = 100;
 
 /// A module that was checked, with its faults.
 #[derive(Drop)]
@@ -25,122 +23,53 @@ pub struct Checked<'t> {
 }
 
 impl<'t> Model for Checked<'t> {
-    ghost use Rattle.std.specs.Coded.{codes};
-    ghost use Rattle.ob0_tree.specs.contracts.tree.Block as block_contract;
     ghost use Rattle.ob0_types.specs.CheckedModules.{CheckedModule, IsChecked};
 
     ghost Value = { CheckedModule };
 
+    ghost use Rattle.std.specs.Coded.{codes};
+    ghost use Rattle.ob0_tree.specs.contracts.tree.Block as block_contract;
+
     ghost coded = { Prim.hlevel (codes, block_contract.the_row.coded) };
 
-    ghost view = { λ c. record { resolved = c.resolved.now; known = c.known; faults = c.faults.items } };
+    ghost view = { λ c. record { names = c.resolved.now; faults = c.faults.items } };
 
-    ghost invariant = { λ c. IsChecked (record { resolved = c.resolved.now; known = c.known; faults = c.faults.items }) };
+    ghost invariant = { λ c. IsChecked (record { names = c.resolved.now; faults = c.faults.items }) };
 }
 
-/// Whether a fault says that a name is declared twice, or closes what another name opened.
-fn is_of_declarations(fault: &Fault) -> bool
-    ensures { result ≡ is_of_declarations fault.now }
-{
-    match fault.code {
-        Code::Duplicate => true,
-        Code::EndName => true,
-        Code::TooLong => false,
-        Code::BadChar => false,
-        Code::OpenComment => false,
-        Code::NumberTooLarge => false,
-        Code::NumberJoinsLetter => false,
-        Code::Undeclared => false,
-        Code::WrongKind => false,
-        Code::TypeMismatch => false,
-        Code::NotConstant => false,
-        Code::ConstFault => false,
-        Code::ArrayLength => false,
-        Code::TypeTooLarge => false,
-        Code::ArgumentCount => false,
-        Code::NotVariable => false,
-        Code::NoField => false,
-        Code::NotArray => false,
-        Code::NotRecord => false,
-    }
+/// A module without faults.
+#[derive(Drop)]
+pub struct WellTyped<'c, 't> {
+    checked: &'c Checked<'t>,
 }
 
-/// The fault of a module that doesn't fit, at its name.
-fn whole(resolved: &Resolved) -> Fault {
-    let name = resolved.module().name();
-    let tokens = resolved.tokens().tokens();
-    let span = if name < tokens.len() {
-        tokens[name].span
-    } else {
-        Span { start: 0, end: 0 }
-    };
-    Fault {
-        code: Code::TypeMismatch,
-        span,
-    }
+impl<'c, 't> Model for WellTyped<'c, 't> {
+    ghost use Rattle.ob0_types.specs.CheckedModules.{IsWellTyped};
+    ghost use Rattle.ob0_scope.specs.Resolution.{Resolution};
+
+    ghost Value = { Resolution };
+
+    ghost use Rattle.std.specs.Coded.{codes};
+    ghost use Rattle.ob0_tree.specs.contracts.tree.Block as block_contract;
+
+    ghost coded = { Prim.hlevel (codes, block_contract.the_row.coded) };
+
+    ghost view = { λ w. w.checked.now.names };
+
+    ghost invariant = { λ w. IsWellTyped w.checked.now.names };
 }
 
-/// What is told of the types of a module that doesn't fit: something.
-fn told<'t>(alloc: Global, resolved: &'t Resolved<'t>) -> Result<Vec<Fault>, AllocError>
-    ensures { IfOk result (λ fs. 0 < length fs.items) }
-{
-    let mut faults = tell(alloc, resolved)?;
-    if faults.is_empty() {
-        faults.push(whole(resolved))?;
-    }
-    Ok(faults)
-}
+/// The most faults that are kept.
+pub const MOST_FAULTS: usize = 100;
 
-/// The faults of types, of which there are some exactly where the module doesn't fit.
-fn faults_of_types<'t>(
-    alloc: Global,
-    resolved: &'t Resolved<'t>,
-    fits: bool,
-) -> Result<Vec<Fault>, AllocError>
-    ensures fitting { IfOk result (λ fs. fits ≡ true → fs.items ≡ []) }
-    ensures unfit { IfOk result (λ fs. fits ≡ false → 0 < length fs.items) }
-{
-    if fits {
-        return Ok(Vec::new(alloc));
-    }
-    told(alloc, resolved)
-}
-
-/// Adds the faults of declarations to those of types. Names that nothing binds are told with the types.
-fn with_declarations(told: Vec<Fault>, scopes: &[Fault]) -> Result<Vec<Fault>, AllocError>
-    ensures { IfOk result (λ fs. fs.items ≡ told.entry.items ++ filter is_of_declarations scopes.now) }
-{
-    let mut faults = told;
-    for fault in scopes {
-        if is_of_declarations(fault) {
-            faults.push(*fault)?;
-        }
-    }
-    Ok(faults)
-}
-
-/// The first faults, by start, end and code.
-fn in_order(told: Vec<Fault>) -> Result<Vec<Fault>, AllocError>
-    ensures none { IfOk result (λ fs. (length fs.items ≡ 0) ↔ (length told.entry.items ≡ 0)) }
-    ensures few { IfOk result (λ fs. length fs.items ≤ 100) }
-{
-    let mut faults = told;
-    faults.sort_by_key(|fault| (fault.span.start, fault.span.end, fault.code))?;
-    faults.truncate(MOST_FAULTS);
-    Ok(faults)
-}
-
-/// Checks a module: its faults are those of its scopes and its types, the first 100 of them.
+/// Checks the types of a module. Its faults are those of its scopes and its types.
 pub fn check<'t>(alloc: Global, resolved: &'t Resolved<'t>) -> Result<Checked<'t>, AllocError>
-    ensures resolved { IfOk result (λ c. c.resolved ≡ resolved.now) }
-    ensures faults { IfOk result (λ c. (c.faults ≡ []) ↔ WellTyped (named_tree_of resolved.now.module_read)) }
-    ensures few { IfOk result (λ c. length c.faults ≤ 100) }
+    ensures { IfOk result (λ c. c.names ≡ resolved.now) }
 {
+    fits_by_ordinal();
     let _module = resolved.module();
     let known = decide(alloc, resolved)?;
-    let types = faults_of_types(alloc, resolved, known.is_some())?;
-    let all = with_declarations(types, resolved.faults())?;
-    let faults = in_order(all)?;
+    let faults = faults_of(alloc, resolved, known.is_some())?;
     Ok(Checked {
         resolved,
         known,
@@ -148,10 +77,79 @@ pub fn check<'t>(alloc: Global, resolved: &'t Resolved<'t>) -> Result<Checked<'t
     })
 }
 
+/// The faults of scopes and types, sorted by start, end and number, the first 100. Names that nothing binds are told with
+/// the types.
+fn faults_of<'t>(
+    alloc: Global,
+    resolved: &'t Resolved<'t>,
+    fits: bool,
+) -> Result<Vec<Fault>, AllocError>
+    ensures { IfOk result (λ faults. IsTold (fits && not (list_any is_of_declarations resolved.now.faults)) faults.items) }
+{
+    let mut faults = of_types(alloc, resolved, fits)?;
+    add_declarations(&mut faults, resolved.faults())?;
+    faults.sort_by_key(|fault| (fault.span.start, fault.span.end, fault.code))?;
+    faults.truncate(MOST_FAULTS);
+    Ok(faults)
+}
+
+/// The faults of types. A module that doesn't fit has one.
+fn of_types<'t>(
+    alloc: Global,
+    resolved: &'t Resolved<'t>,
+    fits: bool,
+) -> Result<Vec<Fault>, AllocError>
+    ensures { IfOk result (λ faults. IsTold fits faults.items) }
+{
+    let mut faults = Vec::new(alloc);
+    if fits {
+        return Ok(faults);
+    }
+    let told = tell(alloc, resolved)?;
+    if !told.is_empty() {
+        return Ok(told);
+    }
+    faults.push(at_its_name(resolved))?;
+    Ok(faults)
+}
+
+/// Adds names that are declared twice, and closing names that differ.
+fn add_declarations(faults: &mut Vec<Fault>, scopes: &[Fault]) -> Result<(), AllocError>
+    ensures { OnOk result (faults.new.items ≡ faults.old.items ++ filter is_of_declarations scopes.now) }
+{
+    for fault in scopes {
+        if is_of_declarations(fault) {
+            faults.push(*fault)?;
+        }
+    }
+    Ok(())
+}
+
+fn is_of_declarations(fault: &Fault) -> bool
+    ensures { result ≡ is_of_declarations fault.now }
+{
+    fault.code == Code::Duplicate || fault.code == Code::EndName
+}
+
+/// The fault of a module that doesn't fit, at its name.
+fn at_its_name(resolved: &Resolved) -> Fault {
+    let name = resolved.module().name();
+    let span = match resolved.tokens().tokens().get(name) {
+        Some(token) => token.span,
+        None => Span { start: 0, end: 0 },
+    };
+    Fault {
+        code: Code::TypeMismatch,
+        span,
+    }
+}
+
 impl<'t> Checked<'t> {
+    ghost use Rattle.ob0_types.specs.CheckedModules.{IsChecked};
+
     /// The module with its names bound.
     pub fn resolved(&self) -> &'t Resolved<'t>
-        ensures { result.now ≡ self.now.resolved }
+        ensures { result.now ≡ self.now.names }
     {
         self.resolved
     }
@@ -159,8 +157,31 @@ impl<'t> Checked<'t> {
     /// The faults of scopes and types, sorted by start, end and number, the first 100.
     pub fn faults(&self) -> &[Fault]
         ensures value { result.now ≡ self.now.faults }
-        ensures told { (self.now.faults ≡ []) ↔ WellTyped (named_tree_of self.now.resolved.module_read) }
+        ensures checked { IsChecked self.now }
     {
         self.faults.as_slice()
+    }
+
+    /// The module, where it has no fault.
+    pub fn well_typed(&self) -> Option<WellTyped<'_, 't>>
+        ensures { MatchOption result (self.now.faults ≡ [] → ⊥) (λ w. w ≡ self.now.names) }
+    {
+        if self.faults.is_empty() {
+            Some(WellTyped { checked: self })
+        } else {
+            None
+        }
+    }
+}
+
+impl<'c, 't> WellTyped<'c, 't> {
+    ghost use Rattle.ob0_types.specs.CheckedModules.{IsWellTyped};
+
+    /// The module with its names bound.
+    pub fn resolved(&self) -> &'t Resolved<'t>
+        ensures value { result.now ≡ self.now }
+        ensures well_typed { IsWellTyped self.now }
+    {
+        self.checked.resolved()
     }
 }

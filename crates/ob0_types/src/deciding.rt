@@ -120,7 +120,10 @@ impl<'t> Walk<'t> {
         Ok(Some(walk))
     }
 
-    fn types_of(self, section: &Option<Vec<TypeDeclaration>>) -> Result<Option<Walk<'t>>, AllocError>
+    fn types_of(
+        self,
+        section: &Option<Vec<TypeDeclaration>>,
+    ) -> Result<Option<Walk<'t>>, AllocError>
         ensures { IfOk result (Declares self.entry (types_constructors (section_types (types_of section.now))) (λ env. declare_types as_labels env self.entry.next (section_types (in_labels self.entry.resolved (types_of section.now))))) }
     {
         match section {
@@ -336,11 +339,7 @@ impl<'t> Headed<'t> {
 }
 
 /// Puts parameters of one type behind those before them.
-fn list(
-    names: &NameList,
-    formal: Formal,
-    parameters: &mut Vec<Parameter>,
-) -> Result<(), AllocError>
+fn list(names: &NameList, formal: Formal, parameters: &mut Vec<Parameter>) -> Result<(), AllocError>
     ensures { OnOk result (parameters.new.items ≡ parameters.old.items ++ map (λ n. record { name = n; formal = formal }) (names.now.first ∷ names.now.more.items)) }
 {
     parameters.push(Parameter {

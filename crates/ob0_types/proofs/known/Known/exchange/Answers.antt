@@ -14,10 +14,10 @@ pub returns-then-not-in_sight-clause-before : goal.returns-then-not-in_sight-cla
 returns-then-not-in_sight-clause-before c =
     let less : c.args.ordinal < length c.self.inside.entries.items = subst (λ t. c.args.ordinal < length t.entries) (sym c.self.view_is) c.requires.room in
     sym (
-      ap (λ t. seen_object t c.args.ordinal) (sym c.self.view_is)
-      ∙ seen_at object_seen c.self.inside.entries.items c.args.ordinal c.index_mut.result.now less c.index_mut.ensures.value
-      ∙ ap object_seen (sym c.replace-before.ensures.value)
-      ∙ hidden c.replace-before.result c.if-not-in_sight.true
+    ap (λ t. seen_object t c.args.ordinal) (sym c.self.view_is)
+    ∙ seen_at object_seen c.self.inside.entries.items c.args.ordinal c.index_mut.result.now less c.index_mut.ensures.value
+    ∙ ap object_seen (sym c.replace-before.ensures.value)
+    ∙ hidden c.replace-before.result c.if-not-in_sight.true
     )
 
 pub returns-clause-seen : goal.returns-clause-seen
@@ -31,8 +31,8 @@ pub returns-clause-before : goal.returns-clause-before
 returns-clause-before c =
     let less : c.args.ordinal < length c.self.inside.entries.items = subst (λ t. c.args.ordinal < length t.entries) (sym c.self.view_is) c.requires.room in
     sym (
-      ap (λ t. seen_object t c.args.ordinal) (sym c.self.view_is)
-      ∙ seen_at object_seen c.self.inside.entries.items c.args.ordinal c.index_mut.result.now less c.index_mut.ensures.value
-      ∙ ap object_seen (sym c.replace-before.ensures.value)
-      ∙ shown c.replace-before.result c.if-not-in_sight.false
+    ap (λ t. seen_object t c.args.ordinal) (sym c.self.view_is)
+    ∙ seen_at object_seen c.self.inside.entries.items c.args.ordinal c.index_mut.result.now less c.index_mut.ensures.value
+    ∙ ap object_seen (sym c.replace-before.ensures.value)
+    ∙ shown c.replace-before.result c.if-not-in_sight.false
     )

@@ -1,7 +1,6 @@
 use Rattle.std.proofs.Common.{refl, subst}
 use Rattle.ob0_tree.specs.View.{constant_of}
 use Rattle.ob0_types.specs.Checking.{Declares}
-
 use Rattle.ob0_types.proofs.Walked.{constants_ended, constants_walk, declared_all, declared_none, constant_given, walked_on, walked_stops}
 use Rattle.ob0_types.proofs.walk.Walk.constants.Goals as goal
 

@@ -1,7 +1,6 @@
 use Rattle.std.proofs.Common.{refl, subst}
 use Rattle.ob0_tree.specs.View.{type_declaration_of}
 use Rattle.ob0_types.specs.Checking.{Declares}
-
 use Rattle.ob0_types.proofs.Walked.{types_ended, types_walk, declared_all, declared_none, type_given, walked_on, walked_stops, type_constructors}
 use Rattle.ob0_types.proofs.walk.Walk.types.Goals as goal
 

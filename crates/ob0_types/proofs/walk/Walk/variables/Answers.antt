@@ -1,7 +1,6 @@
 use Rattle.std.proofs.Common.{refl, subst}
 use Rattle.ob0_tree.specs.View.{variable_of}
 use Rattle.ob0_types.specs.Checking.{Declares}
-
 use Rattle.ob0_types.proofs.Walked.{variables_ended, variables_walk, declared_all, declared_none, variable_given, walked_on, walked_stops, variable_constructors}
 use Rattle.ob0_types.proofs.walk.Walk.variables.Goals as goal
 

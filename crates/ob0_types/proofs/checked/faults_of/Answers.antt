@@ -1,0 +1,23 @@
+use Rattle.std.proofs.Common.{◌≡◌, ◌&&◌, ◌++◌, List, length, not, arith, subst, sym, ap, ◌∙◌, ◌+◌, ◌-◌}
+use Rattle.std.specs.List.{filter, list_any}
+use Rattle.ob0_scan.specs.declared.fault.Fault.{Fault}
+use Rattle.ob0_scope.specs.Resolution.{is_of_declarations}
+use Rattle.ob0_types.specs.CheckedModules.{IsTold}
+use Rattle.ob0_types.proofs.AllTold.{told_alike, told_with}
+use Rattle.ob0_types.proofs.checked.faults_of.Goals as goal
+
+pub returns : goal.returns
+returns c =
+    let right = c.args.fits && not (list_any is_of_declarations c.args.resolved.now.faults) in
+    let first = c.in_ok-faults.faults.items in
+    let added = c.add_declarations.new.faults in
+    let sorted = c.sort_by_key.new.self in
+    let kept = c.truncate.new.self in
+    let all = c.in_ok-add_declarations.ensures ∙ ap (λ fs. first ++ filter is_of_declarations fs) c.faults.ensures in
+    let told = subst (IsTold right) (sym all) (told_with c.args.fits first c.args.resolved.now.faults c.in_ok-faults.ensures) in
+    let a = added.ok.0 in
+    let s = sorted.ok.0 in
+    let k = kept.ok.0 in
+    let same : length sorted.items ≡ length added.items = omega (arith, c.sort_by_key.ensures.len, a, s) in
+    let cut : length kept.items + (length sorted.items - 100) ≡ length sorted.items = omega (arith, c.truncate.ensures.len, k, s) in
+    told_alike right added.items kept.items (λ e. omega (arith, e, same, cut)) (λ e. omega (arith, e, same, cut)) told
