@@ -29,6 +29,7 @@ namesake_is (own ∷ blocks) d new =
     both : (o p : Option ℕ) → is_some (option_or o p) ≡ (is_some o || is_some p)
     both None p = refl
     both (Some k) p = refl
+
     here : (c : Bool) → is_some (if c then other_named own d new else None) ≡ (c && is_some (other_named own d new))
     here true = refl
     here false = refl

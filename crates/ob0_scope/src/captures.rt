@@ -69,10 +69,10 @@ fn first_capture(
 fn first_changed(names: &Resolved, ordinals: &[Option<usize>]) -> Option<usize>
     ensures { result ≡ position_from (λ token. not (is_bound_alike (ordinal_in ordinals.now token) (ordinal_in names.now.ordinals token))) 0 names.now.uses }
 {
-    names
-        .occurrences()
-        .iter()
-        .position(|token| !is_bound_alike(ordinal_at(ordinals, *token), names.ordinal_at(*token)))
+    names.occurrences().iter().position(|token| !is_bound_alike(
+        ordinal_at(ordinals, *token),
+        names.ordinal_at(*token),
+    ))
 }
 
 fn is_bound_alike(a: Option<usize>, b: Option<usize>) -> bool
@@ -157,12 +157,7 @@ impl<'t> Sought<'t> {
 
     /// Searches a block, with the tokens of the parameters that are declared in it.
     #[cycle(blocks)]
-    fn block(
-        &self,
-        alloc: Global,
-        own: Vec<usize>,
-        b: &Block,
-    ) -> Result<Option<usize>, AllocError>
+    fn block(&self, alloc: Global, own: Vec<usize>, b: &Block) -> Result<Option<usize>, AllocError>
         ensures { IfOk result (λ other. other ≡ found_in_block self.now own.items (block_of b.now)) }
     {
         let mut tokens = own;

@@ -114,7 +114,10 @@ fn add_variables(out: &mut Vec<usize>, section: &Option<Vec<Variables>>) -> Resu
     Ok(())
 }
 
-pub(crate) fn add_formals(out: &mut Vec<usize>, formals: &Option<Vec<Section>>) -> Result<(), AllocError>
+pub(crate) fn add_formals(
+    out: &mut Vec<usize>,
+    formals: &Option<Vec<Section>>,
+) -> Result<(), AllocError>
     ensures { OnOk result (out.new.items ≡ out.old.items ++ formal_names (formal_sections (formals_of formals.now))) }
 {
     if let Some(sections) = formals {

@@ -161,9 +161,11 @@ fn capture_of(
     Ok(captures(alloc, &resolved, declaration, new)?)
 }
 
-const LOCAL: &str = "MODULE M; VAR x: INTEGER; PROCEDURE P; VAR y: INTEGER; BEGIN y := 1; x := y END P; BEGIN P; Write(x) END M.";
+const LOCAL: &str =
+    "MODULE M; VAR x: INTEGER; PROCEDURE P; VAR y: INTEGER; BEGIN y := 1; x := y END P; BEGIN P; Write(x) END M.";
 
-const LATER: &str = "MODULE M; VAR Q: INTEGER; PROCEDURE A; PROCEDURE P; BEGIN Q := 7 END P; PROCEDURE R; BEGIN Write(2) END R; BEGIN P; R END A; BEGIN A; Write(Q) END M.";
+const LATER: &str =
+    "MODULE M; VAR Q: INTEGER; PROCEDURE A; PROCEDURE P; BEGIN Q := 7 END P; PROCEDURE R; BEGIN Write(2) END R; BEGIN P; R END A; BEGIN A; Write(Q) END M.";
 
 const RECURSIVE: &str =
     "MODULE M; PROCEDURE F(n: INTEGER); BEGIN IF n > 0 THEN Write(n); F(n - 1) END END F; BEGIN F(2) END M.";
@@ -203,11 +205,23 @@ fn binds_the_names_of_a_renamed_module(rt: HostRuntime) -> Result<(), Fail> {
 #[test]
 fn tells_the_first_capture(rt: HostRuntime) -> Result<(), Fail> {
     let alloc = rt.alloc();
-    assert_eq!(rt; capture_of(alloc, LOCAL, 7, "y")?, Some(Capture::Occurrence(3)));
-    assert_eq!(rt; capture_of(alloc, LOCAL, 7, "Write")?, Some(Capture::Occurrence(6)));
+    assert_eq!(rt;
+        capture_of(alloc, LOCAL, 7, "y")?,
+        Some(Capture::Occurrence(3))
+    );
+    assert_eq!(rt;
+        capture_of(alloc, LOCAL, 7, "Write")?,
+        Some(Capture::Occurrence(6))
+    );
     assert_eq!(rt; capture_of(alloc, LOCAL, 7, "x")?, None);
-    assert_eq!(rt; capture_of(alloc, LATER, 7, "P")?, Some(Capture::Occurrence(1)));
-    assert_eq!(rt; capture_of(alloc, RECURSIVE, 7, "n")?, Some(Capture::Occurrence(4)));
+    assert_eq!(rt;
+        capture_of(alloc, LATER, 7, "P")?,
+        Some(Capture::Occurrence(1))
+    );
+    assert_eq!(rt;
+        capture_of(alloc, RECURSIVE, 7, "n")?,
+        Some(Capture::Occurrence(4))
+    );
     Ok(())
 }
 
@@ -224,10 +238,19 @@ fn lets_free_names_pass(rt: HostRuntime) -> Result<(), Fail> {
 #[test]
 fn tells_of_another_declaration_of_the_block(rt: HostRuntime) -> Result<(), Fail> {
     let alloc = rt.alloc();
-    assert_eq!(rt; capture_of(alloc, LATER, 10, "P")?, Some(Capture::Duplicate(9)));
-    assert_eq!(rt; capture_of(alloc, LOCAL, 8, "x")?, Some(Capture::Duplicate(7)));
+    assert_eq!(rt;
+        capture_of(alloc, LATER, 10, "P")?,
+        Some(Capture::Duplicate(9))
+    );
+    assert_eq!(rt;
+        capture_of(alloc, LOCAL, 8, "x")?,
+        Some(Capture::Duplicate(7))
+    );
     let parameter = "MODULE M; PROCEDURE P(a: INTEGER); VAR b: INTEGER; END P; END M.";
-    assert_eq!(rt; capture_of(alloc, parameter, 9, "a")?, Some(Capture::Duplicate(8)));
+    assert_eq!(rt;
+        capture_of(alloc, parameter, 9, "a")?,
+        Some(Capture::Duplicate(8))
+    );
     assert_eq!(rt; capture_of(alloc, parameter, 9, "P")?, None);
     Ok(())
 }

@@ -14,8 +14,8 @@ returns-in-Some c =
     ∙ first_changed_is r c.args.declaration c.args.new.now table.ordinals.items table.ensures.resolved table.ensures.renumbered in
     ap (option_map Occurrence) (sym c.in-Some.is ∙ (c.first_changed.ensures ∙ changed))
 
-pub returns-in-None : goal.returns-in-None
-returns-in-None c =
+pub returns : goal.returns
+returns c =
     let r = c.args.names.now in
     let table = c.in_ok-ordinals in
     let changed = ap (λ (os : List (Option ℕ)). position_from (λ token. not (is_bound_alike (ordinal_in os token) (ordinal_in r.ordinals token))) 0 r.uses) c.deref.ensures.value
