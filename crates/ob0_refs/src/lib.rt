@@ -1,13 +1,12 @@
-// A library with one function.
+//! Questions about the names of a module's text: what stands at a place, where it is declared, where else it is named,
+//! and what stands against another name for it.
 #![tactic(auto)]
 
-ghost use Rattle.std.specs.Prelude.{◌≡◌};
-ghost use Rattle.ob0_refs.specs.Echo.{echo_of};
+mod places;
+mod ranges;
+mod references;
 
-// The `ensures` clause is the contract: what `echo` returns is `echo_of` of its argument, a definition
-// in `specs/Echo.antt`, which a caller's clause can cite too.
-pub fn echo(x: usize) -> usize
-    ensures { result ≡ echo_of x }
-{
-    x
-}
+pub use ob0_scope::captures::{Capture, captures};
+pub use places::{At, Named, Of, at, definition, name_at};
+pub use ranges::ranges;
+pub use references::{references, references_to};
