@@ -11,10 +11,10 @@ use Rattle.ob0_scope.specs.Names.{Label, declared, same_label}
 use Rattle.ob0_scope.specs.Occurrences.{label_ordinal}
 use Rattle.ob0_scope.specs.Resolution.{declaring_only, span_at, token_declaring}
 use Rattle.ob0_scope.specs.Scopes.{numbered}
-use Rattle.ob0_refs.specs.declared.places.At as told
-use Rattle.ob0_refs.specs.declared.places.Named as named
-use Rattle.ob0_refs.specs.declared.places.Of as of
-use Rattle.ob0_refs.specs.declared.places.Of.TheVariants as tells
+use Rattle.ob0_refs.specs.declared.answers.At as told
+use Rattle.ob0_refs.specs.declared.answers.Named as named
+use Rattle.ob0_refs.specs.declared.answers.Of as of
+use Rattle.ob0_refs.specs.declared.answers.Of.TheVariants as tells
 
 -- an identifier: what it is where it stands, its token, and what it is bound to
 abbrev pub Standing : Type 0

@@ -2,11 +2,13 @@
 //! and what stands against another name for it.
 #![tactic(auto)]
 
+mod answers;
+mod naming;
 mod places;
-mod ranges;
-mod references;
+mod positions;
 
+pub use answers::{At, Named, Of};
+pub use naming::{references, references_to};
 pub use ob0_scope::captures::{Capture, captures};
-pub use places::{At, Named, Of, at, definition, name_at};
-pub use ranges::ranges;
-pub use references::{references, references_to};
+pub use places::{at, definition, name_at};
+pub use positions::ranges;

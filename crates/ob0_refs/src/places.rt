@@ -1,37 +1,14 @@
 //! What stands at a place of a text.
 
 ghost use Rattle.std.specs.Prelude.{◌≡◌, option_and_then, option_map};
+ghost use Rattle.std.specs.List.{position_from};
 ghost use Rattle.ob0_scope.specs.Resolution.{span_at};
 ghost use Rattle.ob0_refs.specs.Listing.{is_identifier, is_name_on};
 ghost use Rattle.ob0_refs.specs.Standing.{at_name, declared_at, name_on, of_ordinal};
 
+use crate::answers::{At, Named, Of};
 use ob0_scan::{Span, Token, TokenKind, Tokens};
 use ob0_scope::resolved::{PREDECLARED, Resolved};
-
-/// An identifier that is bound to a declaration: its token, and the declaration's ordinal.
-#[derive(Clone, Copy, Debug, PartialEq, Eq)]
-pub struct Named {
-    pub token: usize,
-    pub ordinal: usize,
-}
-
-/// What an identifier is a name of.
-#[derive(Clone, Copy, Debug, PartialEq, Eq)]
-pub enum Of {
-    /// A declaration of the text, by its ordinal.
-    Declared(usize),
-    Predeclared,
-    /// A field of a record, by the record's ordinal and the field's place in it. Only what knows the types of
-    /// designators can tell of it: `at` doesn't.
-    Field { ordinal: usize, index: usize },
-}
-
-/// An identifier of the text.
-#[derive(Clone, Copy, Debug, PartialEq, Eq)]
-pub struct At {
-    pub span: Span,
-    pub of: Of,
-}
 
 /// The name that a place of the text is on, where it lies in the name or at its end. A closing name of a procedure is
 /// the procedure's. None at a field, at the module's name and at a name that nothing binds.
@@ -51,8 +28,8 @@ pub fn at(names: &Resolved, offset: usize) -> Option<At>
 pub fn name_at(names: &Resolved, offset: usize) -> Option<Named>
     ensures { result ≡ name_on names.now.module_read offset }
 {
-    let tokens = names.tokens().tokens();
-    match tokens.iter().position(|token| is_name_on(token, offset)) {
+    let tokens = names.module().tokens();
+    match first_on(tokens.tokens(), offset) {
         Some(token) => match names.ordinal_at(token) {
             Some(ordinal) => Some(Named { token, ordinal }),
             None => None,
@@ -65,13 +42,21 @@ pub fn name_at(names: &Resolved, offset: usize) -> Option<Named>
 pub fn definition(names: &Resolved, offset: usize) -> Option<Span>
     ensures { result ≡ option_and_then (λ name. declared_at names.now.module_read name.ordinal) (name_on names.now.module_read offset) }
 {
+    let tokens = names.module().tokens();
     match name_at(names, offset) {
         Some(name) => match names.declaring_token(name.ordinal) {
-            Some(token) => Some(span_of(names.tokens(), token)),
+            Some(token) => Some(span_of(tokens, token)),
             None => None,
         },
         None => None,
     }
+}
+
+/// The index of the first identifier that a place is on.
+fn first_on(tokens: &[Token], offset: usize) -> Option<usize>
+    ensures { result ≡ position_from (is_name_on offset) 0 tokens.now }
+{
+    tokens.iter().position(|token| is_name_on(token, offset))
 }
 
 fn of_ordinal(ordinal: usize) -> Of
