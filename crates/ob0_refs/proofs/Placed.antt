@@ -1,5 +1,5 @@
 -- The identifiers of a module and what they are bound to, by the table of ordinals and by token.
-use Rattle.std.proofs.Common.{◌≡◌, ℕ, ◌+◌, Bool, true, false, not, cond, ◌&&◌, ◌||◌, ◌==◌, Option, Some, None, List, [], ◌∷◌, ◌++◌, map, length, refl, sym, ap, ◌∙◌, subst, option_map, option_and_then, slice_get, append_assoc, arith, length-append}
+use Rattle.std.proofs.Common.{◌≡◌, ℕ, ◌+◌, Bool, true, false, not, cond, ◌&&◌, ◌||◌, Option, Some, None, List, [], ◌∷◌, ◌++◌, map, length, refl, sym, ap, ◌∙◌, subst, option_map, option_and_then, slice_get, append_assoc, arith, length-append}
 use Rattle.std.specs.List.{filter, find, position_from, zip}
 use Rattle.ob0_scan.specs.Scanned.{Scanned}
 use Rattle.ob0_scan.specs.declared.lexeme.Span.{Span}
@@ -10,7 +10,7 @@ use Rattle.ob0_tree.proofs.Leaves.{leaves_parsed, leaves_spelled, lexeme_names}
 use Rattle.ob0_tree.proofs.Mapped.{spell_mapped}
 use Rattle.ob0_tree.specs.Lexeme.{EndOfText, Lexeme, Mark, Name, Number, relabelled}
 use Rattle.ob0_tree.specs.Order.{identifier_at, identifiers_from, leaves, names_only}
-use Rattle.ob0_tree.specs.Parsed.{Parsed, named_tree_of, tree_of}
+use Rattle.ob0_tree.specs.Parsed.{tree_of}
 use Rattle.ob0_tree.specs.Places.{text_at, value_at}
 use Rattle.ob0_tree.specs.Tree.{Sort, Tree, identifiers, mapped, spell}
 use Rattle.ob0_tree.specs.declared.tree.Role.{Role}
@@ -18,7 +18,7 @@ use Rattle.ob0_tree.specs.declared.tree.Role.TheVariants as role
 use Rattle.ob0_scope.specs.Names.{Label, as_names, declared, same_label}
 use Rattle.ob0_scope.specs.Occurrences.{label_ordinal}
 use Rattle.ob0_scope.specs.Resolution.{IsResolution, Resolution, label_at, ordinal_in, span_at, span_in}
-use Rattle.ob0_scope.specs.Scopes.{as_label, numbered, same_ordinal}
+use Rattle.ob0_scope.specs.Scopes.{as_label, same_ordinal}
 use Rattle.ob0_refs.specs.declared.answers.Named as named
 use Rattle.ob0_refs.specs.Listing.{is_identifier, is_listed, is_name_on, spans_listed}
 use Rattle.ob0_refs.specs.Standing.{Standing, is_declaring, is_on, name_on, named_by, references_to, refers, standing_in}

@@ -69,7 +69,7 @@ fn lists_references_with_closing_names(rt: HostRuntime) -> Result<(), Fail> {
     ];
     assert_eq!(rt; all.as_slice(), wanted.as_slice());
     let others = references_at(rt.alloc(), RECURSIVE, 2, 47, false)?;
-    assert_eq!(rt; others.as_slice(), wanted[1..].as_slice());
+    assert_eq!(rt; others.as_slice(), &wanted[1..]);
     Ok(())
 }
 

@@ -12,14 +12,14 @@ use Rattle.ob0_scan.specs.declared.fault.Code.{Code}
 use Rattle.ob0_scan.specs.declared.lexeme.Span.{Span}
 use Rattle.ob0_scan.specs.Scanned.{Scanned}
 use Rattle.ob0_tree.specs.declared.tree.Role.TheVariants as role
-use Rattle.ob0_tree.specs.Tree.{occurrences, identifiers}
+use Rattle.ob0_tree.specs.Tree.{occurrences}
 use Rattle.ob0_tree.specs.Parsed.{Parsed, IsParsed, tree_of, named_tree_of}
 use Rattle.ob0_tree.specs.Places.{text_at, value_at}
 use Rattle.ob0_scope.specs.DeclaredOnce.{declared_once}
-use Rattle.ob0_scope.specs.Names.{Label, Name, as_names}
+use Rattle.ob0_scope.specs.Names.{Name, as_names}
 use Rattle.ob0_scope.specs.Occurrences.{bindings, binds, label_ordinal}
 use Rattle.ob0_scope.specs.Resolution.{AreFaultsOf, IsNumbering, IsResolution, Resolution, is_of_declarations, is_of_occurrences, is_unbound, label_at, ordinal_in, span_at, undeclared_at, with_ordinal}
-use Rattle.ob0_scope.specs.Scopes.{as_label, numbered}
+use Rattle.ob0_scope.specs.Scopes.{as_label}
 use Rattle.ob0_scope.specs.Visiting.{Visit, started, visit_module, with_marks}
 use Rattle.ob0_scope.specs.Written.{as_in}
 use Rattle.ob0_scope.proofs.OccurrencesMapped.{occurrences-mapped}

@@ -1,5 +1,5 @@
 -- Labels made of other labels: the tree with the ones is the tree with the others, mapped.
-use Rattle.std.proofs.Common.{◌≡◌, ℕ, suc, ◌∷◌, List, Some, None, refl}
+use Rattle.std.proofs.Common.{◌≡◌, ℕ, suc, ◌∷◌, Some, None, refl}
 use Rattle.ob0_tree.specs.Tree.{Sort, Tree, mapped, block, constant, constants, formals, further_name, further_section, item, items, maybe, module_text, names, procedure, section, type_name, type_names, variable, variables, adds, array_type, assigns, begins, branches, calls, compares, declares, declares_constant, declares_constants, declares_procedure, declares_type, declares_types, declares_variable, declares_variables, designator, else_branch, elsif_branch, empty, end, field, has_body, index, integer, is_module, listed, more, multiplies, named_type, negation, no_arguments, no_fields, no_formals, none, one, parenthesised, product, record_type, relates, repeat_loop, runs, some_arguments, some_fields, some_formals, sum, then_argument, then_fields, then_name, then_section, then_statement, value_section, variable_section, while_loop}
 use Rattle.ob0_scope.specs.Mapping.{with_names}
 use Rattle.ob0_scope.specs.Names.{Naming}

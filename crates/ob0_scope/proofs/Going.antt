@@ -1,14 +1,12 @@
 -- Loops that go through a list: what is left to do comes to what there was to do at first.
 use Rattle.std.proofs.Common.{◌≡◌, ℕ, suc, ◌+◌, ◌<◌, ◌≤◌, List, [], ◌∷◌, map, length, get_or, drop, refl, sym, ap, ◌∙◌, arith}
 use Rattle.std.proofs.lemmas.List.{drop_all, drop_more}
-use Rattle.ob0_tree.specs.declared.tree.Role.{Role}
-use Rattle.ob0_tree.specs.Tree.{Tree, Item, item, items, one, then_name}
+use Rattle.ob0_tree.specs.Tree.{one, then_name}
 use Rattle.ob0_scope.specs.Written.{name_at}
 use Rattle.ob0_tree.specs.declared.tree.Section.{Section}
 use Rattle.ob0_tree.specs.View.{items_of, formals_listed, further_section_of}
-use Rattle.ob0_scope.specs.Names.{Name}
 use Rattle.ob0_scope.specs.Parts.{further_names}
-use Rattle.ob0_scope.specs.Scopes.{Scope, declare_names}
+use Rattle.ob0_scope.specs.Scopes.{declare_names}
 use Rattle.ob0_scope.specs.Visiting.{Visit, shown, shown_from, visit_formals, visit_sections}
 
 -- gone through the first items of a list, and with the others still to go through, as with all of them at first

@@ -1,8 +1,7 @@
 -- A module gone through with a new name for a declaration gives the numbered tree of the renamed module.
-use Rattle.std.proofs.Common.{◌≡◌, ℕ, suc, ◌+◌, ◌≤◌, Bool, true, false, not, cond, if◌then◌else◌, ◌==◌, Option, Some, None, List, [], ◌∷◌, map, length, replicate, refl, sym, ap, ◌∙◌, subst, option_map, le_refl, arith}
+use Rattle.std.proofs.Common.{◌≡◌, ℕ, suc, ◌+◌, ◌≤◌, Bool, true, false, not, cond, if◌then◌else◌, Option, Some, None, List, [], ◌∷◌, map, length, replicate, refl, sym, ap, ◌∙◌, subst, option_map, le_refl, arith}
 use Rattle.std.proofs.lemmas.List.{length-replicate}
 use Rattle.std.specs.List.{position_from}
-use Rattle.ob0_scan.specs.Scanned.{Scanned}
 use Rattle.ob0_tree.proofs.Leaves.{leaves_ascend}
 use Rattle.ob0_tree.specs.Order.{Ascending}
 use Rattle.ob0_tree.specs.Parsed.{IsParsed, Parsed, named_tree_of, tree_of}
@@ -14,7 +13,7 @@ use Rattle.ob0_scope.specs.Renames.{IsRenumbering, is_bound_alike, ordinals_boun
 use Rattle.ob0_scope.specs.Resolution.{IsResolution, Resolution, bound_at, label_at, ordinal_in, with_ordinal}
 use Rattle.ob0_scope.specs.Scopes.{as_label, numbered, renamed, same_ordinal}
 use Rattle.ob0_scope.specs.Visiting.{Visit, started, visit_module, with_marks}
-use Rattle.ob0_scope.specs.Written.{Writing, is_renamed, name_at, spelled_by}
+use Rattle.ob0_scope.specs.Written.{Writing, name_at, spelled_by}
 use Rattle.ob0_scope.proofs.Bound.{bindings_by_table}
 use Rattle.ob0_scope.proofs.FirstCaptures.{same_binding-refl}
 use Rattle.ob0_scope.proofs.Fused.{mapped-mapped, relabelled-mapped}

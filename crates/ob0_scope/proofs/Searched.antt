@@ -3,8 +3,8 @@ use Rattle.std.proofs.Common.{◌≡◌, ℕ, suc, Bool, true, false, not, ◌&&
 use Rattle.std.proofs.lemmas.List.{map-append}
 use Rattle.std.specs.List.{list_any}
 use Rattle.std.specs.Option.{option_or}
-use Rattle.ob0_tree.specs.Parsed.{Parsed, named_tree_of, tree_of}
-use Rattle.ob0_tree.specs.Places.{named, text_at, value_at}
+use Rattle.ob0_tree.specs.Parsed.{named_tree_of, tree_of}
+use Rattle.ob0_tree.specs.Places.{value_at}
 use Rattle.ob0_tree.specs.Tree.{Tree, block, constant, constants, declares, declares_constant, declares_constants, declares_procedure, declares_type, declares_types, declares_variable, declares_variables, end, formals, further_name, further_section, has_body, is_module, item, items, listed, mapped, maybe, module_text, more, names, no_formals, none, one, procedure, section, some_formals, then_name, then_section, type_name, type_names, value_section, variable, variable_section, variables}
 use Rattle.ob0_scope.specs.DeclaredOnce.{block_names, procedure_names}
 use Rattle.ob0_scope.specs.Names.{Name, as_names, same_name}
@@ -13,7 +13,7 @@ use Rattle.ob0_scope.specs.Parts.{constant_names, formal_names, formal_sections,
 use Rattle.ob0_scope.specs.Renames.{namesake, namesake_in, other_named}
 use Rattle.ob0_scope.specs.Resolution.{IsResolution, Resolution, bound_at, ordinal_in, with_ordinal}
 use Rattle.ob0_scope.specs.Scopes.{Scope, after_names, after_procedure, body_scope, declare_names, first_procedure, predeclared_scope, procedures_scope, relabel_block, relabel_formals, relabel_procedure, relabel_procedures, relabelled, same_ordinal}
-use Rattle.ob0_scope.specs.Searching.{Sought, found_in_block, found_in_procedure, found_in_procedures, is_other, is_sought, last_other, other_among}
+use Rattle.ob0_scope.specs.Searching.{Sought, found_in_block, found_in_procedure, found_in_procedures, is_sought, last_other, other_among}
 use Rattle.ob0_scope.proofs.Finding.{or_assoc}
 use Rattle.ob0_scope.proofs.DistinctNames.{labels_in, onto, onto-append}
 use Rattle.ob0_scope.proofs.RenamedDeclarations.{labels_in-block, labels_in-names, sections-labels}

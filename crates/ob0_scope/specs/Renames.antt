@@ -1,5 +1,5 @@
 -- A declaration under another name: what each occurrence is then bound to, and which declaration stands against it.
-use Rattle.std.specs.Prelude.{◌≡◌, ℕ, Bool, true, false, not, ◌&&◌, if◌then◌else◌, ◌==◌, List, [], ◌∷◌, Option, Some, None, map, option_map}
+use Rattle.std.specs.Prelude.{◌≡◌, ℕ, Bool, true, false, not, ◌&&◌, if◌then◌else◌, ◌==◌, List, [], ◌∷◌, Option, Some, None, map}
 use Rattle.std.specs.Option.{option_or}
 use Rattle.ob0_tree.specs.Tree.{Tree, mapped, module_text}
 use Rattle.ob0_tree.specs.Parsed.{named_tree_of, tree_of}

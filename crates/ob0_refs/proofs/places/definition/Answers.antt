@@ -1,4 +1,4 @@
-use Rattle.std.proofs.Common.{◌≡◌, Some, option_and_then, option_map, sym, ap, ◌∙◌}
+use Rattle.std.proofs.Common.{Some, option_and_then, option_map, sym, ap, ◌∙◌}
 use Rattle.ob0_tree.specs.Parsed.{Parsed}
 use Rattle.ob0_scope.specs.Resolution.{span_at, token_declaring}
 use Rattle.ob0_refs.specs.declared.answers.Named as named

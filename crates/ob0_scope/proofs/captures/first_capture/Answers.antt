@@ -1,4 +1,4 @@
-use Rattle.std.proofs.Common.{◌≡◌, ℕ, List, Option, not, option_map, sym, ap, ◌∙◌}
+use Rattle.std.proofs.Common.{ℕ, List, Option, not, option_map, sym, ap, ◌∙◌}
 use Rattle.std.specs.List.{position_from}
 use Rattle.ob0_scope.specs.declared.captures.Capture.TheVariants.{Occurrence}
 use Rattle.ob0_scope.specs.Renames.{is_bound_alike}

@@ -1,6 +1,6 @@
 use Rattle.std.proofs.Common.{◌≡◌, ◌++◌, OnOk, sym, ap, ◌∙◌, subst, append_assoc}
 use Rattle.ob0_tree.specs.declared.tree.Block.{out-Block}
-use Rattle.ob0_tree.specs.View.{block_of, constants_of, items_of, procedure_of, types_of, variables_of}
+use Rattle.ob0_tree.specs.View.{constants_of, items_of, procedure_of, types_of, variables_of}
 use Rattle.ob0_tree.proofs.Viewed.{block_parts}
 use Rattle.ob0_scope.specs.DeclaredOnce.{block_names, procedure_names}
 use Rattle.ob0_scope.specs.Parts.{constant_names, named_types, section_constants, section_types, section_variables, variable_names}

@@ -1,4 +1,4 @@
-use Rattle.std.proofs.Common.{◌≡◌, map, ap, ◌∙◌}
+use Rattle.std.proofs.Common.{map, ◌∙◌}
 use Rattle.std.proofs.lemmas.Result.{MatchResult-weaker}
 use Rattle.ob0_scope.specs.Resolution.{ordinal_in}
 use Rattle.ob0_scope.proofs.Renumbered.{ordinals_renamed}

@@ -1,7 +1,7 @@
-use Rattle.std.proofs.Common.{◌≡◌, ◌++◌, None, List, length, replicate, refl, ap, ◌∙◌, subst}
+use Rattle.std.proofs.Common.{◌++◌, None, List, length, replicate, refl, ap, ◌∙◌, subst}
 use Rattle.std.specs.List.Sorted.{IsPermutation}
 use Rattle.ob0_scan.specs.declared.fault.Fault.{Fault}
-use Rattle.ob0_scope.specs.Resolution.{IsResolution, undeclared_at}
+use Rattle.ob0_scope.specs.Resolution.{undeclared_at}
 use Rattle.ob0_tree.specs.Parsed.{tree_of}
 use Rattle.ob0_scope.specs.Visiting.{started, visit_module, with_marks}
 use Rattle.ob0_scope.specs.Written.{as_in}

@@ -1,7 +1,7 @@
-use Rattle.std.proofs.Common.{◌≡◌, ◌++◌, refl, sym, ap, ◌∙◌}
+use Rattle.std.proofs.Common.{◌++◌, refl, sym, ap, ◌∙◌}
 use Rattle.std.specs.Option.{option_or}
 use Rattle.ob0_tree.specs.declared.tree.Block.{out-Block}
-use Rattle.ob0_tree.specs.View.{block_of, items_of, procedure_of}
+use Rattle.ob0_tree.specs.View.{items_of, procedure_of}
 use Rattle.ob0_tree.proofs.Viewed.{block_parts}
 use Rattle.ob0_scope.specs.DeclaredOnce.{block_names}
 use Rattle.ob0_scope.specs.Searching.{found_in_block, found_in_procedures, other_among}
