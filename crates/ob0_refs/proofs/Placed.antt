@@ -20,8 +20,8 @@ use Rattle.ob0_scope.specs.Occurrences.{label_ordinal}
 use Rattle.ob0_scope.specs.Resolution.{IsResolution, Resolution, label_at, ordinal_in, span_at, span_in}
 use Rattle.ob0_scope.specs.Scopes.{as_label, same_ordinal}
 use Rattle.ob0_refs.specs.declared.answers.Named as named
-use Rattle.ob0_refs.specs.Listing.{is_identifier, is_listed, is_name_on, spans_listed}
-use Rattle.ob0_refs.specs.Standing.{Standing, is_declaring, is_on, name_on, named_by, references_to, refers, standing_in}
+use Rattle.ob0_refs.specs.Listing.{is_identifier, is_listed, is_name_on, tokens_listed}
+use Rattle.ob0_refs.specs.Standing.{Standing, is_declaring, is_on, name_on, named_by, refers, standing_in, tokens_bound}
 
 names_mapped : {N M : Type 0} (f : N → M) (g : ℕ → ℕ) (xs : List (Lexeme N)) → lexeme_names (map (relabelled f g) xs) ≡ map f (lexeme_names xs)
 names_mapped f g [] = refl
@@ -59,26 +59,26 @@ bound_to source ordinals d i = one (ordinal_in ordinals i)
     one None = refl
     one (Some k) = refl
 
+-- what is kept of one list and what is kept of another
 listed : (source : Scanned) (ordinals : List (Option ℕ)) (include : Bool) (d : ℕ) (xs : List (Role × ℕ))
-    → spans_listed source ordinals include d xs ≡ map (λ (s : Standing). span_at source s.0.1) (filter (refers include d) (map (standing_by (label_at source ordinals)) xs))
+    → tokens_listed ordinals include d xs ≡ map (λ (s : Standing). s.0.1) (filter (refers include d) (map (standing_by (label_at source ordinals)) xs))
 listed source ordinals include d [] = refl
 listed source ordinals include d (x ∷ xs) =
-    let later = filter (is_listed ordinals include d) xs in
     let found = filter (refers include d) (map (standing_by (label_at source ordinals)) xs) in
-    one (is_listed ordinals include d x) later found (listed source ordinals include d xs)
-    ∙ ap (λ b. map (λ (s : Standing). span_at source s.0.1) (cond (b && (include || not (is_declaring x.0))) (standing_by (label_at source ordinals) x ∷ found) found)) (sym (bound_to source ordinals d x.1))
+    one (is_listed ordinals include d x) (filter (is_listed ordinals include d) xs) found (listed source ordinals include d xs)
+    ∙ ap (λ b. map (λ (s : Standing). s.0.1) (cond (b && (include || not (is_declaring x.0))) (standing_by (label_at source ordinals) x ∷ found) found)) (sym (bound_to source ordinals d x.1))
   where
-    one : (b : Bool) (later : List (Role × ℕ)) (found : List Standing) → map (λ (x : Role × ℕ). span_at source x.1) later ≡ map (λ (s : Standing). span_at source s.0.1) found
-        → map (λ (x : Role × ℕ). span_at source x.1) (cond b (x ∷ later) later) ≡ map (λ (s : Standing). span_at source s.0.1) (cond b (standing_by (label_at source ordinals) x ∷ found) found)
-    one true later found e = ap (λ z. span_at source x.1 ∷ z) e
+    one : (b : Bool) (later : List (Role × ℕ)) (found : List Standing) → map (λ (x : Role × ℕ). x.1) later ≡ map (λ (s : Standing). s.0.1) found
+        → map (λ (x : Role × ℕ). x.1) (cond b (x ∷ later) later) ≡ map (λ (s : Standing). s.0.1) (cond b (standing_by (label_at source ordinals) x ∷ found) found)
+    one true later found e = ap (λ z. x.1 ∷ z) e
     one false later found e = e
 
-pub references_listed : (r : Resolution) (d : ℕ) (include : Bool) → IsResolution r
-    → spans_listed r.module_read.source r.ordinals include d (identifiers role.Declaring (tree_of r.module_read)) ≡ references_to r.module_read d include
-references_listed r d include is =
+pub bound_listed : (r : Resolution) (d : ℕ) (include : Bool) → IsResolution r
+    → tokens_listed r.ordinals include d (identifiers role.Declaring (tree_of r.module_read)) ≡ tokens_bound r.module_read d include
+bound_listed r d include is =
     let m = r.module_read in
     listed m.source r.ordinals include d (identifiers role.Declaring (tree_of m))
-    ∙ ap (λ xs. map (λ (s : Standing). span_at m.source s.0.1) (filter (refers include d) xs)) (sym (standing_by_table r is))
+    ∙ ap (λ xs. map (λ (s : Standing). s.0.1) (filter (refers include d) xs)) (sym (standing_by_table r is))
 
 -- places
 

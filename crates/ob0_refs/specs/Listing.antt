@@ -1,13 +1,11 @@
 -- The identifiers of a module by a table of ordinals.
 use Rattle.std.specs.Prelude.{ℕ, Bool, true, false, not, ◌&&◌, ◌||◌, List, Option, map}
 use Rattle.std.specs.List.{filter}
-use Rattle.ob0_scan.specs.Scanned.{Scanned}
-use Rattle.ob0_scan.specs.declared.lexeme.Span.{Span}
 use Rattle.ob0_scan.specs.declared.lexeme.Token.{Token}
 use Rattle.ob0_scan.specs.declared.lexeme.TokenKind.{TokenKind}
 use Rattle.ob0_scan.specs.declared.lexeme.TokenKind.TheVariants as kind
 use Rattle.ob0_tree.specs.declared.tree.Role.{Role}
-use Rattle.ob0_scope.specs.Resolution.{ordinal_in, span_at}
+use Rattle.ob0_scope.specs.Resolution.{ordinal_in}
 use Rattle.ob0_scope.specs.Scopes.{same_ordinal}
 use Rattle.ob0_refs.specs.Standing.{is_declaring, is_on}
 
@@ -25,5 +23,5 @@ is_name_on offset t = is_identifier t.kind && is_on offset t.span
 abbrev pub is_listed : List (Option ℕ) → Bool → ℕ → Role × ℕ → Bool
 is_listed ordinals include d x = same_ordinal (ordinal_in ordinals x.1) d && (include || not (is_declaring x.0))
 
-abbrev pub spans_listed : Scanned → List (Option ℕ) → Bool → ℕ → List (Role × ℕ) → List Span
-spans_listed source ordinals include d xs = map (λ x. span_at source x.1) (filter (is_listed ordinals include d) xs)
+abbrev pub tokens_listed : List (Option ℕ) → Bool → ℕ → List (Role × ℕ) → List ℕ
+tokens_listed ordinals include d xs = map (λ x. x.1) (filter (is_listed ordinals include d) xs)

@@ -1,16 +1,17 @@
 -- What stands at the places of a module's text, by what its identifiers are bound to.
-use Rattle.std.specs.Prelude.{ℕ, Bool, true, false, not, nat_le, nat_lt, ◌&&◌, ◌||◌, if◌then◌else◌, List, [], Option, Some, None, map, option_map, option_and_then}
+use Rattle.std.specs.Prelude.{ℕ, Bool, true, false, not, nat_le, nat_lt, ◌&&◌, ◌||◌, ◌==◌, ◌≡◌, if◌then◌else◌, List, [], ◌∷◌, Option, Some, None, map, option_map, option_and_then}
 use Rattle.std.specs.List.{filter, find, zip}
 use Rattle.ob0_scan.specs.declared.lexeme.Span.{Span}
 use Rattle.ob0_tree.specs.declared.tree.Role.{Role}
 use Rattle.ob0_tree.specs.declared.tree.Role.TheVariants as role
 use Rattle.ob0_tree.specs.Order.{leaves}
 use Rattle.ob0_tree.specs.Parsed.{Parsed, named_tree_of, tree_of}
-use Rattle.ob0_tree.specs.Tree.{identifiers}
-use Rattle.ob0_scope.specs.Names.{Label, declared, same_label}
+use Rattle.ob0_tree.specs.Places.{text_at, value_at}
+use Rattle.ob0_tree.specs.Tree.{identifiers, mapped}
+use Rattle.ob0_scope.specs.Names.{Label, Name, declared, same_label}
 use Rattle.ob0_scope.specs.Occurrences.{label_ordinal}
 use Rattle.ob0_scope.specs.Resolution.{declaring_only, span_at, token_declaring}
-use Rattle.ob0_scope.specs.Scopes.{numbered}
+use Rattle.ob0_scope.specs.Scopes.{numbered, renamed}
 use Rattle.ob0_refs.specs.declared.answers.At as told
 use Rattle.ob0_refs.specs.declared.answers.Named as named
 use Rattle.ob0_refs.specs.declared.answers.Of as of
@@ -62,11 +63,24 @@ is_declaring role.ModuleName = false
 abbrev pub refers : Bool → ℕ → Standing → Bool
 refers include d s = same_label s.1 (declared d) && (include || not (is_declaring s.0.0))
 
--- where the identifiers stand that are bound to d
+-- the tokens of the identifiers that are bound to d
+abbrev pub tokens_bound : Parsed → ℕ → Bool → List ℕ
+tokens_bound m d include = map (λ s. s.0.1) (filter (refers include d) (standing_in m))
+
+-- where these stand
 abbrev pub references_to : Parsed → ℕ → Bool → List Span
-references_to m d include = map (λ s. span_at m.source s.0.1) (filter (refers include d) (standing_in m))
+references_to m d include = map (span_at m.source) (tokens_bound m d include)
 
 -- the references to the name that a place is on
 abbrev pub references_of : Parsed → Option named.Named → Bool → List Span
 references_of m None include = []
 references_of m (Some n) include = references_to m n.ordinal include
+
+abbrev pub is_among : ℕ → List ℕ → Bool
+is_among i [] = false
+is_among i (x ∷ xs) = i == x || is_among i xs
+
+-- The module in which d has a new name is the one that has this name at these tokens, and nothing else changed.
+abbrev pub IsRenamedAt : Parsed → ℕ → List ℕ → Type 0
+IsRenamedAt m d tokens =
+    (new : Name) → renamed (named_tree_of m) d new ≡ mapped (λ i. if is_among i tokens then new else text_at m.source i) (value_at m.source) (tree_of m)

@@ -8,7 +8,7 @@ mod places;
 mod positions;
 
 pub use answers::{At, Named, Of};
-pub use naming::{references, references_to};
+pub use naming::{references, references_to, renamed_tokens, tokens_bound};
 pub use ob0_scope::captures::{Capture, captures};
 pub use places::{at, definition, name_at};
 pub use positions::ranges;

@@ -137,6 +137,8 @@ fn tells_names_by_their_ordinals(rt: HostRuntime) -> Result<(), Fail> {
     assert_eq!(rt; name_at(&names, 19), None);
     assert_eq!(rt; references_to(rt.alloc(), &names, 8, true)?.len(), 4);
     assert_eq!(rt; references_to(rt.alloc(), &names, 9, true)?.len(), 0);
+    let tokens = renamed_tokens(rt.alloc(), &names, 7)?;
+    assert_eq!(rt; tokens.as_slice(), [4, 22, 30, 33].as_slice());
     assert_eq!(rt;
         captures(rt.alloc(), &names, 7, "n")?,
         Some(Capture::Occurrence(4))
@@ -165,7 +167,7 @@ fn lists_a_hundred_thousand_references(rt: HostRuntime) -> Result<(), Fail> {
     assert_eq!(rt; spans.len(), 100_000);
     let store = Whole::from_str(rt.alloc(), &text)?;
     let found = ranges(rt.alloc(), &store, &spans)?;
-    assert_eq!(rt; found[99_999], range(50_000, 5, 6));
+    assert_eq!(rt; found.last().copied(), Some(range(50_000, 5, 6)));
     assert_eq!(rt; captures(rt.alloc(), &names, 7, "y")?, None);
     assert_eq!(rt; captures(rt.alloc(), &names, 7, "M")?, None);
     assert_eq!(rt; captures(rt.alloc(), &names, 7, "INTEGER")?, None);

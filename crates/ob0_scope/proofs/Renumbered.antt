@@ -37,7 +37,7 @@ abbrev new_or : ℕ → Name → Option ℕ × Name → Name
 new_or d new p = if same_ordinal p.0 d then new else p.1
 
 -- the renamed module is the tree with its names as they are written
-renamed_spelled : (r : Resolution) (d : ℕ) (new : Name) → IsResolution r → renamed (named_tree_of r.module_read) d new ≡ spelled_by (renamed_in r d new) (tree_of r.module_read)
+pub renamed_spelled : (r : Resolution) (d : ℕ) (new : Name) → IsResolution r → renamed (named_tree_of r.module_read) d new ≡ spelled_by (renamed_in r d new) (tree_of r.module_read)
 renamed_spelled r d new is =
     let m = r.module_read in
     relabelled-mapped as_names (new_or d new) with_ordinal (named_tree_of m)

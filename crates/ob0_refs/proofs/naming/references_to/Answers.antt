@@ -1,15 +1,9 @@
-use Rattle.std.proofs.Common.{ap, ◌∙◌}
+use Rattle.std.proofs.Common.{◌≡◌, map, ap, ◌∙◌}
 use Rattle.std.proofs.lemmas.Result.{MatchResult-weaker}
-use Rattle.ob0_tree.specs.Parsed.{tree_of}
-use Rattle.ob0_tree.specs.Tree.{identifiers}
-use Rattle.ob0_tree.specs.declared.tree.Role.TheVariants as role
-use Rattle.ob0_refs.specs.Listing.{spans_listed}
-use Rattle.ob0_refs.proofs.Placed.{references_listed}
+use Rattle.ob0_scope.specs.Resolution.{span_at}
 use Rattle.ob0_refs.proofs.naming.references_to.Goals as goal
 
 pub returns : goal.returns
 returns c =
-    let r = c.args.names.now in
-    let found = c.deref.ensures.value ∙ (c.in_ok-identifiers.ensures ∙ ap (λ m. identifiers role.Declaring (tree_of m)) c.module.ensures.value) in
-    MatchResult-weaker c.spans_of.result c.spans_of.ensures
-    (λ spans e. e ∙ (ap (spans_listed r.module_read.source r.ordinals c.args.include c.args.declaration) found ∙ references_listed r c.args.declaration c.args.include c.module.ensures.resolved)) (λ y h. h)
+    let found = c.deref.ensures.value ∙ c.in_ok-found.ensures in
+    MatchResult-weaker c.spans_of.result c.spans_of.ensures (λ spans e. e ∙ (λ i. map (span_at (c.tokens.ensures i)) (found i))) (λ y h. h)
