@@ -1,5 +1,5 @@
--- What is told of a text. At this stage that tells whether it has a tree.
-use Rattle.std.specs.Prelude.{◌≡◌, ◌⊎◌, ◌≤◌, ◌++◌, ◌∷◌, ℕ, List, [], Option, Some, None, map, length, slice_get, codes, string_bytes}
+-- What is told of a text: nothing exactly where it is a well-typed module.
+use Rattle.std.specs.Prelude.{◌≡◌, ◌⊎◌, ◌≤◌, ◌<◌, ◌++◌, ◌∷◌, ℕ, List, [], Option, Some, None, map, length, slice_get, codes, string_bytes}
 use Rattle.ob0_scan.specs.CodeTexts.{code_name, code_message}
 use Rattle.ob0_scan.specs.Refused.{AreFaults}
 use Rattle.ob0_scan.specs.Scanned.{Scanned, IsScannable, IsScanOf}
@@ -8,6 +8,8 @@ use Rattle.ob0_scan.specs.declared.lexeme.Span.{Span}
 use Rattle.ob0_scan.specs.declared.lexeme.Token.{Token}
 use Rattle.ob0_tree.specs.Module.{ModuleOf}
 use Rattle.ob0_tree.specs.Tree.{Tree, module_text}
+use Rattle.ob0_scope.specs.Names.{Name}
+use Rattle.ob0_types.specs.WellTyped.{WellTyped}
 use Rattle.ob0_parse.specs.RefusedBy.{NoneBegins}
 use Rattle.ob0_parse.specs.declared.refusal.ParseRefusal.{ParseRefusal}
 use Rattle.ob0_parse.specs.declared.refusal.ParseRefusal.TheVariants.{Syntax, TooDeep, Memory}
@@ -24,12 +26,17 @@ pub record Complaint : Type 0 where
 abbrev pub complaint_in : Diagnosis → Complaint
 complaint_in d = record { code = d.code.now; said = string_bytes d.message; span = d.span }
 
--- the text has lexemes, and its tokens are those of a tree
-pub record IsWellFormed (text : List ℕ) : Type 0 where
+-- the text has lexemes, and its tokens are those of this tree
+pub record IsTextOf (tree : Tree Name module_text) (text : List ℕ) : Type 0 where
   pub scanned : Scanned
   pub scan : IsScanOf text scanned
-  pub tree : Tree (List ℕ) module_text
   pub module_of : ModuleOf scanned tree
+
+-- the text is a well-typed module
+pub record IsWellTypedModule (text : List ℕ) : Type 0 where
+  pub tree : Tree Name module_text
+  pub text_of : IsTextOf tree text
+  pub well_typed : WellTyped tree
 
 -- ---- a text without lexemes
 
@@ -80,10 +87,24 @@ pub record TellsParser (text : List ℕ) (told : List Complaint) : Type 0 where
   pub of_parser : IsOfParser complaint (place_of scanned token)
   pub alone : told ≡ complaint ∷ []
 
+-- ---- a text with a tree that isn't well-typed
+
+-- faults of its names and types, 1 to 100
+pub record TellsTypes (text : List ℕ) (told : List Complaint) : Type 0 where
+  pub tree : Tree Name module_text
+  pub text_of : IsTextOf tree text
+  pub ill_typed : WellTyped tree → ⊥
+  pub faults : List Fault
+  pub some : 0 < length faults
+  pub few : length faults ≤ 100
+  pub all : told ≡ map complaint_of faults
+
 -- ---- every text
 
--- nothing of a text with a tree, and of another one what is wrong with its lexemes or else with its tokens
+-- what is wrong with the lexemes, or else with the tokens, or else with the names and types
+abbrev pub TellsFaults : List ℕ → List Complaint → Type 0
+TellsFaults text told = TellsLexemes text told ⊎ (TellsParser text told ⊎ TellsTypes text told)
+
+-- nothing is told exactly of a well-typed module
 abbrev pub Tells : List ℕ → List Complaint → Type 0
-Tells text told =
-    (IsWellFormed text × (told ≡ []))
-    ⊎ (¬ IsWellFormed text × (TellsLexemes text told ⊎ TellsParser text told))
+Tells text told = (IsWellTypedModule text × (told ≡ [])) ⊎ (¬ IsWellTypedModule text × TellsFaults text told)

@@ -1,14 +1,10 @@
 //! What is wrong with a text.
 
-ghost use Rattle.std.specs.Prelude.{◌≡◌, ◌≤◌, ℕ, List, IfOk, map, length};
-ghost use Rattle.ob0_scan.specs.Scanned.{IsScanOf};
-ghost use Rattle.ob0_parse.specs.RefusedBy.{RefusedBy};
-ghost use Rattle.ob0_session.specs.Diagnosed.{Tells, IsRefusalAt, complaint_in, complaint_of, expects as expected_at, too_deep as too_deep_at, place_of as place_in};
+ghost use Rattle.std.specs.Prelude.{◌≡◌, IfOk, map};
+ghost use Rattle.ob0_session.specs.Diagnosed.{IsRefusalAt, complaint_in, complaint_of, expects as expected_at, too_deep as too_deep_at, place_of as place_in};
 
-use ob0_parse::parse;
 use ob0_parse::refusal::ParseRefusal;
-use ob0_scan::laws::one_scan;
-use ob0_scan::{Fault, ScanRefusal, Span, Tokens, scan};
+use ob0_scan::{Fault, Span, Tokens};
 use std::alloc::{AllocError, Global};
 
 /// One thing that is wrong with a text: the name of its code, a message, and the place as a range of bytes.
@@ -19,21 +15,8 @@ pub struct Diagnosis {
     pub span: Span,
 }
 
-/// What is wrong with a text. Faults of its lexemes are told in text order, the first hundred, and then nothing else;
-/// a text that has lexemes and no tree is told by the one place at which the parser refuses it.
-pub fn diagnose(alloc: Global, text: &str) -> Result<Vec<Diagnosis>, AllocError>
-    ensures { IfOk result (λ list. Tells text.now (map complaint_in list.items)) }
-{
-    match scan(alloc, text) {
-        Ok(tokens) => of_tokens(alloc, &tokens),
-        Err(refusal) => match refusal {
-            ScanRefusal::Faults(faults) => of_lexemes(alloc, faults.as_slice()),
-            ScanRefusal::Memory => Err(AllocError),
-        },
-    }
-}
-
-fn of_lexemes(alloc: Global, faults: &[Fault]) -> Result<Vec<Diagnosis>, AllocError>
+/// The faults of lexemes, of names or of types, each by its code.
+pub fn of_faults(alloc: Global, faults: &[Fault]) -> Result<Vec<Diagnosis>, AllocError>
     ensures { IfOk result (λ list. map complaint_in list.items ≡ map complaint_of faults.now) }
 {
     let mut list = Vec::new(alloc);
@@ -53,23 +36,8 @@ fn of_fault(alloc: Global, fault: &Fault) -> Result<Diagnosis, AllocError>
     })
 }
 
-fn of_tokens(alloc: Global, tokens: &Tokens) -> Result<Vec<Diagnosis>, AllocError>
-    ensures { IfOk result (λ list. Tells tokens.now.text (map complaint_in list.items)) }
-{
-    one_scan();
-    let _text = tokens.text();
-    let mut list = Vec::new(alloc);
-    match parse(alloc, tokens) {
-        Ok(_module) => Ok(list),
-        Err(refusal) => {
-            list.push(of_refusal(alloc, tokens, refusal)?)?;
-            Ok(list)
-        }
-    }
-}
-
 /// What the parser refuses, at the token that it names.
-fn of_refusal(
+pub fn of_refusal(
     alloc: Global,
     tokens: &Tokens,
     refusal: ParseRefusal,

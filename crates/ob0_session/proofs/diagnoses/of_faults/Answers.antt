@@ -1,7 +1,7 @@
 use Rattle.std.proofs.Common.{arith}
 use Rattle.ob0_session.specs.Diagnosed.{complaint_in, complaint_of}
 use Rattle.ob0_session.proofs.Lists.{maps_more}
-use Rattle.ob0_session.proofs.diagnoses.of_lexemes.Goals as goal
+use Rattle.ob0_session.proofs.diagnoses.of_faults.Goals as goal
 
 pub loop-fault-preserved : goal.loop-fault-preserved
 loop-fault-preserved c =
