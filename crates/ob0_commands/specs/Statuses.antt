@@ -1,7 +1,7 @@
 -- The statuses with which a command on a file ends.
 use Rattle.std.specs.Prelude.{ℕ}
-use Rattle.ob0_commands.specs.declared.Fault.{Fault}
-use Rattle.ob0_commands.specs.declared.Fault.TheVariants as fault
+use Rattle.ob0_commands.specs.declared.faults.Fault.{Fault}
+use Rattle.ob0_commands.specs.declared.faults.Fault.TheVariants as fault
 
 -- 5 for want of memory, 4 for what can't be read or written
 abbrev pub status_of : Fault → ℕ
