@@ -1,11 +1,10 @@
 -- What clap's matches say of the subcommand.
-use Rattle.std.proofs.Common.{◌≡◌, ◌⊎◌, ◌∙◌, ℕ, List, [], ◌∷◌, true, false, Bool, Option, Some, None, codes, refl, sym, ap, ap₂, subst, inl, inr}
-use Rattle.std.specs.Prelude.{Box, is_some, not, ◌&&◌, ◌||◌, find, option_map, option_and_then}
+use Rattle.std.proofs.Common.{◌≡◌, ◌∙◌, List, [], ◌∷◌, true, false, Bool, Option, Some, None, codes, refl, sym, ap, ap₂, subst, inl, inr}
+use Rattle.std.specs.Prelude.{Box, is_some, not, ◌&&◌, ◌||◌, find, option_map}
 use Rattle.std.specs.List.{list_any}
 use Rattle.std.specs.Option.{option_map_or}
-use Rattle.clap.specs.Words.{App, Row, Rule, Shape, Text, IsParsedFrom, app_of, fault_of, first_of, first_value, found_of as found_in, has_subcommand, is_simple, rows_of, subcommand_name_of, subcommand_of, subcommand_rows, subcommand_rows_of}
+use Rattle.clap.specs.Words.{App, Row, Shape, Text, IsParsedFrom, app_of, fault_of, first_of, first_value, found_of as found_in, has_subcommand, is_simple, rows_of, subcommand_name_of, subcommand_of, subcommand_rows, subcommand_rows_of}
 use Rattle.clap.specs.Takes.{is_given}
-use Rattle.clap.specs.Kinds.{Kinds}
 use Rattle.clap.specs.Faults.{entered_fault, is_simple_and_free, level_fault, walk_fault}
 use Rattle.clap.specs.Simple.{HasMatchesOf, argument_words, built, entered, label_of, names_of, new_shape, rows_at}
 use Rattle.clap.specs.Walk.{answers_to, nothing_held, rows_after, stop_after, walk_from}
@@ -20,7 +19,7 @@ use Rattle.std.proofs.lemmas.Slice.Eq.{bytes_eq-Decides}
 use Rattle.clap.proofs.OnLiterals.{clap_on_literals}
 use Rattle.ob0.specs.Given.{Found, HasNeeded, HasText}
 use Rattle.ob0.specs.Lines.{ob0_app}
-use Rattle.ob0.proofs.Rows.{Each, Fits, HasPassed, TakesOne, found_of, given_passed, required_given, rows_kept}
+use Rattle.ob0.proofs.Rows.{Each, Fits, found_of, given_passed, required_given, rows_kept}
 use Rattle.ob0.proofs.Walked.{neither}
 
 pub simple : is_simple ob0_app ≡ true

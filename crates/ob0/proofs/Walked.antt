@@ -1,6 +1,6 @@
 -- What a walk without a fault leaves of a simple command's own arguments.
-use Rattle.std.proofs.Common.{zero, suc, ◌≡◌, ◌∙◌, ◌++◌, ◌&&◌, ◌||◌, ℕ, Bool, true, false, not, List, [], ◌∷◌, length, is_some, Option, Some, None, refl, sym, ap, subst, codes}
-use Rattle.std.specs.Prelude.{find, fold, if◌then◌else◌, drop, encode_utf8, slice_get, option_map}
+use Rattle.std.proofs.Common.{zero, suc, ◌≡◌, ◌&&◌, ℕ, Bool, true, false, List, [], ◌∷◌, length, is_some, Option, Some, None, refl}
+use Rattle.std.specs.Prelude.{find, fold, if◌then◌else◌, drop, encode_utf8, slice_get}
 use Rattle.std.specs.Option.{option_map_or}
 use Rattle.std.specs.Str.{bytes_eq, chars}
 use Rattle.clap.specs.Lexer.{long_of, short_of}
@@ -8,7 +8,7 @@ use Rattle.clap.specs.Walk as walking
 use Rattle.clap.specs.Walk.{Held, Names, Outcome, Row, Rule, Step, Text, Waiting, Walk, arg_by_id, arg_by_index, arg_by_long, arg_by_short, attached_value, after_flag, after_step, bundle, bundle_met, bundle_step, done, finished, flag_met, is_pending, long_met, long_or_other, nothing_held, option_met, option_word, plain_word, plain, waits, refused, idle, option, positional, positional_held, pushed, reacted, rows_after, settled, settled_rows, short_met, short_or_plain, subcommand_met, subcommand_or_other, takes_several, takes_values, to_positional, used, used_by_id, walk, walk_from, walked, walked_from, with_default, word_met}
 use Rattle.clap.specs.Simple.{Shape}
 use Rattle.clap.specs.Kinds.{Kinds, or_else}
-use Rattle.clap.specs.Faults.{bundle_fault, bundle_step_fault, check_fault, default_fault, defaults_fault, flag_word_fault, flags_fault, level_fault, long_fault, option_fault, other_fault, positional_fault, react_fault, settle_fault, short_fault, step_fault, stray_fault, turn_fault, use_fault, walk_fault, word_fault}
+use Rattle.clap.specs.Faults.{bundle_fault, bundle_step_fault, flag_word_fault, flags_fault, long_fault, option_fault, other_fault, positional_fault, react_fault, settle_fault, short_fault, step_fault, stray_fault, turn_fault, use_fault, walk_fault, word_fault}
 
 -- ---- no fault in two steps is no fault in either
 

@@ -5,6 +5,8 @@ mod checking;
 mod faults;
 mod printing;
 mod reading;
+mod renaming;
+mod running;
 
 pub use checking::check_text;
 pub use faults::{Fault, tell_fault};

@@ -9,6 +9,9 @@ use std::io::Read;
 /// How many bytes of a file are read at most: one more than a text may have.
 pub const MAX_FILE: usize = 1_048_577;
 
+/// How many bytes the input of a run may have.
+const MAX_INPUT: usize = 16_777_216;
+
 const PIECE_SIZE: usize = 8192;
 
 /// Reads a file's bytes, or the first 1,048,577 of them.
@@ -16,6 +19,17 @@ pub fn read_file<R: Read>(alloc: Global, file: &mut R) -> Result<Vec<u8>, Fault>
     ensures { IfOk result (λ bytes. length bytes.items ≤ 1048577) }
 {
     read_up_to(alloc, file, MAX_FILE, Fault::File)
+}
+
+/// Reads the input's bytes, which are at most 16,777,216.
+pub fn read_input<R: Read>(alloc: Global, input: &mut R) -> Result<Vec<u8>, Fault>
+    ensures { IfOk result (λ bytes. length bytes.items ≤ 16777216) }
+{
+    let bytes = read_up_to(alloc, input, MAX_INPUT + 1, Fault::Input)?;
+    if bytes.len() > MAX_INPUT {
+        return Err(Fault::Input);
+    }
+    Ok(bytes)
 }
 
 /// Reads to the end, or the first `most` bytes. A failed read is answered as `fault`.

@@ -1,7 +1,10 @@
 //! The commands, over the bytes of files.
 
 use super::*;
-use std::alloc::Global;
+use crate::renaming::print_edited;
+use crate::running::{End, Item, print_outcome, read_numbers};
+use ob0_text::{Edit, EditRefusal, Position, Range, TextStore, Whole};
+use std::alloc::{AllocError, Global};
 use std::io::{self, Read, Write};
 use std::test::Fail;
 
@@ -110,4 +113,172 @@ fn files_are_checked(rt: HostRuntime) {
         let status = check_text(rt.alloc(), row.file, &mut out, &mut err);
         assert!(rt; status == row.status && out.has(row.out) && err.has(row.err));
     }
+}
+
+#[test]
+fn long_files_are_read_to_one_byte_too_many(rt: HostRuntime) {
+    let mut text = Vec::new(rt.alloc());
+    text.resize(MAX_FILE + 5, b' ').expect(&rt, "a text");
+    let mut source = Source {
+        bytes: text.as_slice(),
+        fails: true,
+    };
+    let bytes = read_file(rt.alloc(), &mut source).expect(&rt, "a file");
+    assert!(rt; bytes.len() == MAX_FILE);
+    let mut out = Sink::new(rt.alloc(), 1000);
+    let mut err = Sink::new(rt.alloc(), 1000);
+    let status = check_text(rt.alloc(), bytes.as_slice(), &mut out, &mut err);
+    assert!(rt; status == 1 && out.has("0:0: TooLong: text too long\n") && err.has(""));
+}
+
+#[test]
+fn a_file_that_fails_is_told(rt: HostRuntime) {
+    let mut source = Source {
+        bytes: b"MODULE",
+        fails: true,
+    };
+    assert!(rt; matches!(read_file(rt.alloc(), &mut source), Err(Fault::File)));
+    let mut err = Sink::new(rt.alloc(), 1000);
+    assert!(rt; tell_fault(Fault::File, &mut err) == 4 && err.has("fault: File\n"));
+}
+
+#[test]
+fn a_write_that_fails_is_told(rt: HostRuntime) {
+    for left in 0..29 {
+        let mut out = Sink::new(rt.alloc(), left);
+        let mut err = Sink::new(rt.alloc(), 1000);
+        let status = check_text(rt.alloc(), b"", &mut out, &mut err);
+        assert!(rt; status == 4 && err.has("fault: Write\n"));
+        assert!(rt; out.written.as_slice() == &"0:0: Syntax: expected MODULE\n".as_bytes()[..left]);
+    }
+}
+
+/// An input, and the numbers that are read from it.
+#[derive(Drop)]
+struct Numbers<'a> {
+    input: &'a [u8],
+    numbers: Option<&'a [i32]>,
+}
+
+#[test]
+fn inputs_are_lists_of_numbers(rt: HostRuntime) {
+    let some = [1, -2, 0, 3];
+    let ends = [-2_147_483_648, 2_147_483_647];
+    let rows = [
+        Numbers {
+            input: b"",
+            numbers: Some(&[]),
+        },
+        Numbers {
+            input: b" 1\t-2\r\n-0 \n003\n",
+            numbers: Some(some.as_slice()),
+        },
+        Numbers {
+            input: b"-2147483648 2147483647",
+            numbers: Some(ends.as_slice()),
+        },
+        Numbers {
+            input: b"1 x",
+            numbers: None,
+        },
+        Numbers {
+            input: b"+1",
+            numbers: None,
+        },
+        Numbers {
+            input: b"-",
+            numbers: None,
+        },
+        Numbers {
+            input: b"--1",
+            numbers: None,
+        },
+        Numbers {
+            input: b"2147483648",
+            numbers: None,
+        },
+        Numbers {
+            input: b"1\x0B2",
+            numbers: None,
+        },
+        Numbers {
+            input: b"1 \xFF",
+            numbers: None,
+        },
+    ];
+    for row in &rows {
+        let mut source = Source {
+            bytes: row.input,
+            fails: false,
+        };
+        match read_numbers(rt.alloc(), &mut source) {
+            Ok(numbers) => assert!(rt; Some(numbers.as_slice()) == row.numbers),
+            Err(fault) => assert!(rt; fault == Fault::Input && row.numbers.is_none()),
+        }
+    }
+    let mut source = Source {
+        bytes: b"1 ",
+        fails: true,
+    };
+    assert!(rt; matches!(read_numbers(rt.alloc(), &mut source), Err(Fault::Input)));
+}
+
+#[test]
+fn outcomes_are_printed(rt: HostRuntime) {
+    let output = [
+        Item::Number(-2),
+        Item::Number(7),
+        Item::Line,
+        Item::Number(-2_147_483_648),
+    ];
+    let rows = [
+        (End::Done, "", 0),
+        (End::Divisor, "fault: Divisor\n", 1),
+        (End::Overflow, "fault: Overflow\n", 1),
+        (End::Index, "fault: Index\n", 1),
+        (End::InputEnd, "fault: InputEnd\n", 1),
+        (End::CallBound, "fault: CallBound\n", 1),
+        (End::TurnBound, "fault: TurnBound\n", 1),
+    ];
+    for (end, told, status) in &rows {
+        let mut out = Sink::new(rt.alloc(), 1000);
+        let mut err = Sink::new(rt.alloc(), 1000);
+        let answer = print_outcome(rt.alloc(), output.as_slice(), *end, &mut out, &mut err);
+        assert!(rt; answer == Ok(*status));
+        assert!(rt; out.has(" -2 7\n -2147483648") && err.has(told));
+    }
+}
+
+/// An edit that puts a text in the place of the second character of a text's first line.
+fn second_character(alloc: Global, text: &str) -> Result<Vec<Edit>, AllocError> {
+    let start = Position {
+        line: 0,
+        character: 1,
+    };
+    let end = Position {
+        line: 0,
+        character: 2,
+    };
+    let mut edits = Vec::new(alloc);
+    edits.push(Edit {
+        range: Range { start, end },
+        text: String::from_str(alloc, text)?,
+    })?;
+    Ok(edits)
+}
+
+#[test]
+fn edited_texts_and_refusals_are_printed(rt: HostRuntime) {
+    let store = Whole::from_str(rt.alloc(), "abc").expect(&rt, "a store");
+    let mut out = Sink::new(rt.alloc(), 1000);
+    let mut err = Sink::new(rt.alloc(), 1000);
+    let edits = second_character(rt.alloc(), "xy").expect(&rt, "edits");
+    let status = print_edited(rt.alloc(), &store, Ok(edits), &mut out, &mut err);
+    assert!(rt; status == Ok(0) && out.has("axyc") && err.has(""));
+    let edits: Result<Vec<Edit>, EditRefusal> = Err(EditRefusal::BadName);
+    let status = print_edited(rt.alloc(), &store, edits, &mut out, &mut err);
+    assert!(rt; status == Ok(1) && out.has("axyc") && err.has("refused: BadName\n"));
+    let edits: Result<Vec<Edit>, EditRefusal> = Err(EditRefusal::Memory);
+    let status = print_edited(rt.alloc(), &store, edits, &mut out, &mut err);
+    assert!(rt; status == Err(Fault::Memory));
 }

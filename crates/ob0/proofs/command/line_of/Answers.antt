@@ -1,4 +1,4 @@
-use Rattle.std.proofs.Common.{◌≡◌, ◌∙◌, sym}
+use Rattle.std.proofs.Common.{◌∙◌}
 use Rattle.clap.specs.Words.{found_of, rows_of}
 use Rattle.ob0.proofs.Named.{checks, file_read}
 use Rattle.ob0.proofs.command.line_of.Goals as goal
