@@ -1,25 +1,26 @@
 -- What clap's matches say of the subcommand.
-use Rattle.std.proofs.Common.{◌≡◌, ◌∙◌, List, [], ◌∷◌, true, false, Bool, Option, Some, None, codes, refl, sym, ap, ap₂, subst, inl, inr}
-use Rattle.std.specs.Prelude.{Box, is_some, not, ◌&&◌, ◌||◌, find, option_map}
-use Rattle.std.specs.List.{list_any}
+use Rattle.std.proofs.Common.{zero, suc, ◌≡◌, ◌∙◌, ℕ, List, [], ◌∷◌, true, false, Bool, Option, Some, None, codes, refl, sym, ap, ap₂, subst, inl, inr}
+use Rattle.std.specs.Prelude.{Box, pos, is_some, not, ◌&&◌, find, option_map}
 use Rattle.std.specs.Option.{option_map_or}
-use Rattle.clap.specs.Words.{App, Row, Shape, Text, IsParsedFrom, app_of, fault_of, first_of, first_value, found_of as found_in, has_subcommand, is_simple, rows_of, subcommand_name_of, subcommand_of, subcommand_rows, subcommand_rows_of}
-use Rattle.clap.specs.Takes.{is_given}
+use Rattle.clap.specs.Words.{App, Row, Rule, Shape, Text, IsParsedFrom, app_of, fault_of, found_of as found_in, has_subcommand, is_simple, rows_of, subcommand_name_of, subcommand_of, subcommand_rows, subcommand_rows_of}
+use Rattle.clap.specs.Facts.{parser_of_value}
+use Rattle.clap.specs.Values.{reading_of}
+use Rattle.clap.specs.ValueTests.{accepts}
+use Rattle.clap.proofs.ValueTestLemmas.{accepts-Accepts}
+use Rattle.clap.specs.declared.builder.value_parser.ValueParser.TheVariants.{Signed, Unsigned}
+use Rattle.clap.specs.declared.builder.value_parser.Reading.TheVariants.{AsWritten, WithoutMinus}
 use Rattle.clap.specs.Faults.{entered_fault, is_simple_and_free, level_fault, walk_fault}
-use Rattle.clap.specs.Simple.{HasMatchesOf, argument_words, built, entered, label_of, names_of, new_shape, rows_at}
-use Rattle.clap.specs.Walk.{answers_to, nothing_held, rows_after, stop_after, walk_from}
+use Rattle.clap.specs.Simple.{HasMatchesOf, argument_words, built, entered, filled, label_of, names_of, new_shape, rows_at, with_index}
+use Rattle.clap.specs.Walk.{answers_to, arg_by_id, nothing_held, rows_after, stop_after, walk_from}
 use Rattle.clap.specs.declared.builder.command.Command.{Command}
 use Rattle.clap.specs.declared.parser.matches.ArgMatches.{ArgMatches}
 use Rattle.clap.specs.declared.parser.matches.ArgMatches.TheViews.{out-ArgMatches, out-SubCommand}
 use Rattle.clap.specs.declared.parser.matches.SubCommand.{SubCommand}
-use Rattle.clap.proofs.WalkLemmas.{first_value-rows}
 use Rattle.std.specs.Box.{box_value}
-use Rattle.std.specs.Str.{bytes_eq}
-use Rattle.std.proofs.lemmas.Slice.Eq.{bytes_eq-Decides}
 use Rattle.clap.proofs.OnLiterals.{clap_on_literals}
-use Rattle.ob0.specs.Given.{Found, HasNeeded, HasText}
-use Rattle.ob0.specs.Lines.{ob0_app}
-use Rattle.ob0.proofs.Rows.{Each, Fits, found_of, given_passed, required_given, rows_kept}
+use Rattle.ob0.specs.Given.{Found, HasBounded, HasNeeded, HasPlace, HasText, NeedsAt, most_of}
+use Rattle.ob0.specs.Lines.{calls_rule, number_rule, ob0_app, turns_rule, word_rule}
+use Rattle.ob0.proofs.Rows.{Each, Fits, HasPassed, default_passed, found_of, passed_by, required_passed}
 use Rattle.ob0.proofs.Walked.{neither}
 
 pub simple : is_simple ob0_app ≡ true
@@ -34,59 +35,119 @@ simple_and_free = refl
 
 -- what a subcommand of this name needs is there, where its words have no fault
 abbrev Needs : Shape → Type 0
-Needs s = (words : List Text) → level_fault s [] nothing_held words false [] ≡ [] → HasNeeded (Some (s.name, rows_after s.rules [] words))
+Needs s = (words : List Text) → level_fault s [] nothing_held words false [] ≡ [] → NeedsAt s.name (rows_after s.rules [] words)
 
-first_in : List Shape → Shape
-first_in [] = new_shape []
-first_in (a ∷ rest) = a
-
-second_in : List Shape → Shape
-second_in [] = new_shape []
-second_in (a ∷ rest) = first_in rest
+nth : ℕ → List Shape → Shape
+nth n [] = new_shape []
+nth zero (a ∷ rest) = a
+nth (suc n) (a ∷ rest) = nth n rest
 
 abbrev subs : List Shape
 subs = (built ob0_app).subs
 
-abbrev at_serve : Shape
-at_serve = first_in subs
-
 abbrev at_check : Shape
-at_check = second_in subs
+at_check = nth 1 subs
 
-serve_needs : Needs at_serve
-unfolding clap_on_literals first_in
-serve_needs words e = (rows_after at_serve.rules [] words, inl refl)
+abbrev at_run : Shape
+at_run = nth 2 subs
+
+abbrev at_rename : Shape
+at_rename = nth 3 subs
+
+-- an argument as building leaves it, at its place among the positional ones
+abbrev placed : ℕ → Rule → Rule
+placed i a = with_index i (filled a)
+
+has_text : (rules : List Rule) (rows : List Row) (id : Text) → HasPassed rules rows id → HasText id rows
+has_text rules rows id passed = (passed.value, passed.first)
+
+has_place : (rules : List Rule) (rows : List Row) (a : Rule) → arg_by_id rules a.id ≡ Some a → a.parser ≡ Some (Unsigned 0 18446744073709551615)
+    → HasPassed rules rows a.id → HasPlace a.id rows
+has_place rules rows a is parser passed =
+    let by = passed_by rules a a.id passed.value passed.how is passed.passed in
+    let accepted : accepts a.ignore_case (Unsigned 0 18446744073709551615) passed.value ≡ true = rw parser at by.0 in
+    let how : passed.how ≡ AsWritten = by.1 ∙ ap (λ p. reading_of (parser_of_value p)) parser in
+    (passed.value, rw how at passed.read, accepts-Accepts a.ignore_case (Unsigned 0 18446744073709551615) passed.value accepted)
+
+has_bounded : (rules : List Rule) (rows : List Row) (a : Rule) → arg_by_id rules a.id ≡ Some a → a.parser ≡ Some (Signed (pos 0) (pos (most_of a.id)))
+    → HasPassed rules rows a.id → HasBounded a.id rows
+has_bounded rules rows a is parser passed =
+    let by = passed_by rules a a.id passed.value passed.how is passed.passed in
+    let accepted : accepts a.ignore_case (Signed (pos 0) (pos (most_of a.id))) passed.value ≡ true = rw parser at by.0 in
+    let how : passed.how ≡ WithoutMinus = by.1 ∙ ap (λ p. reading_of (parser_of_value p)) parser in
+    (passed.value, rw how at passed.read, accepts-Accepts a.ignore_case (Signed (pos 0) (pos (most_of a.id))) passed.value accepted)
+
+serve_needs : Needs (nth 0 subs)
+unfolding clap_on_literals nth
+serve_needs words e = inl refl
 
 check_fits : Each (Fits at_check.rules) at_check.rules
-unfolding clap_on_literals first_in second_in
+unfolding clap_on_literals nth
 check_fits = (inl (record { set = refl; range = refl; own = refl }), (inr (refl, refl), tt))
 
-first_required : (g rest : Bool) → ((true && not g) || rest) ≡ false → g ≡ true
-first_required true rest e = refl
-first_required false rest e = cc
-
-check_file : (rows : List Row) → list_any (λ a. a.required && not (is_given a.id rows)) at_check.rules ≡ false → is_given (codes "file") rows ≡ true
-unfolding clap_on_literals first_in second_in
-check_file rows e = first_required (is_given (codes "file") rows) _ e
-
-check_plain : at_check.subcommand_negates_reqs ≡ false
-unfolding clap_on_literals first_in second_in
-check_plain = refl
-
-check_name : at_check.name ≡ codes "check"
-unfolding clap_on_literals first_in second_in
-check_name = refl
-
 check_needs : Needs at_check
+unfolding clap_on_literals nth
 check_needs words e =
     let rows = rows_after at_check.rules [] words in
-    let file = given_passed at_check.rules rows (codes "file") (rows_kept at_check words check_fits e)
-    (check_file rows (required_given at_check words check_plain e)) in
-    (rows, inr (ap (λ (n : Text). Some (n, rows)) check_name, (file.value, file.first)))
+    inr (inl (refl, has_text at_check.rules rows (codes "file") (required_passed at_check words refl e check_fits (placed 1 (word_rule (codes "file"))) refl refl)))
+
+run_fits : Each (Fits at_run.rules) at_run.rules
+unfolding clap_on_literals nth
+run_fits = (
+  inl (record { set = refl; range = refl; own = refl }),
+  (
+    inl (record { set = refl; range = refl; own = refl }),
+    (
+      inl (record { set = refl; range = refl; own = refl }),
+      (inr (refl, refl), tt),
+    ),
+  ),
+)
+
+run_needs : Needs at_run
+unfolding clap_on_literals nth
+run_needs words e =
+    let rows = rows_after at_run.rules [] words in
+    inr (inr (inl (
+      refl,
+      has_text at_run.rules rows (codes "file") (required_passed at_run words refl e run_fits (placed 1 (word_rule (codes "file"))) refl refl),
+      has_bounded at_run.rules rows (filled calls_rule) refl refl (default_passed at_run words e run_fits (filled calls_rule) (codes "64") [] refl refl),
+      has_bounded at_run.rules rows (filled turns_rule) refl refl (default_passed at_run words e run_fits (filled turns_rule) (codes "100000") [] refl refl),
+    )))
+
+rename_fits : Each (Fits at_rename.rules) at_rename.rules
+unfolding clap_on_literals nth
+rename_fits = (
+  inl (record { set = refl; range = refl; own = refl }),
+  (
+    inl (record { set = refl; range = refl; own = refl }),
+    (
+      inl (record { set = refl; range = refl; own = refl }),
+      (
+        inl (record { set = refl; range = refl; own = refl }),
+        (inr (refl, refl), tt),
+      ),
+    ),
+  ),
+)
+
+rename_needs : Needs at_rename
+unfolding clap_on_literals nth
+rename_needs words e =
+    let rows = rows_after at_rename.rules [] words in
+    let line = placed 2 (number_rule (codes "line")) in
+    let column = placed 3 (number_rule (codes "column")) in
+    inr (inr (inr (
+      refl,
+      has_text at_rename.rules rows (codes "file") (required_passed at_rename words refl e rename_fits (placed 1 (word_rule (codes "file"))) refl refl),
+      has_place at_rename.rules rows line refl refl (required_passed at_rename words refl e rename_fits line refl refl),
+      has_place at_rename.rules rows column refl refl (required_passed at_rename words refl e rename_fits column refl refl),
+      has_text at_rename.rules rows (codes "name") (required_passed at_rename words refl e rename_fits (placed 4 (word_rule (codes "name"))) refl refl),
+    )))
 
 all_need : Each Needs subs
-unfolding clap_on_literals first_in second_in
-all_need = (serve_needs, (check_needs, tt))
+unfolding clap_on_literals nth
+all_need = (serve_needs, (check_needs, (run_needs, (rename_needs, tt))))
 
 -- ---- from the words
 
@@ -100,7 +161,7 @@ entered_needs (Some p) e there = go (find (λ s. answers_to p.0 (label_of s)) su
         → option_map_or (λ s. level_fault s [] nothing_held p.1 false []) o [] ≡ [] → is_some (option_map (λ s. rows_at s p.1) o) ≡ true
         → HasNeeded (option_map (λ s. rows_at s p.1) o)
     go None is e there = cc
-    go (Some s) is e there = (found_of Needs subs all_need (λ s. answers_to p.0 (label_of s)) s is).0 p.1 e
+    go (Some s) is e there = (s.name, rows_after s.rules [] p.1, refl, (found_of Needs subs all_need (λ s. answers_to p.0 (label_of s)) s is).0 p.1 e)
 
 -- words without a fault that name a subcommand give it what it needs
 words_need : (words : List Text) → fault_of ob0_app words ≡ [] → is_some (subcommand_of ob0_app words) ≡ true → HasNeeded (subcommand_of ob0_app words)
@@ -153,24 +214,12 @@ named_rows m name rows n r = go (out-ArgMatches m).subcommand n r
     go None n r = cc
     go (Some b) n r = ap₂ (λ (t : Text) (rs : List Row). Some (t, rs)) (sym (ap (first_or name) n)) (sym (ap (rows_or rows) r))
 
-is_check : (name : Text) (rows : List Row) (found : Found) → HasNeeded found → found ≡ Some (name, rows) → bytes_eq name (codes "serve") ≡ false
-    → (found ≡ Some (codes "check", rows)) × HasText (codes "file") rows
-is_check name rows found (others, inl serve) is other =
-    let same : codes "serve" ≡ name = ap (λ (o : Found). option_map_or (λ p. p.0) o []) (sym serve ∙ is) in
-    let bad : true ≡ false = sym ((bytes_eq-Decides name (codes "serve")).1 (sym same)) ∙ other in
-    cc
-is_check name rows found (others, inr (check, text)) is other =
-    let same : others ≡ rows = ap (λ (o : Found). option_map_or (λ p. p.1) o []) (sym check ∙ is) in
-    (subst (λ (rs : List Row). found ≡ Some (codes "check", rs)) same check, subst (HasText (codes "file")) same text)
-
--- a subcommand that isn't `serve` is `check`, and has a file
-pub checks : (m given : ArgMatches) (name : Text) → HasNeeded (subcommand_rows_of m) → Some name ≡ subcommand_name_of m
-    → Some (rows_of (found_in given)) ≡ option_map (λ p. p.1) (subcommand_rows_of m) → false ≡ bytes_eq name (codes "serve")
-    → (subcommand_rows_of m ≡ Some (codes "check", rows_of (found_in given))) × ((text : Text) × (first_value (found_in given) (codes "file") ≡ Some text))
-checks m given name needs n r other =
+-- the name and the rows that the getter of the subcommand gives
+pub entered_is : (m given : ArgMatches) (name : Text) → HasNeeded (subcommand_rows_of m) → Some name ≡ subcommand_name_of m
+    → Some (rows_of (found_in given)) ≡ option_map (λ p. p.1) (subcommand_rows_of m)
+    → (subcommand_rows_of m ≡ Some (name, rows_of (found_in given))) × NeedsAt name (rows_of (found_in given))
+entered_is m given name (called, found, is, needs) n r =
     let rows = rows_of (found_in given) in
-    let both = is_check name rows (subcommand_rows_of m) needs (named_rows m name rows n r) (sym other) in
-    (both.0, (both.1.0, first_value-rows (found_in given) (codes "file") ∙ both.1.1))
-
-pub file_read : (given : ArgMatches) (file : Text) → Some file ≡ first_value (found_in given) (codes "file") → first_of (codes "file") (rows_of (found_in given)) ≡ Some file
-file_read given file is = sym (is ∙ first_value-rows (found_in given) (codes "file"))
+    let here = named_rows m name rows n r in
+    let same : (called, found) ≡ (name, rows) = ap (λ (o : Found). option_map_or (λ p. p) o (called, found)) (sym is ∙ here) in
+    (here, subst (λ (p : Text × List Row). NeedsAt p.0 p.1) same needs)

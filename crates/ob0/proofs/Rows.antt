@@ -6,7 +6,8 @@ use Rattle.std.specs.List.{list_any}
 use Rattle.std.specs.Str.{bytes_eq}
 use Rattle.std.proofs.lemmas.Bool.{ne_eqb}
 use Rattle.std.proofs.lemmas.Slice.Eq.{bytes_eq-Decides}
-use Rattle.clap.specs.Values.{read_as}
+use Rattle.clap.specs.Values.{read_as, refused_kind}
+use Rattle.clap.specs.ValueTests.{accepts}
 use Rattle.clap.specs.Facts.{explicit_source, parser_of_value, unwrap_or_range}
 use Rattle.clap.specs.Walk.{Row, Rule, Text, action_of, arg_by_id, at_row, default_rows, first_of, has_row, is_empty, more_values, nothing_held, one_of, reading_by, row_text, rows_after, settled, stronger, walk, walk_from, with_default, with_values, without}
 use Rattle.clap.specs.Simple.{Shape}
@@ -151,7 +152,7 @@ fine s words e =
     let three = neither defaults check two.1 in
     record { walking = one.0; settling = two.0; defaulting = three.0; checking = three.1 }
 
-pub rows_kept : (s : Shape) (words : List Text) → Each (Fits s.rules) s.rules → level_fault s [] nothing_held words false [] ≡ []
+rows_kept : (s : Shape) (words : List Text) → Each (Fits s.rules) s.rules → level_fault s [] nothing_held words false [] ≡ []
     → Each (Meets (Passed s.rules)) (rows_after s.rules [] words)
 rows_kept s words fits e =
     let keeps : (p : Rule → Bool) (a : Rule) → find p s.rules ≡ Some a → Keeps (Held s.rules) s.args_override_self a =
@@ -161,8 +162,21 @@ rows_kept s words fits e =
     let held : Held s.rules end.rows = walk_kept (Held s.rules) s [] keeps words (walk_from nothing_held) f.walking tt in
     defaults_kept s.rules s.rules fits (settled s.rules end).rows f.defaulting (settle (Held s.rules) s.rules s.args_override_self keeps end f.settling held)
 
+-- nothing in the list has the property
+none_of : {A : Type 0} (q : A → Bool) (xs : List A) → list_any q xs ≡ false → (p : A → Bool) (a : A) → find p xs ≡ Some a → q a ≡ false
+none_of q [] none p a e = cc
+none_of {A} q (x ∷ xs) none p a e = go (p x) (q x) refl none e (λ rest. none_of q xs rest p a)
+  where
+    go : (b c : Bool) → q x ≡ c → (c || list_any q xs) ≡ false → (if b then Some x else find p xs) ≡ Some a
+        → (list_any q xs ≡ false → find p xs ≡ Some a → q a ≡ false) → q a ≡ false
+    go b true is none e later = cc
+    go true false is none e later =
+        let same : x ≡ a = ap (λ (o : Option A). option_map_or (λ y. y) o x) e in
+        subst (λ y. q y ≡ false) same is
+    go false false is none e later = later none e
+
 -- what is required was given
-pub required_given : (s : Shape) (words : List Text) → s.subcommand_negates_reqs ≡ false → level_fault s [] nothing_held words false [] ≡ []
+required_given : (s : Shape) (words : List Text) → s.subcommand_negates_reqs ≡ false → level_fault s [] nothing_held words false [] ≡ []
     → list_any (λ a. a.required && not (is_given a.id (rows_after s.rules [] words))) s.rules ≡ false
 required_given s words plain e = third _ _ _ (rw plain at (fine s words e).checking)
   where
@@ -209,8 +223,17 @@ given_found id rows e = go (find (λ r. bytes_eq r.id id) rows) e
     go None e = cc
     go (Some r) e = refl
 
-pub given_passed : (rules : List Rule) (rows : List Row) (id : Text) → Each (Meets (Passed rules)) rows → is_given id rows ≡ true → HasPassed rules rows id
-given_passed rules rows id all given = found_passed rules rows id all (given_found id rows given)
+pub required_passed : (s : Shape) (words : List Text) → s.subcommand_negates_reqs ≡ false → level_fault s [] nothing_held words false [] ≡ []
+    → Each (Fits s.rules) s.rules → (a : Rule) → arg_by_id s.rules a.id ≡ Some a → a.required ≡ true → HasPassed s.rules (rows_after s.rules [] words) a.id
+required_passed s words plain e fits a is required =
+    let rows = rows_after s.rules [] words in
+    let none : (a.required && not (is_given a.id rows)) ≡ false =
+    none_of (λ a. a.required && not (is_given a.id rows)) s.rules (required_given s words plain e) (λ b. bytes_eq b.id a.id) a is in
+    found_passed s.rules rows a.id (rows_kept s words fits e) (given_found a.id rows (go (is_given a.id rows) (rw required at none)))
+  where
+    go : (g : Bool) → not g ≡ false → g ≡ true
+    go true e = refl
+    go false e = cc
 
 -- ---- defaults
 
@@ -275,15 +298,37 @@ stays_there : (id : Text) (rest : List Rule) (rows : List Row) → is_some (find
 stays_there id [] rows there = there
 stays_there id (a ∷ rest) rows there = stays_there id rest (with_default rows a) (default_there id a rows there)
 
--- whatever stands before it
-behind_defaults : (before after : List Rule) (a : Rule) (v : Text) (vs : List Text) → a.defaults ≡ v ∷ vs → (rows : List Row)
-    → is_some (find (λ r. bytes_eq r.id a.id) (fold with_default rows (before ++ a ∷ after))) ≡ true
-behind_defaults [] after a v vs is rows = stays_there a.id after (with_default rows a) (own_default a v vs is rows)
-behind_defaults (b ∷ before) after a v vs is rows = behind_defaults before after a v vs is (with_default rows b)
+behind_defaults : (rules : List Rule) (p : Rule → Bool) (a : Rule) (v : Text) (vs : List Text) → find p rules ≡ Some a → a.defaults ≡ v ∷ vs → (rows : List Row)
+    → is_some (find (λ r. bytes_eq r.id a.id) (fold with_default rows rules)) ≡ true
+behind_defaults [] p a v vs e is rows = cc
+behind_defaults (b ∷ rest) p a v vs e is rows = go (p b) e (λ f. behind_defaults rest p a v vs f is (with_default rows b))
+  where
+    go : (t : Bool) → (if t then Some b else find p rest) ≡ Some a
+        → (find p rest ≡ Some a → is_some (find (λ r. bytes_eq r.id a.id) (fold with_default (with_default rows b) rest)) ≡ true)
+        → is_some (find (λ r. bytes_eq r.id a.id) (fold with_default (with_default rows b) rest)) ≡ true
+    go true e later =
+        let same : b ≡ a = ap (λ (o : Option Rule). option_map_or (λ y. y) o b) e in
+        subst (λ (x : Rule). is_some (find (λ r. bytes_eq r.id a.id) (fold with_default (with_default rows x) rest)) ≡ true) (sym same)
+        (stays_there a.id rest (with_default rows a) (own_default a v vs is rows))
+    go false e later = later e
 
-pub default_passed : (s : Shape) (words : List Text) (before after : List Rule) (a : Rule) (v : Text) (vs : List Text) → s.rules ≡ before ++ a ∷ after
-    → a.defaults ≡ v ∷ vs → Each (Meets (Passed s.rules)) (rows_after s.rules [] words) → HasPassed s.rules (rows_after s.rules [] words) a.id
-default_passed s words before after a v vs parts is all =
-    let there = behind_defaults before after a v vs is (settled s.rules (walk s.rules [] nothing_held words).held).rows in
-    found_passed s.rules (rows_after s.rules [] words) a.id all
-    (subst (λ rules. is_some (find (λ r. bytes_eq r.id a.id) (fold with_default (settled s.rules (walk s.rules [] nothing_held words).held).rows rules)) ≡ true) (sym parts) there)
+pub default_passed : (s : Shape) (words : List Text) → level_fault s [] nothing_held words false [] ≡ [] → Each (Fits s.rules) s.rules
+    → (a : Rule) (v : Text) (vs : List Text) → arg_by_id s.rules a.id ≡ Some a → a.defaults ≡ v ∷ vs → HasPassed s.rules (rows_after s.rules [] words) a.id
+default_passed s words e fits a v vs is defaults =
+    found_passed s.rules (rows_after s.rules [] words) a.id (rows_kept s words fits e)
+    (behind_defaults s.rules (λ b. bytes_eq b.id a.id) a v vs is defaults (settled s.rules (walk s.rules [] nothing_held words).held).rows)
+
+-- ---- by the argument
+
+-- the value passed this argument's parser
+pub passed_by : (rules : List Rule) (a : Rule) (id value : Text) (how : Reading) → arg_by_id rules id ≡ Some a → Passed rules id value how
+    → (accepts a.ignore_case (parser_of_value a.parser) value ≡ true) × (how ≡ reading_by a)
+passed_by rules a id value how is passed =
+    let same : passed.rule ≡ a = ap (λ (o : Option Rule). option_map_or (λ y. y) o passed.rule) (sym passed.own ∙ is) in (
+      go (accepts a.ignore_case (parser_of_value a.parser) value) (subst (λ (x : Rule). value_kinds x.ignore_case (parser_of_value x.parser) value ≡ []) same passed.passes),
+      passed.read ∙ ap reading_by same,
+    )
+  where
+    go : (b : Bool) → (if b then [] else refused_kind (parser_of_value a.parser) ∷ []) ≡ [] → b ≡ true
+    go true e = refl
+    go false e = cc
