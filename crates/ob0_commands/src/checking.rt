@@ -1,5 +1,8 @@
 //! Telling what is wrong with a file.
 
+ghost use Rattle.std.specs.Prelude.{◌≡◌, [], IfOk, IfSome};
+ghost use Rattle.ob0_session.specs.Diagnosed.{Tells};
+
 use crate::faults::{Fault, tell_fault};
 use crate::printing::print;
 use crate::reading::MAX_FILE;
@@ -26,7 +29,9 @@ pub fn check<'f, O: Write>(
     alloc: Global,
     file: &'f [u8],
     out: &mut O,
-) -> Result<Option<&'f str>, Fault> {
+) -> Result<Option<&'f str>, Fault>
+    ensures { IfOk result (λ found. IfSome found (λ text. (text.now ≡ file.entry.now) × Tells file.entry.now [])) }
+{
     if file.len() >= MAX_FILE {
         print(out, "0:0: TooLong: text too long\n")?;
         return Ok(None);
