@@ -15,7 +15,9 @@ use std::io::Write;
 /// from 0 on, and a fault to `err` as `fault: NAME`. The file's bytes are all of it, or the first 1,048,577. Answers the
 /// status with which the program ends: 0 for a module with no diagnostic, 1 for diagnostics, 4 for bytes that are no
 /// UTF-8 or a failed write, 5 for want of memory.
-pub fn check_text<O: Write, E: Write>(alloc: Global, file: &[u8], out: &mut O, err: &mut E) -> u8 {
+pub fn check_text<O: Write, E: Write>(alloc: Global, file: &[u8], out: &mut O, err: &mut E) -> u8
+    ensures { result ≡ 0 → Tells file.now [] }
+{
     match check(alloc, file, out) {
         Ok(Some(_text)) => 0,
         Ok(None) => 1,
