@@ -7,7 +7,7 @@ feature that was built is switched on here, and its tests then run."""
 BUILT = {
     "syntax": True,  # diagnostics of the parser
     "types": False,  # diagnostics of scopes and types
-    "check": False,  # `ob0 check`
+    "check": True,  # `ob0 check`
     "changes": True,  # changes with a range
     "utf8": True,  # positions in UTF-8 units where the client offers them
     "questions": False,  # hover, definition, references, prepareRename

@@ -25,12 +25,12 @@ LONG_TOLD = """1:10: ConstFault: constant has a fault
 """
 
 
-@test("check: a module with ten faults, byte by byte", "check")
+@test("check: a module with ten faults, byte by byte", "check", "types")
 def ten_faults():
     ends(on_file("check", LONG), LONG_TOLD, 1)
 
 
-@test("check: two array types of one form are two types", "check")
+@test("check: two array types of one form are two types", "check", "types")
 def arrays():
     ends(
         on_file("check", "MODULE M; VAR a: ARRAY 3 OF INTEGER; b: ARRAY 3 OF INTEGER; BEGIN a := b END M."),
@@ -48,7 +48,7 @@ def chain(count):
     return f"MODULE M; TYPE{types}\nEND M."
 
 
-@test("check: sizes of types", "check")
+@test("check: sizes of types", "check", "types")
 def sizes():
     of = lambda text: on_file("check", f"MODULE M; VAR a: {text}; END M.")
     ends(of("ARRAY 256 OF ARRAY 256 OF INTEGER"), "", 0)
@@ -143,7 +143,7 @@ def examples():
             same(server.tell(did_open(plain)), wanted, text)
 
 
-@test("check: each code of scopes and types, through `check`", "check")
+@test("check: each code of scopes and types, through `check`", "check", "types")
 def examples_checked():
     for text, *codes in EXAMPLES:
         plain, wanted = marked(text, *codes)
@@ -159,7 +159,7 @@ def hundred():
     same([it["range"]["start"]["character"] for it in found], [16 + 3 * at for at in range(100)], "where")
 
 
-@test("check: parameters that are assigned, and bodies that see their own name", "check")
+@test("check: parameters that are assigned, and bodies that see their own name", "check", "types")
 def well_typed():
     texts = [
         "MODULE M; VAR r: RECORD a: INTEGER END; s: RECORD a: BOOLEAN END; BEGIN r.a := 1; s.a := TRUE END M.",
@@ -202,7 +202,7 @@ def lines():
         same((found.out, bool(found.err), found.status), (b"", True, 2), " ".join(words))
 
 
-@test("check: a device that is full is a fault of writing", "check")
+@test("check: a device that is full is a fault of writing", "check", "types")
 def full():
     with tempfile.TemporaryDirectory() as room:
         file = os.path.join(room, "m.mod")

@@ -1,1 +1,4 @@
 mod Named
+mod Numbers
+mod Rows
+mod Walked

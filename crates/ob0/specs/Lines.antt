@@ -1,14 +1,50 @@
 -- The command line of `ob0`, as clap's definition of a simple command sees it.
-use Rattle.std.specs.Prelude.{true, codes}
-use Rattle.clap.specs.Words.{App, new_app, with_subcommand}
+use Rattle.std.specs.Prelude.{[], ◌∷◌, pos, true, Some, codes}
+use Rattle.clap.specs.Words.{App, Rule, Text, new_app, new_rule, with_rule, with_subcommand}
+use Rattle.clap.specs.declared.builder.ArgAction.TheVariants.{Set}
+use Rattle.clap.specs.declared.builder.value_parser.ValueParser.TheVariants.{Signed, Unsigned}
+
+-- a word that must stand there
+abbrev pub word_rule : Text → Rule
+word_rule id = record (new_rule id) { action = Some Set; required = true }
+
+-- a number of 64 bits that must stand there
+abbrev pub number_rule : Text → Rule
+number_rule id = record (word_rule id) { parser = Some (Unsigned 0 18446744073709551615) }
+
+-- at most 64, and 64 where it isn't given
+abbrev pub calls_rule : Rule
+calls_rule = record (new_rule (codes "calls")) {
+  long = Some (codes "calls");
+  parser = Some (Signed (pos 0) (pos 64));
+  defaults = codes "64" ∷ [];
+}
+
+-- at most 100,000, and 100,000 where it isn't given
+abbrev pub turns_rule : Rule
+turns_rule = record (new_rule (codes "turns")) {
+  long = Some (codes "turns");
+  parser = Some (Signed (pos 0) (pos 100000));
+  defaults = codes "100000" ∷ [];
+}
 
 -- `serve` takes no words
 abbrev pub serve : App
 serve = new_app (codes "serve")
 
-abbrev pub ob0_with_serve : App
-ob0_with_serve = with_subcommand (new_app (codes "ob0")) serve.top
+abbrev pub check : App
+check = with_rule (new_app (codes "check")) (word_rule (codes "file"))
+
+abbrev pub run : App
+run = with_rule (with_rule (with_rule (new_app (codes "run")) (word_rule (codes "file"))) calls_rule) turns_rule
+
+abbrev pub rename : App
+rename = with_rule (with_rule (with_rule (with_rule (new_app (codes "rename")) (word_rule (codes "file"))) (number_rule (codes "line")))
+    (number_rule (codes "column"))) (word_rule (codes "name"))
 
 -- one subcommand is required, and none of them is `help`
+abbrev pub ob0_alone : App
+ob0_alone = record (new_app (codes "ob0")) { top = record (new_app (codes "ob0")).top { subcommand_required = true; disable_help_subcommand = true } }
+
 abbrev pub ob0_app : App
-ob0_app = record ob0_with_serve { top = record ob0_with_serve.top { subcommand_required = true; disable_help_subcommand = true } }
+ob0_app = with_subcommand (with_subcommand (with_subcommand (with_subcommand ob0_alone serve.top) check.top) run.top) rename.top

@@ -1,0 +1,12 @@
+-- The statuses with which a command on a file ends.
+use Rattle.std.specs.Prelude.{ℕ}
+use Rattle.ob0_commands.specs.declared.faults.Fault.{Fault}
+use Rattle.ob0_commands.specs.declared.faults.Fault.TheVariants as fault
+
+-- 5 for want of memory, 4 for what can't be read or written
+abbrev pub status_of : Fault → ℕ
+status_of fault.File = 4
+status_of fault.Utf8 = 4
+status_of fault.Input = 4
+status_of fault.Write = 4
+status_of fault.Memory = 5

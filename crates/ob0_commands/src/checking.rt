@@ -1,0 +1,69 @@
+//! Telling what is wrong with a file.
+
+ghost use Rattle.std.specs.Prelude.{◌≡◌, [], IfOk, IfSome};
+ghost use Rattle.ob0_session.specs.Diagnosed.{Tells};
+
+use crate::faults::{Fault, tell_fault};
+use crate::printing::print;
+use crate::reading::MAX_FILE;
+use ob0_session::{Diagnosis, diagnose};
+use ob0_text::{TextStore, Whole};
+use std::alloc::{AllocError, Global};
+use std::io::Write;
+
+/// Prints one line `L:C: Code: message` for each diagnostic of a file to `out`, by its start, in lines and UTF-16 units
+/// from 0 on, and a fault to `err` as `fault: NAME`. The file's bytes are all of it, or the first 1,048,577. Answers the
+/// status with which the program ends: 0 for a module with no diagnostic, 1 for diagnostics, 4 for bytes that are no
+/// UTF-8 or a failed write, 5 for want of memory.
+pub fn check_text<O: Write, E: Write>(alloc: Global, file: &[u8], out: &mut O, err: &mut E) -> u8
+    ensures { result ≡ 0 → Tells file.now [] }
+{
+    match check(alloc, file, out) {
+        Ok(Some(_text)) => 0,
+        Ok(None) => 1,
+        Err(fault) => tell_fault(fault, err),
+    }
+}
+
+/// The text of a file that is without diagnostics; else they are printed. A file of more bytes than a text may have is
+/// too long whatever they are.
+pub fn check<'f, O: Write>(
+    alloc: Global,
+    file: &'f [u8],
+    out: &mut O,
+) -> Result<Option<&'f str>, Fault>
+    ensures { IfOk result (λ found. IfSome found (λ text. (text.now ≡ file.entry.now) × Tells file.entry.now [])) }
+{
+    if file.len() >= MAX_FILE {
+        print(out, "0:0: TooLong: text too long\n")?;
+        return Ok(None);
+    }
+    let Ok(text) = str::from_utf8(file) else {
+        return Err(Fault::Utf8);
+    };
+    let told = diagnose(alloc, text)?;
+    if told.is_empty() {
+        return Ok(Some(text));
+    }
+    print(out, lines_of(alloc, text, told.as_slice())?.as_str())?;
+    Ok(None)
+}
+
+/// A line for each diagnostic.
+fn lines_of(alloc: Global, text: &str, told: &[Diagnosis]) -> Result<String, AllocError> {
+    let store = Whole::from_str(alloc, text)?;
+    let mut starts = Vec::new(alloc);
+    for diagnosis in told {
+        starts.push(diagnosis.span.start)?;
+    }
+    let positions = store.positions(alloc, starts.as_slice())?;
+    let mut lines = String::new(alloc);
+    for (diagnosis, position) in told.iter().zip(positions.iter()) {
+        let (line, character) = (position.line, position.character);
+        let code = diagnosis.code;
+        let message = diagnosis.message.as_str();
+        let row = format!(in alloc; "{line}:{character}: {code}: {message}\n")?;
+        lines.push_str(row.as_str())?;
+    }
+    Ok(lines)
+}

@@ -1,0 +1,66 @@
+//! Why a command on a file gave up.
+
+ghost use Rattle.std.specs.Prelude.{◌≡◌};
+ghost use Rattle.ob0_commands.specs.Statuses.{status_of};
+
+use crate::printing::print;
+use std::alloc::{AllocError, AllocFailed};
+use std::io::Write;
+
+/// Why a command on a file gave up. Each is told by its name.
+#[derive(Clone, Copy, Debug, PartialEq, Eq)]
+pub enum Fault {
+    /// The file can't be read.
+    File,
+    /// The file's bytes are no UTF-8.
+    Utf8,
+    /// The input can't be read, is too long, or is no list of numbers.
+    Input,
+    /// The output can't be written.
+    Write,
+    Memory,
+}
+
+impl Fault {
+    /// The status with which the program ends.
+    pub fn status(self) -> u8
+        ensures { result ≡ status_of self }
+    {
+        match self {
+            Fault::Memory => 5,
+            Fault::File | Fault::Utf8 | Fault::Input | Fault::Write => 4,
+        }
+    }
+
+    /// The line, with its ending, that tells the fault.
+    fn line(self) -> &'static str {
+        match self {
+            Fault::File => "fault: File\n",
+            Fault::Utf8 => "fault: Utf8\n",
+            Fault::Input => "fault: Input\n",
+            Fault::Write => "fault: Write\n",
+            Fault::Memory => "fault: Memory\n",
+        }
+    }
+}
+
+impl From<AllocError> for Fault {
+    fn from(_error: AllocError) -> Fault {
+        Fault::Memory
+    }
+}
+
+impl<T: Drop> From<AllocFailed<T>> for Fault {
+    fn from(_error: AllocFailed<T>) -> Fault {
+        Fault::Memory
+    }
+}
+
+/// Prints a fault to `err`, and answers the status with which the program ends. A fault that can't be told keeps its
+/// status.
+pub fn tell_fault<E: Write>(fault: Fault, err: &mut E) -> u8
+    ensures { result ≡ status_of fault }
+{
+    let _ = print(err, fault.line());
+    fault.status()
+}

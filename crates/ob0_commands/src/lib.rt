@@ -1,0 +1,16 @@
+//! What the program's commands on files do, over the bytes of a file and over any readers and writers.
+#![tactic(auto)]
+
+mod checking;
+mod faults;
+mod printing;
+mod reading;
+mod renaming;
+mod running;
+
+pub use checking::check_text;
+pub use faults::{Fault, tell_fault};
+pub use reading::{MAX_FILE, read_file};
+
+#[cfg(test)]
+mod tests;

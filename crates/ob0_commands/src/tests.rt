@@ -1,0 +1,284 @@
+//! The commands, over the bytes of files.
+
+use super::*;
+use crate::renaming::print_edited;
+use crate::running::{End, Item, print_outcome, read_numbers};
+use ob0_text::{Edit, EditRefusal, Position, Range, TextStore, Whole};
+use std::alloc::{AllocError, Global};
+use std::io::{self, Read, Write};
+use std::test::Fail;
+
+/// A reader of these bytes, which fails where they end if `fails`.
+#[derive(Drop)]
+struct Source<'a> {
+    bytes: &'a [u8],
+    fails: bool,
+}
+
+impl<'a> Read for Source<'a> {
+    fn read(&mut self, buf: &mut [u8]) -> io::Result<usize> {
+        if self.bytes.is_empty() && self.fails {
+            return Err(io::ErrorKind::Other.into());
+        }
+        self.bytes.read(buf)
+    }
+}
+
+/// A writer that takes so many bytes, one at a time, and then fails.
+#[derive(Drop)]
+struct Sink {
+    written: Vec<u8>,
+    left: usize,
+}
+
+impl Sink {
+    fn new(alloc: Global, left: usize) -> Sink {
+        Sink {
+            written: Vec::new(alloc),
+            left,
+        }
+    }
+
+    fn has(&self, text: &str) -> bool {
+        self.written.as_slice() == text.as_bytes()
+    }
+}
+
+impl Write for Sink {
+    fn write(&mut self, buf: &[u8]) -> io::Result<usize> {
+        let Some(first) = buf.first() else {
+            return Ok(0);
+        };
+        if self.left == 0 {
+            return Err(io::ErrorKind::Other.into());
+        }
+        self.left -= 1;
+        if self.written.push(*first).is_err() {
+            return Err(io::ErrorKind::OutOfMemory.into());
+        }
+        Ok(1)
+    }
+
+    fn flush(&mut self) -> io::Result<()> {
+        Ok(())
+    }
+}
+
+/// A file, what `check_text` prints of it, the fault that it tells, and its status.
+#[derive(Drop)]
+struct Checked<'a> {
+    file: &'a [u8],
+    out: &'a str,
+    err: &'a str,
+    status: u8,
+}
+
+#[test]
+fn files_are_checked(rt: HostRuntime) {
+    let rows = [
+        Checked {
+            file: b"MODULE M; BEGIN WriteLn END M.",
+            out: "",
+            err: "",
+            status: 0,
+        },
+        Checked {
+            file: b"",
+            out: "0:0: Syntax: expected MODULE\n",
+            err: "",
+            status: 1,
+        },
+        Checked {
+            file: b"12ab $",
+            out: "0:0: NumberJoinsLetter: letter after number\n0:5: BadChar: bad character\n",
+            err: "",
+            status: 1,
+        },
+        Checked {
+            file: b"MODULE M;\n(* \xF0\x9F\x98\x80 *) $",
+            out: "1:9: BadChar: bad character\n",
+            err: "",
+            status: 1,
+        },
+        Checked {
+            file: b"MODULE \xFF",
+            out: "",
+            err: "fault: Utf8\n",
+            status: 4,
+        },
+    ];
+    for row in &rows {
+        let mut out = Sink::new(rt.alloc(), 1000);
+        let mut err = Sink::new(rt.alloc(), 1000);
+        let status = check_text(rt.alloc(), row.file, &mut out, &mut err);
+        assert!(rt; status == row.status && out.has(row.out) && err.has(row.err));
+    }
+}
+
+#[test]
+fn long_files_are_read_to_one_byte_too_many(rt: HostRuntime) {
+    let mut text = Vec::new(rt.alloc());
+    text.resize(MAX_FILE + 5, b' ').expect(&rt, "a text");
+    let mut source = Source {
+        bytes: text.as_slice(),
+        fails: true,
+    };
+    let bytes = read_file(rt.alloc(), &mut source).expect(&rt, "a file");
+    assert!(rt; bytes.len() == MAX_FILE);
+    let mut out = Sink::new(rt.alloc(), 1000);
+    let mut err = Sink::new(rt.alloc(), 1000);
+    let status = check_text(rt.alloc(), bytes.as_slice(), &mut out, &mut err);
+    assert!(rt; status == 1 && out.has("0:0: TooLong: text too long\n") && err.has(""));
+}
+
+#[test]
+fn a_file_that_fails_is_told(rt: HostRuntime) {
+    let mut source = Source {
+        bytes: b"MODULE",
+        fails: true,
+    };
+    assert!(rt; matches!(read_file(rt.alloc(), &mut source), Err(Fault::File)));
+    let mut err = Sink::new(rt.alloc(), 1000);
+    assert!(rt; tell_fault(Fault::File, &mut err) == 4 && err.has("fault: File\n"));
+}
+
+#[test]
+fn a_write_that_fails_is_told(rt: HostRuntime) {
+    for left in 0..29 {
+        let mut out = Sink::new(rt.alloc(), left);
+        let mut err = Sink::new(rt.alloc(), 1000);
+        let status = check_text(rt.alloc(), b"", &mut out, &mut err);
+        assert!(rt; status == 4 && err.has("fault: Write\n"));
+        assert!(rt; out.written.as_slice() == &"0:0: Syntax: expected MODULE\n".as_bytes()[..left]);
+    }
+}
+
+/// An input, and the numbers that are read from it.
+#[derive(Drop)]
+struct Numbers<'a> {
+    input: &'a [u8],
+    numbers: Option<&'a [i32]>,
+}
+
+#[test]
+fn inputs_are_lists_of_numbers(rt: HostRuntime) {
+    let some = [1, -2, 0, 3];
+    let ends = [-2_147_483_648, 2_147_483_647];
+    let rows = [
+        Numbers {
+            input: b"",
+            numbers: Some(&[]),
+        },
+        Numbers {
+            input: b" 1\t-2\r\n-0 \n003\n",
+            numbers: Some(some.as_slice()),
+        },
+        Numbers {
+            input: b"-2147483648 2147483647",
+            numbers: Some(ends.as_slice()),
+        },
+        Numbers {
+            input: b"1 x",
+            numbers: None,
+        },
+        Numbers {
+            input: b"+1",
+            numbers: None,
+        },
+        Numbers {
+            input: b"-",
+            numbers: None,
+        },
+        Numbers {
+            input: b"--1",
+            numbers: None,
+        },
+        Numbers {
+            input: b"2147483648",
+            numbers: None,
+        },
+        Numbers {
+            input: b"1\x0B2",
+            numbers: None,
+        },
+        Numbers {
+            input: b"1 \xFF",
+            numbers: None,
+        },
+    ];
+    for row in &rows {
+        let mut source = Source {
+            bytes: row.input,
+            fails: false,
+        };
+        match read_numbers(rt.alloc(), &mut source) {
+            Ok(numbers) => assert!(rt; Some(numbers.as_slice()) == row.numbers),
+            Err(fault) => assert!(rt; fault == Fault::Input && row.numbers.is_none()),
+        }
+    }
+    let mut source = Source {
+        bytes: b"1 ",
+        fails: true,
+    };
+    assert!(rt; matches!(read_numbers(rt.alloc(), &mut source), Err(Fault::Input)));
+}
+
+#[test]
+fn outcomes_are_printed(rt: HostRuntime) {
+    let output = [
+        Item::Number(-2),
+        Item::Number(7),
+        Item::Line,
+        Item::Number(-2_147_483_648),
+    ];
+    let rows = [
+        (End::Done, "", 0),
+        (End::Divisor, "fault: Divisor\n", 1),
+        (End::Overflow, "fault: Overflow\n", 1),
+        (End::Index, "fault: Index\n", 1),
+        (End::InputEnd, "fault: InputEnd\n", 1),
+        (End::CallBound, "fault: CallBound\n", 1),
+        (End::TurnBound, "fault: TurnBound\n", 1),
+    ];
+    for (end, told, status) in &rows {
+        let mut out = Sink::new(rt.alloc(), 1000);
+        let mut err = Sink::new(rt.alloc(), 1000);
+        let answer = print_outcome(rt.alloc(), output.as_slice(), *end, &mut out, &mut err);
+        assert!(rt; answer == Ok(*status));
+        assert!(rt; out.has(" -2 7\n -2147483648") && err.has(told));
+    }
+}
+
+/// An edit that puts a text in the place of the second character of a text's first line.
+fn second_character(alloc: Global, text: &str) -> Result<Vec<Edit>, AllocError> {
+    let start = Position {
+        line: 0,
+        character: 1,
+    };
+    let end = Position {
+        line: 0,
+        character: 2,
+    };
+    let mut edits = Vec::new(alloc);
+    edits.push(Edit {
+        range: Range { start, end },
+        text: String::from_str(alloc, text)?,
+    })?;
+    Ok(edits)
+}
+
+#[test]
+fn edited_texts_and_refusals_are_printed(rt: HostRuntime) {
+    let store = Whole::from_str(rt.alloc(), "abc").expect(&rt, "a store");
+    let mut out = Sink::new(rt.alloc(), 1000);
+    let mut err = Sink::new(rt.alloc(), 1000);
+    let edits = second_character(rt.alloc(), "xy").expect(&rt, "edits");
+    let status = print_edited(rt.alloc(), &store, Ok(edits), &mut out, &mut err);
+    assert!(rt; status == Ok(0) && out.has("axyc") && err.has(""));
+    let edits: Result<Vec<Edit>, EditRefusal> = Err(EditRefusal::BadName);
+    let status = print_edited(rt.alloc(), &store, edits, &mut out, &mut err);
+    assert!(rt; status == Ok(1) && out.has("axyc") && err.has("refused: BadName\n"));
+    let edits: Result<Vec<Edit>, EditRefusal> = Err(EditRefusal::Memory);
+    let status = print_edited(rt.alloc(), &store, edits, &mut out, &mut err);
+    assert!(rt; status == Err(Fault::Memory));
+}
