@@ -1,0 +1,201 @@
+-- Steps of statements: what is left of a statement, from one step of the machine to the next.
+use Rattle.std.proofs.Common.{◌≡◌, ℕ, zero, suc, Bool, true, false, ◌+◌, ◌<◌, ◌≤◌, List, [], ◌∷◌, length, get_or, drop, refl, sym, ap, ◌∙◌, subst, Ok, Err, Option, None, Some, Result}
+use Rattle.std.proofs.lemmas.List.{drop_all, drop_more}
+use denote.MutBor.{MutBor}
+use Rattle.ob0_tree.specs.Tree.{Tree, branches, else_branch, else_part, elsif_branch, elsif_part, end, expression, further_statement, items, maybe, more, none, one, runs, sequence, statement, then_statement}
+use Rattle.ob0_tree.specs.declared.tree.Statement.{Statement}
+use Rattle.ob0_tree.specs.declared.tree.Elsif.{Elsif}
+use Rattle.ob0_tree.specs.View.{elsif_of, expression_of, further_statement_of, items_of, sequence_listed, statement_of}
+use Rattle.ob0_scope.specs.Names.{Label}
+use Rattle.ob0_types.specs.Expressions.{evaluate}
+use Rattle.ob0_values.specs.Values.{End, Outcome, Stuck, TurnBound, Value, elements, ends, gives, members, number, truth, ◌>>=◌}
+use Rattle.ob0_run.specs.declared.machine.Machine.{Machine}
+use Rattle.ob0_run.specs.declared.scene.Ending.{Ending}
+use Rattle.ob0_run.specs.declared.scene.Stop.{Stop}
+use Rattle.ob0_run.specs.declared.scene.Stop.TheVariants as stop
+use Rattle.ob0_run.specs.Machines.{Does, Doing, Named, Performs, Steps, executed, executed_all, meaning_of, named, read_for, state_in}
+use Rattle.ob0_run.specs.Runs.{Calls, Progress, State, choose, execute, execute_all, execute_else, execute_elsifs, execute_further, go_on, running, stopped, turns, turns_until, use_in}
+use Rattle.ob0_run.specs.Scenes.{Answers, condition_in, end_of, truth_of}
+use Rattle.ob0_run.specs.States.{Runs, items_out}
+
+abbrev pub Post : Type 1
+Post = MutBor Machine → ℕ → Result (Unit {0}) Stop → MutBor Machine → Type 0
+
+-- the run of F from one step on is the run of G from a later one, where the names stand for the same
+abbrev pub Comes : Post → Machine → Machine → Doing → Doing → Type 0
+Comes post start now F G = (enters : Calls Label) → Performs post (named start) enters → (F (named start) enters (state_in start) ≡ G (named start) enters (state_in now)) × (named now ≡ named start)
+
+abbrev pub then_do : Doing → Doing → Doing
+then_do f g n enters s = go_on (f n enters s) (g n enters)
+
+-- what follows a condition
+abbrev pub chosen : State → Outcome Bool → (State → Progress) → (State → Progress) → Progress
+chosen s (gives true) a b = a s
+chosen s (gives false) a b = b s
+chosen s (ends e) a b = stopped e s.output
+
+abbrev pub branching : Tree ℕ expression → Doing → Doing → Doing
+branching c f g n enters s = chosen s (condition_in (meaning_of n) s.store (read_for n c)) (f n enters) (g n enters)
+
+abbrev pub nothing_more : Doing
+nothing_more n enters s = running s
+
+abbrev pub ending_with : End → Doing
+ending_with e n enters s = stopped e s.output
+
+pub choice : (s : State) (o : Outcome Value) (a b : State → Progress) → use_in s o (λ v. choose s v a b) ≡ chosen s (o >>= truth_of) a b
+choice s (gives (truth true)) a b = refl
+choice s (gives (truth false)) a b = refl
+choice s (gives (number n)) a b = refl
+choice s (gives (elements vs)) a b = refl
+choice s (gives (members k ms)) a b = refl
+choice s (ends e) a b = refl
+
+-- steps
+
+pub steps_from : (r : Result (Unit {0}) Stop) (m m' : Machine) (p : Progress) → Runs r m'.state p → named m' ≡ named m → Steps r m m' p
+steps_from (Ok done) m m' p h e = (h, e)
+steps_from (Err (stop.Ended x)) m m' p h e = h
+steps_from (Err stop.Memory) m m' p h e = tt
+
+pub failed_from : (e : Stop) (m m' m₂ : Machine) (p : Progress) → Steps (Err e) m m' p → Steps (Err e) m₂ m' p
+failed_from (stop.Ended x) m m' m₂ p h = h
+failed_from stop.Memory m m' m₂ p h = tt
+
+pub failed_then : (e : Stop) (m m' m₂ : Machine) (p : Progress) (k : State → Progress) → Steps (Err e) m m' p → Steps (Err e) m₂ m' (go_on p k)
+failed_then (stop.Ended x) m m' m₂ p k h = ap (λ p. go_on p k) h
+failed_then stop.Memory m m' m₂ p k h = tt
+
+pub failed_choice : (e : Stop) (m m₂ : Machine) (o : Outcome Bool) (a b : State → Progress) → Answers (λ b. b) (Err e) o → Steps (Err e) m₂ m (chosen (state_in m) o a b)
+failed_choice (stop.Ended x) m m₂ o a b h = ap (λ o. chosen (state_in m) o a b) h
+failed_choice stop.Memory m m₂ o a b h = tt
+
+pub failed_use : {A B : Type 0} (view : A → B) (e : Stop) (m m₂ : Machine) (o : Outcome B) (k : B → Progress) → Answers view (Err e) o → Steps (Err e) m₂ m (use_in (state_in m) o k)
+failed_use view (stop.Ended x) m m₂ o k h = ap (λ o. use_in (state_in m) o k) h
+failed_use view stop.Memory m m₂ o k h = tt
+
+-- the exit of a `?`
+pub leaving : (post : Post) (r : Result (Unit {0}) Stop) (e : Stop) (m m' : Machine) (f : Doing) → (y : Stop) × (r ≡ Err y) × (y ≡ e) → Does post (Err e) m m' f → Does post r m m' f
+leaving post r e m m' f q h = subst (λ r. Does post r m m' f) (sym q.1) (subst (λ y. Does post (Err y) m m' f) (sym q.2) h)
+
+module _ (post : Post) (start now : Machine) (F : Doing) where
+  -- what a step does for names that stand for the same
+  moved : (r : Result (Unit {0}) Stop) (m' : Machine) (f : Doing) (enters : Calls Label) → named now ≡ named start → Performs post (named start) enters → Does post r now m' f → Steps r now m' (f (named start) enters (state_in now))
+  moved r m' f enters e p h = subst (λ n. Performs post n enters → Steps r now m' (f n enters (state_in now))) e (h enters) p
+
+  pub comes_fails : (f g : Doing) (e : Stop) (m' : Machine) → Comes post start now F (then_do f g) → Does post (Err e) now m' f → Does post (Err e) start m' F
+  comes_fails f g e m' c h = λ enters p. subst (Steps (Err e) start m') (sym (c enters p).0)
+      (failed_then e now m' start (f (named start) enters (state_in now)) (g (named start) enters) (moved (Err e) m' f enters (c enters p).1 p h))
+
+  pub comes_on : (f g : Doing) (u : Unit {0}) (m' : Machine) → Comes post start now F (then_do f g) → Does post (Ok u) now m' f → Comes post start m' F g
+  comes_on f g u m' c h = λ enters p. let d = moved (Ok u) m' f enters (c enters p).1 p h in ((c enters p).0 ∙ ap (λ q. go_on q (g (named start) enters)) d.0, d.1 ∙ (c enters p).1)
+
+  pub comes_last : (f : Doing) (r : Result (Unit {0}) Stop) (m' : Machine) → Comes post start now F f → Does post r now m' f → Does post r start m' F
+  comes_last f (Ok u) m' c h = λ enters p. let d = moved (Ok u) m' f enters (c enters p).1 p h in ((c enters p).0 ∙ d.0, d.1 ∙ (c enters p).1)
+  comes_last f (Err e) m' c h = λ enters p. subst (Steps (Err e) start m') (sym (c enters p).0) (failed_from e now m' start (f (named start) enters (state_in now)) (moved (Err e) m' f enters (c enters p).1 p h))
+
+  pub comes_done : (u : Unit {0}) → Comes post start now F nothing_more → Does post (Ok u) start now F
+  comes_done u c = c
+
+  pub comes_to_end : (x : Ending) → Comes post start now F (ending_with (end_of x)) → Does post (Err (stop.Ended x)) start now F
+  comes_to_end x c = λ enters p. (c enters p).0
+
+  condition_moved : (r : Result Bool Stop) (c : Tree ℕ expression) → named now ≡ named start → Answers (λ b. b) r (condition_in (meaning_of (named now)) (state_in now).store (read_for (named now) c)) → Answers (λ b. b) r (condition_in (meaning_of (named start)) (state_in now).store (read_for (named start) c))
+  condition_moved r c e h = subst (λ n. Answers (λ b. b) r (condition_in (meaning_of n) (state_in now).store (read_for n c))) e h
+
+  pub comes_unanswered : (c : Tree ℕ expression) (f g : Doing) (e : Stop) → Comes post start now F (branching c f g) → Answers (λ b. b) (Err e) (condition_in (meaning_of (named now)) (state_in now).store (read_for (named now) c)) → Does post (Err e) start now F
+  comes_unanswered c f g e w h = λ enters p. subst (Steps (Err e) start now) (sym (w enters p).0)
+      (failed_choice e now start (condition_in (meaning_of (named start)) (state_in now).store (read_for (named start) c)) (f (named start) enters) (g (named start) enters) (condition_moved (Err e) c (w enters p).1 h))
+
+  pub comes_where_true : (c : Tree ℕ expression) (f g : Doing) → Comes post start now F (branching c f g) → condition_in (meaning_of (named now)) (state_in now).store (read_for (named now) c) ≡ gives true → Comes post start now F f
+  comes_where_true c f g w h = λ enters p. ((w enters p).0 ∙ ap (λ o. chosen (state_in now) o (f (named start) enters) (g (named start) enters)) (condition_moved (Ok true) c (w enters p).1 h), (w enters p).1)
+
+  pub comes_where_false : (c : Tree ℕ expression) (f g : Doing) → Comes post start now F (branching c f g) → condition_in (meaning_of (named now)) (state_in now).store (read_for (named now) c) ≡ gives false → Comes post start now F g
+  comes_where_false c f g w h = λ enters p. ((w enters p).0 ∙ ap (λ o. chosen (state_in now) o (f (named start) enters) (g (named start) enters)) (condition_moved (Ok false) c (w enters p).1 h), (w enters p).1)
+
+  pub comes_as : (f g : Doing) → Comes post start now F f → ((n : Named) (enters : Calls Label) (s : State) → f n enters s ≡ g n enters s) → Comes post start now F g
+  comes_as f g c e = λ enters p. ((c enters p).0 ∙ e (named start) enters (state_in now), (c enters p).1)
+
+pub comes_here : (post : Post) (start : Machine) (F : Doing) → Comes post start start F F
+comes_here post start F = λ enters p. (refl, refl)
+
+-- the parts of statements
+
+abbrev pub executed_further : Tree ℕ (items further_statement) → Doing
+executed_further as n enters s = execute_further (meaning_of n) enters n.turns (read_for n as) s
+
+abbrev pub executed_else : Tree ℕ (maybe else_part) → Doing
+executed_else last n enters s = execute_else (meaning_of n) enters n.turns (read_for n last) s
+
+abbrev pub executed_elsifs : Tree ℕ (items elsif_part) → Tree ℕ (maybe else_part) → Doing
+executed_elsifs es last n enters s = execute_elsifs (meaning_of n) enters n.turns (read_for n es) (execute_else (meaning_of n) enters n.turns (read_for n last)) s
+
+abbrev pub turning : ℕ → Tree ℕ expression → Tree ℕ sequence → Doing
+turning left c body n enters s = turns left (λ s'. evaluate (meaning_of n) s'.store (read_for n c)) (execute_all (meaning_of n) enters n.turns (read_for n body)) s
+
+abbrev pub turning_until : ℕ → Tree ℕ expression → Tree ℕ sequence → Doing
+turning_until left c body n enters s = turns_until left (λ s'. evaluate (meaning_of n) s'.store (read_for n c)) (execute_all (meaning_of n) enters n.turns (read_for n body)) s
+
+pub empty-does : (n : Named) (enters : Calls Label) (s : State) → executed (statement_of Statement.Empty) n enters s ≡ running s
+unfolding execute
+empty-does n enters s = refl
+
+pub sequence-begins : (xs : List Statement) (n : Named) (enters : Calls Label) (s : State) → executed_all (sequence_listed xs) n enters s ≡ executed_further (items_of further_statement_of xs) n enters s
+unfolding execute
+sequence-begins [] n enters s = refl
+sequence-begins (x ∷ xs) n enters s = refl
+
+pub further-goes : (x : Statement) (xs : List Statement) (n : Named) (enters : Calls Label) (s : State) → executed_further (items_of further_statement_of (x ∷ xs)) n enters s ≡ then_do (executed (statement_of x)) (executed_further (items_of further_statement_of xs)) n enters s
+unfolding execute
+further-goes x xs n enters s = refl
+
+pub further-ends : (n : Named) (enters : Calls Label) (s : State) → executed_further (items_of further_statement_of []) n enters s ≡ running s
+unfolding execute
+further-ends n enters s = refl
+
+pub branches-begin : (c : Tree ℕ expression) (a : Tree ℕ sequence) (es : Tree ℕ (items elsif_part)) (last : Tree ℕ (maybe else_part)) (n : Named) (enters : Calls Label) (s : State)
+    → executed (branches c a es last) n enters s ≡ branching c (executed_all a) (executed_elsifs es last) n enters s
+unfolding execute
+branches-begin c a es last n enters s = choice s (evaluate (meaning_of n) s.store (read_for n c)) (execute_all (meaning_of n) enters n.turns (read_for n a)) (execute_elsifs (meaning_of n) enters n.turns (read_for n es) (execute_else (meaning_of n) enters n.turns (read_for n last)))
+
+pub elsifs-go : (c : Tree ℕ expression) (a : Tree ℕ sequence) (es : Tree ℕ (items elsif_part)) (last : Tree ℕ (maybe else_part)) (n : Named) (enters : Calls Label) (s : State)
+    → executed_elsifs (more (elsif_branch c a) es) last n enters s ≡ branching c (executed_all a) (executed_elsifs es last) n enters s
+unfolding execute
+elsifs-go c a es last n enters s = choice s (evaluate (meaning_of n) s.store (read_for n c)) (execute_all (meaning_of n) enters n.turns (read_for n a)) (execute_elsifs (meaning_of n) enters n.turns (read_for n es) (execute_else (meaning_of n) enters n.turns (read_for n last)))
+
+pub elsifs-end : (last : Tree ℕ (maybe else_part)) (n : Named) (enters : Calls Label) (s : State) → executed_elsifs end last n enters s ≡ executed_else last n enters s
+unfolding execute
+elsifs-end last n enters s = refl
+
+pub else-none : (n : Named) (enters : Calls Label) (s : State) → executed_else none n enters s ≡ running s
+unfolding execute
+else-none n enters s = refl
+
+pub else-some : (a : Tree ℕ sequence) (n : Named) (enters : Calls Label) (s : State) → executed_else (one (else_branch a)) n enters s ≡ executed_all a n enters s
+unfolding execute
+else-some a n enters s = refl
+
+pub turning-zero : (c : Tree ℕ expression) (body : Tree ℕ sequence) (n : Named) (enters : Calls Label) (s : State) → turning zero c body n enters s ≡ branching c (ending_with TurnBound) nothing_more n enters s
+turning-zero c body n enters s = choice s (evaluate (meaning_of n) s.store (read_for n c)) (λ s'. stopped TurnBound s'.output) running
+
+pub turning-suc : (left : ℕ) (c : Tree ℕ expression) (body : Tree ℕ sequence) (n : Named) (enters : Calls Label) (s : State) → turning (suc left) c body n enters s ≡ branching c (then_do (executed_all body) (turning left c body)) nothing_more n enters s
+turning-suc left c body n enters s = choice s (evaluate (meaning_of n) s.store (read_for n c)) (λ s'. go_on (executed_all body n enters s') (turning left c body n enters)) running
+
+-- a turn more, or the bound
+abbrev pub turned : ℕ → (ℕ → Doing) → Doing
+turned zero next = ending_with TurnBound
+turned (suc left) next = next left
+
+pub turning-goes : (left : ℕ) (c : Tree ℕ expression) (body : Tree ℕ sequence) (n : Named) (enters : Calls Label) (s : State)
+    → turning left c body n enters s ≡ branching c (turned left (λ l. then_do (executed_all body) (turning l c body))) nothing_more n enters s
+turning-goes zero c body = turning-zero c body
+turning-goes (suc left) c body = turning-suc left c body
+
+pub until-goes : (left : ℕ) (c : Tree ℕ expression) (body : Tree ℕ sequence) (n : Named) (enters : Calls Label) (s : State)
+    → turning_until left c body n enters s ≡ then_do (executed_all body) (branching c nothing_more (turned left (λ l. turning_until l c body))) n enters s
+until-goes zero c body n enters s = λ i. go_on (executed_all body n enters s) (λ s'. choice s' (evaluate (meaning_of n) s'.store (read_for n c)) running (λ s''. stopped TurnBound s''.output) i)
+until-goes (suc left) c body n enters s = λ i. go_on (executed_all body n enters s) (λ s'. choice s' (evaluate (meaning_of n) s'.store (read_for n c)) running (turning_until left c body n enters) i)
+
+pub while-begins : (c : Tree ℕ expression) (body : Tree ℕ sequence) (n : Named) (enters : Calls Label) (s : State) → executed (Rattle.ob0_tree.specs.Tree.while_loop c body) n enters s ≡ turning n.turns c body n enters s
+unfolding execute
+while-begins c body n enters s = refl
