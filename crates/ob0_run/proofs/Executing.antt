@@ -5,7 +5,7 @@ use denote.MutBor.{MutBor}
 use Rattle.ob0_tree.specs.Tree.{Tree, branches, else_branch, else_part, elsif_branch, elsif_part, end, expression, further_statement, items, maybe, more, none, one, runs, sequence, statement, then_statement}
 use Rattle.ob0_tree.specs.declared.tree.Statement.{Statement}
 use Rattle.ob0_tree.specs.declared.tree.Elsif.{Elsif}
-use Rattle.ob0_tree.specs.View.{elsif_of, expression_of, further_statement_of, items_of, sequence_listed, statement_of}
+use Rattle.ob0_tree.specs.View.{call_of, elsif_of, expression_of, further_argument_of, further_statement_of, items_of, sequence_listed, statement_of}
 use Rattle.ob0_scope.specs.Names.{Label}
 use Rattle.ob0_types.specs.Expressions.{evaluate}
 use Rattle.ob0_values.specs.Values.{End, Outcome, Stuck, TurnBound, Value, elements, ends, gives, members, number, truth, ◌>>=◌}
@@ -13,9 +13,18 @@ use Rattle.ob0_run.specs.declared.machine.Machine.{Machine}
 use Rattle.ob0_run.specs.declared.scene.Ending.{Ending}
 use Rattle.ob0_run.specs.declared.scene.Stop.{Stop}
 use Rattle.ob0_run.specs.declared.scene.Stop.TheVariants as stop
-use Rattle.ob0_run.specs.Machines.{Does, Doing, Named, Performs, Steps, executed, executed_all, meaning_of, named, read_for, state_in}
-use Rattle.ob0_run.specs.Runs.{Calls, Progress, State, choose, execute, execute_all, execute_else, execute_elsifs, execute_further, go_on, running, stopped, turns, turns_until, use_in}
-use Rattle.ob0_run.specs.Scenes.{Answers, condition_in, end_of, truth_of}
+use Rattle.ob0_run.specs.Machines.{Does, Doing, Named, Performs, Steps, executed, executed_all, label_for, meaning_of, named, read_for, state_in}
+use Rattle.ob0_run.specs.Runs.{Argument, Calls, Progress, State, choose, execute, execute_all, execute_else, execute_elsifs, execute_further, go_on, perform, running, stopped, turns, turns_until, use_in}
+use Rattle.ob0_run.specs.Scenes.{Answers, condition_in, end_of, meant_with, truth_of}
+use Rattle.std.specs.declared.vec.Vec.{Vec}
+use Rattle.std.specs.declared.alloc.Global.{Global}
+use Rattle.ob0_scan.specs.Scanned.{Scanned}
+use Rattle.ob0_tree.specs.declared.tree.Call as call
+use Rattle.ob0_tree.specs.declared.tree.Expression.{Expression}
+use Rattle.ob0_tree.specs.View as view
+use Rattle.ob0_types.specs.Arguments.{arguments_listed, further_arguments}
+use Rattle.ob0_run.specs.declared.scene.Meant.{Meant}
+use Rattle.ob0_run.specs.Callings.{expressions_read, listed_in, listed_or_none, passed_to}
 use Rattle.ob0_run.specs.States.{Runs, items_out}
 
 abbrev pub Post : Type 1
@@ -78,6 +87,13 @@ failed_use view stop.Memory m m₂ o k h = tt
 pub leaving : (post : Post) (r : Result (Unit {0}) Stop) (e : Stop) (m m' : Machine) (f : Doing) → (y : Stop) × (r ≡ Err y) × (y ≡ e) → Does post (Err e) m m' f → Does post r m m' f
 leaving post r e m m' f q h = subst (λ r. Does post r m m' f) (sym q.1) (subst (λ y. Does post (Err y) m m' f) (sym q.2) h)
 
+pub leaving_steps : (r : Result (Unit {0}) Stop) (e : Stop) (m m' : Machine) (p : Progress) → (y : Stop) × (r ≡ Err y) × (y ≡ e) → Steps (Err e) m m' p → Steps r m m' p
+leaving_steps r e m m' p q h = subst (λ r. Steps r m m' p) (sym q.1) (subst (λ y. Steps (Err y) m m' p) (sym q.2) h)
+
+-- a fact of names, where these are those of the machine
+pub at_names : (P : Scanned → List (Option ℕ) → List Meant → Type 0) {a a' : Scanned} {b b' : List (Option ℕ)} {c c' : List Meant} → a ≡ a' → b ≡ b' → c ≡ c' → P a b c → P a' b' c'
+at_names P {a} {a'} {b} {b'} {c} {c'} e f g h = subst (λ a. P a b' c') e (subst (λ b. P a b c') f (subst (λ c. P a b c) g h))
+
 module _ (post : Post) (start now : Machine) (F : Doing) where
   -- what a step does for names that stand for the same
   moved : (r : Result (Unit {0}) Stop) (m' : Machine) (f : Doing) (enters : Calls Label) → named now ≡ named start → Performs post (named start) enters → Does post r now m' f → Steps r now m' (f (named start) enters (state_in now))
@@ -122,7 +138,7 @@ comes_here post start F = λ enters p. (refl, refl)
 -- the parts of statements
 
 abbrev pub executed_further : Tree ℕ (items further_statement) → Doing
-executed_further as n enters s = execute_further (meaning_of n) enters n.turns (read_for n as) s
+executed_further rest n enters s = execute_further (meaning_of n) enters n.turns (read_for n rest) s
 
 abbrev pub executed_else : Tree ℕ (maybe else_part) → Doing
 executed_else last n enters s = execute_else (meaning_of n) enters n.turns (read_for n last) s
@@ -199,3 +215,27 @@ until-goes (suc left) c body n enters s = λ i. go_on (executed_all body n enter
 pub while-begins : (c : Tree ℕ expression) (body : Tree ℕ sequence) (n : Named) (enters : Calls Label) (s : State) → executed (Rattle.ob0_tree.specs.Tree.while_loop c body) n enters s ≡ turning n.turns c body n enters s
 unfolding execute
 while-begins c body n enters s = refl
+
+-- calls
+
+listed-further : (n : Named) (es : List Expression) → further_arguments (read_for n (items_of further_argument_of es)) ≡ expressions_read n.source n.ordinals es
+listed-further n [] = refl
+listed-further n (e ∷ es) = ap (λ rest. read_for n (expression_of e) ∷ rest) (listed-further n es)
+
+listed-all : (n : Named) (es : List Expression) → arguments_listed (one (read_for n (view.arguments_listed es))) ≡ expressions_read n.source n.ordinals es
+listed-all n [] = refl
+listed-all n (e ∷ es) = ap (λ rest. read_for n (expression_of e) ∷ rest) (listed-further n es)
+
+listed-read : (n : Named) (o : Option (Vec Expression Global)) → arguments_listed (read_for n (view.arguments_of o)) ≡ expressions_read n.source n.ordinals (listed_or_none o)
+listed-read n None = refl
+listed-read n (Some es) = listed-all n es.items
+
+pub called-split : (c : call.Call) (n : Named) (enters : Calls Label) (s : State)
+    → executed (call_of c) n enters s ≡ use_in s (passed_to (meaning_of n) s.store (meant_with n.meant (label_for n c.procedure)) (expressions_read n.source n.ordinals (listed_in c))) (λ args. perform (meant_with n.meant (label_for n c.procedure)) (enters (label_for n c.procedure)) args s)
+unfolding execute
+called-split c n enters s = ap (λ es. use_in s (passed_to (meaning_of n) s.store (meant_with n.meant (label_for n c.procedure)) es) (λ args. perform (meant_with n.meant (label_for n c.procedure)) (enters (label_for n c.procedure)) args s)) (listed-read n c.arguments)
+
+-- what is called, its arguments evaluated
+pub called-does : (c : call.Call) (n : Named) (enters : Calls Label) (s : State) (args : List Argument) → passed_to (meaning_of n) s.store (meant_with n.meant (label_for n c.procedure)) (expressions_read n.source n.ordinals (listed_in c)) ≡ gives args
+    → executed (call_of c) n enters s ≡ perform (meant_with n.meant (label_for n c.procedure)) (enters (label_for n c.procedure)) args s
+called-does c n enters s args h = called-split c n enters s ∙ ap (λ o. use_in s o (λ args. perform (meant_with n.meant (label_for n c.procedure)) (enters (label_for n c.procedure)) args s)) h

@@ -160,6 +160,19 @@ fn standard_formals(alloc: Global, standard: Standard) -> Result<Vec<Formal>, St
     Ok(formals)
 }
 
+/// How the arguments of a call are passed.
+fn formals_taken(alloc: Global, meant: &Meant) -> Result<Vec<Formal>, Stop>
+    ensures { Answers modes_in result (modes_of (object_of meant.now)) }
+{
+    match meant {
+        Meant::Constant(_) => Err(Stop::Ended(Ending::Stuck)),
+        Meant::Variable(_) => Err(Stop::Ended(Ending::Stuck)),
+        Meant::Procedure(routine) => Ok(formals(alloc, &routine.procedure.formals)?),
+        Meant::Standard(standard) => standard_formals(alloc, *standard),
+        Meant::Nothing => Err(Stop::Ended(Ending::Stuck)),
+    }
+}
+
 impl<'r, 't> Names<'r, 't> {
     /// What a name stands for.
     pub(crate) fn meant(&self, name: usize) -> Option<&'r Meant<'t>>
@@ -177,13 +190,7 @@ impl<'r, 't> Names<'r, 't> {
     {
         match self.meant(name) {
             None => Err(Stop::Ended(Ending::Stuck)),
-            Some(Meant::Constant(_)) => Err(Stop::Ended(Ending::Stuck)),
-            Some(Meant::Variable(_)) => Err(Stop::Ended(Ending::Stuck)),
-            Some(Meant::Procedure(routine)) => {
-                Ok(formals(self.alloc, &routine.procedure.formals)?)
-            }
-            Some(Meant::Standard(standard)) => standard_formals(self.alloc, *standard),
-            Some(Meant::Nothing) => Err(Stop::Ended(Ending::Stuck)),
+            Some(meant) => formals_taken(self.alloc, meant),
         }
     }
 }

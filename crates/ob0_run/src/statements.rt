@@ -244,15 +244,15 @@ fn until<F: Fn(&mut Machine<'_, '_>, usize) -> Result<(), Stop>>(
     requires { F.IsAlwaysCallable enter.now }
     ensures { Does (F.post enter.now) result machine.old machine.new (executed (repeat_of r.now)) }
 {
-    let mut left = machine.turns.saturating_sub(1);
+    let mut further = machine.turns.saturating_sub(1);
     loop {
         sequence(&r.body, machine, enter)?;
         if holds(machine, &r.condition)? {
             return Ok(());
         }
-        if left == 0 {
+        if further == 0 {
             return Err(Stop::Ended(Ending::TurnBound));
         }
-        left -= 1;
+        further -= 1;
     }
 }

@@ -5,4 +5,4 @@ use Rattle.ob0_run.specs.Runs.{parameters}
 use Rattle.ob0_run.proofs.calling.in_sections.Given as goal
 
 abbrev pub invariant-loop-section : goal.invariant-loop-section
-invariant-loop-section l = parameters_of l.formals.items ++ parameters (items_of further_section_of (drop l.section-index l.sections.now)) ≡ parameters (items_of further_section_of l.sections.now)
+invariant-loop-section l = parameters_of l.formals.items ++ parameters (items_of further_section_of (drop l.section-index l.sections)) ≡ parameters (items_of further_section_of l.sections)
