@@ -1,11 +1,15 @@
 -- Steps of statements: what is left of a statement, from one step of the machine to the next.
-use Rattle.std.proofs.Common.{◌≡◌, ℕ, zero, suc, Bool, true, false, ◌+◌, ◌<◌, ◌≤◌, List, [], ◌∷◌, length, get_or, drop, refl, sym, ap, ◌∙◌, subst, Ok, Err, Option, None, Some, Result}
+use Rattle.std.proofs.Common.{◌≡◌, ℕ, zero, suc, arith, Bool, true, false, ◌+◌, ◌-◌, ◌<◌, ◌≤◌, ◌≢◌, List, [], ◌∷◌, length, get_or, drop, refl, sym, ap, ◌∙◌, subst, Ok, Err, Option, None, Some, Result}
 use Rattle.std.proofs.lemmas.List.{drop_all, drop_more}
 use denote.MutBor.{MutBor}
-use Rattle.ob0_tree.specs.Tree.{Tree, branches, else_branch, else_part, elsif_branch, elsif_part, end, expression, further_statement, items, maybe, more, none, one, runs, sequence, statement, then_statement}
+use Rattle.ob0_tree.specs.Tree.{Tree, branches, else_branch, else_part, elsif_branch, elsif_part, end, expression, further_statement, items, maybe, more, none, one, repeat_loop, runs, sequence, statement, then_statement}
 use Rattle.ob0_tree.specs.declared.tree.Statement.{Statement}
 use Rattle.ob0_tree.specs.declared.tree.Elsif.{Elsif}
-use Rattle.ob0_tree.specs.View.{call_of, elsif_of, expression_of, further_argument_of, further_statement_of, items_of, sequence_listed, statement_of}
+use Rattle.ob0_tree.specs.declared.tree.If.{If, out-If}
+use Rattle.ob0_tree.specs.declared.tree.While.{While}
+use Rattle.ob0_tree.specs.declared.tree.Repeat.{Repeat}
+use Rattle.ob0_tree.proofs.Viewed.{if_parts}
+use Rattle.ob0_tree.specs.View.{call_of, else_in, elsif_of, expression_of, further_argument_of, further_statement_of, if_of, items_of, sequence_listed, statement_of}
 use Rattle.ob0_scope.specs.Names.{Label}
 use Rattle.ob0_types.specs.Expressions.{evaluate}
 use Rattle.ob0_values.specs.Values.{End, Outcome, Stuck, TurnBound, Value, elements, ends, gives, members, number, truth, ◌>>=◌}
@@ -13,7 +17,7 @@ use Rattle.ob0_run.specs.declared.machine.Machine.{Machine}
 use Rattle.ob0_run.specs.declared.scene.Ending.{Ending}
 use Rattle.ob0_run.specs.declared.scene.Stop.{Stop}
 use Rattle.ob0_run.specs.declared.scene.Stop.TheVariants as stop
-use Rattle.ob0_run.specs.Machines.{Does, Doing, Named, Performs, Steps, executed, executed_all, label_for, meaning_of, named, read_for, state_in}
+use Rattle.ob0_run.specs.Machines.{Does, Doing, Named, Performs, Steps, executed, executed_all, label_for, meaning_of, named, read_for, repeat_of, state_in, while_of}
 use Rattle.ob0_run.specs.Runs.{Argument, Calls, Progress, State, choose, execute, execute_all, execute_else, execute_elsifs, execute_further, go_on, perform, running, stopped, turns, turns_until, use_in}
 use Rattle.ob0_run.specs.Scenes.{Answers, condition_in, end_of, meant_with, truth_of}
 use Rattle.std.specs.declared.vec.Vec.{Vec}
@@ -66,6 +70,11 @@ pub steps_from : (r : Result (Unit {0}) Stop) (m m' : Machine) (p : Progress) �
 steps_from (Ok done) m m' p h e = (h, e)
 steps_from (Err (stop.Ended x)) m m' p h e = h
 steps_from (Err stop.Memory) m m' p h e = tt
+
+pub steps_same : (r : Result (Unit {0}) Stop) (a m m' : Machine) (p : Progress) → named a ≡ named m → Steps r a m' p → Steps r m m' p
+steps_same (Ok done) a m m' p e h = (h.0, h.1 ∙ e)
+steps_same (Err (stop.Ended x)) a m m' p e h = h
+steps_same (Err stop.Memory) a m m' p e h = tt
 
 pub failed_from : (e : Stop) (m m' m₂ : Machine) (p : Progress) → Steps (Err e) m m' p → Steps (Err e) m₂ m' p
 failed_from (stop.Ended x) m m' m₂ p h = h
@@ -239,3 +248,71 @@ called-split c n enters s = ap (λ es. use_in s (passed_to (meaning_of n) s.stor
 pub called-does : (c : call.Call) (n : Named) (enters : Calls Label) (s : State) (args : List Argument) → passed_to (meaning_of n) s.store (meant_with n.meant (label_for n c.procedure)) (expressions_read n.source n.ordinals (listed_in c)) ≡ gives args
     → executed (call_of c) n enters s ≡ perform (meant_with n.meant (label_for n c.procedure)) (enters (label_for n c.procedure)) args s
 called-does c n enters s args h = called-split c n enters s ∙ ap (λ o. use_in s o (λ args. perform (meant_with n.meant (label_for n c.procedure)) (enters (label_for n c.procedure)) args s)) h
+
+-- what the loops keep
+
+pub executed_as : (post : Post) {r : Result (Unit {0}) Stop} {m m' : Machine} {a b : Tree ℕ statement} → a ≡ b → Does post r m m' (executed a) → Does post r m m' (executed b)
+executed_as post {r} {m} {m'} e h = subst (λ a. Does post r m m' (executed a)) e h
+
+pub executed_listed : (post : Post) {r : Result (Unit {0}) Stop} {m m' : Machine} {xs ys : List Statement} → xs ≡ ys → Does post r m m' (executed_all (sequence_listed xs)) → Does post r m m' (executed_all (sequence_listed ys))
+executed_listed post {r} {m} {m'} e h = subst (λ xs. Does post r m m' (executed_all (sequence_listed xs))) e h
+
+pub branches-here : (post : Post) (m : Machine) (i : If) → Comes post m m (executed (if_of i)) (branching (expression_of (out-If i).condition) (executed_all (sequence_listed (out-If i).then.items)) (executed_elsifs (items_of elsif_of (out-If i).elsifs.items) (else_in (out-If i).otherwise)))
+branches-here post m i = λ enters p. (ap (λ t. executed t (named m) enters (state_in m)) (if_parts i) ∙ branches-begin (expression_of (out-If i).condition) (sequence_listed (out-If i).then.items) (items_of elsif_of (out-If i).elsifs.items) (else_in (out-If i).otherwise) (named m) enters (state_in m), refl)
+
+pub while-here : (post : Post) (m : Machine) (w : While) → Comes post m m (executed (while_of w)) (turning m.turns (expression_of w.condition) (sequence_listed w.body.items))
+while-here post m w = λ enters p. (while-begins (expression_of w.condition) (sequence_listed w.body.items) (named m) enters (state_in m), refl)
+
+repeat-begins : (body : Tree ℕ sequence) (c : Tree ℕ expression) (n : Named) (enters : Calls Label) (s : State) → executed (repeat_loop body c) n enters s ≡ turning_until (n.turns - 1) c body n enters s
+unfolding execute
+repeat-begins body c n enters s = refl
+
+pub repeat-here : (post : Post) (m : Machine) (r : Repeat) (k : ℕ) → k ≡ m.turns - 1 → Comes post m m (executed (repeat_of r)) (turning_until k (expression_of r.condition) (sequence_listed r.body.items))
+repeat-here post m r k e = λ enters p. (repeat-begins (sequence_listed r.body.items) (expression_of r.condition) (named m) enters (state_in m) ∙ ap (λ k. turning_until k (expression_of r.condition) (sequence_listed r.body.items) (named m) enters (state_in m)) (sym e), refl)
+
+pub sequence-here : (post : Post) (m : Machine) (xs : List Statement) → Comes post m m (executed_all (sequence_listed xs)) (executed_further (items_of further_statement_of xs))
+sequence-here post m xs = λ enters p. (sequence-begins xs (named m) enters (state_in m), refl)
+
+one_less : (n : ℕ) → n ≢ 0 → n ≡ suc (n - 1)
+one_less zero h = absurd (h refl)
+one_less (suc n) h = omega arith
+
+module _ (post : Post) (start now : Machine) (F : Doing) where
+  pub further_here : (xs : List Statement) (k : ℕ) (x : Statement) → Comes post start now F (executed_further (items_of further_statement_of (drop k xs))) → k < length xs → x ≡ get_or xs k x
+      → Comes post start now F (then_do (executed (statement_of x)) (executed_further (items_of further_statement_of (drop (k + 1) xs))))
+  further_here xs k x c less is = comes_as post start now F (executed_further (items_of further_statement_of (drop k xs))) (then_do (executed (statement_of x)) (executed_further (items_of further_statement_of (drop (k + 1) xs)))) c
+      (λ n enters s. ap (λ ys. executed_further (items_of further_statement_of ys) n enters s) (drop_more xs k x less ∙ ap (λ z. z ∷ drop (k + 1) xs) (sym is)) ∙ further-goes x (drop (k + 1) xs) n enters s)
+
+  pub further_end : (xs : List Statement) (k : ℕ) → Comes post start now F (executed_further (items_of further_statement_of (drop k xs))) → length xs ≤ k → Comes post start now F nothing_more
+  further_end xs k c all = comes_as post start now F (executed_further (items_of further_statement_of (drop k xs))) nothing_more c
+      (λ n enters s. ap (λ ys. executed_further (items_of further_statement_of ys) n enters s) (drop_all k xs all) ∙ further-ends n enters s)
+
+  pub elsifs_listed : {xs ys : List Elsif} (last : Tree ℕ (maybe else_part)) → xs ≡ ys → Comes post start now F (executed_elsifs (items_of elsif_of ys) last) → Comes post start now F (executed_elsifs (items_of elsif_of xs) last)
+  elsifs_listed {xs} {ys} last e c = subst (λ zs. Comes post start now F (executed_elsifs (items_of elsif_of zs) last)) (sym e) c
+
+  pub elsif_here : (xs : List Elsif) (last : Tree ℕ (maybe else_part)) (k : ℕ) (x : Elsif) → Comes post start now F (executed_elsifs (items_of elsif_of (drop k xs)) last) → k < length xs → x ≡ get_or xs k x
+      → Comes post start now F (branching (expression_of x.condition) (executed_all (sequence_listed x.then.items)) (executed_elsifs (items_of elsif_of (drop (k + 1) xs)) last))
+  elsif_here xs last k x c less is = comes_as post start now F (executed_elsifs (items_of elsif_of (drop k xs)) last) (branching (expression_of x.condition) (executed_all (sequence_listed x.then.items)) (executed_elsifs (items_of elsif_of (drop (k + 1) xs)) last)) c
+      (λ n enters s. ap (λ ys. executed_elsifs (items_of elsif_of ys) last n enters s) (drop_more xs k x less ∙ ap (λ z. z ∷ drop (k + 1) xs) (sym is)) ∙ elsifs-go (expression_of x.condition) (sequence_listed x.then.items) (items_of elsif_of (drop (k + 1) xs)) last n enters s)
+
+  pub elsifs_gone : (xs : List Elsif) (o : Option (Vec Statement Global)) (k : ℕ) → Comes post start now F (executed_elsifs (items_of elsif_of (drop k xs)) (else_in o)) → length xs ≤ k → Comes post start now F (executed_else (else_in o))
+  elsifs_gone xs o k c all = comes_as post start now F (executed_elsifs (items_of elsif_of (drop k xs)) (else_in o)) (executed_else (else_in o)) c
+      (λ n enters s. ap (λ ys. executed_elsifs (items_of elsif_of ys) (else_in o) n enters s) (drop_all k xs all) ∙ elsifs-end (else_in o) n enters s)
+
+  pub no_else : (o : Option (Vec Statement Global)) → o ≡ None → Comes post start now F (executed_else (else_in o)) → Comes post start now F nothing_more
+  no_else o e c = comes_as post start now F (executed_else (else_in o)) nothing_more c (λ n enters s. ap (λ o. executed_else (else_in o) n enters s) e ∙ else-none n enters s)
+
+  pub some_else : (o : Option (Vec Statement Global)) (ss : Vec Statement Global) → o ≡ Some ss → Comes post start now F (executed_else (else_in o)) → Comes post start now F (executed_all (sequence_listed ss.items))
+  some_else o ss e c = comes_as post start now F (executed_else (else_in o)) (executed_all (sequence_listed ss.items)) c (λ n enters s. ap (λ o. executed_else (else_in o) n enters s) e ∙ else-some (sequence_listed ss.items) n enters s)
+
+  pub turn_here : (left : ℕ) (c : Tree ℕ expression) (body : Tree ℕ sequence) → Comes post start now F (turning left c body) → Comes post start now F (branching c (turned left (λ l. then_do (executed_all body) (turning l c body))) nothing_more)
+  turn_here left c body h = comes_as post start now F (turning left c body) (branching c (turned left (λ l. then_do (executed_all body) (turning l c body))) nothing_more) h (turning-goes left c body)
+
+  pub until_here : (left : ℕ) (c : Tree ℕ expression) (body : Tree ℕ sequence) → Comes post start now F (turning_until left c body) → Comes post start now F (then_do (executed_all body) (branching c nothing_more (turned left (λ l. turning_until l c body))))
+  until_here left c body h = comes_as post start now F (turning_until left c body) (then_do (executed_all body) (branching c nothing_more (turned left (λ l. turning_until l c body)))) h (until-goes left c body)
+
+  pub turned_none : (left : ℕ) (next : ℕ → Doing) → left ≡ 0 → Comes post start now F (turned left next) → Comes post start now F (ending_with TurnBound)
+  turned_none left next e c = subst (λ left. Comes post start now F (turned left next)) e c
+
+  pub turned_more : (left : ℕ) (next : ℕ → Doing) → left ≢ 0 → Comes post start now F (turned left next) → Comes post start now F (next (left - 1))
+  turned_more left next h c = subst (λ left. Comes post start now F (turned left next)) (one_less left h) c

@@ -1,6 +1,6 @@
 //! The arguments of a call, and what the standard procedures do with theirs.
 
-ghost use Rattle.std.specs.Prelude.{◌≡◌, ◌++◌, IfOk, List, map, Option, Some, None, option_and_then, option_map, slice_get};
+ghost use Rattle.std.specs.Prelude.{◌≡◌, ◌++◌, IfOk, List, length, map, Option, Some, None, option_and_then, option_map, slice_get};
 ghost use Rattle.ob0_tree.specs.declared.tree.Procedure.{out-Procedure};
 ghost use Rattle.ob0_tree.specs.View.{expression_of, factor_of, formals_of, simple_of, term_of, further_section_of, items_of, names_of};
 ghost use Rattle.ob0_scope.specs.Parts.{formal_sections, names_listed};
@@ -141,6 +141,12 @@ fn mode_at(formals: &[Formal], i: usize) -> Option<bool>
     Some(formals[i].by_place)
 }
 
+fn count_of(args: &Vec<Argument>) -> usize
+    ensures { result ≡ length args.now.items }
+{
+    args.len()
+}
+
 /// The parameters that a standard procedure has.
 fn standard_formals(alloc: Global, standard: Standard) -> Result<Vec<Formal>, Stop>
     ensures { Answers modes_in result (modes_of (Some (mode_taken standard))) }
@@ -242,13 +248,13 @@ impl<'i, 't> State<'i, 't> {
     {
         let mut so_far = Vec::new(names.alloc);
         for e in es {
-            let Some(by_place) = mode_at(formals, so_far.len()) else {
+            let Some(by_place) = mode_at(formals, count_of(&so_far)) else {
                 return Err(Stop::Ended(Ending::Stuck));
             };
             let argument = self.argument(names, by_place, e)?;
             so_far.push(argument)?;
         }
-        if so_far.len() < formals.len() {
+        if count_of(&so_far) < formals.len() {
             return Err(Stop::Ended(Ending::Stuck));
         }
         Ok(so_far)

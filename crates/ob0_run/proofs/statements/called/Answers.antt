@@ -7,7 +7,7 @@ use Rattle.ob0_run.specs.Runs.{perform}
 use Rattle.ob0_run.specs.Scenes.{Answers, label_with, meaning_with, meant_with}
 use Rattle.ob0_run.specs.States.{Runs}
 use Rattle.std.proofs.Common.{map}
-use Rattle.ob0_run.proofs.Executing.{at_names, called-does, called-split, failed_use, leaving_steps, steps_from}
+use Rattle.ob0_run.proofs.Executing.{at_names, called-does, called-split, failed_use, leaving_steps, steps_from, steps_same}
 use Rattle.ob0_run.proofs.statements.called.Goals as goal
 
 pub returns-in_err-args : goal.returns-in_err-args
@@ -20,7 +20,7 @@ pub returns-in-Procedure : goal.returns-in-Procedure
 returns-in-Procedure g c = λ enters performs.
     subst (Steps c.enter.result c.args.machine.now c.enter.new.arg2) (sym (called-does c.args.c.now (named c.args.machine.now) enters (state_in c.args.machine.now) (arguments_of c.in_ok-args.args) (at_names (λ source ordinals meant. Answers arguments_of (Ok c.in_ok-args.args) (passed_to (meaning_with meant) (state_in c.args.machine.now).store (meant_with meant (label_with source ordinals c.args.c.now.procedure)) (expressions_read source ordinals (listed_in c.args.c.now)))) c.names_in-names.ensures.tokens (c.names_in-names.ensures.ordinals ∙ c.deref.ensures.value) (c.names_in-names.ensures.meant ∙ c.deref-2.ensures.value) c.in_ok-args.ensures)
     ∙ (at_names (λ source ordinals meant. ActsAs callee.Procedure (meant_with meant (label_with source ordinals c.args.c.now.procedure))) c.names_in-names.ensures.tokens (c.names_in-names.ensures.ordinals ∙ c.deref.ensures.value) (c.names_in-names.ensures.meant ∙ c.deref-2.ensures.value) c.in-Procedure.ensures) (enters (label_for (named c.args.machine.now) c.args.c.now.procedure)) (arguments_of c.in_ok-args.args) (state_in c.args.machine.now)))
-    (performs _ _ _ _ refl c.enter.ensures)
+    (steps_same c.enter.result _ c.args.machine.now c.enter.new.arg2 _ refl (performs _ _ _ _ refl c.enter.ensures))
 
 pub returns-in-Standard : goal.returns-in-Standard
 returns-in-Standard g c = λ enters performs.
