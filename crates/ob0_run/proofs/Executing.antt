@@ -251,11 +251,11 @@ called-does c n enters s args h = called-split c n enters s ∙ ap (λ o. use_in
 
 -- what the loops keep
 
-pub executed_as : (post : Post) {r : Result (Unit {0}) Stop} {m m' : Machine} {a b : Tree ℕ statement} → a ≡ b → Does post r m m' (executed a) → Does post r m m' (executed b)
-executed_as post {r} {m} {m'} e h = subst (λ a. Does post r m m' (executed a)) e h
+pub executed_as : (post : Post) (r : Result (Unit {0}) Stop) (m m' : Machine) {a b : Tree ℕ statement} → a ≡ b → Does post r m m' (executed a) → Does post r m m' (executed b)
+executed_as post r m m' e h = subst (λ a. Does post r m m' (executed a)) e h
 
-pub executed_listed : (post : Post) {r : Result (Unit {0}) Stop} {m m' : Machine} {xs ys : List Statement} → xs ≡ ys → Does post r m m' (executed_all (sequence_listed xs)) → Does post r m m' (executed_all (sequence_listed ys))
-executed_listed post {r} {m} {m'} e h = subst (λ xs. Does post r m m' (executed_all (sequence_listed xs))) e h
+pub executed_listed : (post : Post) (r : Result (Unit {0}) Stop) (m m' : Machine) {xs ys : List Statement} → xs ≡ ys → Does post r m m' (executed_all (sequence_listed xs)) → Does post r m m' (executed_all (sequence_listed ys))
+executed_listed post r m m' e h = subst (λ xs. Does post r m m' (executed_all (sequence_listed xs))) e h
 
 pub branches-here : (post : Post) (m : Machine) (i : If) → Comes post m m (executed (if_of i)) (branching (expression_of (out-If i).condition) (executed_all (sequence_listed (out-If i).then.items)) (executed_elsifs (items_of elsif_of (out-If i).elsifs.items) (else_in (out-If i).otherwise)))
 branches-here post m i = λ enters p. (ap (λ t. executed t (named m) enters (state_in m)) (if_parts i) ∙ branches-begin (expression_of (out-If i).condition) (sequence_listed (out-If i).then.items) (items_of elsif_of (out-If i).elsifs.items) (else_in (out-If i).otherwise) (named m) enters (state_in m), refl)

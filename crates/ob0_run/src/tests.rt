@@ -209,7 +209,7 @@ fn while_counts_its_own_turns(rt: HostRuntime) -> Result<(), Fail> {
     };
     let (ended, output) = shows(&rt, Statement::While(three), 3)?;
     assert_eq!(rt; ended, Ok(()));
-    assert_eq!(rt; output.as_slice(), &[Item::Number(1), Item::Number(2), Item::Number(3)]);
+    assert_eq!(rt; output.as_slice(), [Item::Number(1), Item::Number(2), Item::Number(3)].as_slice());
     let too_many = While {
         token: 0,
         condition: compared(alloc, Relation::Less, 10),
@@ -217,7 +217,7 @@ fn while_counts_its_own_turns(rt: HostRuntime) -> Result<(), Fail> {
     };
     let (ended, output) = shows(&rt, Statement::While(too_many), 2)?;
     assert_eq!(rt; ended, Err(Stop::Ended(Ending::TurnBound)));
-    assert_eq!(rt; output.as_slice(), &[Item::Number(1), Item::Number(2)]);
+    assert_eq!(rt; output.as_slice(), [Item::Number(1), Item::Number(2)].as_slice());
     Ok(())
 }
 
@@ -231,7 +231,7 @@ fn repeat_makes_its_first_turn(rt: HostRuntime) -> Result<(), Fail> {
     };
     let (ended, output) = shows(&rt, Statement::Repeat(once), 0)?;
     assert_eq!(rt; ended, Ok(()));
-    assert_eq!(rt; output.as_slice(), &[Item::Number(1)]);
+    assert_eq!(rt; output.as_slice(), [Item::Number(1)].as_slice());
     let twice = Repeat {
         token: 0,
         body: body(alloc)?,
@@ -239,7 +239,7 @@ fn repeat_makes_its_first_turn(rt: HostRuntime) -> Result<(), Fail> {
     };
     let (ended, output) = shows(&rt, Statement::Repeat(twice), 2)?;
     assert_eq!(rt; ended, Err(Stop::Ended(Ending::TurnBound)));
-    assert_eq!(rt; output.as_slice(), &[Item::Number(1), Item::Number(2)]);
+    assert_eq!(rt; output.as_slice(), [Item::Number(1), Item::Number(2)].as_slice());
     Ok(())
 }
 
@@ -255,6 +255,6 @@ fn if_takes_one_branch(rt: HostRuntime) -> Result<(), Fail> {
     };
     let (ended, output) = shows(&rt, Statement::If(branches), 0)?;
     assert_eq!(rt; ended, Ok(()));
-    assert_eq!(rt; output.as_slice(), &[Item::Number(1)]);
+    assert_eq!(rt; output.as_slice(), [Item::Number(1)].as_slice());
     Ok(())
 }
