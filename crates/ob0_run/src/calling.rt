@@ -32,7 +32,11 @@ pub struct Formal {
 }
 
 /// Adds the parameters of one section.
-fn add_section(formals: &mut Vec<Formal>, by_place: bool, names: &tree::Names) -> Result<(), AllocError>
+fn add_section(
+    formals: &mut Vec<Formal>,
+    by_place: bool,
+    names: &tree::Names,
+) -> Result<(), AllocError>
     ensures { IfOk result (λ done. parameters_of formals.new.items ≡ parameters_of formals.old.items ++ map (taken_by by_place) (names_listed (names_of names.now))) }
 {
     formals.push(Formal {
@@ -64,10 +68,7 @@ fn in_sections(alloc: Global, sections: &[Section]) -> Result<Vec<Formal>, Alloc
 /// # Errors
 ///
 /// Want of memory.
-pub fn formals(
-    alloc: Global,
-    sections: &Option<Vec<Section>>,
-) -> Result<Vec<Formal>, AllocError>
+pub fn formals(alloc: Global, sections: &Option<Vec<Section>>) -> Result<Vec<Formal>, AllocError>
     ensures { IfOk result (λ formals. parameters_of formals.items ≡ parameters (formal_sections (formals_of sections.now))) }
 {
     match sections {

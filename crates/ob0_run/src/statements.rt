@@ -26,16 +26,30 @@ use ob0_values::value::Value;
 fn holds(machine: &Machine<'_, '_>, e: &Expression) -> Result<bool, Stop>
     ensures { Answers (λ b. b) result (condition_in (meaning_of (named machine.now)) (state_in machine.now).store (read_for (named machine.now) (expression_of e.now))) }
 {
-    machine
-        .state
-        .condition(names_in(machine.alloc, machine.tokens, &machine.ordinals, &machine.meant), e)
+    machine.state.condition(
+        names_in(
+            machine.alloc,
+            machine.tokens,
+            &machine.ordinals,
+            &machine.meant,
+        ),
+        e,
+    )
 }
 
 fn assign(machine: &mut Machine<'_, '_>, a: &Assignment) -> Result<(), Stop>
     ensures value { (enter : Calls Label) (t : ℕ) → Runs result machine.new.state (execute (meaning_of (named machine.old)) enter t (read_for (named machine.old) (assignment_of a.now)) (state_in machine.old)) }
     ensures names { named machine.new ≡ named machine.old }
 {
-    machine.state.assign(names_in(machine.alloc, machine.tokens, &machine.ordinals, &machine.meant), a)
+    machine.state.assign(
+        names_in(
+            machine.alloc,
+            machine.tokens,
+            &machine.ordinals,
+            &machine.meant,
+        ),
+        a,
+    )
 }
 
 /// What a call is of.
@@ -122,7 +136,11 @@ fn write_line<'t>(state: &mut State<'_, 't>, args: &[Argument<'t>]) -> Result<()
 }
 
 /// What a standard procedure does.
-fn standard<'t>(state: &mut State<'_, 't>, standard: Standard, args: &[Argument<'t>]) -> Result<(), Stop>
+fn standard<'t>(
+    state: &mut State<'_, 't>,
+    standard: Standard,
+    args: &[Argument<'t>],
+) -> Result<(), Stop>
     ensures { (enter : List run.Argument → run.State → run.Progress) → Runs result state.new (perform (Some (mode_taken standard)) enter (map argument_of args.now) (state_of state.old)) }
 {
     match standard {
@@ -141,7 +159,12 @@ fn called<F: Fn(&mut Machine<'_, '_>, usize) -> Result<(), Stop>>(
     requires { F.IsAlwaysCallable enter.now }
     ensures { Does (F.post enter.now) result machine.old machine.new (executed (call_of c.now)) }
 {
-    let names = names_in(machine.alloc, machine.tokens, &machine.ordinals, &machine.meant);
+    let names = names_in(
+        machine.alloc,
+        machine.tokens,
+        &machine.ordinals,
+        &machine.meant,
+    );
     let args = machine.state.arguments(names, c)?;
     match callee_of(names, c.procedure) {
         Callee::Procedure => {

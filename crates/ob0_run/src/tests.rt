@@ -164,7 +164,11 @@ fn compared(alloc: Global, relation: Relation, number: usize) -> Expression {
 }
 
 /// Runs statements on x = 0, and tells how they end and what x is shown to be.
-fn shows(rt: &HostRuntime, statement: Statement, turns: u64) -> Result<(Result<(), Stop>, Vec<Item>), Fail> {
+fn shows(
+    rt: &HostRuntime,
+    statement: Statement,
+    turns: u64,
+) -> Result<(Result<(), Stop>, Vec<Item>), Fail> {
     let alloc = rt.alloc();
     let Ok(tokens) = scan(alloc, "MODULE M; BEGIN x := 1 + 2 * 3 END M.") else {
         return Err("no tokens".into());
@@ -193,9 +197,11 @@ fn shows(rt: &HostRuntime, statement: Statement, turns: u64) -> Result<(Result<(
     };
     let mut statements = Vec::new(alloc);
     statements.push(statement)?;
-    let ended = sequence(statements.as_slice(), &mut machine, &|_: &mut Machine<'_, '_>, _: usize| {
-        Err(Stop::Ended(Ending::CallBound))
-    });
+    let ended = sequence(
+        statements.as_slice(),
+        &mut machine,
+        &|_: &mut Machine<'_, '_>, _: usize| { Err(Stop::Ended(Ending::CallBound)) },
+    );
     Ok((ended, machine.state.output))
 }
 
@@ -209,7 +215,10 @@ fn while_counts_its_own_turns(rt: HostRuntime) -> Result<(), Fail> {
     };
     let (ended, output) = shows(&rt, Statement::While(three), 3)?;
     assert_eq!(rt; ended, Ok(()));
-    assert_eq!(rt; output.as_slice(), [Item::Number(1), Item::Number(2), Item::Number(3)].as_slice());
+    assert_eq!(rt;
+        output.as_slice(),
+        [Item::Number(1), Item::Number(2), Item::Number(3)].as_slice()
+    );
     let too_many = While {
         token: 0,
         condition: compared(alloc, Relation::Less, 10),
@@ -217,7 +226,10 @@ fn while_counts_its_own_turns(rt: HostRuntime) -> Result<(), Fail> {
     };
     let (ended, output) = shows(&rt, Statement::While(too_many), 2)?;
     assert_eq!(rt; ended, Err(Stop::Ended(Ending::TurnBound)));
-    assert_eq!(rt; output.as_slice(), [Item::Number(1), Item::Number(2)].as_slice());
+    assert_eq!(rt;
+        output.as_slice(),
+        [Item::Number(1), Item::Number(2)].as_slice()
+    );
     Ok(())
 }
 
@@ -239,7 +251,10 @@ fn repeat_makes_its_first_turn(rt: HostRuntime) -> Result<(), Fail> {
     };
     let (ended, output) = shows(&rt, Statement::Repeat(twice), 2)?;
     assert_eq!(rt; ended, Err(Stop::Ended(Ending::TurnBound)));
-    assert_eq!(rt; output.as_slice(), [Item::Number(1), Item::Number(2)].as_slice());
+    assert_eq!(rt;
+        output.as_slice(),
+        [Item::Number(1), Item::Number(2)].as_slice()
+    );
     Ok(())
 }
 
