@@ -1,5 +1,5 @@
 -- How the table of a run stands for an environment.
-use Rattle.std.specs.Prelude.{◌≡◌, ℕ, suc, List, [], ◌∷◌, length, map, Option, Some, None, slice_get, option_and_then}
+use Rattle.std.specs.Prelude.{◌≡◌, ℕ, zero, suc, ◌+◌, drop, List, [], ◌∷◌, length, map, Option, Some, None, slice_get, option_and_then}
 use Rattle.ob0_scan.specs.Scanned.{Scanned}
 use Rattle.ob0_tree.specs.declared.tree.Procedure.{Procedure}
 use Rattle.ob0_tree.specs.View.{procedure_of}
@@ -46,3 +46,16 @@ abbrev pub HeldMeans : Type 0
 HeldMeans =
     (source : Scanned) (ordinals : List (Option ℕ)) (env : Activation Label) (ms : List Meant) (bs : List Bound) (k : ℕ)
     → Holds source ordinals env ms bs → newest (from_binding as_labels env (declared k)) ≡ option_and_then (entry_of source ordinals) (slice_get ms k)
+
+-- what the ordinals stand for once the newest bindings are taken back
+abbrev pub without_newest : ℕ → List Meant → List Bound → List Meant
+without_newest zero ms bs = ms
+without_newest (suc n) ms [] = ms
+without_newest (suc n) ms (b ∷ bs) = without_newest n (put_at b.ordinal b.hidden ms) bs
+
+-- a table unwound to the depth of a procedure holds the bindings that were visible at its declaration
+abbrev pub HeldCloses : Type 0
+HeldCloses =
+    (source : Scanned) (ordinals : List (Option ℕ)) (env : Activation Label) (ms : List Meant) (bs : List Bound) (k : ℕ) (r : Routine)
+    → Holds source ordinals env ms bs → slice_get ms k ≡ Some (meant.Procedure r)
+    → (n : ℕ) × (length bs ≡ n + r.depth) × Holds source ordinals (from_binding as_labels env (declared k)) (without_newest n ms bs) (drop n bs)
