@@ -76,11 +76,11 @@ module _ (source : Scanned) (ordinals : List (Option ℕ)) where
       go (declared i) (Some j) at el eq =
           (elim (k == i) as (λ v. k == i ≡ v → Closes (elim v [ true ↦ (declared i, o) ∷ env | false ↦ from_binding as_labels env (declared k) ]) ms (b ∷ bs) r) [
             | true ↦ λ e.
-              let same : k ≡ j = eqb-true k i e ∙ at.0 in
-              let is : at.1 ≡ meant.Procedure r = ap (λ o. unwrap_or o at.1) (sym at.2 ∙ ap (λ k. slice_get ms k) (sym same) ∙ found) in
-              let depth : r.depth ≡ suc (length env) = depth_here (suc (length env)) at.1 r is at.4 in
-              let lengths : length env ≡ length bs = held_length env (put_at b.ordinal b.hidden ms) bs h.1 in
-              (0, omega (arith, depth, lengths), subst (λ l. Holds source ordinals ((l, o) ∷ env) ms (b ∷ bs)) el h)
+                let same : k ≡ j = eqb-true k i e ∙ at.0 in
+                let is : at.1 ≡ meant.Procedure r = ap (λ o. unwrap_or o at.1) (sym at.2 ∙ ap (λ k. slice_get ms k) (sym same) ∙ found) in
+                let depth : r.depth ≡ suc (length env) = depth_here (suc (length env)) at.1 r is at.4 in
+                let lengths : length env ≡ length bs = held_length env (put_at b.ordinal b.hidden ms) bs h.1 in
+                (0, omega (arith, depth, lengths), subst (λ l. Holds source ordinals ((l, o) ∷ env) ms (b ∷ bs)) el h)
             | false ↦ λ e. closes_older (from_binding as_labels env (declared k)) ms b bs r (older (ap (λ q. slice_get (put_at q b.hidden ms) k) eq ∙ get_other ms j k b.hidden (λ same. eqb-false k i e (same ∙ sym at.0)) ∙ found))
           ]) refl
 

@@ -13,8 +13,8 @@ use Rattle.ob0_run.specs.declared.scene.Meant.{Meant}
 use Rattle.ob0_run.specs.declared.scene.Meant.TheVariants as meant
 use Rattle.ob0_run.specs.declared.scene.Routine.{Routine}
 use Rattle.ob0_run.specs.Bindings.{put_at}
-use Rattle.ob0_run.specs.Runs.{Activation, Code}
-use Rattle.ob0_run.specs.Scenes.{read_with, standard_of}
+use Rattle.ob0_run.specs.Runs.{Activation, Code, statement_meanings}
+use Rattle.ob0_run.specs.Scenes.{meaning_with, read_with, standard_of}
 
 -- what an entry of the table is in a run
 abbrev pub entry_of : Scanned → List (Option ℕ) → Meant → Option (Object Place (Code Label))
@@ -59,3 +59,9 @@ HeldCloses =
     (source : Scanned) (ordinals : List (Option ℕ)) (env : Activation Label) (ms : List Meant) (bs : List Bound) (k : ℕ) (r : Routine)
     → Holds source ordinals env ms bs → slice_get ms k ≡ Some (meant.Procedure r)
     → (n : ℕ) × (length bs ≡ n + r.depth) × Holds source ordinals (from_binding as_labels env (declared k)) (without_newest n ms bs) (drop n bs)
+
+-- to the statements of an activation names stand for what the table has
+abbrev pub HeldSpeaks : Type 0
+HeldSpeaks =
+    (source : Scanned) (ordinals : List (Option ℕ)) (env : Activation Label) (ms : List Meant) (bs : List Bound)
+    → Holds source ordinals env ms bs → statement_meanings as_labels env ≡ meaning_with ms
