@@ -3,6 +3,10 @@ use Rattle.std.specs.Prelude.{◌≡◌, ℕ, Bool, true, false, List, map, Opti
 use Rattle.ob0_scan.specs.Scanned.{Scanned}
 use Rattle.ob0_tree.specs.Places.{text_at, value_at}
 use Rattle.ob0_tree.specs.Tree.{Sort, Tree, addend, adds, expression, field, index, item, mapped, multiplier, multiplies, selector}
+use Rattle.ob0_tree.specs.declared.tree.Procedure.{out-Procedure}
+use Rattle.ob0_tree.specs.View.{formals_of}
+use Rattle.ob0_scope.specs.Parts.{formal_sections}
+use Rattle.ob0_run.specs.Runs.{formal_modes}
 use Rattle.ob0_scope.specs.Names.{Label, as_names, as_written, declared, label_text}
 use Rattle.ob0_scope.specs.Scopes.{as_label}
 use Rattle.ob0_types.specs.Expressions.{Meanings, Object, a_constant, a_procedure, a_standard, a_variable, element_step, evaluate, evaluate_factor, evaluate_term, reads, writes, writes_line}
@@ -22,6 +26,7 @@ use Rattle.ob0_run.specs.declared.scene.Stop.{Stop}
 use Rattle.ob0_run.specs.declared.scene.Stop.TheVariants as stop
 use Rattle.ob0_run.specs.declared.scene.Standard as code_standard
 use Rattle.ob0_run.specs.declared.scene.Standard.TheVariants as standards
+use Rattle.ob0_run.specs.declared.scene.Routine.{Routine}
 use Rattle.ob0_run.specs.declared.scene.Meant.{Meant}
 use Rattle.ob0_run.specs.declared.scene.Meant.TheVariants as meant
 use Rattle.ob0_run.specs.declared.scene.Scene.{Scene}
@@ -56,11 +61,15 @@ abbrev pub mode_of : Bool → Mode
 mode_of true = by_place
 mode_of false = by_value
 
+-- how a procedure's arguments are passed
+abbrev pub modes_taken : Routine → List Mode
+modes_taken r = formal_modes (formal_sections (formals_of (out-Procedure r.procedure.now).formals))
+
 -- what a declaration is to statements
 abbrev pub object_of : Meant → Option (Object Place (List Mode))
 object_of (meant.Constant v) = Some (a_constant (value_of v))
 object_of (meant.Variable p) = Some (a_variable (place_of p))
-object_of (meant.Procedure modes) = Some (a_procedure (map mode_of modes.items))
+object_of (meant.Procedure r) = Some (a_procedure (modes_taken r))
 object_of (meant.Standard s) = Some (a_standard (standard_of s))
 object_of meant.Nothing = None
 

@@ -8,6 +8,7 @@ ghost use Rattle.ob0_values.specs.Stored.{given, store_of};
 ghost use Rattle.ob0_run.specs.Scenes.{Answers, label_in, meant_by, object_of, ordinal_in, stop_of};
 
 use ob0_scan::{TokenKind, Tokens};
+use ob0_tree::tree::Procedure;
 use ob0_values::scalar::{Fault, Scalar};
 use ob0_values::value::{Place, Value, read_place};
 use std::alloc::{AllocError, AllocFailed, Global};
@@ -61,13 +62,22 @@ pub enum Standard {
     WriteLn,
 }
 
+/// A procedure in a run.
+#[derive(Clone, Copy)]
+pub struct Routine<'t> {
+    pub procedure: &'t Procedure,
+    /// The ordinal of the first ARRAY or RECORD in its text.
+    pub first_constructor: usize,
+    /// How many bindings there were once it was bound, its own among them.
+    pub depth: usize,
+}
+
 /// What a declaration is to the statements of a run.
 #[derive(Drop)]
 pub enum Meant<'t> {
     Constant(Value<'t>),
     Variable(Place<'t>),
-    /// A procedure, by how its arguments are passed: true for a VAR parameter.
-    Procedure(Vec<bool>),
+    Procedure(Routine<'t>),
     Standard(Standard),
     /// Nothing that a statement can use.
     Nothing,
@@ -96,16 +106,23 @@ pub fn stopped_by(fault: Fault) -> Stop
     }
 }
 
+/// The ordinal that a table has at a token.
+pub(crate) fn ordinal_at(ordinals: &[Option<usize>], token: usize) -> Option<usize>
+    ensures { result ≡ ordinal_in ordinals.now token }
+{
+    if token < ordinals.len() {
+        ordinals[token]
+    } else {
+        None
+    }
+}
+
 impl<'r, 't> Scene<'r, 't> {
     /// The ordinal of the declaration that a name is bound to.
     pub fn ordinal(&self, name: usize) -> Option<usize>
         ensures { result ≡ ordinal_in self.now.ordinals.now name }
     {
-        if name < self.ordinals.len() {
-            self.ordinals[name]
-        } else {
-            None
-        }
+        ordinal_at(self.ordinals, name)
     }
 
     /// What a name stands for.

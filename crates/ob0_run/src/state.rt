@@ -70,14 +70,14 @@ impl<'i, 't> State<'i, 't> {
     }
 
     /// The place of a designator, now.
-    fn designate(&self, names: Names<'_, 't>, d: &Designator) -> Result<Place<'t>, Stop>
+    pub(crate) fn designate(&self, names: Names<'_, 't>, d: &Designator) -> Result<Place<'t>, Stop>
         ensures { Answers place_of result (designate (meaning_with names.entry.meant.now) (state_of self.now).store (label_with names.entry.tokens.now names.entry.ordinals.now d.now.name) (read_with names.entry.tokens.now names.entry.ordinals.now (items_of selector_of d.now.selectors.items))) }
     {
         self.scene(names).designate(d)
     }
 
     /// What an expression is worth, now.
-    fn evaluate(&self, names: Names<'_, 't>, e: &Expression) -> Result<Value<'t>, Stop>
+    pub(crate) fn evaluate(&self, names: Names<'_, 't>, e: &Expression) -> Result<Value<'t>, Stop>
         ensures { Answers value_of result (evaluate (meaning_with names.entry.meant.now) (state_of self.now).store (read_with names.entry.tokens.now names.entry.ordinals.now (expression_of e.now))) }
     {
         self.scene(names).expression(e)
