@@ -2,7 +2,7 @@
 use Rattle.std.specs.Prelude.{ℕ, List, map}
 use Rattle.ob0_scan.specs.Scanned.{IsScanOf}
 use Rattle.ob0_scope.specs.Resolution.{Resolution}
-use Rattle.ob0_types.specs.Checking.{IsWellTyped}
+use Rattle.ob0_types.specs.CheckedModules.{IsWellTyped}
 use Rattle.ob0_session.specs.Diagnosed.{IsWellTypedModule, TellsFaults, complaint_in}
 use Rattle.ob0_session.specs.declared.analysis.Asked.{Asked}
 use Rattle.ob0_session.specs.declared.analysis.Asked.TheVariants.{Answered, IllTyped}
