@@ -1,37 +1,28 @@
 //! Faults of worked modules: code, start and end of each, in the order of their places.
 
 use ob0_parse::parse;
-use ob0_scan::{Code, Fault, scan};
+use ob0_scan::scan;
 use ob0_scope::resolve::resolve;
-use ob0_scope::resolved::Resolved;
-use ob0_types::telling::tell;
-use std::alloc::{AllocError, Global};
+use ob0_types::checked::check;
+use std::alloc::Global;
 use std::test::Fail;
 
-/// The faults of types and scopes, in the order of their places.
-fn faults_of<'t>(alloc: Global, resolved: &'t Resolved<'t>) -> Result<Vec<Fault>, AllocError> {
-    let mut faults = tell(alloc, resolved)?;
-    for fault in resolved.faults() {
-        if fault.code != Code::Undeclared {
-            faults.push(*fault)?;
-        }
-    }
-    faults.sort_by_key(|fault| (fault.span.start, fault.span.end, fault.code))?;
-    Ok(faults)
-}
-
-/// The faults of a text.
+/// The faults of a text, and that it is well-typed where it has none.
 fn told(alloc: Global, text: &str) -> Result<String, Fail> {
     let tokens = scan(alloc, text)?;
     let module = parse(alloc, &tokens)?;
     let resolved = resolve(alloc, &module)?;
     let mut out = String::new(alloc);
-    for fault in &faults_of(alloc, &resolved)? {
+    let checked = check(alloc, &resolved)?;
+    for fault in checked.faults() {
         let name = fault.code.name();
         let start = fault.span.start;
         let end = fault.span.end;
         let line = format!(in alloc; "{name} {start}-{end}; ")?;
         out.push_str(line.as_str())?;
+    }
+    if checked.well_typed().is_some() {
+        out.push_str("well-typed")?;
     }
     Ok(out)
 }
@@ -76,7 +67,7 @@ fn array_types(rt: HostRuntime) -> Result<(), Fail> {
             alloc,
             "MODULE M; VAR a, b: ARRAY 3 OF INTEGER; BEGIN a := b END M.",
         ),
-        "",
+        "well-typed",
     )?;
     is(
         &rt,
@@ -84,7 +75,7 @@ fn array_types(rt: HostRuntime) -> Result<(), Fail> {
             alloc,
             "MODULE M; TYPE T = ARRAY 3 OF INTEGER; VAR a: T; b: T; BEGIN a := b END M.",
         ),
-        "",
+        "well-typed",
     )
 }
 
@@ -97,7 +88,7 @@ fn sizes(rt: HostRuntime) -> Result<(), Fail> {
             alloc,
             "MODULE M; VAR a: ARRAY 256 OF ARRAY 256 OF INTEGER; END M.",
         ),
-        "",
+        "well-typed",
     )?;
     is(
         &rt,
