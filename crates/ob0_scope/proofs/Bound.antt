@@ -12,15 +12,16 @@ use Rattle.ob0_scan.specs.declared.fault.Code.{Code}
 use Rattle.ob0_scan.specs.declared.lexeme.Span.{Span}
 use Rattle.ob0_scan.specs.Scanned.{Scanned}
 use Rattle.ob0_tree.specs.declared.tree.Role.TheVariants as role
-use Rattle.ob0_tree.specs.Tree.{occurrences, identifiers}
+use Rattle.ob0_tree.specs.Tree.{occurrences}
 use Rattle.ob0_tree.specs.Parsed.{Parsed, IsParsed, tree_of, named_tree_of}
 use Rattle.ob0_tree.specs.Places.{text_at, value_at}
 use Rattle.ob0_scope.specs.DeclaredOnce.{declared_once}
-use Rattle.ob0_scope.specs.Names.{Label, Name, as_names}
+use Rattle.ob0_scope.specs.Names.{Name, as_names}
 use Rattle.ob0_scope.specs.Occurrences.{bindings, binds, label_ordinal}
 use Rattle.ob0_scope.specs.Resolution.{AreFaultsOf, IsNumbering, IsResolution, Resolution, is_of_declarations, is_of_occurrences, is_unbound, label_at, ordinal_in, span_at, undeclared_at, with_ordinal}
-use Rattle.ob0_scope.specs.Scopes.{as_label, numbered}
+use Rattle.ob0_scope.specs.Scopes.{as_label}
 use Rattle.ob0_scope.specs.Visiting.{Visit, started, visit_module, with_marks}
+use Rattle.ob0_scope.specs.Written.{as_in}
 use Rattle.ob0_scope.proofs.OccurrencesMapped.{occurrences-mapped}
 use Rattle.ob0_scope.proofs.Passing.{HasMarks, module_passed}
 use Rattle.ob0_scope.proofs.Tables.{marks_stand}
@@ -28,7 +29,7 @@ use Rattle.ob0_tree.specs.Order.{Ascending}
 use Rattle.ob0_tree.proofs.Leaves.{leaves_ascend}
 use Rattle.ob0_tree.proofs.Occurring.{looked_up-occurrences}
 
-bindings_by_table : (m : Parsed) (ordinals : List (Option ℕ)) → IsNumbering m ordinals → bindings (named_tree_of m) ≡ map (label_at m.source ordinals) (occurrences (tree_of m))
+pub bindings_by_table : (m : Parsed) (ordinals : List (Option ℕ)) → IsNumbering m ordinals → bindings (named_tree_of m) ≡ map (label_at m.source ordinals) (occurrences (tree_of m))
 bindings_by_table m ordinals numbering = ap occurrences numbering ∙ occurrences-mapped (label_at m.source ordinals) (value_at m.source) (tree_of m)
 
 label_back : (ordinal : Option ℕ) (x : Name) → label_ordinal (as_label as_names ordinal x) ≡ ordinal
@@ -127,20 +128,20 @@ faults_told m ordinals once sorted numbering told alone permuted =
     }
 
 -- a module gone through, with the table of its marks and its faults, is resolved
-pub resolution_made : (m : Parsed) (v : Visit) (ordinals : List (Option ℕ)) (declarations uses : List ℕ) (once sorted : List Fault) → IsParsed m → v ≡ visit_module (tree_of m) (started m.source)
+pub resolution_made : (m : Parsed) (v : Visit) (ordinals : List (Option ℕ)) (declarations uses : List ℕ) (once sorted : List Fault) → IsParsed m → v ≡ visit_module (tree_of m) (started (as_in m.source))
     → ordinals ≡ with_marks (replicate (length m.source.tokens) None) v.marks → declarations ≡ v.declarations → uses ≡ v.uses → list_any is_of_declarations once ≡ not (declared_once (named_tree_of m))
     → list_any (λ f. not (is_of_declarations f)) once ≡ false → IsPermutation (once ++ undeclared_at m.source ordinals uses) sorted
     → IsResolution (record { module_read = m; ordinals = ordinals; declarations = declarations; uses = uses; faults = sorted })
 resolution_made m v ordinals declarations uses once sorted parsed gone tabled declares occurs told alone permuted =
-    let w = visit_module (tree_of m) (started m.source) in
+    let w = visit_module (tree_of m) (started (as_in m.source)) in
     let count = length-replicate (length m.source.tokens) (let nothing : Option ℕ = None in nothing) in
-    let numbered_so = module_passed (ordinal_in ordinals) (as_label as_names) m.source (tree_of m) (started m.source) (record { source = refl; scope = refl; next = refl }) in
+    let numbered_so = module_passed (ordinal_in ordinals) (as_label as_names) (as_in m.source) (tree_of m) (started (as_in m.source)) (record { writing = refl; scope = refl; next = refl }) in
     let table : ordinals ≡ with_marks (replicate (length m.source.tokens) None) w.marks = tabled ∙ ap (λ (v : Visit). with_marks (replicate (length m.source.tokens) None) v.marks) gone in
     let ascend = subst (λ ts. Ascending 0 ts (length m.source.tokens)) (sym numbered_so.tokens) (leaves_ascend m parsed) in
     let marks = marks_stand w.marks (replicate (length m.source.tokens) None) 0 (length m.source.tokens) ascend (subst (λ n. length m.source.tokens ≤ n) (sym count) (le_refl (length m.source.tokens))) in
     let stand = subst (λ (os : List (Option ℕ)). HasMarks (ordinal_in os) w.marks) (sym table) marks in
     let numbering : IsNumbering m ordinals = (numbered_so.agree stand).1 in
-    let paired = module_passed (ordinal_in ordinals) with_ordinal m.source (tree_of m) (started m.source) (record { source = refl; scope = refl; next = refl }) in
+    let paired = module_passed (ordinal_in ordinals) with_ordinal (as_in m.source) (tree_of m) (started (as_in m.source)) (record { writing = refl; scope = refl; next = refl }) in
     let occurring : uses ≡ occurrences (tree_of m) = occurs ∙ (ap (λ (v : Visit). v.uses) gone ∙ (numbered_so.used ∙ looked_up-occurrences role.Declaring (λ n xs. refl) (tree_of m))) in
     record {
       parsed = parsed;

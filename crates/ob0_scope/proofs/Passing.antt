@@ -1,21 +1,21 @@
 -- What is known after each part of a module: which names are visible, and that a table with all marks numbers the part.
-use Rattle.std.proofs.Common.{◌≡◌, ℕ, suc, ◌+◌, ◌-◌, Option, Some, None, List, [], ◌∷◌, ◌++◌, map, length, drop, refl, sym, ap, ◌∙◌, subst, subst₂, arith, append_assoc, append-nil, length-append}
+use Rattle.std.proofs.Common.{◌≡◌, ℕ, suc, ◌+◌, ◌-◌, Option, Some, None, List, [], ◌∷◌, ◌++◌, map, length, drop, refl, sym, ap, ◌∙◌, subst, arith, append_assoc, append-nil, length-append}
 use Rattle.std.proofs.lemmas.List.{map-append}
 use Rattle.std.proofs.Math.Seq.{drop-append-add}
-use Rattle.ob0_scan.specs.Scanned.{Scanned}
 use Rattle.ob0_tree.specs.declared.tree.Role.{Role}
 use Rattle.ob0_tree.specs.declared.tree.Role.TheVariants as role
-use Rattle.ob0_tree.specs.Tree.{Sort, Tree, begins, block, body, constant, constants, declares, declares_constant, declares_constants, declares_procedure, declares_type, declares_types, declares_variable, declares_variables, end, expression, formals, further_name, further_section, has_body, identifiers, is_module, item, items, listed, mapped, maybe, module_text, more, names, no_formals, none, one, procedure, section, some_formals, then_name, then_section, type_name, type_names, value_section, variable, variable_section, variables, written_type}
+use Rattle.ob0_tree.specs.Tree.{Sort, Tree, block, constant, constants, declares, declares_constant, declares_constants, declares_procedure, declares_type, declares_types, declares_variable, declares_variables, end, formals, further_name, further_section, has_body, identifiers, is_module, item, items, listed, mapped, maybe, module_text, more, names, no_formals, none, one, procedure, section, some_formals, then_name, then_section, type_name, type_names, value_section, variable, variable_section, variables, written_type}
 use Rattle.ob0_tree.specs.Order.{names_only}
-use Rattle.ob0_tree.specs.Places.{named, text_at, value_at}
+use Rattle.ob0_tree.specs.Places.{value_at}
+use Rattle.ob0_scope.specs.Written.{Writing, name_at, spelled_by}
 use Rattle.ob0_tree.proofs.Occurring.{looked_up_only, looked_up_only-append}
 use Rattle.ob0_scope.specs.declared.numbering.Mark.{Mark}
 use Rattle.ob0_scope.specs.Names.{Name, as_names}
 use Rattle.ob0_scope.specs.Parts.{constant_names, formal_names, formal_sections, further_names, module_block, named_types, names_listed, procedure_name, section_constants, section_names, section_types, section_variables, variable_names}
 use Rattle.ob0_scope.specs.Resolution.{declaring_only}
 use Rattle.ob0_scope.specs.Scopes.{Labels, Scope, after_block, after_names, after_procedure, after_procedures, body_scope, declare_names, declare_procedure_names, ordinal_of, predeclared_scope, relabel_block, relabel_constant_section, relabel_constants, relabel_formals, relabel_further, relabel_names, relabel_procedure, relabel_procedures, relabel_section, relabel_sections, relabel_type_section, relabel_types, relabel_uses, relabel_variable_section, relabel_variables, relabelled}
-use Rattle.ob0_scope.specs.Visiting.{Visit, behind_block, behind_heading, found, found_all, left_to, marked, numbered_all, numbered_at, shown, shown_from, used, visit_block, visit_constant, visit_constant_section, visit_constants, visit_formals, visit_module, visit_procedure, visit_procedures, visit_section, visit_sections, visit_type, visit_type_section, visit_types, visit_variable, visit_variable_section, visit_variables}
-use Rattle.ob0_scope.proofs.Agreed.{AllFit, Fits, Reads, agreed}
+use Rattle.ob0_scope.specs.Visiting.{Visit, behind_block, behind_heading, found, found_all, left_to, marked, numbered_all, numbered_at, shown_from, used, visit_block, visit_constant, visit_constant_section, visit_constants, visit_formals, visit_module, visit_procedure, visit_procedures, visit_section, visit_sections, visit_type, visit_type_section, visit_types, visit_variable, visit_variable_section, visit_variables}
+use Rattle.ob0_scope.proofs.Agreed.{AllFit, agreed}
 use Rattle.ob0_scope.proofs.Ordinals.{after_names-append, declare_names-append}
 use Rattle.ob0_scope.proofs.Peeling.{Two}
 use Rattle.ob0_scope.proofs.Plain.{IsPlain, declares_nothing, declaring_only-append}
@@ -32,8 +32,8 @@ marks_split table (x ∷ xs) ys h = let rest = marks_split table xs ys h.1 in ((
 abbrev pub tokens_of : List Mark → List ℕ
 tokens_of ms = map (λ m. m.token) ms
 
-pub record At (v : Visit) (src : Scanned) (s : Scope Name) (k : ℕ) : Type 0 where
-  pub source : v.source ≡ src
+pub record At (v : Visit) (src : Writing) (s : Scope Name) (k : ℕ) : Type 0 where
+  pub writing : v.writing ≡ src
   pub scope : v.scope ≡ s
   pub next : 7 + length v.declarations ≡ k
 
@@ -78,70 +78,70 @@ left_extends {s = s} e =
     ap (λ z. drop (length z - length s) z) e.is ∙ (ap (λ n. drop n (e.newer ++ s)) count ∙ drop-append-add e.newer s 0)
 
 -- what the identifiers of a part that declares nothing leave
-record FoundAll (table : ℕ → Option ℕ) (src : Scanned) (v w : Visit) (xs : List (Role × ℕ)) : Type 0 where
-  source : w.source ≡ v.source
+record FoundAll (table : ℕ → Option ℕ) (src : Writing) (v w : Visit) (xs : List (Role × ℕ)) : Type 0 where
+  writing : w.writing ≡ v.writing
   scope : w.scope ≡ v.scope
   kept : w.declarations ≡ v.declarations
   used : w.uses ≡ v.uses ++ looked_up_only xs
   tokens : tokens_of w.marks ≡ tokens_of v.marks ++ names_only xs
-  agree : v.source ≡ src → HasMarks table w.marks → HasMarks table v.marks × AllFit table src v.scope xs
+  agree : v.writing ≡ src → HasMarks table w.marks → HasMarks table v.marks × AllFit table src v.scope xs
 
 mark_added : (ms : List Mark) (m : Mark) → tokens_of (ms ++ (m ∷ [])) ≡ tokens_of ms ++ (m.token ∷ [])
 mark_added ms m = map-append (λ m. m.token) ms (m ∷ [])
 
-found_none : (table : ℕ → Option ℕ) (src : Scanned) (i : ℕ) (v : Visit) → HasMarks table (marked i None v).marks → HasMarks table v.marks × (table i ≡ None) × Unit {0}
+found_none : (table : ℕ → Option ℕ) (src : Writing) (i : ℕ) (v : Visit) → HasMarks table (marked i None v).marks → HasMarks table v.marks × (table i ≡ None) × Unit {0}
 found_none table src i v h = let m = marks_split table v.marks (record { token = i; ordinal = None } ∷ []) h in (m.0, m.1.0, tt)
 
-found_one : (table : ℕ → Option ℕ) (src : Scanned) (r : Role) (i : ℕ) (v : Visit) → FoundAll table src v (found r i v) ((r, i) ∷ [])
+found_one : (table : ℕ → Option ℕ) (src : Writing) (r : Role) (i : ℕ) (v : Visit) → FoundAll table src v (found r i v) ((r, i) ∷ [])
 found_one table src role.LookedUp i v =
-    let m : Mark = record { token = i; ordinal = ordinal_of as_names v.scope (text_at v.source i) } in
+    let m : Mark = record { token = i; ordinal = ordinal_of as_names v.scope (name_at v.writing i) } in
     record {
-      source = refl;
+      writing = refl;
       scope = refl;
       kept = refl;
       used = refl;
       tokens = mark_added v.marks m;
       agree = λ e h.
           let parts = marks_split table v.marks (m ∷ []) h in
-          (parts.0, (parts.1.0 ∙ ap (λ z. ordinal_of as_names v.scope (text_at z i)) e, tt));
+          (parts.0, (parts.1.0 ∙ ap (λ z. ordinal_of as_names v.scope (name_at z i)) e, tt));
     }
-found_one table src role.Declaring i v = record { source = refl; scope = refl; kept = refl; used = sym (append-nil v.uses); tokens = mark_added v.marks (record { token = i; ordinal = None }); agree = λ e h. let f = found_none table src i v h in (f.0, (f.1, tt)) }
-found_one table src role.ClosingName i v = record { source = refl; scope = refl; kept = refl; used = sym (append-nil v.uses); tokens = mark_added v.marks (record { token = i; ordinal = None }); agree = λ e h. let f = found_none table src i v h in (f.0, (f.1, tt)) }
-found_one table src role.FieldName i v = record { source = refl; scope = refl; kept = refl; used = sym (append-nil v.uses); tokens = mark_added v.marks (record { token = i; ordinal = None }); agree = λ e h. let f = found_none table src i v h in (f.0, (f.1, tt)) }
-found_one table src role.ModuleName i v = record { source = refl; scope = refl; kept = refl; used = sym (append-nil v.uses); tokens = mark_added v.marks (record { token = i; ordinal = None }); agree = λ e h. let f = found_none table src i v h in (f.0, (f.1, tt)) }
+found_one table src role.Declaring i v = record { writing = refl; scope = refl; kept = refl; used = sym (append-nil v.uses); tokens = mark_added v.marks (record { token = i; ordinal = None }); agree = λ e h. let f = found_none table src i v h in (f.0, (f.1, tt)) }
+found_one table src role.ClosingName i v = record { writing = refl; scope = refl; kept = refl; used = sym (append-nil v.uses); tokens = mark_added v.marks (record { token = i; ordinal = None }); agree = λ e h. let f = found_none table src i v h in (f.0, (f.1, tt)) }
+found_one table src role.FieldName i v = record { writing = refl; scope = refl; kept = refl; used = sym (append-nil v.uses); tokens = mark_added v.marks (record { token = i; ordinal = None }); agree = λ e h. let f = found_none table src i v h in (f.0, (f.1, tt)) }
+found_one table src role.ModuleName i v = record { writing = refl; scope = refl; kept = refl; used = sym (append-nil v.uses); tokens = mark_added v.marks (record { token = i; ordinal = None }); agree = λ e h. let f = found_none table src i v h in (f.0, (f.1, tt)) }
 
-found_every : (table : ℕ → Option ℕ) (src : Scanned) (xs : List (Role × ℕ)) (v : Visit) → FoundAll table src v (found_all xs v) xs
-found_every table src [] v = record { source = refl; scope = refl; kept = refl; used = sym (append-nil v.uses); tokens = sym (append-nil (tokens_of v.marks)); agree = λ e h. (h, tt) }
+found_every : (table : ℕ → Option ℕ) (src : Writing) (xs : List (Role × ℕ)) (v : Visit) → FoundAll table src v (found_all xs v) xs
+found_every table src [] v = record { writing = refl; scope = refl; kept = refl; used = sym (append-nil v.uses); tokens = sym (append-nil (tokens_of v.marks)); agree = λ e h. (h, tt) }
 found_every table src (x ∷ xs) v =
     let a = found_one table src x.0 x.1 v in
     let b = found_every table src xs (found x.0 x.1 v) in
     record {
-      source = b.source ∙ a.source;
+      writing = b.writing ∙ a.writing;
       scope = b.scope ∙ a.scope;
       kept = b.kept ∙ a.kept;
       used = joined looked_up_only (x ∷ []) xs _ _ _ (looked_up_only-append (x ∷ []) xs) a.used b.used;
       tokens = joined names_only (x ∷ []) xs _ _ _ (map-append (λ x. x.1) (x ∷ []) xs) a.tokens b.tokens;
       agree = λ e h.
-          let later = b.agree (a.source ∙ e) h in
+          let later = b.agree (a.writing ∙ e) h in
           let now = a.agree e later.0 in
           (now.0, (now.1.0, subst (λ s. AllFit table src s xs) a.scope later.1));
     }
 
 -- what a part has passed on, with the identifiers in it, the names visible behind it, the next ordinal, and what a table with all marks tells
-pub record Passed (table : ℕ → Option ℕ) (src : Scanned) (v w : Visit) (ids : List (Role × ℕ)) (s : Scope Name) (k : ℕ) (P : Type 0) : Type 0 where
+pub record Passed (table : ℕ → Option ℕ) (src : Writing) (v w : Visit) (ids : List (Role × ℕ)) (s : Scope Name) (k : ℕ) (P : Type 0) : Type 0 where
   pub at : At w src s k
   pub declared : w.declarations ≡ v.declarations ++ declaring_only ids
   pub used : w.uses ≡ v.uses ++ looked_up_only ids
   pub tokens : tokens_of w.marks ≡ tokens_of v.marks ++ names_only ids
   pub agree : HasMarks table w.marks → HasMarks table v.marks × P
 
-module _ {M : Type 0} (table : ℕ → Option ℕ) (label : Labels Name M) (src : Scanned) where
+module _ {M : Type 0} (table : ℕ → Option ℕ) (label : Labels Name M) (src : Writing) where
   abbrev Passes : Visit → Visit → List (Role × ℕ) → Scope Name → ℕ → Type 0 → Type 0
   Passes = Passed table src
 
   -- a part with the table's ordinals
   abbrev by_table : {s : Sort} → Tree ℕ s → Tree M s
-  by_table t = mapped (λ i. label (table i) (text_at src i)) (value_at src) t
+  by_table t = mapped (λ i. label (table i) (name_at src i)) (value_at src.source) t
 
   pass_nothing : (v : Visit) (s : Scope Name) (k : ℕ) → At v src s k → Passes v v [] s k (Unit {0})
   pass_nothing v s k at = record { at = at; declared = sym (append-nil v.declarations); used = sym (append-nil v.uses); tokens = sym (append-nil (tokens_of v.marks)); agree = λ h. (h, tt) }
@@ -162,7 +162,7 @@ module _ {M : Type 0} (table : ℕ → Option ℕ) (label : Labels Name M) (src 
   pass_is : {a b : Visit} {xs ys : List (Role × ℕ)} {s s' : Scope Name} {k k' : ℕ} {P : Type 0} → xs ≡ ys → s ≡ s' → k ≡ k' → Passes a b xs s k P → Passes a b ys s' k' P
   pass_is {a = a} e f g p =
       record {
-        at = record { source = p.at.source; scope = p.at.scope ∙ f; next = p.at.next ∙ g };
+        at = record { writing = p.at.writing; scope = p.at.scope ∙ f; next = p.at.next ∙ g };
         declared = p.declared ∙ ap (λ ids. a.declarations ++ declaring_only ids) e;
         used = p.used ∙ ap (λ ids. a.uses ++ looked_up_only ids) e;
         tokens = p.tokens ∙ ap (λ ids. tokens_of a.marks ++ names_only ids) e;
@@ -170,17 +170,17 @@ module _ {M : Type 0} (table : ℕ → Option ℕ) (label : Labels Name M) (src 
       }
 
   used_passed : {σ : Sort} (t : Tree ℕ σ) (v : Visit) (s : Scope Name) (k : ℕ) → IsPlain σ → At v src s k
-      → Passes v (used t v) (identifiers role.Declaring t) s k (relabel_uses as_names label s (named src t) ≡ by_table t)
+      → Passes v (used t v) (identifiers role.Declaring t) s k (relabel_uses as_names label s (spelled_by src t) ≡ by_table t)
   used_passed t v s k is_plain at =
       let plain = (declares_nothing is_plain t).plain in
       let f = found_every table src (identifiers role.Declaring t) v in
       record {
-        at = record { source = f.source ∙ at.source; scope = f.scope ∙ at.scope; next = ap (λ ds. 7 + length ds) f.kept ∙ at.next };
+        at = record { writing = f.writing ∙ at.writing; scope = f.scope ∙ at.scope; next = ap (λ ds. 7 + length ds) f.kept ∙ at.next };
         declared = f.kept ∙ (sym (append-nil v.declarations) ∙ ap (λ ds. v.declarations ++ ds) (sym plain));
         used = f.used;
         tokens = f.tokens;
         agree = λ h.
-            let x = f.agree at.source h in
+            let x = f.agree at.writing h in
             (x.0, (agreed table label src s role.Declaring (λ i e. e) t).reads (subst (λ s. AllFit table src s (identifiers role.Declaring t)) at.scope x.1));
       }
 
@@ -188,7 +188,7 @@ module _ {M : Type 0} (table : ℕ → Option ℕ) (label : Labels Name M) (src 
   number_passed x v s k at =
       let m : Mark = record { token = x; ordinal = Some (7 + length v.declarations) } in
       record {
-        at = record { source = at.source; scope = at.scope; next = omega (arith, length-append v.declarations (x ∷ []), at.next) };
+        at = record { writing = at.writing; scope = at.scope; next = omega (arith, length-append v.declarations (x ∷ []), at.next) };
         declared = refl;
         used = sym (append-nil v.uses);
         tokens = mark_added v.marks m;
@@ -200,7 +200,7 @@ module _ {M : Type 0} (table : ℕ → Option ℕ) (label : Labels Name M) (src 
   mark_passed r x ordinal v s k no_declaration no_use at =
       let m : Mark = record { token = x; ordinal = ordinal } in
       record {
-        at = record { source = at.source; scope = at.scope; next = at.next };
+        at = record { writing = at.writing; scope = at.scope; next = at.next };
         declared = sym (append-nil v.declarations) ∙ ap (λ ds. v.declarations ++ ds) (sym no_declaration);
         used = sym (append-nil v.uses) ∙ ap (λ us. v.uses ++ us) (sym no_use);
         tokens = mark_added v.marks m;
@@ -215,7 +215,7 @@ module _ {M : Type 0} (table : ℕ → Option ℕ) (label : Labels Name M) (src 
   abbrev all_declaring : List ℕ → List (Role × ℕ)
   all_declaring xs = map (λ x. (role.Declaring, x)) xs
 
-  numbers_passed : (xs : List ℕ) (v : Visit) (s : Scope Name) (k : ℕ) → At v src s k → Passes v (numbered_all xs v) (all_declaring xs) s (after_names k (map (text_at src) xs)) (HasNumbers k xs)
+  numbers_passed : (xs : List ℕ) (v : Visit) (s : Scope Name) (k : ℕ) → At v src s k → Passes v (numbered_all xs v) (all_declaring xs) s (after_names k (map (name_at src) xs)) (HasNumbers k xs)
   numbers_passed [] v s k at = pass_nothing v s k at
   numbers_passed (x ∷ xs) v s k at =
       let here = number_passed x v s k at in
@@ -228,22 +228,22 @@ module _ {M : Type 0} (table : ℕ → Option ℕ) (label : Labels Name M) (src 
   names_declaring : (ns : Tree ℕ names) → all_declaring (names_listed ns) ≡ identifiers role.Declaring ns
   names_declaring (listed x rest) = λ i. (role.Declaring, x) ∷ further_declaring rest i
 
-  further_named : (ns : Tree ℕ (items further_name)) → map (text_at src) (further_names ns) ≡ further_names (named src ns)
+  further_named : (ns : Tree ℕ (items further_name)) → map (name_at src) (further_names ns) ≡ further_names (spelled_by src ns)
   further_named end = refl
-  further_named (more (then_name x) rest) = λ i. text_at src x ∷ further_named rest i
+  further_named (more (then_name x) rest) = λ i. name_at src x ∷ further_named rest i
 
-  names_named : (ns : Tree ℕ names) → map (text_at src) (names_listed ns) ≡ names_listed (named src ns)
-  names_named (listed x rest) = λ i. text_at src x ∷ further_named rest i
+  names_named : (ns : Tree ℕ names) → map (name_at src) (names_listed ns) ≡ names_listed (spelled_by src ns)
+  names_named (listed x rest) = λ i. name_at src x ∷ further_named rest i
 
-  further_agree : (ns : Tree ℕ (items further_name)) (k : ℕ) → HasNumbers k (further_names ns) → relabel_further label k (named src ns) ≡ by_table ns
+  further_agree : (ns : Tree ℕ (items further_name)) (k : ℕ) → HasNumbers k (further_names ns) → relabel_further label k (spelled_by src ns) ≡ by_table ns
   further_agree end k h = refl
-  further_agree (more (then_name x) rest) k h = λ i. more (then_name (label (sym h.0 i) (text_at src x))) (further_agree rest (suc k) h.1 i)
+  further_agree (more (then_name x) rest) k h = λ i. more (then_name (label (sym h.0 i) (name_at src x))) (further_agree rest (suc k) h.1 i)
 
-  names_agree : (ns : Tree ℕ names) (k : ℕ) → HasNumbers k (names_listed ns) → relabel_names label k (named src ns) ≡ by_table ns
-  names_agree (listed x rest) k h = λ i. listed (label (sym h.0 i) (text_at src x)) (further_agree rest (suc k) h.1 i)
+  names_agree : (ns : Tree ℕ names) (k : ℕ) → HasNumbers k (names_listed ns) → relabel_names label k (spelled_by src ns) ≡ by_table ns
+  names_agree (listed x rest) k h = λ i. listed (label (sym h.0 i) (name_at src x)) (further_agree rest (suc k) h.1 i)
 
   names_passed : (ns : Tree ℕ names) (v : Visit) (s : Scope Name) (k : ℕ) → At v src s k
-      → Passes v (numbered_all (names_listed ns) v) (identifiers role.Declaring ns) s (after_names k (names_listed (named src ns))) (relabel_names label k (named src ns) ≡ by_table ns)
+      → Passes v (numbered_all (names_listed ns) v) (identifiers role.Declaring ns) s (after_names k (names_listed (spelled_by src ns))) (relabel_names label k (spelled_by src ns) ≡ by_table ns)
   names_passed ns v s k at =
       pass_is (names_declaring ns) refl (ap (after_names k) (names_named ns)) (pass_to (numbers_passed (names_listed ns) v s k at) (names_agree ns k))
 
@@ -251,13 +251,13 @@ module _ {M : Type 0} (table : ℕ → Option ℕ) (label : Labels Name M) (src 
   drop_past xs ys = let n : length xs + 0 ≡ length xs = omega arith in ap (λ n. drop n (xs ++ ys)) (sym n) ∙ drop-append-add xs ys 0
 
   -- what was declared in a part is visible behind it
-  show_passed : {a b : Visit} {xs : List (Role × ℕ)} {s s' : Scope Name} {k k' : ℕ} {P : Type 0} (ns : List Name) → At a src s k → map (text_at src) (declaring_only xs) ≡ ns → Passes a b xs s' k' P
+  show_passed : {a b : Visit} {xs : List (Role × ℕ)} {s s' : Scope Name} {k k' : ℕ} {P : Type 0} (ns : List Name) → At a src s k → map (name_at src) (declaring_only xs) ≡ ns → Passes a b xs s' k' P
       → Passes a (shown_from (length a.declarations) b) xs (declare_names k ns s') k' P
   show_passed {a = a} {b = b} {xs = xs} {s' = s'} {k = k} ns at are p =
       let left : drop (length a.declarations) b.declarations ≡ declaring_only xs = ap (drop (length a.declarations)) p.declared ∙ drop_past a.declarations (declaring_only xs) in
-      let visible : declare_names (7 + length a.declarations) (map (text_at b.source) (drop (length a.declarations) b.declarations)) b.scope ≡ declare_names k ns s' =
-      (λ i. declare_names (at.next i) (map (text_at (p.at.source i)) (left i)) (p.at.scope i)) ∙ ap (λ ns. declare_names k ns s') are in
-      record { at = record { source = p.at.source; scope = visible; next = p.at.next }; declared = p.declared; used = p.used; tokens = p.tokens; agree = p.agree }
+      let visible : declare_names (7 + length a.declarations) (map (name_at b.writing) (drop (length a.declarations) b.declarations)) b.scope ≡ declare_names k ns s' =
+      (λ i. declare_names (at.next i) (map (name_at (p.at.writing i)) (left i)) (p.at.scope i)) ∙ ap (λ ns. declare_names k ns s') are in
+      record { at = record { writing = p.at.writing; scope = visible; next = p.at.next }; declared = p.declared; used = p.used; tokens = p.tokens; agree = p.agree }
 
   listed_declaring : (xs : List ℕ) → declaring_only (all_declaring xs) ≡ xs
   listed_declaring [] = refl
@@ -271,116 +271,116 @@ module _ {M : Type 0} (table : ℕ → Option ℕ) (label : Labels Name M) (src 
   -- names of one type, visible behind it
   group_passed : (ns : Tree ℕ names) (t : Tree ℕ written_type) (v : Visit) (s : Scope Name) (k : ℕ) → At v src s k
       → Passes v (shown_from (length v.declarations) (used t (numbered_all (names_listed ns) v))) (identifiers role.Declaring ns ++ identifiers role.Declaring t)
-      (declare_names k (names_listed (named src ns)) s) (after_names k (names_listed (named src ns)))
-      (Two (relabel_names label k (named src ns) ≡ by_table ns) (relabel_uses as_names label s (named src t) ≡ by_table t))
+      (declare_names k (names_listed (spelled_by src ns)) s) (after_names k (names_listed (spelled_by src ns)))
+      (Two (relabel_names label k (spelled_by src ns) ≡ by_table ns) (relabel_uses as_names label s (spelled_by src t) ≡ by_table t))
   group_passed ns t v s k at =
       let a = names_passed ns v s k at in
-      let b = used_passed t (numbered_all (names_listed ns) v) s (after_names k (names_listed (named src ns))) tt a.at in
-      show_passed (names_listed (named src ns)) at (ap (map (text_at src)) (group_declaring ns t) ∙ names_named ns) (pass_then a b)
+      let b = used_passed t (numbered_all (names_listed ns) v) s (after_names k (names_listed (spelled_by src ns))) tt a.at in
+      show_passed (names_listed (spelled_by src ns)) at (ap (map (name_at src)) (group_declaring ns t) ∙ names_named ns) (pass_then a b)
 
   constants_passed : (cs : Tree ℕ (items constant)) (v : Visit) (s : Scope Name) (k : ℕ) → At v src s k
-      → Passes v (visit_constants cs v) (identifiers role.Declaring cs) (declare_names k (constant_names (named src cs)) s) (after_names k (constant_names (named src cs)))
-      (relabel_constants as_names label s k (named src cs) ≡ by_table cs)
+      → Passes v (visit_constants cs v) (identifiers role.Declaring cs) (declare_names k (constant_names (spelled_by src cs)) s) (after_names k (constant_names (spelled_by src cs)))
+      (relabel_constants as_names label s k (spelled_by src cs) ≡ by_table cs)
   constants_passed end v s k at = pass_to (pass_nothing v s k at) (λ h. refl)
   constants_passed (more (declares_constant x e) cs) v s k at =
       let a = number_passed x v s k at in
       let b = used_passed e (numbered_at x v) s (suc k) tt a.at in
-      let c = show_passed (text_at src x ∷ []) at (ap (λ xs. text_at src x ∷ map (text_at src) xs) (declares_nothing tt e).plain) (pass_then a b) in
-      pass_to (pass_then c (constants_passed cs (visit_constant (declares_constant x e) v) ((text_at src x, k) ∷ s) (suc k) c.at))
-      (λ p i. more (declares_constant (label (sym p.first.first i) (text_at src x)) (p.first.second i)) (p.second i))
+      let c = show_passed (name_at src x ∷ []) at (ap (λ xs. name_at src x ∷ map (name_at src) xs) (declares_nothing tt e).plain) (pass_then a b) in
+      pass_to (pass_then c (constants_passed cs (visit_constant (declares_constant x e) v) ((name_at src x, k) ∷ s) (suc k) c.at))
+      (λ p i. more (declares_constant (label (sym p.first.first i) (name_at src x)) (p.first.second i)) (p.second i))
 
   types_passed : (ts : Tree ℕ (items type_name)) (v : Visit) (s : Scope Name) (k : ℕ) → At v src s k
-      → Passes v (visit_types ts v) (identifiers role.Declaring ts) (declare_names k (named_types (named src ts)) s) (after_names k (named_types (named src ts)))
-      (relabel_types as_names label s k (named src ts) ≡ by_table ts)
+      → Passes v (visit_types ts v) (identifiers role.Declaring ts) (declare_names k (named_types (spelled_by src ts)) s) (after_names k (named_types (spelled_by src ts)))
+      (relabel_types as_names label s k (spelled_by src ts) ≡ by_table ts)
   types_passed end v s k at = pass_to (pass_nothing v s k at) (λ h. refl)
   types_passed (more (declares_type x t) ts) v s k at =
       let a = number_passed x v s k at in
       let b = used_passed t (numbered_at x v) s (suc k) tt a.at in
-      let c = show_passed (text_at src x ∷ []) at (ap (λ xs. text_at src x ∷ map (text_at src) xs) (declares_nothing tt t).plain) (pass_then a b) in
-      pass_to (pass_then c (types_passed ts (visit_type (declares_type x t) v) ((text_at src x, k) ∷ s) (suc k) c.at))
-      (λ p i. more (declares_type (label (sym p.first.first i) (text_at src x)) (p.first.second i)) (p.second i))
+      let c = show_passed (name_at src x ∷ []) at (ap (λ xs. name_at src x ∷ map (name_at src) xs) (declares_nothing tt t).plain) (pass_then a b) in
+      pass_to (pass_then c (types_passed ts (visit_type (declares_type x t) v) ((name_at src x, k) ∷ s) (suc k) c.at))
+      (λ p i. more (declares_type (label (sym p.first.first i) (name_at src x)) (p.first.second i)) (p.second i))
 
   variables_passed : (gs : Tree ℕ (items variable)) (v : Visit) (s : Scope Name) (k : ℕ) → At v src s k
-      → Passes v (visit_variables gs v) (identifiers role.Declaring gs) (declare_names k (variable_names (named src gs)) s) (after_names k (variable_names (named src gs)))
-      (relabel_variables as_names label s k (named src gs) ≡ by_table gs)
+      → Passes v (visit_variables gs v) (identifiers role.Declaring gs) (declare_names k (variable_names (spelled_by src gs)) s) (after_names k (variable_names (spelled_by src gs)))
+      (relabel_variables as_names label s k (spelled_by src gs) ≡ by_table gs)
   variables_passed end v s k at = pass_to (pass_nothing v s k at) (λ h. refl)
   variables_passed (more (declares_variable ns t) gs) v s k at =
-      let xs = names_listed (named src ns) in
-      let rest = variable_names (named src gs) in
+      let xs = names_listed (spelled_by src ns) in
+      let rest = variable_names (spelled_by src gs) in
       let a = group_passed ns t v s k at in
       pass_is refl (sym (declare_names-append k xs rest s)) (sym (after_names-append k xs rest))
       (pass_to (pass_then a (variables_passed gs (visit_variable (declares_variable ns t) v) (declare_names k xs s) (after_names k xs) a.at))
       (λ p i. more (declares_variable (p.first.first i) (p.first.second i)) (p.second i)))
 
   section_passed : (f : Tree ℕ section) (v : Visit) (s : Scope Name) (k : ℕ) → At v src s k
-      → Passes v (visit_section f v) (identifiers role.Declaring f) (declare_names k (section_names (named src f)) s) (after_names k (section_names (named src f)))
-      (relabel_section as_names label s k (named src f) ≡ by_table f)
+      → Passes v (visit_section f v) (identifiers role.Declaring f) (declare_names k (section_names (spelled_by src f)) s) (after_names k (section_names (spelled_by src f)))
+      (relabel_section as_names label s k (spelled_by src f) ≡ by_table f)
   section_passed (value_section ns t) v s k at = pass_to (group_passed ns t v s k at) (λ p i. value_section (p.first i) (p.second i))
   section_passed (variable_section ns t) v s k at = pass_to (group_passed ns t v s k at) (λ p i. variable_section (p.first i) (p.second i))
 
   sections_passed : (fs : Tree ℕ (items further_section)) (v : Visit) (s : Scope Name) (k : ℕ) → At v src s k
-      → Passes v (visit_sections fs v) (identifiers role.Declaring fs) (declare_names k (formal_names (named src fs)) s) (after_names k (formal_names (named src fs)))
-      (relabel_sections as_names label s k (named src fs) ≡ by_table fs)
+      → Passes v (visit_sections fs v) (identifiers role.Declaring fs) (declare_names k (formal_names (spelled_by src fs)) s) (after_names k (formal_names (spelled_by src fs)))
+      (relabel_sections as_names label s k (spelled_by src fs) ≡ by_table fs)
   sections_passed end v s k at = pass_to (pass_nothing v s k at) (λ h. refl)
   sections_passed (more (then_section f) fs) v s k at =
-      let xs = section_names (named src f) in
-      let rest = formal_names (named src fs) in
+      let xs = section_names (spelled_by src f) in
+      let rest = formal_names (spelled_by src fs) in
       let a = section_passed f v s k at in
       pass_is refl (sym (declare_names-append k xs rest s)) (sym (after_names-append k xs rest))
       (pass_to (pass_then a (sections_passed fs (visit_section f v) (declare_names k xs s) (after_names k xs) a.at))
       (λ p i. more (then_section (p.first i)) (p.second i)))
 
-  section_declaring : (f : Tree ℕ section) → map (text_at src) (declaring_only (identifiers role.Declaring f)) ≡ section_names (named src f)
-  section_declaring (value_section ns t) = ap (map (text_at src)) (group_declaring ns t) ∙ names_named ns
-  section_declaring (variable_section ns t) = ap (map (text_at src)) (group_declaring ns t) ∙ names_named ns
+  section_declaring : (f : Tree ℕ section) → map (name_at src) (declaring_only (identifiers role.Declaring f)) ≡ section_names (spelled_by src f)
+  section_declaring (value_section ns t) = ap (map (name_at src)) (group_declaring ns t) ∙ names_named ns
+  section_declaring (variable_section ns t) = ap (map (name_at src)) (group_declaring ns t) ∙ names_named ns
 
-  sections_declaring : (fs : Tree ℕ (items further_section)) → map (text_at src) (declaring_only (identifiers role.Declaring fs)) ≡ formal_names (named src fs)
+  sections_declaring : (fs : Tree ℕ (items further_section)) → map (name_at src) (declaring_only (identifiers role.Declaring fs)) ≡ formal_names (spelled_by src fs)
   sections_declaring end = refl
   sections_declaring (more (then_section f) fs) =
       let xs = identifiers role.Declaring f in
       let ys = identifiers role.Declaring fs in
-      ap (map (text_at src)) (declaring_only-append xs ys) ∙ (map-append (text_at src) (declaring_only xs) (declaring_only ys) ∙ (λ i. section_declaring f i ++ sections_declaring fs i))
+      ap (map (name_at src)) (declaring_only-append xs ys) ∙ (map-append (name_at src) (declaring_only xs) (declaring_only ys) ∙ (λ i. section_declaring f i ++ sections_declaring fs i))
 
   formals_passed : (fs : Tree ℕ (maybe formals)) (v : Visit) (s : Scope Name) (k : ℕ) → At v src s k
-      → Passes v (visit_formals fs v) (identifiers role.Declaring fs) (declare_names k (formal_names (formal_sections (named src fs))) s) (after_names k (formal_names (formal_sections (named src fs))))
-      (relabel_formals as_names label s k (named src fs) ≡ by_table fs)
+      → Passes v (visit_formals fs v) (identifiers role.Declaring fs) (declare_names k (formal_names (formal_sections (spelled_by src fs))) s) (after_names k (formal_names (formal_sections (spelled_by src fs))))
+      (relabel_formals as_names label s k (spelled_by src fs) ≡ by_table fs)
   formals_passed none v s k at = pass_to (pass_nothing v s k at) (λ h. refl)
   formals_passed (one no_formals) v s k at = pass_to (pass_nothing v s k at) (λ h. refl)
   formals_passed (one (some_formals f fs)) v s k at =
-      let xs = section_names (named src f) in
-      let rest = formal_names (named src fs) in
+      let xs = section_names (spelled_by src f) in
+      let rest = formal_names (spelled_by src fs) in
       let a = section_passed f v s k at in
       pass_is refl (sym (declare_names-append k xs rest s)) (sym (after_names-append k xs rest))
       (pass_to (pass_then a (sections_passed fs (visit_section f v) (declare_names k xs s) (after_names k xs) a.at))
       (λ p i. one (some_formals (p.first i) (p.second i))))
 
-  formals_declaring : (fs : Tree ℕ (maybe formals)) → map (text_at src) (declaring_only (identifiers role.Declaring fs)) ≡ formal_names (formal_sections (named src fs))
+  formals_declaring : (fs : Tree ℕ (maybe formals)) → map (name_at src) (declaring_only (identifiers role.Declaring fs)) ≡ formal_names (formal_sections (spelled_by src fs))
   formals_declaring none = refl
   formals_declaring (one no_formals) = refl
   formals_declaring (one (some_formals f fs)) = sections_declaring (more (then_section f) fs)
 
   constant_section_passed : (cs : Tree ℕ (maybe constants)) (v : Visit) (s : Scope Name) (k : ℕ) → At v src s k
-      → Passes v (visit_constant_section cs v) (identifiers role.Declaring cs) (declare_names k (constant_names (section_constants (named src cs))) s) (after_names k (constant_names (section_constants (named src cs))))
-      (relabel_constant_section as_names label s k (named src cs) ≡ by_table cs)
+      → Passes v (visit_constant_section cs v) (identifiers role.Declaring cs) (declare_names k (constant_names (section_constants (spelled_by src cs))) s) (after_names k (constant_names (section_constants (spelled_by src cs))))
+      (relabel_constant_section as_names label s k (spelled_by src cs) ≡ by_table cs)
   constant_section_passed none v s k at = pass_to (pass_nothing v s k at) (λ h. refl)
   constant_section_passed (one (declares_constants cs)) v s k at = pass_to (constants_passed cs v s k at) (λ p i. one (declares_constants (p i)))
 
   type_section_passed : (ts : Tree ℕ (maybe type_names)) (v : Visit) (s : Scope Name) (k : ℕ) → At v src s k
-      → Passes v (visit_type_section ts v) (identifiers role.Declaring ts) (declare_names k (named_types (section_types (named src ts))) s) (after_names k (named_types (section_types (named src ts))))
-      (relabel_type_section as_names label s k (named src ts) ≡ by_table ts)
+      → Passes v (visit_type_section ts v) (identifiers role.Declaring ts) (declare_names k (named_types (section_types (spelled_by src ts))) s) (after_names k (named_types (section_types (spelled_by src ts))))
+      (relabel_type_section as_names label s k (spelled_by src ts) ≡ by_table ts)
   type_section_passed none v s k at = pass_to (pass_nothing v s k at) (λ h. refl)
   type_section_passed (one (declares_types ts)) v s k at = pass_to (types_passed ts v s k at) (λ p i. one (declares_types (p i)))
 
   variable_section_passed : (vs : Tree ℕ (maybe variables)) (v : Visit) (s : Scope Name) (k : ℕ) → At v src s k
-      → Passes v (visit_variable_section vs v) (identifiers role.Declaring vs) (declare_names k (variable_names (section_variables (named src vs))) s) (after_names k (variable_names (section_variables (named src vs))))
-      (relabel_variable_section as_names label s k (named src vs) ≡ by_table vs)
+      → Passes v (visit_variable_section vs v) (identifiers role.Declaring vs) (declare_names k (variable_names (section_variables (spelled_by src vs))) s) (after_names k (variable_names (section_variables (spelled_by src vs))))
+      (relabel_variable_section as_names label s k (spelled_by src vs) ≡ by_table vs)
   variable_section_passed none v s k at = pass_to (pass_nothing v s k at) (λ h. refl)
   variable_section_passed (one (declares_variables vs)) v s k at = pass_to (variables_passed vs v s k at) (λ p i. one (declares_variables (p i)))
 
   left_passed : {a b : Visit} {xs : List (Role × ℕ)} {s s' : Scope Name} {k' : ℕ} {P : Type 0} (outer : ℕ) → outer ≡ length s → Extends s s' → Passes a b xs s' k' P → Passes a (left_to outer b) xs s k' P
   left_passed {b = b} {s = s} outer count extends p =
       record {
-        at = record { source = p.at.source; scope = (λ i. drop (length (p.at.scope i) - count i) (p.at.scope i)) ∙ left_extends extends; next = p.at.next };
+        at = record { writing = p.at.writing; scope = (λ i. drop (length (p.at.scope i) - count i) (p.at.scope i)) ∙ left_extends extends; next = p.at.next };
         declared = p.declared;
         used = p.used;
         tokens = p.tokens;
@@ -389,12 +389,12 @@ module _ {M : Type 0} (table : ℕ → Option ℕ) (label : Labels Name M) (src 
 
   mutual
     pub block_passed : (b : Tree ℕ block) (v : Visit) (s : Scope Name) (k : ℕ) → At v src s k
-        → Passes v (visit_block b v) (identifiers role.Declaring b) (body_scope k (named src b) s) (after_block k (named src b))
-        (relabel_block as_names label s k (named src b) ≡ by_table b)
+        → Passes v (visit_block b v) (identifiers role.Declaring b) (body_scope k (spelled_by src b) s) (after_block k (spelled_by src b))
+        (relabel_block as_names label s k (spelled_by src b) ≡ by_table b)
     block_passed (has_body (declares cs ts vs ps) statements) v s k at =
-        let xs = constant_names (section_constants (named src cs)) in
-        let ys = named_types (section_types (named src ts)) in
-        let zs = variable_names (section_variables (named src vs)) in
+        let xs = constant_names (section_constants (spelled_by src cs)) in
+        let ys = named_types (section_types (spelled_by src ts)) in
+        let zs = variable_names (section_variables (spelled_by src vs)) in
         let a = constant_section_passed cs v s k at in
         let v₁ = visit_constant_section cs v in
         let b = type_section_passed ts v₁ (declare_names k xs s) (after_names k xs) a.at in
@@ -402,27 +402,27 @@ module _ {M : Type 0} (table : ℕ → Option ℕ) (label : Labels Name M) (src 
         let c = variable_section_passed vs v₂ (declare_names (after_names k xs) ys (declare_names k xs s)) (after_names (after_names k xs) ys) b.at in
         let v₃ = visit_variable_section vs v₂ in
         let d = procedures_passed ps v₃ (declare_names (after_names (after_names k xs) ys) zs (declare_names (after_names k xs) ys (declare_names k xs s))) (after_names (after_names (after_names k xs) ys) zs) c.at in
-        let e = used_passed statements (visit_procedures ps v₃) (body_scope k (named src (has_body (declares cs ts vs ps) statements)) s) (after_block k (named src (has_body (declares cs ts vs ps) statements))) tt d.at in
+        let e = used_passed statements (visit_procedures ps v₃) (body_scope k (spelled_by src (has_body (declares cs ts vs ps) statements)) s) (after_block k (spelled_by src (has_body (declares cs ts vs ps) statements))) tt d.at in
         pass_to (pass_then (pass_then a (pass_then b (pass_then c d))) e)
         (λ p i. has_body (declares (p.first.first i) (p.first.second.first i) (p.first.second.second.first i) (p.first.second.second.second i)) (p.second i))
 
     pub procedures_passed : (ps : Tree ℕ (items procedure)) (v : Visit) (s : Scope Name) (k : ℕ) → At v src s k
-        → Passes v (visit_procedures ps v) (identifiers role.Declaring ps) (declare_procedure_names k (named src ps) s) (after_procedures k (named src ps))
-        (relabel_procedures as_names label s k (named src ps) ≡ by_table ps)
+        → Passes v (visit_procedures ps v) (identifiers role.Declaring ps) (declare_procedure_names k (spelled_by src ps) s) (after_procedures k (spelled_by src ps))
+        (relabel_procedures as_names label s k (spelled_by src ps) ≡ by_table ps)
     procedures_passed end v s k at = pass_to (pass_nothing v s k at) (λ h. refl)
     procedures_passed (more p ps) v s k at =
         let a = procedure_passed p v s k at in
-        pass_to (pass_then a (procedures_passed ps (visit_procedure p v) ((procedure_name (named src p), k) ∷ s) (after_procedure (suc k) (named src p)) a.at))
+        pass_to (pass_then a (procedures_passed ps (visit_procedure p v) ((procedure_name (spelled_by src p), k) ∷ s) (after_procedure (suc k) (spelled_by src p)) a.at))
         (λ q i. more (q.first i) (q.second i))
 
     pub procedure_passed : (p : Tree ℕ (item procedure)) (v : Visit) (s : Scope Name) (k : ℕ) → At v src s k
-        → Passes v (visit_procedure p v) (identifiers role.Declaring p) ((procedure_name (named src p), k) ∷ s) (after_procedure (suc k) (named src p))
-        (relabel_procedure as_names label s k (named src p) ≡ by_table p)
+        → Passes v (visit_procedure p v) (identifiers role.Declaring p) ((procedure_name (spelled_by src p), k) ∷ s) (after_procedure (suc k) (spelled_by src p))
+        (relabel_procedure as_names label s k (spelled_by src p) ≡ by_table p)
     procedure_passed (declares_procedure x fs b closing) v s k at =
         let own = length v.declarations in
         let outside = length v.scope in
-        let name = text_at src x in
-        let formal = formal_names (formal_sections (named src fs)) in
+        let name = name_at src x in
+        let formal = formal_names (formal_sections (spelled_by src fs)) in
         let k₁ = after_names (suc k) formal in
         let inside = declare_names (suc k) formal ((name, k) ∷ s) in
         let count : outside ≡ length s = ap length at.scope in
@@ -435,24 +435,24 @@ module _ {M : Type 0} (table : ℕ → Option ℕ) (label : Labels Name M) (src 
         let v₃ = behind_heading own outside v₂ in
         let g = block_passed b v₃ inside k₁ h.at in
         let whole = pass_then h g in
-        let e = extends_then (extends_then (one_extends (name, k) s) (names_extend (suc k) formal ((name, k) ∷ s))) (block_extends k₁ (named src b) inside) in
+        let e = extends_then (extends_then (one_extends (name, k) s) (names_extend (suc k) formal ((name, k) ∷ s))) (block_extends k₁ (spelled_by src b) inside) in
         let behind = left_passed outside count e whole in
-        let shown_again : At (behind_block x (7 + own) outside (visit_block b v₃)) src ((name, k) ∷ s) (after_block k₁ (named src b)) =
-        record { source = behind.at.source; scope = (λ i. (text_at (behind.at.source i) x, at.next i) ∷ behind.at.scope i); next = behind.at.next } in
-        let visible : Passes v (behind_block x (7 + own) outside (visit_block b v₃)) (((role.Declaring, x) ∷ identifiers role.Declaring fs) ++ identifiers role.Declaring b) ((name, k) ∷ s) (after_block k₁ (named src b)) _ =
+        let shown_again : At (behind_block x (7 + own) outside (visit_block b v₃)) src ((name, k) ∷ s) (after_block k₁ (spelled_by src b)) =
+        record { writing = behind.at.writing; scope = (λ i. (name_at (behind.at.writing i) x, at.next i) ∷ behind.at.scope i); next = behind.at.next } in
+        let visible : Passes v (behind_block x (7 + own) outside (visit_block b v₃)) (((role.Declaring, x) ∷ identifiers role.Declaring fs) ++ identifiers role.Declaring b) ((name, k) ∷ s) (after_block k₁ (spelled_by src b)) _ =
         record { at = shown_again; declared = behind.declared; used = behind.used; tokens = behind.tokens; agree = behind.agree } in
-        let last = mark_passed role.ClosingName closing (Some (7 + own)) (behind_block x (7 + own) outside (visit_block b v₃)) ((name, k) ∷ s) (after_block k₁ (named src b)) refl refl shown_again in
+        let last = mark_passed role.ClosingName closing (Some (7 + own)) (behind_block x (7 + own) outside (visit_block b v₃)) ((name, k) ∷ s) (after_block k₁ (spelled_by src b)) refl refl shown_again in
         pass_is (append_assoc ((role.Declaring, x) ∷ identifiers role.Declaring fs) (identifiers role.Declaring b) ((role.ClosingName, closing) ∷ []) ∙ append_assoc ((role.Declaring, x) ∷ []) (identifiers role.Declaring fs) (identifiers role.Declaring b ++ ((role.ClosingName, closing) ∷ []))) refl refl
         (pass_to (pass_then visible last)
-        (λ p i. declares_procedure (label (sym p.first.first.first i) name) (p.first.first.second i) (p.first.second i) (label (sym (p.second ∙ ap Some at.next) i) (text_at src closing))))
+        (λ p i. declares_procedure (label (sym p.first.first.first i) name) (p.first.first.second i) (p.first.second i) (label (sym (p.second ∙ ap Some at.next) i) (name_at src closing))))
 
   pub module_passed : (m : Tree ℕ module_text) (v : Visit) → At v src (predeclared_scope as_names) 7
-      → Passes v (visit_module m v) (identifiers role.Declaring m) (body_scope 7 (module_block (named src m)) (predeclared_scope as_names)) (after_block 7 (module_block (named src m)))
-      (relabelled as_names label (named src m) ≡ by_table m)
+      → Passes v (visit_module m v) (identifiers role.Declaring m) (body_scope 7 (module_block (spelled_by src m)) (predeclared_scope as_names)) (after_block 7 (module_block (spelled_by src m)))
+      (relabelled as_names label (spelled_by src m) ≡ by_table m)
   module_passed (is_module x b closing) v at =
       let s = predeclared_scope as_names in
       let a = mark_passed role.ModuleName x None v s 7 refl refl at in
       let g = block_passed b (marked x None v) s 7 a.at in
-      let last = mark_passed role.ModuleName closing None (visit_block b (marked x None v)) (body_scope 7 (named src b) s) (after_block 7 (named src b)) refl refl g.at in
+      let last = mark_passed role.ModuleName closing None (visit_block b (marked x None v)) (body_scope 7 (spelled_by src b) s) (after_block 7 (spelled_by src b)) refl refl g.at in
       pass_to (pass_then a (pass_then g last))
-      (λ p i. is_module (label (sym p.first i) (text_at src x)) (p.second.first i) (label (sym p.second.second i) (text_at src closing)))
+      (λ p i. is_module (label (sym p.first i) (name_at src x)) (p.second.first i) (label (sym p.second.second i) (name_at src closing)))

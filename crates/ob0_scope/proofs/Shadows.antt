@@ -1,5 +1,5 @@
 -- Bindings that hide one another: what is looked up after one is made or given up.
-use Rattle.std.proofs.Common.{◌≡◌, ◌⊎◌, inl, inr, if◌then◌else◌, ℕ, ◌+◌, ◌<◌, Bool, true, false, cond, Option, Some, None, List, [], ◌∷◌, ◌++◌, map, length, get_or, reverse, refl, sym, ap, ◌∙◌, subst, arith, Bor, bytes_eq}
+use Rattle.std.proofs.Common.{◌≡◌, ◌⊎◌, inl, inr, if◌then◌else◌, ℕ, ◌<◌, Bool, true, false, cond, Option, Some, None, List, [], ◌∷◌, ◌++◌, map, length, get_or, reverse, refl, sym, ap, ◌∙◌, subst, arith, Bor, bytes_eq}
 use Rattle.std.proofs.lemmas.List.{reverse-append, reverse-reverse, length-reverse}
 use Rattle.std.proofs.Math.ListN.{get_or-append}
 use Rattle.std.proofs.Math.Seq.{get_or-append_seam}
@@ -11,7 +11,7 @@ use Rattle.std.specs.Cmp.Lexicographic.{slice_cmp}
 use Rattle.std.specs.Ordering.{nat_cmp}
 use Rattle.ob0_scope.specs.declared.visible.Binding.{Binding}
 use Rattle.ob0_scope.specs.Names.{Name, as_names, same_name}
-use Rattle.ob0_scope.specs.Scopes.{Scope, ordinal_of}
+use Rattle.ob0_scope.specs.Scopes.{ordinal_of}
 use Rattle.ob0_scope.specs.Shadowing.{AreHidden, IsNewest, latest, scope_of}
 
 pub same_name-comm : (x y : Name) → same_name x y ≡ same_name y x

@@ -1,7 +1,6 @@
 -- What is known of a module's names: to which declaration each is bound, and what is wrong with them.
-use Rattle.std.specs.Prelude.{◌≡◌, ℕ, ◌-◌, nat_lt, Bool, true, false, not, ◌||◌, List, [], ◌∷◌, Option, Some, None, length, slice_get, slice_index_or, if◌then◌else◌, is_some}
+use Rattle.std.specs.Prelude.{◌≡◌, ℕ, ◌-◌, nat_lt, Bool, true, false, not, ◌||◌, List, [], ◌∷◌, Option, Some, None, slice_get, slice_index_or, if◌then◌else◌, is_some}
 use Rattle.std.specs.List.{list_any}
-use Rattle.ob0_scan.specs.declared.fault.Code.{Code}
 use Rattle.ob0_scan.specs.declared.fault.Code.TheVariants as code
 use Rattle.ob0_scan.specs.declared.fault.Fault.{Fault}
 use Rattle.ob0_scan.specs.declared.lexeme.Span.{Span}

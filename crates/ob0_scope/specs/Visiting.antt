@@ -1,19 +1,18 @@
 -- A module's identifiers, gone through in text order: what is known after each part.
 use Rattle.std.specs.Prelude.{ℕ, ◌+◌, ◌-◌, List, [], ◌∷◌, ◌++◌, Option, Some, None, map, length, drop, slice_set}
-use Rattle.ob0_scan.specs.Scanned.{Scanned}
 use Rattle.ob0_tree.specs.declared.tree.Role.{Role}
 use Rattle.ob0_tree.specs.declared.tree.Role.TheVariants as role
 use Rattle.ob0_tree.specs.Tree.{Sort, Tree, block, constant, constants, declares, declares_constant, declares_constants, declares_procedure, declares_type, declares_types, declares_variable, declares_variables, end, formals, further_section, has_body, identifiers, is_module, item, items, maybe, module_text, more, no_formals, none, one, procedure, section, some_formals, then_section, type_name, type_names, value_section, variable, variable_section, variables}
-use Rattle.ob0_tree.specs.Places.{text_at}
+use Rattle.ob0_scope.specs.Written.{Writing, name_at}
 use Rattle.ob0_scope.specs.declared.numbering.Mark.{Mark}
 use Rattle.ob0_scope.specs.Names.{Name, as_names}
 use Rattle.ob0_scope.specs.Parts.{names_listed}
 use Rattle.ob0_scope.specs.Scopes.{Scope, declare_names, ordinal_of, predeclared_scope}
 
--- The names that are visible, the tokens that declare, the tokens of the occurrences, and each identifier so far with its
--- declaration's ordinal.
+-- How identifiers are written, the names that are visible, the tokens that declare, the tokens of the occurrences, and
+-- each identifier so far with its declaration's ordinal.
 pub record Visit : Type 0 where
-  pub source : Scanned
+  pub writing : Writing
   pub scope : Scope Name
   pub declarations : List ℕ
   pub uses : List ℕ
@@ -33,11 +32,11 @@ numbered_all (i ∷ is) v = numbered_all is (numbered_at i v)
 
 -- the name of a declaration of this ordinal is visible
 abbrev pub shown : ℕ → ℕ → Visit → Visit
-shown i ordinal v = record v { scope = (text_at v.source i, ordinal) ∷ v.scope }
+shown i ordinal v = record v { scope = (name_at v.writing i, ordinal) ∷ v.scope }
 
 -- the names of the declarations from this one on are visible
 abbrev pub shown_from : ℕ → Visit → Visit
-shown_from first v = record v { scope = declare_names (7 + first) (map (text_at v.source) (drop first v.declarations)) v.scope }
+shown_from first v = record v { scope = declare_names (7 + first) (map (name_at v.writing) (drop first v.declarations)) v.scope }
 
 -- only so many bindings are left
 abbrev pub left_to : ℕ → Visit → Visit
@@ -45,7 +44,7 @@ left_to len v = record v { scope = drop (length v.scope - len) v.scope }
 
 -- an identifier in a part that declares nothing
 abbrev pub found : Role → ℕ → Visit → Visit
-found role.LookedUp i v = record v { uses = v.uses ++ (i ∷ []); marks = v.marks ++ (record { token = i; ordinal = ordinal_of as_names v.scope (text_at v.source i) } ∷ []) }
+found role.LookedUp i v = record v { uses = v.uses ++ (i ∷ []); marks = v.marks ++ (record { token = i; ordinal = ordinal_of as_names v.scope (name_at v.writing i) } ∷ []) }
 found role.Declaring i v = marked i None v
 found role.ClosingName i v = marked i None v
 found role.FieldName i v = marked i None v
@@ -133,8 +132,8 @@ abbrev pub visit_module : Tree ℕ module_text → Visit → Visit
 visit_module (is_module x b closing) v = marked closing None (visit_block b (marked x None v))
 
 -- before the first identifier
-abbrev pub started : Scanned → Visit
-started source = record { source = source; scope = predeclared_scope as_names; declarations = []; uses = []; marks = [] }
+abbrev pub started : Writing → Visit
+started writing = record { writing = writing; scope = predeclared_scope as_names; declarations = []; uses = []; marks = [] }
 
 -- a table with the ordinal of each mark at its token
 abbrev pub with_marks : List (Option ℕ) → List Mark → List (Option ℕ)

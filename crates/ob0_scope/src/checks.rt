@@ -8,11 +8,11 @@ ghost use Rattle.ob0_tree.specs.Places.{named, text_at};
 ghost use Rattle.ob0_tree.specs.View.{items_of, names_of, type_of, record_in, fields_of, constants_of, types_of, variables_of, formals_of, procedure_of, block_of, further_fields_of_group};
 ghost use Rattle.ob0_scope.specs.Names.{same_name};
 ghost use Rattle.ob0_scope.specs.Parts.{names_listed, constant_names, named_types, variable_names, formal_names, formal_sections, section_constants, section_types, section_variables};
-ghost use Rattle.ob0_scope.specs.DeclaredOnce.{are_distinct, declared_once, fields_once, group_fields, groups_fields, group_once, types_once, variables_once, formals_once, procedure_names, block_once, procedure_once};
+ghost use Rattle.ob0_scope.specs.DeclaredOnce.{are_distinct, block_names, declared_once, fields_once, group_fields, groups_fields, group_once, types_once, variables_once, formals_once, procedure_names, block_once, procedure_once};
 ghost use Rattle.ob0_scope.specs.Resolution.{is_of_declarations, span_at};
 
-use crate::numbering::token_text;
 use crate::table::token_span;
+use crate::writing::token_text;
 use ob0_scan::{Code, Fault, Tokens};
 use ob0_tree::tree::{
     Block, Constant, Fields, Module, Names, Procedure, RecordType, Section, TypeDeclaration,
@@ -114,7 +114,10 @@ fn add_variables(out: &mut Vec<usize>, section: &Option<Vec<Variables>>) -> Resu
     Ok(())
 }
 
-fn add_formals(out: &mut Vec<usize>, formals: &Option<Vec<Section>>) -> Result<(), AllocError>
+pub(crate) fn add_formals(
+    out: &mut Vec<usize>,
+    formals: &Option<Vec<Section>>,
+) -> Result<(), AllocError>
     ensures { OnOk result (out.new.items ≡ out.old.items ++ formal_names (formal_sections (formals_of formals.now))) }
 {
     if let Some(sections) = formals {
@@ -132,6 +135,16 @@ fn add_procedures(out: &mut Vec<usize>, procedures: &[Procedure]) -> Result<(), 
         out.push(p.name)?;
     }
     Ok(())
+}
+
+/// The names that a block declares.
+pub(crate) fn add_block(out: &mut Vec<usize>, b: &Block) -> Result<(), AllocError>
+    ensures { OnOk result (out.new.items ≡ out.old.items ++ block_names (block_of b.now)) }
+{
+    add_constants(out, &b.constants)?;
+    add_types(out, &b.types)?;
+    add_variables(out, &b.variables)?;
+    add_procedures(out, &b.procedures)
 }
 
 impl Checks {

@@ -2,7 +2,6 @@
 
 ghost use Rattle.std.specs.Prelude.{◌≡◌, ◌+◌, [], OnOk, IfOk, length, map, Some, None};
 ghost use Rattle.ob0_tree.specs.declared.tree.Role.TheVariants as roles;
-ghost use Rattle.ob0_tree.specs.Places.{text_at};
 ghost use Rattle.ob0_tree.specs.Parsed.{tree_of};
 ghost use Rattle.ob0_tree.specs.View.{expression_of, body_of, type_of, names_of, constant_of, constants_of, type_declaration_of, types_of, variable_of, variables_of, section_of, formals_of, procedure_of, block_of};
 ghost use Rattle.ob0_scope.specs.Names.{as_names};
@@ -12,7 +11,7 @@ ghost use Rattle.ob0_scope.specs.Visiting.{marked, numbered_at, numbered_all, sh
 
 use crate::resolved::PREDECLARED;
 use crate::visible::Visible;
-use ob0_scan::Tokens;
+use crate::writing::Writing;
 use ob0_tree::identifiers;
 use ob0_tree::tree::{
     Block, Constant, Expression, Module, Names, Procedure, Role, Section, Statement,
@@ -32,7 +31,7 @@ pub(crate) struct Mark {
 #[derive(Drop)]
 pub(crate) struct Numbering<'t> {
     alloc: Global,
-    tokens: &'t Tokens,
+    writing: Writing<'t>,
     visible: Visible<'t>,
     declarations: Vec<usize>,
     occurrences: Vec<usize>,
@@ -44,18 +43,7 @@ impl<'t> Model for Numbering<'t> {
 
     ghost Value = { Visit };
 
-    ghost view = { λ n. record { source = n.tokens.now; scope = n.visible; declarations = n.declarations.items; uses = n.occurrences.items; marks = n.marks.items } };
-}
-
-/// How a token is written; nothing where there is no such token.
-pub(crate) fn token_text<'t>(tokens: &'t Tokens, token: usize) -> &'t str
-    ensures { result.now ≡ text_at tokens.now token }
-{
-    if token < tokens.tokens().len() {
-        tokens.token_text(token)
-    } else {
-        ""
-    }
+    ghost view = { λ n. record { writing = n.writing; scope = n.visible; declarations = n.declarations.items; uses = n.occurrences.items; marks = n.marks.items } };
 }
 
 /// The predeclared names, visible.
@@ -73,13 +61,17 @@ fn predeclared<'t>(alloc: Global) -> Result<Visible<'t>, AllocError>
     Ok(visible)
 }
 
-/// Goes through a module.
-pub(crate) fn number<'t>(alloc: Global, read: &'t Module<'t>) -> Result<Numbering<'t>, AllocError>
-    ensures { IfOk result (λ n. n ≡ visit_module (tree_of read.now) (started read.now.source)) }
+/// Goes through a module of which the identifiers are written so.
+pub(crate) fn number<'t>(
+    alloc: Global,
+    read: &'t Module<'t>,
+    writing: Writing<'t>,
+) -> Result<Numbering<'t>, AllocError>
+    ensures { IfOk result (λ n. n ≡ visit_module (tree_of read.now) (started writing.entry)) }
 {
     let mut numbering = Numbering {
         alloc,
-        tokens: read.tokens(),
+        writing,
         visible: predeclared(alloc)?,
         declarations: Vec::new(alloc),
         occurrences: Vec::new(alloc),
@@ -100,7 +92,7 @@ impl<'t> Numbering<'t> {
     {
         let Numbering {
             alloc: _,
-            tokens: _,
+            writing: _,
             visible: _,
             declarations,
             occurrences,
@@ -145,7 +137,7 @@ impl<'t> Numbering<'t> {
     fn show(&mut self, token: usize, ordinal: usize) -> Result<(), AllocError>
         ensures { OnOk result (self.new ≡ shown token ordinal self.old) }
     {
-        let name = token_text(self.tokens, token);
+        let name = self.writing.name(token);
         self.visible.declare(name, ordinal)
     }
 
@@ -171,7 +163,7 @@ impl<'t> Numbering<'t> {
     fn look_up(&mut self, token: usize) -> Result<(), AllocError>
         ensures { OnOk result (self.new ≡ found roles.LookedUp token self.old) }
     {
-        let name = token_text(self.tokens, token);
+        let name = self.writing.name(token);
         let ordinal = self.visible.look_up(name);
         self.occurrences.push(token)?;
         self.mark(token, ordinal)

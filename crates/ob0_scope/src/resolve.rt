@@ -7,6 +7,7 @@ use crate::checks::check;
 use crate::numbering::number;
 use crate::resolved::Resolved;
 use crate::table::{table, undeclared};
+use crate::writing::Writing;
 use ob0_tree::tree::Module;
 use std::alloc::{AllocError, Global};
 
@@ -16,7 +17,7 @@ pub fn resolve<'t>(alloc: Global, module: &'t Module<'t>) -> Result<Resolved<'t>
     ensures { IfOk result (λ r. (r.module_read ≡ «module».now) × IsResolution r) }
 {
     let tokens = module.tokens();
-    let numbering = number(alloc, module)?;
+    let numbering = number(alloc, module, Writing::as_in(tokens))?;
     let (declarations, occurrences, marks) = numbering.into_parts();
     let ordinals = table(alloc, tokens.tokens().len(), &marks)?;
     let mut faults = check(alloc, module)?;

@@ -2,6 +2,8 @@
 
 use ob0_parse::parse;
 use ob0_scan::{Code, Fault, scan};
+use ob0_scope::captures::{Capture, captures};
+use ob0_scope::renamed::resolve_renamed;
 use ob0_scope::resolve::resolve;
 use std::alloc::Global;
 use std::test::Fail;
@@ -143,5 +145,112 @@ fn gives_the_ordinals_of_tokens(rt: HostRuntime) -> Result<(), Fail> {
     assert_eq!(rt; resolved.ordinal_at(1000), None);
     assert_eq!(rt; resolved.tokens().tokens().len(), 27);
     assert_eq!(rt; resolved.module().name(), 1);
+    Ok(())
+}
+
+/// What stands against a new name for a declaration of a text.
+fn capture_of(
+    alloc: Global,
+    text: &str,
+    declaration: usize,
+    new: &str,
+) -> Result<Option<Capture>, Fail> {
+    let tokens = scan(alloc, text)?;
+    let module = parse(alloc, &tokens)?;
+    let resolved = resolve(alloc, &module)?;
+    Ok(captures(alloc, &resolved, declaration, new)?)
+}
+
+const LOCAL: &str =
+    "MODULE M; VAR x: INTEGER; PROCEDURE P; VAR y: INTEGER; BEGIN y := 1; x := y END P; BEGIN P; Write(x) END M.";
+
+const LATER: &str =
+    "MODULE M; VAR Q: INTEGER; PROCEDURE A; PROCEDURE P; BEGIN Q := 7 END P; PROCEDURE R; BEGIN Write(2) END R; BEGIN P; R END A; BEGIN A; Write(Q) END M.";
+
+const RECURSIVE: &str =
+    "MODULE M; PROCEDURE F(n: INTEGER); BEGIN IF n > 0 THEN Write(n); F(n - 1) END END F; BEGIN F(2) END M.";
+
+#[test]
+fn binds_the_names_of_a_renamed_module(rt: HostRuntime) -> Result<(), Fail> {
+    let tokens = scan(rt.alloc(), LOCAL)?;
+    let module = parse(rt.alloc(), &tokens)?;
+    let resolved = resolve(rt.alloc(), &module)?;
+    let bound = resolve_renamed(rt.alloc(), &resolved, 7, "y")?;
+    let captured = [
+        Some(0),
+        Some(0),
+        Some(9),
+        Some(9),
+        Some(9),
+        Some(8),
+        Some(5),
+        Some(7),
+    ];
+    assert_eq!(rt; bound.as_slice(), captured.as_slice());
+    let hidden = resolve_renamed(rt.alloc(), &resolved, 9, "INTEGER")?;
+    let wanted = [
+        Some(0),
+        Some(0),
+        Some(9),
+        Some(7),
+        Some(9),
+        Some(8),
+        Some(5),
+        Some(7),
+    ];
+    assert_eq!(rt; hidden.as_slice(), wanted.as_slice());
+    Ok(())
+}
+
+#[test]
+fn tells_the_first_capture(rt: HostRuntime) -> Result<(), Fail> {
+    let alloc = rt.alloc();
+    assert_eq!(rt;
+        capture_of(alloc, LOCAL, 7, "y")?,
+        Some(Capture::Occurrence(3))
+    );
+    assert_eq!(rt;
+        capture_of(alloc, LOCAL, 7, "Write")?,
+        Some(Capture::Occurrence(6))
+    );
+    assert_eq!(rt; capture_of(alloc, LOCAL, 7, "x")?, None);
+    assert_eq!(rt;
+        capture_of(alloc, LATER, 7, "P")?,
+        Some(Capture::Occurrence(1))
+    );
+    assert_eq!(rt;
+        capture_of(alloc, RECURSIVE, 7, "n")?,
+        Some(Capture::Occurrence(4))
+    );
+    Ok(())
+}
+
+#[test]
+fn lets_free_names_pass(rt: HostRuntime) -> Result<(), Fail> {
+    let alloc = rt.alloc();
+    assert_eq!(rt; capture_of(alloc, LATER, 10, "Q")?, None);
+    assert_eq!(rt; capture_of(alloc, LATER, 10, "A")?, None);
+    assert_eq!(rt; capture_of(alloc, RECURSIVE, 7, "G")?, None);
+    assert_eq!(rt; capture_of(alloc, RECURSIVE, 7, "F")?, None);
+    Ok(())
+}
+
+#[test]
+fn tells_of_another_declaration_of_the_block(rt: HostRuntime) -> Result<(), Fail> {
+    let alloc = rt.alloc();
+    assert_eq!(rt;
+        capture_of(alloc, LATER, 10, "P")?,
+        Some(Capture::Duplicate(9))
+    );
+    assert_eq!(rt;
+        capture_of(alloc, LOCAL, 8, "x")?,
+        Some(Capture::Duplicate(7))
+    );
+    let parameter = "MODULE M; PROCEDURE P(a: INTEGER); VAR b: INTEGER; END P; END M.";
+    assert_eq!(rt;
+        capture_of(alloc, parameter, 9, "a")?,
+        Some(Capture::Duplicate(8))
+    );
+    assert_eq!(rt; capture_of(alloc, parameter, 9, "P")?, None);
     Ok(())
 }

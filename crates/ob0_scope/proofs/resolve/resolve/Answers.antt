@@ -1,8 +1,10 @@
-use Rattle.std.proofs.Common.{◌≡◌, ◌++◌, None, List, length, replicate, refl, ◌∙◌, subst}
+use Rattle.std.proofs.Common.{◌++◌, None, List, length, replicate, refl, ap, ◌∙◌, subst}
 use Rattle.std.specs.List.Sorted.{IsPermutation}
 use Rattle.ob0_scan.specs.declared.fault.Fault.{Fault}
-use Rattle.ob0_scope.specs.Resolution.{IsResolution, undeclared_at}
-use Rattle.ob0_scope.specs.Visiting.{with_marks}
+use Rattle.ob0_scope.specs.Resolution.{undeclared_at}
+use Rattle.ob0_tree.specs.Parsed.{tree_of}
+use Rattle.ob0_scope.specs.Visiting.{started, visit_module, with_marks}
+use Rattle.ob0_scope.specs.Written.{as_in}
 use Rattle.ob0_scope.proofs.Bound.{resolution_made}
 use Rattle.ob0_scope.proofs.resolve.resolve.Goals as goal
 
@@ -15,9 +17,10 @@ invariant_of-result c =
     let tabled = c.in_ok-ordinals.ensures
     ∙ ((λ i. with_marks (replicate (length (c.tokens.ensures i)) None) (c.deref.ensures.value i))
     ∙ (λ i. with_marks (replicate (length (c.tokens-tokens.ensures.source i).tokens) None) (parts.ensures.marks i))) in
+    let gone = c.in_ok-numbering.ensures ∙ ap (λ w. visit_module (tree_of m) (started w)) (c.as_in.ensures ∙ ap as_in c.tokens-tokens.ensures.source) in
     let all = c.in_ok-undeclared.ensures ∙ (λ i. once ++ undeclared_at (c.tokens-tokens.ensures.source i) (c.deref-2.ensures.value i) (c.deref-3.ensures.value i)) in
     resolution_made m c.in_ok-numbering.numbering c.in_ok-ordinals.ordinals.items parts.result.0.items parts.result.1.items once sorted
-    c.tokens-tokens.ensures.parsed c.in_ok-numbering.ensures tabled parts.ensures.declarations parts.ensures.uses c.in_ok-faults.ensures.told c.in_ok-faults.ensures.alone
+    c.tokens-tokens.ensures.parsed gone tabled parts.ensures.declarations parts.ensures.uses c.in_ok-faults.ensures.told c.in_ok-faults.ensures.alone
     (subst (λ (fs : List Fault). IsPermutation fs sorted) all c.in_ok-sort_by_key.ensures.permutation)
 
 pub returns : goal.returns
@@ -29,9 +32,10 @@ returns c =
     let tabled = c.in_ok-ordinals.ensures
     ∙ ((λ i. with_marks (replicate (length (c.tokens.ensures i)) None) (c.deref.ensures.value i))
     ∙ (λ i. with_marks (replicate (length (c.tokens-tokens.ensures.source i).tokens) None) (parts.ensures.marks i))) in
+    let gone = c.in_ok-numbering.ensures ∙ ap (λ w. visit_module (tree_of m) (started w)) (c.as_in.ensures ∙ ap as_in c.tokens-tokens.ensures.source) in
     let all = c.in_ok-undeclared.ensures ∙ (λ i. once ++ undeclared_at (c.tokens-tokens.ensures.source i) (c.deref-2.ensures.value i) (c.deref-3.ensures.value i)) in (
       refl,
       resolution_made m c.in_ok-numbering.numbering c.in_ok-ordinals.ordinals.items parts.result.0.items parts.result.1.items once sorted
-          c.tokens-tokens.ensures.parsed c.in_ok-numbering.ensures tabled parts.ensures.declarations parts.ensures.uses c.in_ok-faults.ensures.told c.in_ok-faults.ensures.alone
+          c.tokens-tokens.ensures.parsed gone tabled parts.ensures.declarations parts.ensures.uses c.in_ok-faults.ensures.told c.in_ok-faults.ensures.alone
           (subst (λ (fs : List Fault). IsPermutation fs sorted) all c.in_ok-sort_by_key.ensures.permutation),
     )

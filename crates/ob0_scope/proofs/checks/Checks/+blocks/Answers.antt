@@ -5,7 +5,7 @@ use Rattle.ob0_tree.specs.Places.{named, text_at}
 use Rattle.ob0_tree.specs.View.{block_of, body_of, constants_of, formals_of, items_of, procedure_of, types_of, variables_of}
 use Rattle.ob0_tree.proofs.Viewed.{block_parts, procedure_made}
 use Rattle.ob0_scope.specs.DeclaredOnce.{are_distinct, block_once, procedure_names, procedure_once, procedures_once}
-use Rattle.ob0_scope.specs.Parts.{constant_names, formal_names, formal_sections, named_types, section_constants, section_types, section_variables, variable_names}
+use Rattle.ob0_scope.specs.Parts.{formal_names, formal_sections, named_types, section_types, section_variables, variable_names}
 use Rattle.ob0_scope.proofs.Checking.{block_tested, held, procedure_tested}
 use Rattle.ob0_scope.proofs.checks.Checks.+blocks.Goals as goal
 

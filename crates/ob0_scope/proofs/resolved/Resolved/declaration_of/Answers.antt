@@ -1,4 +1,4 @@
-use Rattle.std.proofs.Common.{◌≡◌, Some, None, ◌∙◌, subst}
+use Rattle.std.proofs.Common.{Some, None, ◌∙◌, subst}
 use Rattle.ob0_scope.specs.Resolution.{IsResolution}
 use Rattle.ob0_scope.proofs.Bound.{bound_at}
 use Rattle.ob0_scope.proofs.resolved.Resolved.declaration_of.Goals as goal

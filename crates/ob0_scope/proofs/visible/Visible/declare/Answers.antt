@@ -1,4 +1,4 @@
-use Rattle.std.proofs.Common.{◌≡◌, Some, length, sym, ap, arith, vec_len, ◌∙◌, subst}
+use Rattle.std.proofs.Common.{◌≡◌, Some, length, sym, arith, vec_len, ◌∙◌, subst}
 use Rattle.ob0_scope.specs.declared.visible.Binding.{Binding}
 use Rattle.ob0_scope.specs.Shadowing.{IsNewest}
 use Rattle.ob0_scope.proofs.Shadows.{Renews, bound_anew}

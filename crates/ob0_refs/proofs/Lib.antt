@@ -1,0 +1,4 @@
+pub mod Alike
+pub mod Placed
+pub mod Written
+pub mod Ranged

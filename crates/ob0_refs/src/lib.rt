@@ -1,0 +1,14 @@
+//! Questions about the names of a module's text: what stands at a place, where it is declared, where else it is named,
+//! and what stands against another name for it.
+#![tactic(auto)]
+
+mod answers;
+mod naming;
+mod places;
+mod positions;
+
+pub use answers::{At, Named, Of};
+pub use naming::{references, references_to, renamed_tokens, tokens_bound};
+pub use ob0_scope::captures::{Capture, captures};
+pub use places::{at, definition, name_at};
+pub use positions::ranges;

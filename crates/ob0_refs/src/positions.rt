@@ -1,0 +1,43 @@
+//! Spans as ranges of positions.
+
+ghost use Rattle.std.specs.Prelude.{◌≡◌, IfOk, map};
+ghost use Rattle.ob0_text.specs.Units.{width_of};
+ghost use Rattle.ob0_refs.specs.Ranges.{range_of};
+
+use ob0_scan::Span;
+use ob0_text::{Range, TextStore};
+use std::alloc::{AllocError, Global};
+
+/// The ranges of spans, found in two passes over the text where the spans stand in text order.
+pub fn ranges<T: TextStore>(
+    alloc: Global,
+    store: &T,
+    spans: &[Span],
+) -> Result<Vec<Range>, AllocError>
+    ensures { IfOk result (λ ranges. ranges.items ≡ map (range_of (width_of (T.unit_of store.now)) (T.content store.now)) spans.now) }
+{
+    let starts = starts(alloc, spans)?;
+    let ends = ends(alloc, spans)?;
+    let from = store.positions(alloc, &starts)?;
+    let to = store.positions(alloc, &ends)?;
+    let mut ranges = Vec::new(alloc);
+    for i in 0..spans.len() {
+        ranges.push(Range {
+            start: from[i],
+            end: to[i],
+        })?;
+    }
+    Ok(ranges)
+}
+
+fn starts(alloc: Global, spans: &[Span]) -> Result<Vec<usize>, AllocError>
+    ensures { IfOk result (λ offsets. offsets.items ≡ map (λ span. span.start) spans.now) }
+{
+    spans.iter().map(|span| span.start).collect(alloc)
+}
+
+fn ends(alloc: Global, spans: &[Span]) -> Result<Vec<usize>, AllocError>
+    ensures { IfOk result (λ offsets. offsets.items ≡ map (λ span. span.end) spans.now) }
+{
+    spans.iter().map(|span| span.end).collect(alloc)
+}

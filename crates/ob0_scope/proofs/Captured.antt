@@ -1,0 +1,63 @@
+-- What is told of a capture is the first capture.
+use Rattle.std.proofs.Common.{◌≡◌, ◌↔◌, ℕ, Bool, true, false, not, ◌&&◌, ◌||◌, ◌==◌, if◌then◌else◌, Option, Some, None, List, [], ◌∷◌, is_some, option_map, refl, sym, ap, ◌∙◌}
+use Rattle.std.specs.List.{list_any}
+use Rattle.std.specs.Option.{option_or}
+use Rattle.ob0_tree.specs.Tree.{Tree, module_text}
+use Rattle.ob0_scope.specs.declared.captures.Capture as told
+use Rattle.ob0_scope.specs.declared.captures.Capture.TheVariants as tells
+use Rattle.ob0_scope.specs.Names.{Name, same_name}
+use Rattle.ob0_scope.specs.Occurrences.{Free, at_declaration, at_occurrence, bindings, blocks_in, declares_ordinal, first_captured, first_difference, is_duplicate, names_another}
+use Rattle.ob0_scope.specs.Parts.{module_block}
+use Rattle.ob0_scope.specs.Renames.{namesake, namesake_in, other_named, place_of}
+use Rattle.ob0_scope.specs.Scopes.{Scope, renamed}
+use Rattle.ob0_scope.proofs.FirstCaptures.{captured_where_not_free-holds}
+
+other_is : (own : Scope Name) (d : ℕ) (new : Name) → is_some (other_named own d new) ≡ names_another own d new
+other_is [] d new = refl
+other_is (b ∷ own) d new = one (same_name b.0 new && not (b.1 == d)) (other_named own d new) (names_another own d new) (other_is own d new)
+  where
+    one : (c : Bool) (found : Option ℕ) (rest : Bool) → is_some found ≡ rest → is_some (if c then Some b.1 else found) ≡ (c || rest)
+    one true found rest e = refl
+    one false found rest e = e
+
+namesake_is : (blocks : List (Scope Name)) (d : ℕ) (new : Name) → is_some (namesake_in blocks d new) ≡ list_any (λ own. declares_ordinal own d && names_another own d new) blocks
+namesake_is [] d new = refl
+namesake_is (own ∷ blocks) d new =
+    both (if declares_ordinal own d then other_named own d new else None) (namesake_in blocks d new)
+    ∙ (λ i. (here (declares_ordinal own d) ∙ ap (λ b. declares_ordinal own d && b) (other_is own d new)) i || namesake_is blocks d new i)
+  where
+    both : (o p : Option ℕ) → is_some (option_or o p) ≡ (is_some o || is_some p)
+    both None p = refl
+    both (Some k) p = refl
+
+    here : (c : Bool) → is_some (if c then other_named own d new else None) ≡ (c && is_some (other_named own d new))
+    here true = refl
+    here false = refl
+
+duplicate_is : (m : Tree Name module_text) (d : ℕ) (new : Name) (o : Option ℕ) → o ≡ namesake m d new → is_duplicate m d new ≡ is_some o
+duplicate_is m d new o e = sym (namesake_is (blocks_in 7 [] (module_block m)) d new) ∙ ap is_some (sym e)
+
+pub captured_there : (m : Tree Name module_text) (d : ℕ) (new : Name) (other : ℕ) → Some other ≡ namesake m d new → Some at_declaration ≡ first_captured m d new
+captured_there m d new other e =
+    sym (ap (λ b. if b then Some at_declaration else option_map at_occurrence (first_difference (bindings (renamed m d new)) (bindings m))) (duplicate_is m d new (Some other) e))
+
+pub captured_later : (m : Tree Name module_text) (d : ℕ) (new : Name) (found : Option told.Capture) → None ≡ namesake m d new
+    → found ≡ option_map tells.Occurrence (first_difference (bindings (renamed m d new)) (bindings m)) → option_map place_of found ≡ first_captured m d new
+captured_later m d new found e f =
+    ap (option_map place_of) f
+    ∙ (placed (first_difference (bindings (renamed m d new)) (bindings m))
+    ∙ sym (ap (λ b. if b then Some at_declaration else option_map at_occurrence (first_difference (bindings (renamed m d new)) (bindings m))) (duplicate_is m d new None e)))
+  where
+    placed : (o : Option ℕ) → option_map place_of (option_map tells.Occurrence o) ≡ option_map at_occurrence o
+    placed None = refl
+    placed (Some k) = refl
+
+pub free_where_none : (m : Tree Name module_text) (d : ℕ) (new : Name) (found : Option told.Capture) → option_map place_of found ≡ first_captured m d new → found ≡ None ↔ Free m d new
+free_where_none m d new found e = (
+  λ none. (captured_where_not_free-holds m d new).0 (sym e ∙ ap (option_map place_of) none),
+  λ free. nothing found (e ∙ (captured_where_not_free-holds m d new).1 free),
+)
+  where
+    nothing : (o : Option told.Capture) → option_map place_of o ≡ None → o ≡ None
+    nothing None h = refl
+    nothing (Some c) h = absurd (cc)

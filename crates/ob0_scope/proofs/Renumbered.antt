@@ -1,0 +1,112 @@
+-- A module gone through with a new name for a declaration gives the numbered tree of the renamed module.
+use Rattle.std.proofs.Common.{◌≡◌, ℕ, suc, ◌+◌, ◌≤◌, Bool, true, false, not, cond, if◌then◌else◌, Option, Some, None, List, [], ◌∷◌, map, length, replicate, refl, sym, ap, ◌∙◌, subst, option_map, le_refl, arith}
+use Rattle.std.proofs.lemmas.List.{length-replicate}
+use Rattle.std.specs.List.{position_from}
+use Rattle.ob0_tree.proofs.Leaves.{leaves_ascend}
+use Rattle.ob0_tree.specs.Order.{Ascending}
+use Rattle.ob0_tree.specs.Parsed.{IsParsed, Parsed, named_tree_of, tree_of}
+use Rattle.ob0_tree.specs.Places.{text_at, value_at}
+use Rattle.ob0_tree.specs.Tree.{mapped, occurrences}
+use Rattle.ob0_scope.specs.Names.{Label, Name, as_names, as_written}
+use Rattle.ob0_scope.specs.Occurrences.{bindings, first_difference, label_ordinal, same_binding}
+use Rattle.ob0_scope.specs.Renames.{IsRenumbering, is_bound_alike, ordinals_bound, renamed_in}
+use Rattle.ob0_scope.specs.Resolution.{IsResolution, Resolution, bound_at, label_at, ordinal_in, with_ordinal}
+use Rattle.ob0_scope.specs.Scopes.{as_label, numbered, renamed, same_ordinal}
+use Rattle.ob0_scope.specs.Visiting.{Visit, started, visit_module, with_marks}
+use Rattle.ob0_scope.specs.Written.{Writing, name_at, spelled_by}
+use Rattle.ob0_scope.proofs.Bound.{bindings_by_table}
+use Rattle.ob0_scope.proofs.FirstCaptures.{same_binding-refl}
+use Rattle.ob0_scope.proofs.Fused.{mapped-mapped, relabelled-mapped}
+use Rattle.ob0_scope.proofs.OccurrencesMapped.{occurrences-mapped}
+use Rattle.ob0_scope.proofs.Passing.{HasMarks, module_passed}
+use Rattle.ob0_scope.proofs.Tables.{marks_stand}
+
+-- the table of all marks has each at its token
+marks_in_table : (m : Parsed) (w : Writing) (v : Visit) (ordinals : List (Option ℕ)) → IsParsed m → v ≡ visit_module (tree_of m) (started w)
+    → ordinals ≡ with_marks (replicate (length m.source.tokens) None) v.marks → HasMarks (ordinal_in ordinals) (visit_module (tree_of m) (started w)).marks
+marks_in_table m w v ordinals parsed gone tabled =
+    let marks = (visit_module (tree_of m) (started w)).marks in
+    let count = length-replicate (length m.source.tokens) (let nothing : Option ℕ = None in nothing) in
+    let passed = module_passed (ordinal_in ordinals) (as_label as_names) w (tree_of m) (started w) (record { writing = refl; scope = refl; next = refl }) in
+    let table : ordinals ≡ with_marks (replicate (length m.source.tokens) None) marks = tabled ∙ ap (λ (v : Visit). with_marks (replicate (length m.source.tokens) None) v.marks) gone in
+    let ascend = subst (λ ts. Ascending 0 ts (length m.source.tokens)) (sym passed.tokens) (leaves_ascend m parsed) in
+    let stand = marks_stand marks (replicate (length m.source.tokens) None) 0 (length m.source.tokens) ascend (subst (λ n. length m.source.tokens ≤ n) (sym count) (le_refl (length m.source.tokens))) in
+    subst (λ (os : List (Option ℕ)). HasMarks (ordinal_in os) marks) (sym table) stand
+
+abbrev new_or : ℕ → Name → Option ℕ × Name → Name
+new_or d new p = if same_ordinal p.0 d then new else p.1
+
+-- the renamed module is the tree with its names as they are written
+pub renamed_spelled : (r : Resolution) (d : ℕ) (new : Name) → IsResolution r → renamed (named_tree_of r.module_read) d new ≡ spelled_by (renamed_in r d new) (tree_of r.module_read)
+renamed_spelled r d new is =
+    let m = r.module_read in
+    relabelled-mapped as_names (new_or d new) with_ordinal (named_tree_of m)
+    ∙ (ap (mapped (new_or d new) (λ n. n)) is.binding ∙ mapped-mapped (new_or d new) (bound_at m.source r.ordinals) (value_at m.source) (tree_of m))
+
+pub renumbered : (r : Resolution) (d : ℕ) (new : Name) (v : Visit) (ordinals : List (Option ℕ)) → IsResolution r → v ≡ visit_module (tree_of r.module_read) (started (renamed_in r d new))
+    → ordinals ≡ with_marks (replicate (length r.module_read.source.tokens) None) v.marks → IsRenumbering r d new ordinals
+renumbered r d new v ordinals is gone tabled =
+    let m = r.module_read in
+    let w = renamed_in r d new in
+    let passed = module_passed (ordinal_in ordinals) (as_label as_names) w (tree_of m) (started w) (record { writing = refl; scope = refl; next = refl }) in
+    ap numbered (renamed_spelled r d new is) ∙ (passed.agree (marks_in_table m w v ordinals is.parsed gone tabled)).1
+
+-- what is bound in the renamed module
+renamed_bindings : (r : Resolution) (d : ℕ) (new : Name) (ordinals : List (Option ℕ)) → IsResolution r → IsRenumbering r d new ordinals
+    → bindings (renamed (named_tree_of r.module_read) d new) ≡ map (λ i. as_label as_names (ordinal_in ordinals i) (name_at (renamed_in r d new) i)) r.uses
+renamed_bindings r d new ordinals is numbering =
+    let m = r.module_read in
+    let label : ℕ → Label = λ i. as_label as_names (ordinal_in ordinals i) (name_at (renamed_in r d new) i) in
+    ap occurrences numbering ∙ (occurrences-mapped label (value_at m.source) (tree_of m) ∙ ap (map label) (sym is.occurring))
+
+ordinals_back : (source : ℕ → Name) (ordinals : List (Option ℕ)) (is : List ℕ) → map label_ordinal (map (λ i. as_label as_names (ordinal_in ordinals i) (source i)) is) ≡ map (ordinal_in ordinals) is
+ordinals_back source ordinals [] = refl
+ordinals_back source ordinals (i ∷ is) = λ j. back (ordinal_in ordinals i) (source i) j ∷ ordinals_back source ordinals is j
+  where
+    back : (o : Option ℕ) (x : Name) → label_ordinal (as_label as_names o x) ≡ o
+    back None x = refl
+    back (Some k) x = refl
+
+pub ordinals_renamed : (r : Resolution) (d : ℕ) (new : Name) (ordinals : List (Option ℕ)) → IsResolution r → IsRenumbering r d new ordinals
+    → map (ordinal_in ordinals) r.uses ≡ ordinals_bound (renamed (named_tree_of r.module_read) d new)
+ordinals_renamed r d new ordinals is numbering =
+    sym (ap (map label_ordinal) (renamed_bindings r d new ordinals is numbering) ∙ ordinals_back (name_at (renamed_in r d new)) ordinals r.uses)
+
+alike : (d : ℕ) (new x : Name) (o old : Option ℕ) → same_binding (as_label as_names o (if same_ordinal old d then new else x)) (as_label as_names old x) ≡ is_bound_alike o old
+alike d new x None None = same_binding-refl (as_written x)
+alike d new x None (Some k) = refl
+alike d new x (Some j) None = refl
+alike d new x (Some j) (Some k) = refl
+
+-- counting on from an index
+abbrev onward : ℕ → Option ℕ → Option ℕ
+onward k found = option_map (λ n. k + n) found
+
+onward-suc : (k : ℕ) (found : Option ℕ) → onward (k + 1) found ≡ onward k (option_map suc found)
+onward-suc k None = refl
+onward-suc k (Some n) = ap Some (omega arith)
+
+onward-zero : (found : Option ℕ) → onward 0 found ≡ found
+onward-zero None = refl
+onward-zero (Some n) = ap Some (omega arith)
+
+first_by_index : (d : ℕ) (new : Name) (text : ℕ → Name) (ordinals old : List (Option ℕ)) (k : ℕ) (is : List ℕ)
+    → position_from (λ i. not (is_bound_alike (ordinal_in ordinals i) (ordinal_in old i))) k is
+    ≡ onward k (first_difference (map (λ i. as_label as_names (ordinal_in ordinals i) (if same_ordinal (ordinal_in old i) d then new else text i)) is) (map (λ i. as_label as_names (ordinal_in old i) (text i)) is))
+first_by_index d new text ordinals old k [] = refl
+first_by_index d new text ordinals old k (i ∷ is) =
+    let rest = first_difference (map (λ i. as_label as_names (ordinal_in ordinals i) (if same_ordinal (ordinal_in old i) d then new else text i)) is) (map (λ i. as_label as_names (ordinal_in old i) (text i)) is) in
+    one (is_bound_alike (ordinal_in ordinals i) (ordinal_in old i)) rest (first_by_index d new text ordinals old (k + 1) is)
+    ∙ ap (λ b. onward k (if b then option_map suc rest else Some 0)) (sym (alike d new (text i) (ordinal_in ordinals i) (ordinal_in old i)))
+  where
+    one : (b : Bool) (rest : Option ℕ) {found : Option ℕ} → found ≡ onward (k + 1) rest → cond (not b) (Some k) found ≡ onward k (if b then option_map suc rest else Some 0)
+    one true rest e = e ∙ onward-suc k rest
+    one false rest e = ap Some (omega arith)
+
+pub first_changed_is : (r : Resolution) (d : ℕ) (new : Name) (ordinals : List (Option ℕ)) → IsResolution r → IsRenumbering r d new ordinals
+    → position_from (λ i. not (is_bound_alike (ordinal_in ordinals i) (ordinal_in r.ordinals i))) 0 r.uses ≡ first_difference (bindings (renamed (named_tree_of r.module_read) d new)) (bindings (named_tree_of r.module_read))
+first_changed_is r d new ordinals is numbering =
+    let m = r.module_read in
+    let here = bindings_by_table m r.ordinals is.numbering ∙ ap (map (label_at m.source r.ordinals)) (sym is.occurring) in
+    first_by_index d new (text_at m.source) ordinals r.ordinals 0 r.uses
+    ∙ (onward-zero _ ∙ (λ i. first_difference (sym (renamed_bindings r d new ordinals is numbering) i) (sym here i)))

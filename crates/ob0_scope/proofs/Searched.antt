@@ -1,0 +1,223 @@
+-- The search over indexes of tokens finds what the blocks' scopes say.
+use Rattle.std.proofs.Common.{◌≡◌, ℕ, suc, Bool, true, false, not, ◌&&◌, ◌||◌, ◌==◌, if◌then◌else◌, Option, Some, None, List, [], ◌∷◌, ◌++◌, map, refl, sym, ap, ◌∙◌}
+use Rattle.std.proofs.lemmas.List.{map-append}
+use Rattle.std.specs.List.{list_any}
+use Rattle.std.specs.Option.{option_or}
+use Rattle.ob0_tree.specs.Parsed.{named_tree_of, tree_of}
+use Rattle.ob0_tree.specs.Places.{value_at}
+use Rattle.ob0_tree.specs.Tree.{Tree, block, constant, constants, declares, declares_constant, declares_constants, declares_procedure, declares_type, declares_types, declares_variable, declares_variables, end, formals, further_name, further_section, has_body, is_module, item, items, listed, mapped, maybe, module_text, more, names, no_formals, none, one, procedure, section, some_formals, then_name, then_section, type_name, type_names, value_section, variable, variable_section, variables}
+use Rattle.ob0_scope.specs.DeclaredOnce.{block_names, procedure_names}
+use Rattle.ob0_scope.specs.Names.{Name, as_names, same_name}
+use Rattle.ob0_scope.specs.Occurrences.{blocks_in, blocks_in_procedure, blocks_in_procedures, declares_ordinal}
+use Rattle.ob0_scope.specs.Parts.{constant_names, formal_names, formal_sections, further_names, module_block, named_types, names_listed, procedure_name, section_constants, section_names, section_types, section_variables, variable_names}
+use Rattle.ob0_scope.specs.Renames.{namesake, namesake_in, other_named}
+use Rattle.ob0_scope.specs.Resolution.{IsResolution, Resolution, bound_at, ordinal_in, with_ordinal}
+use Rattle.ob0_scope.specs.Scopes.{Scope, after_names, after_procedure, body_scope, declare_names, first_procedure, predeclared_scope, procedures_scope, relabel_block, relabel_formals, relabel_procedure, relabel_procedures, relabelled, same_ordinal}
+use Rattle.ob0_scope.specs.Searching.{Sought, found_in_block, found_in_procedure, found_in_procedures, is_sought, last_other, other_among}
+use Rattle.ob0_scope.proofs.Finding.{or_assoc}
+use Rattle.ob0_scope.proofs.DistinctNames.{labels_in, onto, onto-append}
+use Rattle.ob0_scope.proofs.RenamedDeclarations.{labels_in-block, labels_in-names, sections-labels}
+use Rattle.ob0_scope.proofs.Relabelled.{formals-section}
+
+-- names of a tree with other leaves
+
+further-with : {N M : Type 0} (f : N → M) (g : ℕ → ℕ) (ns : Tree N (items further_name)) → further_names (mapped f g ns) ≡ map f (further_names ns)
+further-with f g end = refl
+further-with f g (more (then_name x) rest) = λ i. f x ∷ further-with f g rest i
+
+listed-with : {N M : Type 0} (f : N → M) (g : ℕ → ℕ) (ns : Tree N names) → names_listed (mapped f g ns) ≡ map f (names_listed ns)
+listed-with f g (listed x rest) = λ i. f x ∷ further-with f g rest i
+
+constants-with : {N M : Type 0} (f : N → M) (g : ℕ → ℕ) (cs : Tree N (items constant)) → constant_names (mapped f g cs) ≡ map f (constant_names cs)
+constants-with f g end = refl
+constants-with f g (more (declares_constant x e) cs) = λ i. f x ∷ constants-with f g cs i
+
+constant_section-with : {N M : Type 0} (f : N → M) (g : ℕ → ℕ) (cs : Tree N (maybe constants)) → constant_names (section_constants (mapped f g cs)) ≡ map f (constant_names (section_constants cs))
+constant_section-with f g none = refl
+constant_section-with f g (one (declares_constants cs)) = constants-with f g cs
+
+types-with : {N M : Type 0} (f : N → M) (g : ℕ → ℕ) (ts : Tree N (items type_name)) → named_types (mapped f g ts) ≡ map f (named_types ts)
+types-with f g end = refl
+types-with f g (more (declares_type x t) ts) = λ i. f x ∷ types-with f g ts i
+
+type_section-with : {N M : Type 0} (f : N → M) (g : ℕ → ℕ) (ts : Tree N (maybe type_names)) → named_types (section_types (mapped f g ts)) ≡ map f (named_types (section_types ts))
+type_section-with f g none = refl
+type_section-with f g (one (declares_types ts)) = types-with f g ts
+
+variables-with : {N M : Type 0} (f : N → M) (g : ℕ → ℕ) (vs : Tree N (items variable)) → variable_names (mapped f g vs) ≡ map f (variable_names vs)
+variables-with f g end = refl
+variables-with f g (more (declares_variable ns t) vs) =
+    (λ i. listed-with f g ns i ++ variables-with f g vs i) ∙ sym (map-append f (names_listed ns) (variable_names vs))
+
+variable_section-with : {N M : Type 0} (f : N → M) (g : ℕ → ℕ) (vs : Tree N (maybe variables)) → variable_names (section_variables (mapped f g vs)) ≡ map f (variable_names (section_variables vs))
+variable_section-with f g none = refl
+variable_section-with f g (one (declares_variables vs)) = variables-with f g vs
+
+procedures-with : {N M : Type 0} (f : N → M) (g : ℕ → ℕ) (ps : Tree N (items procedure)) → procedure_names (mapped f g ps) ≡ map f (procedure_names ps)
+procedures-with f g end = refl
+procedures-with f g (more (declares_procedure x fs b closing) ps) = λ i. f x ∷ procedures-with f g ps i
+
+section-with : {N M : Type 0} (f : N → M) (g : ℕ → ℕ) (s : Tree N section) → section_names (mapped f g s) ≡ map f (section_names s)
+section-with f g (value_section ns t) = listed-with f g ns
+section-with f g (variable_section ns t) = listed-with f g ns
+
+sections-with : {N M : Type 0} (f : N → M) (g : ℕ → ℕ) (fs : Tree N (items further_section)) → formal_names (mapped f g fs) ≡ map f (formal_names fs)
+sections-with f g end = refl
+sections-with f g (more (then_section s) fs) =
+    (λ i. section-with f g s i ++ sections-with f g fs i) ∙ sym (map-append f (section_names s) (formal_names fs))
+
+formals-with : {N M : Type 0} (f : N → M) (g : ℕ → ℕ) (fs : Tree N (maybe formals)) → formal_names (formal_sections (mapped f g fs)) ≡ map f (formal_names (formal_sections fs))
+formals-with f g none = refl
+formals-with f g (one no_formals) = refl
+formals-with f g (one (some_formals s fs)) = sections-with f g (more (then_section s) fs)
+
+map-append₄ : {N M : Type 0} (f : N → M) (a b c d : List N) → map f a ++ (map f b ++ (map f c ++ map f d)) ≡ map f (a ++ (b ++ (c ++ d)))
+map-append₄ f a b c d =
+    (λ i. map f a ++ (map f b ++ sym (map-append f c d) i))
+    ∙ ((λ i. map f a ++ sym (map-append f b (c ++ d)) i) ∙ sym (map-append f a (b ++ (c ++ d))))
+
+block-with : {N M : Type 0} (f : N → M) (g : ℕ → ℕ) (b : Tree N block) → block_names (mapped f g b) ≡ map f (block_names b)
+block-with f g (has_body (declares cs ts vs ps) statements) =
+    (λ i. constant_section-with f g cs i ++ (type_section-with f g ts i ++ (variable_section-with f g vs i ++ procedures-with f g ps i)))
+    ∙ map-append₄ f (constant_names (section_constants cs)) (named_types (section_types ts)) (variable_names (section_variables vs)) (procedure_names ps)
+
+module _ (d : ℕ) (new : Name) where
+  -- the same search over trees in which each identifier is its ordinal and its name
+  abbrev Bound : Type 0
+  Bound = Option ℕ × Name
+
+  abbrev is_d : Bound → Bool
+  is_d p = same_ordinal p.0 d
+
+  abbrev has_new : Bound → Bool
+  has_new p = same_name p.1 new && not (is_d p)
+
+  abbrev last_new : Option ℕ → List Bound → Option ℕ
+  last_new found [] = found
+  last_new found (p ∷ ps) = last_new (if has_new p then p.0 else found) ps
+
+  abbrev first_new : List Bound → Option ℕ
+  first_new [] = None
+  first_new (p ∷ ps) = if has_new p then p.0 else first_new ps
+
+  abbrev new_among : List Bound → Option ℕ
+  new_among ps = if list_any is_d ps then last_new None ps else None
+
+  abbrev mutual
+    new_in_block : List Bound → Tree Bound block → Option ℕ
+    new_in_block own (has_body (declares cs ts vs ps) statements) =
+        option_or (new_among (own ++ block_names (has_body (declares cs ts vs ps) statements))) (new_in_procedures ps)
+
+    new_in_procedures : Tree Bound (items procedure) → Option ℕ
+    new_in_procedures end = None
+    new_in_procedures (more p rest) = option_or (new_in_procedure p) (new_in_procedures rest)
+
+    new_in_procedure : Tree Bound (item procedure) → Option ℕ
+    new_in_procedure (declares_procedure x fs b closing) = new_in_block (formal_names (formal_sections fs)) b
+
+  module _ (r : Resolution) where
+    abbrev bound : ℕ → Bound
+    bound i = bound_at r.module_read.source r.ordinals i
+
+    abbrev value : ℕ → ℕ
+    value i = value_at r.module_read.source i
+
+    abbrev sought : Sought
+    sought = record { source = r.module_read.source; ordinals = r.ordinals; declaration = d; new = new }
+
+    any_bound : (is : List ℕ) → list_any (is_sought sought) is ≡ list_any is_d (map bound is)
+    any_bound [] = refl
+    any_bound (i ∷ is) = λ j. is_d (bound i) || any_bound is j
+
+    last_bound : (found : Option ℕ) (is : List ℕ) → last_other sought found is ≡ last_new found (map bound is)
+    last_bound found [] = refl
+    last_bound found (i ∷ is) = last_bound (if has_new (bound i) then ordinal_in r.ordinals i else found) is
+
+    among_bound : (is : List ℕ) → other_among sought is ≡ new_among (map bound is)
+    among_bound is = λ j. if any_bound is j then last_bound None is j else None
+
+    mutual
+      block_bound : (own : List ℕ) (b : Tree ℕ block) → found_in_block sought own b ≡ new_in_block (map bound own) (mapped bound value b)
+      block_bound own (has_body (declares cs ts vs ps) statements) =
+          let b : Tree ℕ block = has_body (declares cs ts vs ps) statements in
+          let here = among_bound (own ++ block_names b) ∙ ap new_among (map-append bound own (block_names b) ∙ ap (λ xs. map bound own ++ xs) (sym (block-with bound value b))) in
+          λ j. option_or (here j) (procedures_bound ps j)
+
+      procedures_bound : (ps : Tree ℕ (items procedure)) → found_in_procedures sought ps ≡ new_in_procedures (mapped bound value ps)
+      procedures_bound end = refl
+      procedures_bound (more p rest) = λ j. option_or (procedure_bound p j) (procedures_bound rest j)
+
+      procedure_bound : (p : Tree ℕ (item procedure)) → found_in_procedure sought p ≡ new_in_procedure (mapped bound value p)
+      procedure_bound (declares_procedure x fs b closing) =
+          block_bound (formal_names (formal_sections fs)) b ∙ ap (λ own. new_in_block own (mapped bound value b)) (sym (formals-with bound value fs))
+
+  -- a scope's bindings, newest first
+
+  declares_any : (own : Scope Name) → declares_ordinal own d ≡ list_any is_d (labels_in with_ordinal own)
+  declares_any [] = refl
+  declares_any (b ∷ own) = λ i. b.1 == d || declares_any own i
+
+  other_first : (own : Scope Name) → other_named own d new ≡ first_new (labels_in with_ordinal own)
+  other_first [] = refl
+  other_first (b ∷ own) = λ i. if same_name b.0 new && not (b.1 == d) then Some b.1 else other_first own i
+
+  any-onto : (xs ys : List Bound) → list_any is_d (onto xs ys) ≡ (list_any is_d xs || list_any is_d ys)
+  any-onto [] ys = refl
+  any-onto (x ∷ xs) ys = any-onto xs (x ∷ ys) ∙ swap (list_any is_d xs) (is_d x) (list_any is_d ys)
+    where
+      swap : (a b c : Bool) → (a || (b || c)) ≡ ((b || a) || c)
+      swap true true c = refl
+      swap true false c = refl
+      swap false true c = refl
+      swap false false c = refl
+
+  first-onto : (xs ys : List Bound) → first_new (onto xs ys) ≡ last_new (first_new ys) xs
+  first-onto [] ys = refl
+  first-onto (x ∷ xs) ys = first-onto xs (x ∷ ys)
+
+  or_false : (b : Bool) → (b || false) ≡ b
+  or_false true = refl
+  or_false false = refl
+
+  scope_among : (own : Scope Name) (ps : List Bound) → labels_in with_ordinal own ≡ onto ps [] → (if declares_ordinal own d then other_named own d new else None) ≡ new_among ps
+  scope_among own ps e =
+      let declared = declares_any own ∙ (ap (list_any is_d) e ∙ (any-onto ps [] ∙ or_false (list_any is_d ps))) in
+      let named = other_first own ∙ (ap first_new e ∙ first-onto ps []) in
+      λ i. if declared i then named i else None
+
+  namesake-append : (xs ys : List (Scope Name)) → namesake_in (xs ++ ys) d new ≡ option_or (namesake_in xs d new) (namesake_in ys d new)
+  namesake-append [] ys = refl
+  namesake-append (own ∷ xs) ys =
+      let here : Option ℕ = if declares_ordinal own d then other_named own d new else None in
+      ap (option_or here) (namesake-append xs ys) ∙ sym (or_assoc here (namesake_in xs d new) (namesake_in ys d new))
+
+  mutual
+    block_scopes : (visible : Scope Name) (k : ℕ) (own : Scope Name) (ps : List Bound) (b : Tree Name block) → labels_in with_ordinal own ≡ onto ps []
+        → new_in_block ps (relabel_block as_names with_ordinal visible k b) ≡ namesake_in (blocks_in k own b) d new
+    block_scopes visible k own ps (has_body (declares cs ts vs procedures) statements) e =
+        let b : Tree Name block = has_body (declares cs ts vs procedures) statements in
+        let declared = block_names (relabel_block as_names with_ordinal visible k b) in
+        let labels = labels_in-block as_names with_ordinal visible k b own ∙ (ap (onto declared) e ∙ sym (onto-append ps declared [])) in
+        λ i. option_or (sym (scope_among (body_scope k b own) (ps ++ declared) labels) i) (procedures_scopes (procedures_scope k b visible) (first_procedure k b) procedures i)
+
+    procedures_scopes : (visible : Scope Name) (k : ℕ) (ps : Tree Name (items procedure)) → new_in_procedures (relabel_procedures as_names with_ordinal visible k ps) ≡ namesake_in (blocks_in_procedures k ps) d new
+    procedures_scopes visible k end = refl
+    procedures_scopes visible k (more p rest) =
+        (λ i. option_or (procedure_scopes visible k p i) (procedures_scopes ((procedure_name p, k) ∷ visible) (after_procedure (suc k) p) rest i))
+        ∙ sym (namesake-append (blocks_in_procedure (suc k) p) (blocks_in_procedures (after_procedure (suc k) p) rest))
+
+    procedure_scopes : (visible : Scope Name) (k : ℕ) (p : Tree Name (item procedure)) → new_in_procedure (relabel_procedure as_names with_ordinal visible k p) ≡ namesake_in (blocks_in_procedure (suc k) p) d new
+    procedure_scopes visible k (declares_procedure x fs b closing) =
+        let own = formal_names (formal_sections fs) in
+        let labelled = ap formal_names (formals-section as_names with_ordinal visible (suc k) fs) ∙ sections-labels as_names with_ordinal visible (suc k) (formal_sections fs) in
+        block_scopes (declare_names (suc k) own ((x, k) ∷ visible)) (after_names (suc k) own) (declare_names (suc k) own []) (formal_names (formal_sections (relabel_formals as_names with_ordinal visible (suc k) fs))) b
+        (labels_in-names with_ordinal (suc k) own [] ∙ ap (λ xs. onto xs []) (sym labelled))
+
+  module_scopes : (m : Tree Name module_text) → new_in_block [] (module_block (relabelled as_names with_ordinal m)) ≡ namesake m d new
+  module_scopes (is_module x b closing) = block_scopes (predeclared_scope as_names) 7 [] [] b refl
+
+-- what is found in a module's block
+pub namesake_found : (r : Resolution) (d : ℕ) (new : Name) → IsResolution r → found_in_block (record { source = r.module_read.source; ordinals = r.ordinals; declaration = d; new = new }) [] (module_block (tree_of r.module_read)) ≡ namesake (named_tree_of r.module_read) d new
+namesake_found r d new is =
+    block_bound d new r [] (module_block (tree_of r.module_read))
+    ∙ (ap (λ t. new_in_block d new [] (module_block t)) (sym is.binding) ∙ module_scopes d new (named_tree_of r.module_read))

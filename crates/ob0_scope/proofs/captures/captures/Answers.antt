@@ -1,0 +1,28 @@
+use Rattle.std.proofs.Common.{Some, sym, ◌∙◌}
+use Rattle.std.proofs.lemmas.Result.{MatchResult-weaker}
+use Rattle.ob0_tree.specs.Parsed.{named_tree_of}
+use Rattle.ob0_scope.specs.declared.captures.Capture.TheVariants as tells
+use Rattle.ob0_scope.proofs.Captured.{captured_later, captured_there, free_where_none}
+use Rattle.ob0_scope.proofs.captures.captures.Goals as goal
+
+pub returns-in-Some-clause-first : goal.returns-in-Some-clause-first
+returns-in-Some-clause-first c =
+    captured_there (named_tree_of c.args.names.now.module_read) c.args.declaration c.args.new.now c.in-Some.other (sym c.in-Some.is ∙ c.in_ok-other.ensures)
+
+pub returns-in-Some-clause-free : goal.returns-in-Some-clause-free
+returns-in-Some-clause-free c =
+    let m = named_tree_of c.args.names.now.module_read in
+    free_where_none m c.args.declaration c.args.new.now (Some (tells.Duplicate c.in-Some.other))
+    (captured_there m c.args.declaration c.args.new.now c.in-Some.other (sym c.in-Some.is ∙ c.in_ok-other.ensures))
+
+pub returns-in-None-clause-first : goal.returns-in-None-clause-first
+returns-in-None-clause-first c =
+    let m = named_tree_of c.args.names.now.module_read in
+    MatchResult-weaker c.first_capture.result c.first_capture.ensures
+    (λ found e. captured_later m c.args.declaration c.args.new.now found (sym c.in-None.is ∙ c.in_ok-other.ensures) e) (λ y h. h)
+
+pub returns-in-None-clause-free : goal.returns-in-None-clause-free
+returns-in-None-clause-free c =
+    let m = named_tree_of c.args.names.now.module_read in
+    MatchResult-weaker c.first_capture.result c.first_capture.ensures
+    (λ found e. free_where_none m c.args.declaration c.args.new.now found (captured_later m c.args.declaration c.args.new.now found (sym c.in-None.is ∙ c.in_ok-other.ensures) e)) (λ y h. h)

@@ -1,0 +1,59 @@
+-- A declaration under another name: what each occurrence is then bound to, and which declaration stands against it.
+use Rattle.std.specs.Prelude.{◌≡◌, ℕ, Bool, true, false, not, ◌&&◌, if◌then◌else◌, ◌==◌, List, [], ◌∷◌, Option, Some, None, map}
+use Rattle.std.specs.Option.{option_or}
+use Rattle.ob0_tree.specs.Tree.{Tree, mapped, module_text}
+use Rattle.ob0_tree.specs.Parsed.{named_tree_of, tree_of}
+use Rattle.ob0_tree.specs.Places.{value_at}
+use Rattle.ob0_scope.specs.declared.captures.Capture as told
+use Rattle.ob0_scope.specs.declared.captures.Capture.TheVariants as tells
+use Rattle.ob0_scope.specs.Names.{Name, as_names, same_name}
+use Rattle.ob0_scope.specs.Occurrences.{Capture, at_declaration, at_occurrence, bindings, blocks_in, declares_ordinal, label_ordinal}
+use Rattle.ob0_scope.specs.Parts.{module_block}
+use Rattle.ob0_scope.specs.Resolution.{Resolution, ordinal_in}
+use Rattle.ob0_scope.specs.Scopes.{Scope, as_label, numbered, renamed}
+use Rattle.ob0_scope.specs.Written.{Writing, name_at}
+
+-- for each occurrence of a module, in text order, the ordinal of its declaration; None where nothing binds it
+abbrev pub ordinals_bound : Tree Name module_text → List (Option ℕ)
+ordinals_bound m = map label_ordinal (bindings m)
+
+-- the newest of these declarations that has the name and isn't d
+abbrev pub other_named : Scope Name → ℕ → Name → Option ℕ
+other_named [] d new = None
+other_named (b ∷ own) d new = if same_name b.0 new && not (b.1 == d) then Some b.1 else other_named own d new
+
+abbrev pub namesake_in : List (Scope Name) → ℕ → Name → Option ℕ
+namesake_in [] d new = None
+namesake_in (own ∷ others) d new = option_or (if declares_ordinal own d then other_named own d new else None) (namesake_in others d new)
+
+-- the declaration of d's block, other than d, that has the name; of several the last
+abbrev pub namesake : Tree Name module_text → ℕ → Name → Option ℕ
+namesake m d new = namesake_in (blocks_in 7 [] (module_block m)) d new
+
+-- the place of a capture
+abbrev pub place_of : told.Capture → Capture
+place_of (tells.Duplicate other) = at_declaration
+place_of (tells.Occurrence k) = at_occurrence k
+
+-- the other declaration, where a capture is a second declaration in its block
+abbrev pub other_of : Option told.Capture → Option ℕ
+other_of None = None
+other_of (Some (tells.Duplicate other)) = Some other
+other_of (Some (tells.Occurrence k)) = None
+
+-- two names are bound to the same declaration, or neither is bound
+abbrev pub is_bound_alike : Option ℕ → Option ℕ → Bool
+is_bound_alike None None = true
+is_bound_alike None (Some k) = false
+is_bound_alike (Some j) None = false
+is_bound_alike (Some j) (Some k) = j == k
+
+-- a resolved text in which one declaration has a new name
+abbrev pub renamed_in : Resolution → ℕ → Name → Writing
+renamed_in r d new = record { source = r.module_read.source; ordinals = r.ordinals; declaration = Some d; new = new }
+
+-- The table of ordinals gives the numbered tree of the module in which d has the new name.
+abbrev pub IsRenumbering : Resolution → ℕ → Name → List (Option ℕ) → Type 0
+IsRenumbering r d new ordinals =
+    numbered (renamed (named_tree_of r.module_read) d new)
+    ≡ mapped (λ i. as_label as_names (ordinal_in ordinals i) (name_at (renamed_in r d new) i)) (value_at r.module_read.source) (tree_of r.module_read)

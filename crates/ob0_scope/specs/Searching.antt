@@ -1,0 +1,50 @@
+-- The search for another declaration of a block that has a name, over indexes of tokens.
+use Rattle.std.specs.Prelude.{ℕ, Bool, not, ◌&&◌, if◌then◌else◌, List, [], ◌∷◌, ◌++◌, Option, None}
+use Rattle.std.specs.List.{list_any}
+use Rattle.std.specs.Option.{option_or}
+use Rattle.ob0_scan.specs.Scanned.{Scanned}
+use Rattle.ob0_tree.specs.Places.{text_at}
+use Rattle.ob0_tree.specs.Tree.{Tree, block, declares, declares_procedure, end, has_body, item, items, more, procedure}
+use Rattle.ob0_scope.specs.DeclaredOnce.{block_names}
+use Rattle.ob0_scope.specs.Names.{Name, same_name}
+use Rattle.ob0_scope.specs.Parts.{formal_names, formal_sections}
+use Rattle.ob0_scope.specs.Resolution.{ordinal_in}
+use Rattle.ob0_scope.specs.Scopes.{same_ordinal}
+
+-- A text with the ordinals of its identifiers by token, the declaration of which the block is sought, and the name.
+pub record Sought : Type 0 where
+  pub source : Scanned
+  pub ordinals : List (Option ℕ)
+  pub declaration : ℕ
+  pub new : Name
+
+abbrev pub ordinal_sought : Sought → ℕ → Option ℕ
+ordinal_sought s i = ordinal_in s.ordinals i
+
+abbrev pub is_sought : Sought → ℕ → Bool
+is_sought s i = same_ordinal (ordinal_sought s i) s.declaration
+
+abbrev pub is_other : Sought → ℕ → Bool
+is_other s i = same_name (text_at s.source i) s.new && not (is_sought s i)
+
+-- the last of these that has the name and is another declaration
+abbrev pub last_other : Sought → Option ℕ → List ℕ → Option ℕ
+last_other s found [] = found
+last_other s found (i ∷ is) = last_other s (if is_other s i then ordinal_sought s i else found) is
+
+-- the same, where the declaration is one of these
+abbrev pub other_among : Sought → List ℕ → Option ℕ
+other_among s is = if list_any (is_sought s) is then last_other s None is else None
+
+-- the names that are declared with those of a block, and then the blocks in it
+abbrev mutual
+  pub found_in_block : Sought → List ℕ → Tree ℕ block → Option ℕ
+  found_in_block s own (has_body (declares cs ts vs ps) statements) =
+      option_or (other_among s (own ++ block_names (has_body (declares cs ts vs ps) statements))) (found_in_procedures s ps)
+
+  pub found_in_procedures : Sought → Tree ℕ (items procedure) → Option ℕ
+  found_in_procedures s end = None
+  found_in_procedures s (more p rest) = option_or (found_in_procedure s p) (found_in_procedures s rest)
+
+  pub found_in_procedure : Sought → Tree ℕ (item procedure) → Option ℕ
+  found_in_procedure s (declares_procedure x fs b closing) = found_in_block s (formal_names (formal_sections fs)) b

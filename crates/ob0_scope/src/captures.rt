@@ -1,0 +1,180 @@
+//! What stands against another name for a declaration.
+
+ghost use Rattle.std.specs.Prelude.{◌≡◌, ◌↔◌, ◌++◌, IfOk, None, not, option_map};
+ghost use Rattle.std.specs.List.{position_from};
+ghost use Rattle.ob0_tree.specs.Parsed.{named_tree_of};
+ghost use Rattle.ob0_tree.specs.View.{block_of, procedure_of};
+ghost use Rattle.ob0_scope.specs.DeclaredOnce.{block_names};
+ghost use Rattle.ob0_scope.specs.Occurrences.{Free, bindings, first_captured, first_difference};
+ghost use Rattle.ob0_scope.specs.declared.captures.Capture.TheVariants.{Occurrence};
+ghost use Rattle.ob0_scope.specs.Renames.{is_bound_alike, namesake, other_of, place_of};
+ghost use Rattle.ob0_scope.specs.Resolution.{ordinal_in};
+ghost use Rattle.ob0_scope.specs.Scopes.{renamed};
+ghost use Rattle.ob0_scope.specs.Searching.{found_in_block, found_in_procedure, is_other, is_sought, other_among};
+
+use crate::checks::{add_block, add_formals};
+use crate::renamed::renumber;
+use crate::resolved::Resolved;
+use crate::table::ordinal_at;
+use crate::writing::token_text;
+use ob0_scan::Tokens;
+use ob0_tree::tree::{Block, Procedure};
+use std::alloc::{AllocError, Global};
+use std::marker::Model;
+
+/// The first place, in text order, at which another name for a declaration isn't free.
+#[derive(Clone, Copy, Debug, PartialEq, Eq)]
+pub enum Capture {
+    /// Another declaration of its block has the name: the ordinal of that one.
+    Duplicate(usize),
+    /// An occurrence would be bound to another declaration: its number, counted from 0 in text order.
+    Occurrence(usize),
+}
+
+/// Where another name for a declaration isn't free, if it isn't: where another declaration of its block has the name, or
+/// an occurrence would be bound to another declaration than it is. None where the name is free.
+pub fn captures(
+    alloc: Global,
+    names: &Resolved,
+    declaration: usize,
+    new: &str,
+) -> Result<Option<Capture>, AllocError>
+    ensures first { IfOk result (λ found. option_map place_of found ≡ first_captured (named_tree_of names.now.module_read) declaration new.now) }
+    ensures other { IfOk result (λ found. other_of found ≡ namesake (named_tree_of names.now.module_read) declaration new.now) }
+    ensures free { IfOk result (λ found. found ≡ None ↔ Free (named_tree_of names.now.module_read) declaration new.now) }
+{
+    match namesake(alloc, names, declaration, new)? {
+        Some(other) => Ok(Some(Capture::Duplicate(other))),
+        None => first_capture(alloc, names, declaration, new),
+    }
+}
+
+/// The first occurrence that would be bound to another declaration.
+fn first_capture(
+    alloc: Global,
+    names: &Resolved,
+    declaration: usize,
+    new: &str,
+) -> Result<Option<Capture>, AllocError>
+    ensures { IfOk result (λ found. found ≡ option_map Occurrence (first_difference (bindings (renamed (named_tree_of names.now.module_read) declaration new.now)) (bindings (named_tree_of names.now.module_read)))) }
+{
+    let ordinals = renumber(alloc, names, declaration, new)?;
+    match first_changed(names, &ordinals) {
+        Some(occurrence) => Ok(Some(Capture::Occurrence(occurrence))),
+        None => Ok(None),
+    }
+}
+
+/// The number of the first occurrence to which a table gives another ordinal.
+fn first_changed(names: &Resolved, ordinals: &[Option<usize>]) -> Option<usize>
+    ensures { result ≡ position_from (λ token. not (is_bound_alike (ordinal_in ordinals.now token) (ordinal_in names.now.ordinals token))) 0 names.now.uses }
+{
+    names.occurrences().iter().position(|token| !is_bound_alike(
+        ordinal_at(ordinals, *token),
+        names.ordinal_at(*token),
+    ))
+}
+
+fn is_bound_alike(a: Option<usize>, b: Option<usize>) -> bool
+    ensures { result ≡ is_bound_alike a b }
+{
+    match a {
+        None => b.is_none(),
+        Some(x) => match b {
+            None => false,
+            Some(y) => x == y,
+        },
+    }
+}
+
+/// The declaration of a declaration's block that has this name and is another; of several the last.
+fn namesake(
+    alloc: Global,
+    names: &Resolved,
+    declaration: usize,
+    new: &str,
+) -> Result<Option<usize>, AllocError>
+    ensures { IfOk result (λ other. other ≡ namesake (named_tree_of names.now.module_read) declaration new.now) }
+{
+    let sought = Sought {
+        tokens: names.tokens(),
+        ordinals: names.ordinals.as_slice(),
+        declaration,
+        new,
+    };
+    sought.block(alloc, Vec::new(alloc), names.module().block())
+}
+
+/// A declaration of which the block is sought, and a name.
+#[derive(Drop)]
+struct Sought<'t> {
+    tokens: &'t Tokens,
+    ordinals: &'t [Option<usize>],
+    declaration: usize,
+    new: &'t str,
+}
+
+impl<'t> Model for Sought<'t> {
+    ghost use Rattle.ob0_scope.specs.Searching as searching;
+
+    ghost Value = { searching.Sought };
+
+    ghost view = { λ s. record { source = s.tokens.now; ordinals = s.ordinals.now; declaration = s.declaration; new = s.new.now } };
+}
+
+impl<'t> Sought<'t> {
+    fn is_sought(&self, token: usize) -> bool
+        ensures { result ≡ is_sought self.now token }
+    {
+        match ordinal_at(self.ordinals, token) {
+            Some(ordinal) => ordinal == self.declaration,
+            None => false,
+        }
+    }
+
+    /// Whether another declaration has the name.
+    fn is_other(&self, token: usize) -> bool
+        ensures { result ≡ is_other self.now token }
+    {
+        token_text(self.tokens, token) == self.new && !self.is_sought(token)
+    }
+
+    /// The last of the tokens of a block's declarations that has the name and is another, where the declaration is one
+    /// of them.
+    fn among(&self, tokens: &[usize]) -> Option<usize>
+        ensures { result ≡ other_among self.now tokens.now }
+    {
+        let mut is_here = false;
+        let mut found = None;
+        for token in tokens {
+            is_here = is_here || self.is_sought(*token);
+            if self.is_other(*token) {
+                found = ordinal_at(self.ordinals, *token);
+            }
+        }
+        if is_here { found } else { None }
+    }
+
+    /// Searches a block, with the tokens of the parameters that are declared in it.
+    #[cycle(blocks)]
+    fn block(&self, alloc: Global, own: Vec<usize>, b: &Block) -> Result<Option<usize>, AllocError>
+        ensures { IfOk result (λ other. other ≡ found_in_block self.now own.items (block_of b.now)) }
+    {
+        let mut tokens = own;
+        add_block(&mut tokens, b)?;
+        let mut found = self.among(&tokens);
+        for p in &b.procedures {
+            found = found.or(self.procedure(alloc, p)?);
+        }
+        Ok(found)
+    }
+
+    #[cycle(blocks)]
+    fn procedure(&self, alloc: Global, p: &Procedure) -> Result<Option<usize>, AllocError>
+        ensures { IfOk result (λ other. other ≡ found_in_procedure self.now (procedure_of p.now)) }
+    {
+        let mut own = Vec::new(alloc);
+        add_formals(&mut own, &p.formals)?;
+        self.block(alloc, own, &p.block)
+    }
+}

@@ -1,0 +1,63 @@
+//! What the names of a module are bound to once a declaration has another name.
+
+ghost use Rattle.std.specs.Prelude.{◌≡◌, IfOk, map};
+ghost use Rattle.ob0_tree.specs.Parsed.{named_tree_of};
+ghost use Rattle.ob0_scope.specs.Renames.{IsRenumbering, ordinals_bound};
+ghost use Rattle.ob0_scope.specs.Resolution.{IsResolution, ordinal_in};
+ghost use Rattle.ob0_scope.specs.Scopes.{renamed};
+
+use crate::numbering::number;
+use crate::resolved::Resolved;
+use crate::table::{ordinal_at, table};
+use crate::writing::Writing;
+use std::alloc::{AllocError, Global};
+
+/// For each occurrence of a module, in text order, the ordinal of the declaration that it would be bound to, if a
+/// declaration, its closing name and all names bound to it were written `new`. None where nothing would bind it.
+pub fn resolve_renamed(
+    alloc: Global,
+    names: &Resolved,
+    declaration: usize,
+    new: &str,
+) -> Result<Vec<Option<usize>>, AllocError>
+    ensures { IfOk result (λ bound. bound.items ≡ ordinals_bound (renamed (named_tree_of names.now.module_read) declaration new.now)) }
+{
+    let ordinals = renumber(alloc, names, declaration, new)?;
+    ordinals_of(alloc, &ordinals, names.occurrences())
+}
+
+/// The ordinal of each identifier, by its token, where a declaration has another name.
+pub(crate) fn renumber(
+    alloc: Global,
+    names: &Resolved,
+    declaration: usize,
+    new: &str,
+) -> Result<Vec<Option<usize>>, AllocError>
+    ensures renumbered { IfOk result (λ ordinals. IsRenumbering names.now declaration new.now ordinals.items) }
+    ensures resolved { IsResolution names.now }
+{
+    let writing = Writing {
+        tokens: names.tokens(),
+        ordinals: names.ordinals.as_slice(),
+        declaration: Some(declaration),
+        new,
+    };
+    let numbering = number(alloc, names.module(), writing)?;
+    let (_declarations, _occurrences, marks) = numbering.into_parts();
+    table(alloc, names.tokens().tokens().len(), &marks)
+}
+
+/// The ordinals that a table has at these tokens.
+fn ordinals_of(
+    alloc: Global,
+    ordinals: &[Option<usize>],
+    tokens: &[usize],
+) -> Result<Vec<Option<usize>>, AllocError>
+    ensures { IfOk result (λ found. found.items ≡ map (ordinal_in ordinals.now) tokens.now) }
+{
+    let mut found = Vec::new(alloc);
+    for token in tokens {
+        found.push(ordinal_at(ordinals, *token))?;
+    }
+    Ok(found)
+}

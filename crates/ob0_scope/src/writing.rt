@@ -1,0 +1,75 @@
+//! How the identifiers of a text are written.
+
+ghost use Rattle.std.specs.Prelude.{◌≡◌};
+ghost use Rattle.ob0_tree.specs.Places.{text_at};
+ghost use Rattle.ob0_scope.specs.Written.{as_in, is_renamed, name_at};
+
+use crate::table::ordinal_at;
+use ob0_scan::Tokens;
+use std::marker::Model;
+
+/// A text, and a name that stands in place of each identifier of one declaration, if there is one.
+#[derive(Drop)]
+pub(crate) struct Writing<'t> {
+    pub(crate) tokens: &'t Tokens,
+    pub(crate) ordinals: &'t [Option<usize>],
+    pub(crate) declaration: Option<usize>,
+    pub(crate) new: &'t str,
+}
+
+impl<'t> Model for Writing<'t> {
+    ghost use Rattle.ob0_scope.specs.Written as written;
+
+    ghost Value = { written.Writing };
+
+    ghost view = { λ w. record { source = w.tokens.now; ordinals = w.ordinals.now; declaration = w.declaration; new = w.new.now } };
+}
+
+/// How a token is written in its text; nothing where there is no such token.
+pub(crate) fn token_text<'t>(tokens: &'t Tokens, token: usize) -> &'t str
+    ensures { result.now ≡ text_at tokens.now token }
+{
+    if token < tokens.tokens().len() {
+        tokens.token_text(token)
+    } else {
+        ""
+    }
+}
+
+/// Whether an identifier of this ordinal has the new name.
+fn is_renamed(declaration: Option<usize>, ordinal: Option<usize>) -> bool
+    ensures { result ≡ is_renamed declaration ordinal }
+{
+    match declaration {
+        Some(renamed) => match ordinal {
+            Some(found) => found == renamed,
+            None => false,
+        },
+        None => false,
+    }
+}
+
+impl<'t> Writing<'t> {
+    /// Each identifier as in the text.
+    pub(crate) fn as_in(tokens: &'t Tokens) -> Writing<'t>
+        ensures { result ≡ as_in tokens.now }
+    {
+        Writing {
+            tokens,
+            ordinals: &[],
+            declaration: None,
+            new: "",
+        }
+    }
+
+    /// How an identifier is written.
+    pub(crate) fn name(&self, token: usize) -> &'t str
+        ensures { result.now ≡ name_at self.now token }
+    {
+        if is_renamed(self.declaration, ordinal_at(self.ordinals, token)) {
+            self.new
+        } else {
+            token_text(self.tokens, token)
+        }
+    }
+}
