@@ -3,7 +3,7 @@ use Rattle.std.proofs.Common.{◌≡◌, ◌≤◌, ◌<◌, ◌⊎◌, ◌∙�
 use Rattle.std.specs.Str.{chars, IsUtf8}
 use Rattle.std.proofs.lemmas.Str.{encodes-chars}
 use Rattle.ob0_scan.specs.Lexed.{Lexeme, Lexed}
-use Rattle.ob0_scan.specs.Scanned.{Scanned, IsScan, IsScanOf, max_text, tokens_from, comments_from}
+use Rattle.ob0_scan.specs.Scanned.{Scanned, IsScan, max_text, tokens_from, comments_from}
 use Rattle.ob0_scope.specs.Resolution.{Resolution}
 use Rattle.ob0_text.specs.Patches.{patched}
 use Rattle.ob0_text.specs.Units.{width_of}

@@ -1,4 +1,4 @@
-use Rattle.std.proofs.Common.{◌≡◌, ◌∙◌, ℕ, List, Result, Vec, Global, codes, ap, inl, inr, refl, sym, subst}
+use Rattle.std.proofs.Common.{◌∙◌, ℕ, List, Result, Vec, Global, codes, ap, inl, inr, refl, sym, subst}
 use Rattle.std.specs.Str.{chars}
 use Rattle.std.proofs.lemmas.Result.{IfOk-weaker}
 use Rattle.serde_json.specs.Data.{Data}
