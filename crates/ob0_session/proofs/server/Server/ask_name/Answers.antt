@@ -1,4 +1,5 @@
 use Rattle.std.proofs.Common.{◌≡◌, ◌∙◌, Some, ap, refl, subst}
+use Rattle.std.proofs.lemmas.Result.{IfOk-weaker}
 use Rattle.ob0_rpc.specs.Seen.{at_seen, id_data}
 use Rattle.ob0_text.specs.OpenDocuments.{OpenDocuments, InStep, OutOfStep, document_at}
 use Rattle.ob0_text.specs.declared.positions.Unit.{Unit}
@@ -20,11 +21,12 @@ returns-in_ok-answered-in-Some-InStep g c =
     of_held s id _ place.uri (Some (InStep _ text)) (answers_name s.held.unit id place c.args.question) _ is there
     (refl, (answer.0, subst (λ (u : Unit). AnswersName u text place c.args.question answer.0) unit answer.1, (_, refl, answer.2)))
 
-pub returns-in_ok-refused-in-Some-OutOfStep : goal.returns-in_ok-refused-in-Some-OutOfStep
-returns-in_ok-refused-in-Some-OutOfStep g c =
+pub returns-in-Some-OutOfStep : goal.returns-in-Some-OutOfStep
+returns-in-Some-OutOfStep g c =
     let s = c.args.self.now in
     let id = id_data c.args.id.now in
     let place = at_seen c.args.place.now in
     let is = ap (λ (t : State). t.held) c.self.view_is in
     let there = (rw c.in-Some-OutOfStep.field-0-is at c.in-Some-OutOfStep.ensures.held) ∙ ap (document_at c.self.inside.documents) c.as_str.ensures.value in
-    of_held s id _ place.uri (Some OutOfStep) (answers_name s.held.unit id place c.args.question) _ is there (refl, (_, refl, c.in_ok-refused-in-Some-OutOfStep.ensures))
+    IfOk-weaker c.refuse_document.result _ _ (λ sent said.
+    of_held s id _ place.uri (Some OutOfStep) (answers_name s.held.unit id place c.args.question) _ is there said) c.refuse_document.ensures
