@@ -1,10 +1,10 @@
 -- A new name at the tokens that are bound to a declaration makes the renamed module.
-use Rattle.std.proofs.Common.{◌≡◌, ℕ, ◌+◌, ◌≤◌, Bool, true, false, not, cond, ◌&&◌, ◌||◌, ◌==◌, if◌then◌else◌, List, [], ◌∷◌, ◌++◌, Option, map, length, refl, sym, ap, ◌∙◌, subst, arith, eq-eqb, eqb-true}
+use Rattle.std.proofs.Common.{◌≡◌, ℕ, ◌+◌, Bool, true, false, cond, ◌&&◌, ◌||◌, ◌==◌, if◌then◌else◌, List, [], ◌∷◌, Option, map, length, refl, sym, ap, ◌∙◌, subst, arith, eq-eqb, eqb-true}
 use Rattle.std.specs.List.{filter}
 use Rattle.ob0_scan.specs.declared.lexeme.Token.{Token}
 use Rattle.ob0_tree.proofs.Leaves.{ascending_lower, leaves_are_identifiers, leaves_ascend}
 use Rattle.ob0_tree.specs.Order.{AreIdentifiers, Ascending, names_only}
-use Rattle.ob0_tree.specs.Parsed.{named_tree_of, tree_of}
+use Rattle.ob0_tree.specs.Parsed.{tree_of}
 use Rattle.ob0_tree.specs.Places.{text_at, value_at}
 use Rattle.ob0_tree.specs.Tree.{identifiers}
 use Rattle.ob0_tree.specs.declared.tree.Role.{Role}
@@ -16,7 +16,7 @@ use Rattle.ob0_scope.specs.Scopes.{same_ordinal}
 use Rattle.ob0_scope.specs.Written.{name_at}
 use Rattle.ob0_scope.proofs.Renumbered.{renamed_spelled}
 use Rattle.ob0_refs.specs.Listing.{is_listed, tokens_listed}
-use Rattle.ob0_refs.specs.Standing.{IsRenamedAt, is_among, is_declaring, tokens_bound}
+use Rattle.ob0_refs.specs.Standing.{IsRenamedAt, is_among, tokens_bound}
 use Rattle.ob0_refs.proofs.Alike.{AllAlike, alike}
 use Rattle.ob0_refs.proofs.Placed.{bound_listed}
 

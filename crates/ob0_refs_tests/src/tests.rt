@@ -3,6 +3,7 @@
 use ob0_parse::parse;
 use ob0_refs::{
     At, Capture, Named, Of, at, captures, definition, name_at, ranges, references, references_to,
+    renamed_tokens,
 };
 use ob0_scan::{Span, scan};
 use ob0_scope::resolve::resolve;

@@ -1,4 +1,4 @@
-use Rattle.std.proofs.Common.{◌≡◌, map, ap, ◌∙◌}
+use Rattle.std.proofs.Common.{map, ◌∙◌}
 use Rattle.std.proofs.lemmas.Result.{MatchResult-weaker}
 use Rattle.ob0_scope.specs.Resolution.{span_at}
 use Rattle.ob0_refs.proofs.naming.references_to.Goals as goal

@@ -1,4 +1,4 @@
-use Rattle.std.proofs.Common.{◌≡◌, true, length, sym, subst}
+use Rattle.std.proofs.Common.{true, length, sym, subst}
 use Rattle.std.proofs.lemmas.Result.{MatchResult-weaker}
 use Rattle.ob0_tree.specs.Order.{AreIdentifiers, Ascending}
 use Rattle.ob0_refs.specs.Standing.{IsRenamedAt}
