@@ -38,4 +38,4 @@ def capabilities(prepare=False, literals=False, utf8=False):
 
 
 # The bytes of the answer to `initialize` with id 1, for a client that supports nothing.
-FIRST_ANSWER = 230 if BUILT["format"] else 196 if BUILT["rename"] else 174 if BUILT["questions"] else 101
+FIRST_ANSWER = 101 + (73 if BUILT["questions"] else 0) + (22 if BUILT["rename"] else 0) + (34 if BUILT["format"] else 0)

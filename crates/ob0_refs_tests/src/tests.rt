@@ -2,12 +2,14 @@
 
 use ob0_parse::parse;
 use ob0_refs::{
-    At, Capture, Named, Of, at, captures, definition, name_at, ranges, references, references_to,
-    renamed_tokens,
+    At, Capture, Named, Of, Parameter, array_text, at, captures, constant_text, definition,
+    name_at, named_type_text, predeclared_text, procedure_text, ranges, record_text, references,
+    references_to, renamed_tokens, variable_text,
 };
 use ob0_scan::{Span, scan};
 use ob0_scope::resolve::resolve;
 use ob0_text::{Position, Range, TextStore, Whole};
+use ob0_values::scalar::Scalar;
 use std::alloc::Global;
 use std::test::Fail;
 
@@ -172,5 +174,40 @@ fn lists_a_hundred_thousand_references(rt: HostRuntime) -> Result<(), Fail> {
     assert_eq!(rt; captures(rt.alloc(), &names, 7, "y")?, None);
     assert_eq!(rt; captures(rt.alloc(), &names, 7, "M")?, None);
     assert_eq!(rt; captures(rt.alloc(), &names, 7, "INTEGER")?, None);
+    Ok(())
+}
+
+#[test]
+fn texts_that_are_shown(rt: HostRuntime) -> Result<(), Fail> {
+    let alloc = rt.alloc();
+    let array = array_text(alloc, 3, "BOOLEAN")?;
+    assert!(rt; array.as_str() == "ARRAY 3 OF BOOLEAN");
+    let record = record_text(alloc, 2)?;
+    assert!(rt; record.as_str() == "RECORD with 2 fields");
+    let number = constant_text(alloc, "c", Scalar::Number(-2147483648))?;
+    assert!(rt; number.as_str() == "CONST c = -2147483648");
+    let truth = constant_text(alloc, "on", Scalar::Truth(true))?;
+    assert!(rt; truth.as_str() == "CONST on = TRUE");
+    let named = named_type_text(alloc, "T", "INTEGER")?;
+    assert!(rt; named.as_str() == "TYPE T = INTEGER");
+    let variable = variable_text(alloc, "x", "T")?;
+    assert!(rt; variable.as_str() == "VAR x: T");
+    let predeclared = predeclared_text(alloc, "Write")?;
+    assert!(rt; predeclared.as_str() == "predeclared Write");
+    let none = procedure_text(alloc, "p", &[])?;
+    assert!(rt; none.as_str() == "PROCEDURE p()");
+    Ok(())
+}
+
+#[test]
+fn the_text_of_a_heading(rt: HostRuntime) -> Result<(), Fail> {
+    let alloc = rt.alloc();
+    let mut parameters = Vec::new(alloc);
+    for (by_place, name) in [(false, "a"), (true, "b")] {
+        let of = String::from_str(alloc, "INTEGER")?;
+        parameters.push(Parameter { by_place, name, of })?;
+    }
+    let heading = procedure_text(alloc, "p", parameters.as_slice())?;
+    assert!(rt; heading.as_str() == "PROCEDURE p(a: INTEGER; VAR b: INTEGER)");
     Ok(())
 }
