@@ -6,18 +6,19 @@ feature that was built is switched on here, and its tests then run."""
 
 BUILT = {
     "syntax": True,  # diagnostics of the parser
-    "types": False,  # diagnostics of scopes and types
+    "types": True,  # diagnostics of scopes and types
     "check": True,  # `ob0 check`
     "changes": True,  # changes with a range
     "utf8": True,  # positions in UTF-8 units where the client offers them
-    "questions": False,  # hover, definition, references, prepareRename
+    "questions": True,  # definition, references, prepareRename
+    "hover": False,
     "fields": False,  # questions at fields of records
     "run": False,  # `ob0 run`
     "rename": False,  # rename
     "rename command": False,  # `ob0 rename`
     "rename fields": False,  # rename of a record's field
     "inline": False,  # code actions
-    "format": False,  # formatting
+    "format": True,  # formatting
 }
 
 
@@ -25,7 +26,9 @@ def capabilities(prepare=False, literals=False, utf8=False):
     """What `initialize` announces to a client that supports these."""
     found = {"textDocumentSync": {"change": 2 if BUILT["changes"] else 1, "openClose": True}}
     if BUILT["questions"]:
-        found.update(hoverProvider=True, definitionProvider=True, referencesProvider=True)
+        found.update(definitionProvider=True, referencesProvider=True)
+    if BUILT["hover"]:
+        found["hoverProvider"] = True
     if BUILT["rename"]:
         found["renameProvider"] = {"prepareProvider": True} if prepare else True
     if BUILT["inline"] and literals:
@@ -38,4 +41,4 @@ def capabilities(prepare=False, literals=False, utf8=False):
 
 
 # The bytes of the answer to `initialize` with id 1, for a client that supports nothing.
-FIRST_ANSWER = 101 + (73 if BUILT["questions"] else 0) + (22 if BUILT["rename"] else 0) + (34 if BUILT["format"] else 0)
+FIRST_ANSWER = 101 + (52 if BUILT["questions"] else 0) + (21 if BUILT["hover"] else 0) + (22 if BUILT["rename"] else 0) + (34 if BUILT["format"] else 0)

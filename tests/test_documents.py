@@ -217,10 +217,10 @@ def refused_questions():
     broken = notice("textDocument/didChange", {"textDocument": {"uri": "file:///m", "version": 2}})
     with Server() as server:
         unopened = {"code": -32803, "message": "unopened"}
-        same(server.ask("textDocument/hover", where).get("error"), unopened)
+        same(server.ask("textDocument/definition", where).get("error"), unopened)
         server.tell(did_open(MODULE))
         server.send(broken)
-        same(server.ask("textDocument/hover", where).get("error"), {"code": -32803, "message": "out of step"})
+        same(server.ask("textDocument/definition", where).get("error"), {"code": -32803, "message": "out of step"})
         same(server.tell(did_change(MODULE, version=3)), [])
-        server.send(request(99, "textDocument/hover", {}))
+        server.send(request(99, "textDocument/definition", {}))
         same(server.take().get("error"), {"code": -32602, "message": "bad params"})

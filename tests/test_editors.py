@@ -197,14 +197,14 @@ DEFINITION = {"range": extent("1:10-1:11"), "uri": "file:///m.mod"}
 REFERENCES = [{"range": extent(it), "uri": "file:///m.mod"} for it in PLACES]
 
 
-@test("Neovim: hover, go to definition and references", "questions")
+@test("Neovim: hover, go to definition and references", "questions", "hover")
 def neovim_questions():
     found = in_neovim("questions", CALLS)
     wanted_steps = [("opened", []), ("hover", HOVER), ("definition", DEFINITION), ("references", REFERENCES)]
     same(found, [*wanted_steps, ("jumped", [2, 10]), ("ended", ENDED)])
 
 
-@test("Emacs: hover, go to definition and references", "questions")
+@test("Emacs: hover, go to definition and references", "questions", "hover")
 def emacs_questions():
     found = in_emacs("questions", CALLS)
     wanted_steps = [("opened", []), ("hover", HOVER), ("definition", DEFINITION), ("references", REFERENCES)]

@@ -39,7 +39,7 @@ class Asked(Server):
         return found and found["range"]
 
 
-@test("questions: hover, byte by byte", "questions")
+@test("questions: hover, byte by byte", "hover")
 def hover_bytes():
     found = serve(frames([initialize(), did_open(CALLS), request(3, "textDocument/hover", where(3, 7))])).contents()[2]
     wanted = (
@@ -73,21 +73,29 @@ def references_bytes():
 def no_names():
     with Asked(CALLS) as server:
         write = [extent("2:20-2:25")]
-        same(server.hover(2, 20), ("predeclared Write", write[0]))
         same(server.definition(2, 20), None)
         same(server.result("prepareRename", 2, 20), None)
         same(server.references(2, 20, True), write)
         same(server.references(2, 20, False), write)
         for line, character in ((0, 7), (0, 8), (0, 0), (2, 0), (3, 9), (3, 16), (9, 9)):
-            same(server.hover(line, character), None, f"hover at {line}:{character}")
             same(server.references(line, character, True), [], f"references at {line}:{character}")
             same(server.definition(line, character), None, f"definition at {line}:{character}")
+
+
+@test("questions: hover of predeclared names, and where no name is", "hover")
+def no_hover():
+    with Asked(CALLS) as server:
+        same(server.hover(2, 20), ("predeclared Write", extent("2:20-2:25")))
+        for line, character in ((0, 7), (0, 8), (0, 0), (2, 0), (3, 9), (3, 16), (9, 9)):
+            same(server.hover(line, character), None, f"hover at {line}:{character}")
+    with Asked("MODULE M") as server:
+        same(server.result("hover", 0, 7), None)
 
 
 @test("questions: a text that isn't well-typed", "questions")
 def ill_typed():
     with Asked("MODULE M") as server:
-        for what in ("hover", "definition", "prepareRename"):
+        for what in ("definition", "prepareRename"):
             same(server.result(what, 0, 7), None, what)
         same(server.references(0, 7, True), [])
 
@@ -97,13 +105,13 @@ def positions():
     bad = {"code": -32602, "message": "bad params"}
     with Asked(CALLS) as server:
         for line in (18446744073709551616, -1, 1.0, "1", None, []):
-            same(server.result("hover", line, 0), bad, f"line {line!r}")
-        same(server.result("hover", 18446744073709551615, 18446744073709551615), None)
+            same(server.result("definition", line, 0), bad, f"line {line!r}")
+        same(server.result("definition", 18446744073709551615, 18446744073709551615), None)
         for params in (None, {}, [], {"position": place(0, 0)}, {"position": {}, "textDocument": {"uri": URI}}):
-            same(server.ask("textDocument/hover", params).get("error"), bad, f"params {params!r}")
+            same(server.ask("textDocument/definition", params).get("error"), bad, f"params {params!r}")
         same(server.ask("textDocument/references", where(0, 0)).get("error"), bad, "no context")
         refused = {"code": -32803, "message": "unopened"}
-        same(server.ask("textDocument/hover", {**where(0, 0), "textDocument": {"uri": "x"}}).get("error"), refused)
+        same(server.ask("textDocument/definition", {**where(0, 0), "textDocument": {"uri": "x"}}).get("error"), refused)
 
 
 NAMES = """MODULE M;
@@ -118,7 +126,7 @@ BEGIN a[c] := d; Q(a[0], p[0][1], on, b); b := TRUE END M.
 """
 
 
-@test("questions: what hover tells of each kind of name", "questions")
+@test("questions: what hover tells of each kind of name", "hover")
 def hovers():
     wanted = {
         "1:6-1:7": "CONST c = 7",
@@ -158,7 +166,7 @@ def scopes():
         same(server.references(7, 20, False), [extent(it) for it in ("6:40-6:41", "7:20-7:21", "8:17-8:18")])
 
 
-@test("questions: fields, by their record", "fields")
+@test("questions: fields, by their record", "fields", "hover")
 def fields():
     with Asked(NAMES) as server:
         same(server.hover(6, 26), ("FIELD x: INTEGER", extent("6:26-6:27")))

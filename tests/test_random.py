@@ -94,7 +94,7 @@ def characters():
             same(server.tell(did_open(text)), wanted(text), f"seed {seed}, of the text {text!r}")
 
 
-@test("random: hover, definition and references at each place", "questions")
+@test("random: definition and references at each place", "questions")
 def questions():
     uri = "file:///m"
     with Server() as server:

@@ -91,7 +91,8 @@ def main():
         where = {"position": place(4, 16), "textDocument": {"uri": URI}}
         if BUILT["questions"]:
             say("which name stands in line 4 at character 16, and where else?")
-            server.ask("textDocument/hover", where)
+            if BUILT["hover"]:
+                server.ask("textDocument/hover", where)
             server.ask("textDocument/references", {**where, "context": {"includeDeclaration": True}})
         if BUILT["rename"]:
             say("rename it; and then to a name that would be captured, which is refused")
