@@ -164,7 +164,10 @@ fn references_value<T: TextStore>(
     let text = store.to_string(alloc)?;
     match ask(alloc, text.as_str(), &question)? {
         Asked::Answered(found) => locations(alloc, store, place.uri.as_str(), found.as_slice()),
-        Asked::IllTyped(_) => Ok(Value::Array(Vec::new(alloc))),
+        Asked::IllTyped(_) => {
+            let none = Vec::new(alloc);
+            Ok(Value::Array(none))
+        }
     }
 }
 

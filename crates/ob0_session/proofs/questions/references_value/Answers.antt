@@ -34,4 +34,4 @@ returns g c =
     let text : List ℕ = g.T.TextStore.content c.args.store.now in
     let is = λ (m : Parsed) (found : Vec Span Global). found.items ≡ references_in m c.offset.result c.args.include_declaration in
     let found = found_of c.as_str.result.now text is c.in_ok-found.field-0 c.as_str.utf8 (ap chars c.as_str.ensures.value ∙ c.in_ok-text.ensures) c.in_ok-found.ensures in
-    inr (subst (λ (a : Asked (Vec Span Global)). FoundOf text is a) c.in-IllTyped.is found, view-Array _ ∙ ap (λ (vs : List Value). array (items_view vs)) c.new.ensures.items)
+    inr (subst (λ (a : Asked (Vec Span Global)). FoundOf text is a) c.in-IllTyped.is found, view-Array _ ∙ ap (λ (vs : List Value). array (items_view vs)) c.new-none.ensures.items)
