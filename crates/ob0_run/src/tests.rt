@@ -10,6 +10,7 @@ use ob0_tree::tree::{
 use ob0_values::scalar::Scalar;
 use ob0_values::value::{Place, Value};
 use std::alloc::{AllocError, Global};
+use std::mem;
 use std::test::Fail;
 
 fn alone(alloc: Global, first: Factor) -> Term {
@@ -202,7 +203,8 @@ fn shows(
         &mut machine,
         &|_: &mut Machine<'_, '_>, _: usize| { Err(Stop::Ended(Ending::CallBound)) },
     );
-    Ok((ended, machine.state.output))
+    let output = mem::replace(&mut machine.state.output, Vec::new(alloc));
+    Ok((ended, output))
 }
 
 #[test]
