@@ -5,7 +5,7 @@ use Rattle.ob0_tree.specs.declared.tree.Procedure.{Procedure}
 use Rattle.ob0_tree.specs.View.{procedure_of}
 use Rattle.ob0_scope.specs.Names.{Label, as_labels, as_written, declared}
 use Rattle.ob0_types.specs.Environments.{from_binding, newest}
-use Rattle.ob0_types.specs.Expressions.{Object, a_constant, a_procedure, a_standard, a_variable}
+use Rattle.ob0_types.specs.Expressions.{Object, a_constant, a_procedure, a_standard, a_type, a_variable}
 use Rattle.ob0_values.specs.Stored.{place_of, value_of}
 use Rattle.ob0_values.specs.Values.{Place}
 use Rattle.ob0_run.specs.declared.machine.Bound.{Bound}
@@ -14,10 +14,12 @@ use Rattle.ob0_run.specs.declared.scene.Meant.TheVariants as meant
 use Rattle.ob0_run.specs.declared.scene.Routine.{Routine}
 use Rattle.ob0_run.specs.Bindings.{Table, put_at, with_binding}
 use Rattle.ob0_run.specs.Runs.{Activation, Code, statement_meanings}
+use Rattle.ob0_run.specs.Shapes.{shape_of}
 use Rattle.ob0_run.specs.Scenes.{label_with, meaning_with, ordinal_in, read_with, standard_of}
 
 -- what an entry of the table is in a run
 abbrev pub entry_of : Scanned → List (Option ℕ) → Meant → Option (Object Place (Code Label))
+entry_of source ordinals (meant.Type s) = Some (a_type (shape_of s))
 entry_of source ordinals (meant.Constant v) = Some (a_constant (value_of v))
 entry_of source ordinals (meant.Variable p) = Some (a_variable (place_of p))
 entry_of source ordinals (meant.Procedure r) = Some (a_procedure record { first_constructor = r.first_constructor; text = read_with source ordinals (procedure_of r.procedure.now) })
