@@ -86,7 +86,7 @@ fields_same fs gs e = fields_named fs ∙ ap fields_from e ∙ sym (fields_named
 pub members_initial : (ms : List Member) (fs : List Field) → map named_value ms ≡ map begun fs → members_in ms ≡ values.initial_members (fields_in fs)
 members_initial ms fs e = members_named ms ∙ ap members_from e ∙ sym (members_begun fs)
 
-map_pushed : {A B : Type 0} (f : A → B) (xs : List A) (x : A) → map f (xs ++ x ∷ []) ≡ map f xs ++ f x ∷ []
+pub map_pushed : {A B : Type 0} (f : A → B) (xs : List A) (x : A) → map f (xs ++ x ∷ []) ≡ map f xs ++ f x ∷ []
 map_pushed f [] x = refl
 map_pushed f (y ∷ ys) x = ap (λ zs. f y ∷ zs) (map_pushed f ys x)
 

@@ -1,10 +1,10 @@
 //! The start of an activation: parameters and declarations are bound, and variables made.
 
-ghost use Rattle.std.specs.Prelude.{◌≡◌, Some};
+ghost use Rattle.std.specs.Prelude.{◌≡◌, Some, length, map};
 ghost use Rattle.ob0_values.specs.Stored.{place_of, value_of};
-ghost use Rattle.ob0_run.specs.Activations.{Declares, label_there, with_variable};
-ghost use Rattle.ob0_run.specs.Callings.{argument_of};
-ghost use Rattle.ob0_run.specs.Runs.{bind_parameter, value_argument};
+ghost use Rattle.ob0_run.specs.Activations.{Declares, label_there, labelled, with_variable};
+ghost use Rattle.ob0_run.specs.Callings.{argument_of, arguments_of, parameters_of};
+ghost use Rattle.ob0_run.specs.Runs.{bind_parameter, bind_parameters, value_argument};
 ghost use Rattle.ob0_types.specs.WellTyped.{by_value};
 ghost use Rattle.ob0_run.specs.Scenes.{mode_of};
 
@@ -31,12 +31,18 @@ fn bind_variable<'t>(
     Ok(())
 }
 
+fn variables_in(machine: &Machine<'_, '_>) -> usize
+    ensures { result ≡ length machine.now.state.store.items }
+{
+    machine.state.store.len()
+}
+
 /// A new variable, the last of the store.
 fn allocate<'t>(machine: &mut Machine<'_, 't>, name: usize, value: Value<'t>) -> Result<(), Stop>
     ensures { Declares result machine.old machine.new (bind_parameter by_value (label_there machine.old name) (value_argument (value_of value.entry))) }
 {
     let place = Place {
-        variable: machine.state.store.len(),
+        variable: variables_in(machine),
         path: Vec::new(machine.alloc),
     };
     bind_variable(machine, name, place)?;
@@ -68,4 +74,26 @@ fn bind_parameter<'t>(
             }
         }
     }
+}
+
+/// The parameters of a call, from the first to the last.
+fn bind_parameters<'t>(
+    machine: &mut Machine<'_, 't>,
+    formals: &[Formal],
+    args: Vec<Argument<'t>>,
+) -> Result<(), Stop>
+    ensures { Declares result machine.old machine.new (bind_parameters (map (labelled machine.old) (parameters_of formals.now)) (arguments_of args.entry)) }
+{
+    let mut bound = 0;
+    for argument in args {
+        if bound >= formals.len() {
+            return Err(Stop::Ended(Ending::Stuck));
+        }
+        bind_parameter(machine, formals[bound], argument)?;
+        bound += 1;
+    }
+    if bound < formals.len() {
+        return Err(Stop::Ended(Ending::Stuck));
+    }
+    Ok(())
 }
