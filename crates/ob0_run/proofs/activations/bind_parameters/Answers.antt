@@ -1,5 +1,5 @@
 use Rattle.std.proofs.lemmas.Result.{err_from_is_err_and}
-use Rattle.std.proofs.Common.{arith, sym, ◌∙◌, false}
+use Rattle.std.proofs.Common.{false, rules}
 use Rattle.ob0_run.proofs.Activating.{declares_left, no_items, passing_begins, passing_ends, passing_fails, passing_few, passing_many, passing_on}
 use Rattle.ob0_run.proofs.activations.bind_parameters.Goals as goal
 
@@ -25,9 +25,9 @@ loop-argument-preserved c =
 pub returns-then-bound-formals-2 : goal.returns-then-bound-formals-2
 returns-then-bound-formals-2 c =
     passing_few c.args.machine.now c.loop-argument.machine c.args.formals.now c.args.args.items c.loop-argument.argument-iterator.rest.items c.loop-argument.bound c.loop-argument.invariant.2
-    record { by_place = false; name = 0 } (no_items _ ?) c.if-bound-formals-2.true
+    record { by_place = false; name = 0 } (no_items _ (search rules)) c.if-bound-formals-2.true
 
 pub returns : goal.returns
 returns c =
     passing_ends c.args.machine.now c.loop-argument.machine c.args.formals.now c.args.args.items c.loop-argument.argument-iterator.rest.items c.loop-argument.bound c.loop-argument.invariant.2
-    (no_items _ ?) c.if-bound-formals-2.false
+    (no_items _ (search rules)) c.if-bound-formals-2.false
