@@ -121,39 +121,50 @@ module _ (start now : Machine) (formals : List Formal) (args rest : List code.Ar
   passing_on m d a rest' e less step = record {
     adds = adds_more start now m p.adds step.0;
     frames = λ f s.
-      let h : _ = p.frames f s in
-      let j : _ = step.1 h.0 h.2 in
-      (j.0, h.1 ∙ next_bound d a rest' h.0 e less ∙ ap (option_and_then (bind_parameters (written_for start (drop (k + 1) formals)) (map argument_of rest'))) j.1, j.2);
+        let h : _ = p.frames f s in
+        let j : _ = step.1 h.0 h.2 in
+        (j.0, h.1 ∙ next_bound d a rest' h.0 e less ∙ ap (option_and_then (bind_parameters (written_for start (drop (k + 1) formals)) (map argument_of rest'))) j.1, j.2);
   }
 
   pub passing_fails : (m : Machine) (d : Formal) (a : code.Argument) (rest' : List code.Argument) (e : Stop) → rest ≡ a ∷ rest' → k < length formals
       → Declares (Err e) now m (bind_parameter (mode_of (get_or formals k d).by_place) (label_there now (get_or formals k d).name) (argument_of a))
       → Declares (Err e) start m (bind_parameters (written_for start formals) (map argument_of args))
   passing_fails m d a rest' stop.Memory e less step = tt
-  passing_fails m d a rest' (stop.Ended x) e less step =
-      (step.0 ∙ p.adds.same, step.1, λ f s.
+  passing_fails m d a rest' (stop.Ended x) e less step = (
+    step.0 ∙ p.adds.same,
+    step.1,
+    λ f s.
         let h : _ = p.frames f s in
-        h.1 ∙ next_bound d a rest' h.0 e less ∙ ap (option_and_then (bind_parameters (written_for start (drop (k + 1) formals)) (map argument_of rest'))) (step.2 h.0 h.2))
+        h.1 ∙ next_bound d a rest' h.0 e less ∙ ap (option_and_then (bind_parameters (written_for start (drop (k + 1) formals)) (map argument_of rest'))) (step.2 h.0 h.2),
+  )
 
   -- more arguments than parameters
   pub passing_many : (a : code.Argument) (rest' : List code.Argument) → rest ≡ a ∷ rest' → length formals ≤ k → Declares (Err (stop.Ended ending.Stuck)) start now (bind_parameters (written_for start formals) (map argument_of args))
-  passing_many a rest' e all =
-      (p.adds.same, refl, λ f s.
+  passing_many a rest' e all = (
+    p.adds.same,
+    refl,
+    λ f s.
         let h : _ = p.frames f s in
-        h.1 ∙ ap (λ xs. bind_parameters (written_for start (drop k formals)) (map argument_of xs) h.0) e ∙ ap (λ fs. bind_parameters (written_for start fs) (map argument_of (a ∷ rest')) h.0) (drop_all k formals all))
+        h.1 ∙ ap (λ xs. bind_parameters (written_for start (drop k formals)) (map argument_of xs) h.0) e ∙ ap (λ fs. bind_parameters (written_for start fs) (map argument_of (a ∷ rest')) h.0) (drop_all k formals all),
+  )
 
   -- fewer arguments than parameters
   pub passing_few : (d : Formal) → rest ≡ [] → k < length formals → Declares (Err (stop.Ended ending.Stuck)) start now (bind_parameters (written_for start formals) (map argument_of args))
-  passing_few d e less =
-      (p.adds.same, refl, λ f s.
+  passing_few d e less = (
+    p.adds.same,
+    refl,
+    λ f s.
         let h : _ = p.frames f s in
-        h.1 ∙ ap (λ xs. bind_parameters (written_for start (drop k formals)) (map argument_of xs) h.0) e ∙ ap (λ fs. bind_parameters (written_for start fs) [] h.0) (drop_more formals k d less))
+        h.1 ∙ ap (λ xs. bind_parameters (written_for start (drop k formals)) (map argument_of xs) h.0) e ∙ ap (λ fs. bind_parameters (written_for start fs) [] h.0) (drop_more formals k d less),
+  )
 
   pub passing_ends : rest ≡ [] → length formals ≤ k → Declares (Ok tt) start now (bind_parameters (written_for start formals) (map argument_of args))
-  passing_ends e all =
-      (p.adds, λ f s.
+  passing_ends e all = (
+    p.adds,
+    λ f s.
         let h : _ = p.frames f s in
-        (h.0, h.1 ∙ ap (λ xs. bind_parameters (written_for start (drop k formals)) (map argument_of xs) h.0) e ∙ ap (λ fs. bind_parameters (written_for start fs) [] h.0) (drop_all k formals all), h.2))
+        (h.0, h.1 ∙ ap (λ xs. bind_parameters (written_for start (drop k formals)) (map argument_of xs) h.0) e ∙ ap (λ fs. bind_parameters (written_for start fs) [] h.0) (drop_all k formals all), h.2),
+  )
 
 -- the exit of a `?`
 pub declares_left : (r : Result (Unit {0}) Stop) (e : Stop) (m m' : Machine) (step : Frame Label → Option (Frame Label)) → (y : Stop) × (r ≡ Err y) × (y ≡ e) → Declares (Err e) m m' step → Declares r m m' step

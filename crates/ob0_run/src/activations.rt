@@ -1,16 +1,19 @@
 //! The start of an activation: parameters and declarations are bound, and variables made.
 
 ghost use Rattle.std.specs.Prelude.{◌≡◌, Some, length, map};
+ghost use Rattle.ob0_tree.specs.View.{procedure_of};
+ghost use Rattle.ob0_scope.specs.Parts.{procedure_formals};
 ghost use Rattle.ob0_values.specs.Stored.{place_of, value_of};
 ghost use Rattle.ob0_run.specs.Activations.{Declares, label_there, labelled, with_variable};
 ghost use Rattle.ob0_run.specs.Callings.{argument_of, arguments_of, parameters_of};
-ghost use Rattle.ob0_run.specs.Runs.{bind_parameter, bind_parameters, value_argument};
+ghost use Rattle.ob0_run.specs.Runs.{bind_parameter, bind_parameters, parameters, value_argument};
 ghost use Rattle.ob0_types.specs.WellTyped.{by_value};
-ghost use Rattle.ob0_run.specs.Scenes.{mode_of};
+ghost use Rattle.ob0_run.specs.Scenes.{mode_of, read_with};
 
-use crate::calling::{Argument, Formal};
+use crate::calling::{Argument, Formal, formals};
 use crate::machine::{Machine, bind};
 use crate::scene::{Ending, Meant, Stop};
+use ob0_tree::tree::Procedure;
 use ob0_values::value::{Place, Value};
 
 /// Binds a name to the place of a variable.
@@ -96,4 +99,16 @@ fn bind_parameters<'t>(
         return Err(Stop::Ended(Ending::Stuck));
     }
     Ok(())
+}
+
+/// Binds the parameters of a procedure to the arguments of a call.
+pub(crate) fn pass<'t>(
+    machine: &mut Machine<'_, 't>,
+    procedure: &Procedure,
+    args: Vec<Argument<'t>>,
+) -> Result<(), Stop>
+    ensures { Declares result machine.old machine.new (bind_parameters (parameters (procedure_formals (read_with machine.old.tokens.now machine.old.ordinals.items (procedure_of procedure.now)))) (arguments_of args.entry)) }
+{
+    let taken = formals(machine.alloc, &procedure.formals)?;
+    bind_parameters(machine, taken.as_slice(), args)
 }

@@ -18,9 +18,12 @@ returns-in_err-bind_parameter c =
     c.bind_parameter.new.machine _ c.in-Some.argument c.next.new.self.rest.items c.in_err-bind_parameter.field-0.0 c.in-Some.ensures.steps.0 c.if-bound-formals.false c.in_err-bind_parameter.ensures)
 
 pub loop-argument-preserved : goal.loop-argument-preserved
-loop-argument-preserved c =
-    (tt, tt, passing_on c.args.machine.now c.loop-argument.machine c.args.formals.now c.args.args.items c.loop-argument.argument-iterator.rest.items c.loop-argument.bound c.loop-argument.invariant.2
-    c.bind_parameter.new.machine _ c.in-Some.argument c.next.new.self.rest.items c.in-Some.ensures.steps.0 c.if-bound-formals.false c.in_ok-bind_parameter.ensures)
+loop-argument-preserved c = (
+  tt,
+  tt,
+  passing_on c.args.machine.now c.loop-argument.machine c.args.formals.now c.args.args.items c.loop-argument.argument-iterator.rest.items c.loop-argument.bound c.loop-argument.invariant.2
+      c.bind_parameter.new.machine _ c.in-Some.argument c.next.new.self.rest.items c.in-Some.ensures.steps.0 c.if-bound-formals.false c.in_ok-bind_parameter.ensures,
+)
 
 pub returns-then-bound-formals-2 : goal.returns-then-bound-formals-2
 returns-then-bound-formals-2 c =
