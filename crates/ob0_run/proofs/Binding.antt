@@ -12,12 +12,13 @@ use Rattle.ob0_run.specs.declared.machine.Bound.{Bound}
 use Rattle.ob0_run.specs.declared.scene.Meant.{Meant}
 use Rattle.ob0_run.specs.declared.scene.Meant.TheVariants as meant
 use Rattle.ob0_run.specs.declared.scene.Routine.{Routine}
-use Rattle.ob0_run.specs.Bindings.{Table, exchanged, found_at, put_at, with_binding}
-use Rattle.ob0_run.specs.Held.{DepthIs, HeldBinds, HeldUnwinds, Holds, IsBoundAt, IsHeldIn, Reaches, down_to, entry_of, without_newest}
+use Rattle.ob0_run.specs.Bindings.{Table, exchanged, found_at, put_at, rewound, with_binding}
+use Rattle.ob0_run.specs.Held.{DepthIs, HeldBinds, HeldUnwinds, Holds, IsBoundAt, IsHeldIn, Reaches, TakenBack, down_to, entry_of, without_newest}
 use Rattle.ob0_run.specs.Runs.{Activation, Code}
 use Rattle.ob0_run.specs.Scenes.{label_with, ordinal_in}
 use Rattle.ob0_run.proofs.Holding.{held_closes, held_length}
-use Rattle.ob0_run.proofs.Rewinding.{put_back, reverse_pushed}
+use Rattle.ob0_run.proofs.Rewinding.{put_back, reverse_pushed, take_short, take_whole}
+use Rattle.ob0_run.proofs.Passing.{length_pushed}
 
 length_set : {A : Type 0} (xs : List A) (k : ℕ) (x : A) → length (slice_set xs k x) ≡ length xs
 length_set [] k x = refl
@@ -88,3 +89,55 @@ held_unwinds source ordinals env t k r h found =
       subst (λ bs. Holds source ordinals (from_binding as_labels env (declared k)) (without_newest (length t.bound - r.depth) t.meant (reverse t.bound)) bs) (dropped t.bound closes.0 r.depth lengths)
           (subst (λ i. Holds source ordinals (from_binding as_labels env (declared k)) (without_newest i t.meant (reverse t.bound)) (drop closes.0 (reverse t.bound))) (sym n) closes.2),
     )
+
+without_nothing : (n : ℕ) (ms : List Meant) → without_newest n ms [] ≡ ms
+without_nothing zero ms = refl
+without_nothing (suc n) ms = refl
+
+-- so many bindings taken back, then so many more
+without_more : (a b : ℕ) (ms : List Meant) (bs : List Bound) → without_newest (a + b) ms bs ≡ without_newest b (without_newest a ms bs) (drop a bs)
+without_more zero b ms bs = let e : zero + b ≡ b = omega arith in ap (λ n. without_newest n ms bs) e
+without_more (suc a) b ms [] = without_nothing (suc a + b) ms ∙ sym (without_nothing b ms)
+without_more (suc a) b ms (x ∷ bs) =
+    let e : suc a + b ≡ suc (a + b) = omega arith in
+    ap (λ n. without_newest n ms (x ∷ bs)) e ∙ without_more a b (put_at x.ordinal x.hidden ms) bs
+
+length_rewound : (bs : List Bound) (t : Table) → length (rewound bs t).bound ≡ length t.bound + length bs
+length_rewound [] t = omega arith
+length_rewound (b ∷ bs) t =
+    let one : Table = rewound (b ∷ []) t in
+    let e : length (rewound bs one).bound ≡ length one.bound + length bs = length_rewound bs one in
+    let f : length one.bound ≡ length t.bound + 1 = length_pushed t.bound (exchanged b t.meant) in
+    omega (arith, e, f)
+
+take_less : {A : Type 0} (k : ℕ) (xs : List A) → take k xs ≡ take k (take (k + 1) xs)
+take_less zero xs = refl
+take_less (suc k) [] = let e : suc k + 1 ≡ suc (k + 1) = omega arith in sym (ap (λ n. take (suc k) (take n [])) e)
+take_less (suc k) (x ∷ xs) = let e : suc k + 1 ≡ suc (k + 1) = omega arith in ap (λ zs. x ∷ zs) (take_less k xs) ∙ sym (ap (λ n. take (suc k) (take n (x ∷ xs))) e)
+
+pub taken_back : TakenBack
+taken_back [] t =
+    let none : length t.bound - length t.bound ≡ 0 = omega arith in
+    let meant : without_newest (length t.bound - length t.bound) t.meant (reverse t.bound) ≡ t.meant = ap (λ n. without_newest n t.meant (reverse t.bound)) none in
+    let bound : take (length t.bound) t.bound ≡ t.bound = take_whole t.bound (length t.bound) (omega arith) in
+    λ i. record { meant = meant i; bound = bound i }
+taken_back (b ∷ bs) t =
+    let one : Table = rewound (b ∷ []) t in
+    let all : Table = rewound bs one in
+    let before : down_to (length one.bound) all ≡ one = taken_back bs one in
+    let one_more : length one.bound ≡ length t.bound + 1 = length_pushed t.bound (exchanged b t.meant) in
+    let many : length all.bound ≡ length one.bound + length bs = length_rewound bs one in
+    let n : ℕ = length all.bound - length one.bound in
+    let count : length all.bound - length t.bound ≡ (length all.bound - length one.bound) + 1 = omega (arith, one_more, many) in
+    let parts : length all.bound ≡ (length all.bound - length one.bound) + length one.bound = omega (arith, many) in
+    let left : take (length one.bound) all.bound ≡ one.bound = ap (λ t. t.bound) before in
+    let meant : without_newest (length all.bound - length t.bound) all.meant (reverse all.bound) ≡ t.meant =
+    ap (λ n. without_newest n all.meant (reverse all.bound)) count
+    ∙ without_more n 1 all.meant (reverse all.bound)
+    ∙ ap (λ ms. without_newest 1 ms (drop n (reverse all.bound))) (ap (λ t. t.meant) before)
+    ∙ ap (λ bs. without_newest 1 one.meant bs) (dropped all.bound n (length one.bound) parts ∙ ap reverse left ∙ reverse_pushed t.bound (exchanged b t.meant))
+    ∙ put_back b.ordinal b.hidden t.meant in
+    let bound : take (length t.bound) all.bound ≡ t.bound =
+    take_less (length t.bound) all.bound ∙ ap (λ n. take (length t.bound) (take n all.bound)) (sym one_more) ∙ ap (take (length t.bound)) left
+    ∙ take_short t.bound (exchanged b t.meant ∷ []) (length t.bound) (omega arith) ∙ take_whole t.bound (length t.bound) (omega arith) in
+    λ i. record { meant = meant i; bound = bound i }

@@ -50,12 +50,12 @@ rewinds_on taken left b ms ms' bound bound' whole before popped put pushed =
     ∙ ap (λ xs. rewound xs record { meant = ms; bound = bound }) (sym (ap reverse popped ∙ reverse_pushed left b))
     ∙ before
 
-take_short : {A : Type 0} (xs ys : List A) (k : ℕ) → k ≤ length xs → take k (xs ++ ys) ≡ take k xs
+pub take_short : {A : Type 0} (xs ys : List A) (k : ℕ) → k ≤ length xs → take k (xs ++ ys) ≡ take k xs
 take_short xs ys zero h = refl
 take_short [] ys (suc k) h = absurd (omega (arith, h))
 take_short (x ∷ xs) ys (suc k) h = ap (λ zs. x ∷ zs) (take_short xs ys k (omega (arith, h)))
 
-take_whole : {A : Type 0} (xs : List A) (k : ℕ) → length xs ≤ k → take k xs ≡ xs
+pub take_whole : {A : Type 0} (xs : List A) (k : ℕ) → length xs ≤ k → take k xs ≡ xs
 take_whole [] zero h = refl
 take_whole [] (suc k) h = refl
 take_whole (x ∷ xs) zero h = absurd (omega (arith, h))

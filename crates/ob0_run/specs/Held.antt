@@ -12,7 +12,7 @@ use Rattle.ob0_run.specs.declared.machine.Bound.{Bound}
 use Rattle.ob0_run.specs.declared.scene.Meant.{Meant}
 use Rattle.ob0_run.specs.declared.scene.Meant.TheVariants as meant
 use Rattle.ob0_run.specs.declared.scene.Routine.{Routine}
-use Rattle.ob0_run.specs.Bindings.{Table, put_at, with_binding}
+use Rattle.ob0_run.specs.Bindings.{Table, put_at, rewound, with_binding}
 use Rattle.ob0_run.specs.Runs.{Activation, Code, statement_meanings}
 use Rattle.ob0_run.specs.Shapes.{shape_of}
 use Rattle.ob0_run.specs.Scenes.{label_with, meaning_with, ordinal_in, read_with, standard_of}
@@ -92,3 +92,7 @@ abbrev pub HeldUnwinds : Type 0
 HeldUnwinds =
     (source : Scanned) (ordinals : List (Option ℕ)) (env : Activation Label) (t : Table) (k : ℕ) (r : Routine)
     → IsHeldIn source ordinals env t → slice_get t.meant k ≡ Some (meant.Procedure r) → IsHeldIn source ordinals (from_binding as_labels env (declared k)) (down_to r.depth t)
+
+-- what was bound above a table is gone again once the table is unwound to its depth
+abbrev pub TakenBack : Type 0
+TakenBack = (bs : List Bound) (t : Table) → down_to (length t.bound) (rewound bs t) ≡ t
