@@ -47,7 +47,7 @@ module _ (source : Scanned) (ordinals : List (Option ℕ)) where
   held_means (b ∷ env) ms [] k h = absurd h
   held_means (b ∷ env) ms (x ∷ bs) k h = bound_first env b.0 b.1 ms (suc (length env)) x k h.0 (held_means env (put_at x.ordinal x.hidden ms) bs k h.1)
 
-  held_length : (env : Activation Label) (ms : List Meant) (bs : List Bound) → Holds source ordinals env ms bs → length env ≡ length bs
+  pub held_length : (env : Activation Label) (ms : List Meant) (bs : List Bound) → Holds source ordinals env ms bs → length env ≡ length bs
   held_length [] ms [] h = refl
   held_length [] ms (b ∷ bs) h = absurd h
   held_length (b ∷ env) ms [] h = absurd h

@@ -45,6 +45,7 @@ module _ {M : Type 0} (f : ℕ → M) (g : ℕ → ℕ) where
       ∙ formals-read (formals_of (out-Procedure p).formals)
 
 entry-passing : (source : Scanned) (ordinals : List (Option ℕ)) (m : Meant) → passing (entry_of source ordinals m) ≡ object_of m
+entry-passing source ordinals (meant.Type s) = refl
 entry-passing source ordinals (meant.Constant v) = refl
 entry-passing source ordinals (meant.Variable p) = refl
 entry-passing source ordinals (meant.Procedure r) = ap (λ ms. Some (a_procedure ms)) (procedure-read _ _ r.procedure.now)

@@ -25,3 +25,7 @@ exchanged b ms = record { ordinal = b.ordinal; hidden = found_at b.ordinal b.hid
 abbrev pub rewound : List Bound → Table → Table
 rewound [] t = t
 rewound (b ∷ bs) t = rewound bs record { meant = put_at b.ordinal b.hidden t.meant; bound = t.bound ++ exchanged b t.meant ∷ [] }
+
+-- one binding more, the newest
+abbrev pub with_binding : Option ℕ → Meant → Table → Table
+with_binding o m t = rewound (record { ordinal = o; hidden = m } ∷ []) t

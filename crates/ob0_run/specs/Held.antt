@@ -1,23 +1,25 @@
 -- How the table of a run stands for an environment.
-use Rattle.std.specs.Prelude.{◌≡◌, ℕ, zero, suc, ◌+◌, drop, List, [], ◌∷◌, length, map, Option, Some, None, slice_get, option_and_then}
+use Rattle.std.specs.Prelude.{◌≡◌, ℕ, zero, suc, ◌+◌, drop, List, [], ◌∷◌, length, map, ◌<◌, ◌-◌, reverse, take, Option, Some, None, slice_get, option_and_then}
 use Rattle.ob0_scan.specs.Scanned.{Scanned}
 use Rattle.ob0_tree.specs.declared.tree.Procedure.{Procedure}
 use Rattle.ob0_tree.specs.View.{procedure_of}
 use Rattle.ob0_scope.specs.Names.{Label, as_labels, as_written, declared}
 use Rattle.ob0_types.specs.Environments.{from_binding, newest}
-use Rattle.ob0_types.specs.Expressions.{Object, a_constant, a_procedure, a_standard, a_variable}
+use Rattle.ob0_types.specs.Expressions.{Object, a_constant, a_procedure, a_standard, a_type, a_variable}
 use Rattle.ob0_values.specs.Stored.{place_of, value_of}
 use Rattle.ob0_values.specs.Values.{Place}
 use Rattle.ob0_run.specs.declared.machine.Bound.{Bound}
 use Rattle.ob0_run.specs.declared.scene.Meant.{Meant}
 use Rattle.ob0_run.specs.declared.scene.Meant.TheVariants as meant
 use Rattle.ob0_run.specs.declared.scene.Routine.{Routine}
-use Rattle.ob0_run.specs.Bindings.{put_at}
+use Rattle.ob0_run.specs.Bindings.{Table, put_at, rewound, with_binding}
 use Rattle.ob0_run.specs.Runs.{Activation, Code, statement_meanings}
-use Rattle.ob0_run.specs.Scenes.{meaning_with, read_with, standard_of}
+use Rattle.ob0_run.specs.Shapes.{shape_of}
+use Rattle.ob0_run.specs.Scenes.{label_with, meaning_with, ordinal_in, read_with, standard_of}
 
 -- what an entry of the table is in a run
 abbrev pub entry_of : Scanned → List (Option ℕ) → Meant → Option (Object Place (Code Label))
+entry_of source ordinals (meant.Type s) = Some (a_type (shape_of s))
 entry_of source ordinals (meant.Constant v) = Some (a_constant (value_of v))
 entry_of source ordinals (meant.Variable p) = Some (a_variable (place_of p))
 entry_of source ordinals (meant.Procedure r) = Some (a_procedure record { first_constructor = r.first_constructor; text = read_with source ordinals (procedure_of r.procedure.now) })
@@ -65,3 +67,32 @@ abbrev pub HeldSpeaks : Type 0
 HeldSpeaks =
     (source : Scanned) (ordinals : List (Option ℕ)) (env : Activation Label) (ms : List Meant) (bs : List Bound)
     → Holds source ordinals env ms bs → statement_meanings as_labels env ≡ meaning_with ms
+
+-- a table has room for the ordinals of all tokens
+abbrev pub Reaches : List (Option ℕ) → List Meant → Type 0
+Reaches ordinals ms = (token k : ℕ) → ordinal_in ordinals token ≡ Some k → k < length ms
+
+-- a table, its newest binding at the end, holds an environment
+abbrev pub IsHeldIn : Scanned → List (Option ℕ) → Activation Label → Table → Type 0
+IsHeldIn source ordinals env t = Reaches ordinals t.meant × Holds source ordinals env t.meant (reverse t.bound)
+
+-- a table with one binding more holds the environment with that binding
+abbrev pub HeldBinds : Type 0
+HeldBinds =
+    (source : Scanned) (ordinals : List (Option ℕ)) (env : Activation Label) (t : Table) (name : ℕ) (m : Meant) (o : Object Place (Code Label))
+    → IsHeldIn source ordinals env t → entry_of source ordinals m ≡ Some o → DepthIs (suc (length t.bound)) m
+    → IsHeldIn source ordinals ((label_with source ordinals name, o) ∷ env) (with_binding (ordinal_in ordinals name) m t)
+
+-- a table with no more bindings than a depth
+abbrev pub down_to : ℕ → Table → Table
+down_to depth t = record { meant = without_newest (length t.bound - depth) t.meant (reverse t.bound); bound = take depth t.bound }
+
+-- a table unwound to the depth of one of its procedures holds what was visible at its declaration
+abbrev pub HeldUnwinds : Type 0
+HeldUnwinds =
+    (source : Scanned) (ordinals : List (Option ℕ)) (env : Activation Label) (t : Table) (k : ℕ) (r : Routine)
+    → IsHeldIn source ordinals env t → slice_get t.meant k ≡ Some (meant.Procedure r) → IsHeldIn source ordinals (from_binding as_labels env (declared k)) (down_to r.depth t)
+
+-- what was bound above a table is gone again once the table is unwound to its depth
+abbrev pub TakenBack : Type 0
+TakenBack = (bs : List Bound) (t : Table) → down_to (length t.bound) (rewound bs t) ≡ t

@@ -9,7 +9,7 @@ use Rattle.ob0_scope.specs.Parts.{formal_sections}
 use Rattle.ob0_run.specs.Runs.{formal_modes}
 use Rattle.ob0_scope.specs.Names.{Label, as_names, as_written, declared, label_text}
 use Rattle.ob0_scope.specs.Scopes.{as_label}
-use Rattle.ob0_types.specs.Expressions.{Meanings, Object, a_constant, a_procedure, a_standard, a_variable, element_step, evaluate, evaluate_factor, evaluate_term, reads, writes, writes_line}
+use Rattle.ob0_types.specs.Expressions.{Meanings, Object, a_constant, a_procedure, a_standard, a_type, a_variable, element_step, evaluate, evaluate_factor, evaluate_term, reads, writes, writes_line}
 use Rattle.ob0_types.specs.Expressions as standard
 use Rattle.ob0_types.specs.WellTyped.{Mode, by_place, by_value}
 use Rattle.ob0_values.specs.declared.scalar.Fault.{Fault}
@@ -20,6 +20,7 @@ use Rattle.std.specs.declared.alloc.Global.{Global}
 use Rattle.ob0_values.specs.declared.value.Step as code_step
 use Rattle.ob0_values.specs.Values.{End, Outcome, Place, Step, Store, at_field, ends, gives, ◌>>=◌}
 use Rattle.ob0_values.specs.Values as values
+use Rattle.ob0_run.specs.Shapes.{shape_of}
 use Rattle.ob0_run.specs.declared.scene.Ending.{Ending}
 use Rattle.ob0_run.specs.declared.scene.Ending.TheVariants as ending
 use Rattle.ob0_run.specs.declared.scene.Stop.{Stop}
@@ -67,6 +68,7 @@ modes_taken r = formal_modes (formal_sections (formals_of (out-Procedure r.proce
 
 -- what a declaration is to statements
 abbrev pub object_of : Meant → Option (Object Place (List Mode))
+object_of (meant.Type s) = Some (a_type (shape_of s))
 object_of (meant.Constant v) = Some (a_constant (value_of v))
 object_of (meant.Variable p) = Some (a_variable (place_of p))
 object_of (meant.Procedure r) = Some (a_procedure (modes_taken r))

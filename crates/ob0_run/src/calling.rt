@@ -172,6 +172,7 @@ fn formals_taken(alloc: Global, meant: &Meant) -> Result<Vec<Formal>, Stop>
     ensures { Answers modes_in result (modes_of (object_of meant.now)) }
 {
     match meant {
+        Meant::Type(_) => Err(Stop::Ended(Ending::Stuck)),
         Meant::Constant(_) => Err(Stop::Ended(Ending::Stuck)),
         Meant::Variable(_) => Err(Stop::Ended(Ending::Stuck)),
         Meant::Procedure(routine) => Ok(formals(alloc, &routine.procedure.formals)?),

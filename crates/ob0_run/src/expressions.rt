@@ -82,6 +82,7 @@ impl<'r, 't> Scene<'r, 't> {
     {
         match self.meant(name) {
             Some(Meant::Variable(place)) => Ok(place),
+            Some(Meant::Type(_)) => Err(Stop::Ended(Ending::Stuck)),
             Some(Meant::Constant(_)) => Err(Stop::Ended(Ending::Stuck)),
             Some(Meant::Procedure(_)) => Err(Stop::Ended(Ending::Stuck)),
             Some(Meant::Standard(_)) => Err(Stop::Ended(Ending::Stuck)),

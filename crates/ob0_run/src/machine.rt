@@ -1,13 +1,15 @@
 //! A run under way: what the names stand for in the activation that runs, and the state.
 
-ghost use Rattle.std.specs.Prelude.{◌≡◌, ◌++◌, ◌<◌, ◌≤◌, IfOk, MatchOption, OnOk, length, option_to_list, reverse, take};
-ghost use Rattle.ob0_run.specs.Bindings.{exchanged, put_at, rewound};
+ghost use Rattle.std.specs.Prelude.{◌≡◌, ◌++◌, ◌<◌, ◌≤◌, IfOk, MatchOption, OnOk, length, option_to_list, reverse};
+ghost use Rattle.ob0_run.specs.Bindings.{exchanged, put_at, rewound, with_binding};
+ghost use Rattle.ob0_run.specs.Held.{down_to};
+ghost use Rattle.ob0_run.specs.Scenes.{ordinal_in};
 
 use crate::calling::Argument;
-use crate::scene::{Meant, Stop};
+use crate::scene::{Meant, Stop, ordinal_at};
 use crate::state::{Names, State};
 use ob0_scan::Tokens;
-use std::alloc::Global;
+use std::alloc::{AllocError, Global};
 use std::mem;
 
 /// A binding that is visible, and what its ordinal stood for before it.
@@ -99,7 +101,7 @@ pub fn unwind<'t>(
     depth: usize,
 ) -> Result<Vec<Bound<'t>>, Stop>
     ensures restored { IfOk result (λ taken. rewound (reverse taken.items) record { meant = meant.new.items; bound = bound.new.items } ≡ record { meant = meant.old.items; bound = bound.old.items }) }
-    ensures left { OnOk result (bound.new.items ≡ take depth bound.old.items) }
+    ensures left { OnOk result (record { meant = meant.new.items; bound = bound.new.items } ≡ down_to depth record { meant = meant.old.items; bound = bound.old.items }) }
 {
     let mut taken = Vec::new(alloc);
     while let Some(newest) = newest_above(bound, depth) {
@@ -123,5 +125,27 @@ pub fn rewind<'t>(
     while let Some(last) = taken.pop() {
         bound.push(exchange(meant, last))?;
     }
+    Ok(())
+}
+
+/// Binds a declaration, by the token of its name. Where that has no ordinal nothing can see it.
+///
+/// # Errors
+///
+/// Want of memory.
+pub(crate) fn bind<'t>(
+    ordinals: &[Option<usize>],
+    meant: &mut Vec<Meant<'t>>,
+    bound: &mut Vec<Bound<'t>>,
+    name: usize,
+    stands_for: Meant<'t>,
+) -> Result<(), AllocError>
+    ensures { OnOk result (record { meant = meant.new.items; bound = bound.new.items } ≡ with_binding (ordinal_in ordinals.now name) stands_for.entry record { meant = meant.old.items; bound = bound.old.items }) }
+{
+    let newest = Bound {
+        ordinal: ordinal_at(ordinals, name),
+        hidden: stands_for,
+    };
+    bound.push(exchange(meant, newest))?;
     Ok(())
 }

@@ -7,6 +7,7 @@ ghost use Rattle.ob0_types.specs.Expressions.{value_of};
 ghost use Rattle.ob0_values.specs.Stored.{given, store_of};
 ghost use Rattle.ob0_run.specs.Scenes.{Answers, label_in, meant_by, object_of, ordinal_in, stop_of};
 
+use crate::shapes::Shape;
 use ob0_scan::{TokenKind, Tokens};
 use ob0_tree::tree::Procedure;
 use ob0_values::scalar::{Fault, Scalar};
@@ -75,6 +76,7 @@ pub struct Routine<'t> {
 /// What a declaration is to the statements of a run.
 #[derive(Drop)]
 pub enum Meant<'t> {
+    Type(Shape<'t>),
     Constant(Value<'t>),
     Variable(Place<'t>),
     Procedure(Routine<'t>),
@@ -180,6 +182,7 @@ impl<'r, 't> Scene<'r, 't> {
                 Some(value) => Ok(value),
                 None => Err(Stop::Ended(Ending::Stuck)),
             },
+            Some(Meant::Type(_)) => Err(Stop::Ended(Ending::Stuck)),
             Some(Meant::Procedure(_)) => Err(Stop::Ended(Ending::Stuck)),
             Some(Meant::Standard(_)) => Err(Stop::Ended(Ending::Stuck)),
             Some(Meant::Nothing) => Err(Stop::Ended(Ending::Stuck)),

@@ -65,6 +65,7 @@ fn callee_of<'t>(names: Names<'_, 't>, name: usize) -> Callee
 {
     match names.meant(name) {
         None => Callee::Nothing,
+        Some(Meant::Type(_)) => Callee::Nothing,
         Some(Meant::Constant(_)) => Callee::Nothing,
         Some(Meant::Variable(_)) => Callee::Nothing,
         Some(Meant::Procedure(_)) => Callee::Procedure,

@@ -1,5 +1,6 @@
 use crate::machine::Machine;
 use crate::scene::{Ending, Meant, Standard, Stop};
+use crate::shapes::{Field, Shape, copied, initial};
 use crate::state::{Item, Names, State};
 use crate::statements::sequence;
 use ob0_scan::scan;
@@ -273,5 +274,31 @@ fn if_takes_one_branch(rt: HostRuntime) -> Result<(), Fail> {
     let (ended, output) = shows(&rt, Statement::If(branches), 0)?;
     assert_eq!(rt; ended, Ok(()));
     assert_eq!(rt; output.as_slice(), [Item::Number(1)].as_slice());
+    Ok(())
+}
+
+#[test]
+fn variables_begin_with_zero_and_false(rt: HostRuntime) -> Result<(), Fail> {
+    let alloc = rt.alloc();
+    let mut fields = Vec::new(alloc);
+    fields.push(Field {
+        name: "on",
+        shape: Shape::Boolean,
+    })?;
+    let pairs = Shape::Array(0, 2, Box::new(alloc, Shape::Record(1, fields))?);
+    let value = initial(alloc, &copied(alloc, &pairs)?)?;
+    let Value::Elements(parts) = value else {
+        return Err("no array".into());
+    };
+    assert_eq!(rt; parts.len(), 2);
+    let Value::Members(constructor, members) = &parts[1] else {
+        return Err("no record".into());
+    };
+    assert_eq!(rt; *constructor, 1);
+    assert_eq!(rt; members[0].name, "on");
+    let Value::Scalar(held) = &members[0].value else {
+        return Err("no scalar".into());
+    };
+    assert_eq!(rt; *held, Scalar::Truth(false));
     Ok(())
 }
