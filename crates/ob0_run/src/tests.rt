@@ -3,7 +3,7 @@ use crate::scene::{Ending, Meant, Standard, Stop};
 use crate::shapes::{Field, Shape, copied, initial};
 use crate::state::{Item, Names, State};
 use crate::statements::sequence;
-use ob0_scan::scan;
+use ob0_scan::{Tokens, scan};
 use ob0_tree::tree::{
     AddOperator, Addend, Assignment, Call, Comparison, Designator, Expression, Factor, If,
     Multiplier, MultiplyOperator, Relation, Repeat, Simple, Statement, Term, While,
@@ -172,9 +172,16 @@ fn shows(
     turns: u64,
 ) -> Result<(Result<(), Stop>, Vec<Item>), Fail> {
     let alloc = rt.alloc();
-    let Ok(tokens) = scan(alloc, "MODULE M; BEGIN x := 1 + 2 * 3 END M.") else {
-        return Err("no tokens".into());
-    };
+    let tokens = scan(alloc, "MODULE M; BEGIN x := 1 + 2 * 3 END M.")?;
+    shows_over(alloc, &tokens, statement, turns)
+}
+
+fn shows_over(
+    alloc: Global,
+    tokens: &Tokens,
+    statement: Statement,
+    turns: u64,
+) -> Result<(Result<(), Stop>, Vec<Item>), Fail> {
     let mut meant = Vec::new(alloc);
     meant.push(Meant::Variable(Place {
         variable: 0,
@@ -185,7 +192,7 @@ fn shows(
     store.push(Value::Scalar(Scalar::Number(0)))?;
     let mut machine = Machine {
         alloc,
-        tokens: &tokens,
+        tokens,
         ordinals: vec![in alloc; None, Some(1), None, None, Some(0)]?,
         turns,
         meant,
@@ -291,12 +298,15 @@ fn variables_begin_with_zero_and_false(rt: HostRuntime) -> Result<(), Fail> {
         return Err("no array".into());
     };
     assert_eq!(rt; parts.len(), 2);
-    let Value::Members(constructor, members) = &parts[1] else {
+    let Some(Value::Members(constructor, members)) = parts.get(1) else {
         return Err("no record".into());
     };
     assert_eq!(rt; *constructor, 1);
-    assert_eq!(rt; members[0].name, "on");
-    let Value::Scalar(held) = &members[0].value else {
+    let Some(member) = members.first() else {
+        return Err("no member".into());
+    };
+    assert_eq!(rt; member.name, "on");
+    let Value::Scalar(held) = &member.value else {
         return Err("no scalar".into());
     };
     assert_eq!(rt; *held, Scalar::Truth(false));
