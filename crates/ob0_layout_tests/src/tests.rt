@@ -1,9 +1,10 @@
 //! The worked layouts: each is laid out, and laid out again with no edits.
 
-use crate::formatting::format;
+use ob0_layout::format;
 use ob0_parse::parse;
 use ob0_scan::scan;
 use ob0_text::{EditRefusal, Indent, TextStore, Unit, Whole, patch};
+use ob0_tree::tree::Module;
 use std::alloc::Global;
 use std::test::Fail;
 
@@ -27,16 +28,22 @@ fn formatted(
 ) -> Result<(String, usize), Fail> {
     let store = Whole::from_str_in(alloc, text, unit)?;
     let tokens = scan(alloc, text)?;
-    let module = match parse(alloc, &tokens) {
-        Ok(module) => module,
-        Err(_) => Err("no module")?,
-    };
-    let edits = match format(alloc, &store, &module, indent) {
+    let module = parse(alloc, &tokens)?;
+    edited(alloc, &store, &module, indent)
+}
+
+fn edited(
+    alloc: Global,
+    store: &Whole,
+    module: &Module,
+    indent: Indent,
+) -> Result<(String, usize), Fail> {
+    let edits = match format(alloc, store, module, indent) {
         Ok(edits) => edits,
         Err(EditRefusal::TooLong) => Err("too long")?,
         Err(_) => Err("refused")?,
     };
-    Ok((patch(alloc, &store, &edits)?, edits.len()))
+    Ok((patch(alloc, store, &edits)?, edits.len()))
 }
 
 #[test]

@@ -1,0 +1,5 @@
+//! Examples of layouts, from texts of modules.
+#![tactic(auto)]
+
+#[cfg(test)]
+mod tests;
