@@ -1,5 +1,5 @@
 -- Factors in the place of names: what inlining makes of a tree.
-use Rattle.std.specs.Prelude.{◌≡◌, ℕ, Option, Some, None, List, [], ◌∷◌, map}
+use Rattle.std.specs.Prelude.{◌≡◌, ℕ, Option, Some, None, List, [], ◌∷◌}
 use Rattle.std.specs.List.{flat_map}
 use Rattle.ob0_tree.specs.Lexeme.{Lexeme, Name, Number, Mark, EndOfText}
 use Rattle.ob0_tree.specs.Tree.{Sort, factor, Tree, spell, none, one, end, more, compares, relates, sum, adds, product, multiplies, designator, integer, parenthesised, negation, field, index, empty, assigns, calls, branches, while_loop, repeat_loop, no_arguments, some_arguments, then_argument, runs, then_statement, elsif_branch, else_branch, listed, then_name, named_type, array_type, record_type, no_fields, some_fields, then_fields, no_formals, some_formals, value_section, variable_section, then_section, declares_constant, declares_constants, declares_type, declares_types, declares_variable, declares_variables, declares_procedure, declares, begins, has_body, is_module}

@@ -9,6 +9,7 @@ ghost use Rattle.ob0_edits.specs.Replaced.{AreNames, AreInOrder, cut_of, with_te
 ghost use Rattle.ob0_text.specs.Patches.{pieced};
 ghost use Rattle.ob0_edits.specs.Removed.{without, IsDeclaration, span_over, without_text};
 
+use crate::positions::{ranges, spans_of};
 use ob0_scan::{MAX_TEXT, Span, Tokens};
 use ob0_text::{Edit, EditRefusal, Range, TextStore};
 use std::alloc::{AllocError, Global};
@@ -76,7 +77,7 @@ pub fn edits_without<T: TextStore>(
     Ok(edits)
 }
 
-/// Adds one edit for each of the places.
+/// Adds one edit for each of the places, whose ranges are found in one pass for the starts and one for the ends.
 fn add_edits<T: TextStore>(
     alloc: Global,
     store: &T,
@@ -85,15 +86,18 @@ fn add_edits<T: TextStore>(
     new: &str,
     edits: &mut Vec<Edit>,
 ) -> Result<(), EditRefusal>
-    requires names { AreNames tokens.now.tokens 0 places.now }
     ensures added { OnOk result (map parts edits.new.items ≡ map parts edits.old.items ++ map (edit_at (T.unit_of store.now) (T.content store.now) tokens.now.tokens new.now) places.now) }
     ensures memory { IfErr result (λ refusal. refusal ≡ Memory) }
 {
-    for place in places {
-        let span = tokens.tokens()[*place].span;
-        let range = range_of(store, span);
+    let spans = spans_of(alloc, tokens.tokens(), places)?;
+    let ranges = ranges(alloc, store, &spans)?;
+    for range in &ranges {
         let text = String::from_str(alloc, new)?;
-        edits.push(Edit { range, text })?;
+        let edit = Edit {
+            range: *range,
+            text,
+        };
+        edits.push(edit)?;
     }
     Ok(())
 }

@@ -10,4 +10,5 @@ pub mod Factors
 pub mod Made
 pub mod MadeWithout
 pub mod Lengths
+pub mod Ranged
 mod Inlined

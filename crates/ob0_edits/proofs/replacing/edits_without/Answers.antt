@@ -38,9 +38,6 @@ returns-then-is_too_long-clause-too_long g c =
     ∙ length_without s c.text-text.ensures.scan c.args.new.now c.args.places.now c.args.first c.args.last c.requires.declaration c.requires.names in
     λ _. subst (λ n. max_text < n) all (ltb-true max_text _ (sym c.is_too_long.ensures ∙ c.if-is_too_long.true))
 
-pub add_edits-requires : goal.add_edits-requires
-add_edits-requires g c = record { names = lower c.args.tokens.now.tokens (suc c.args.last) 0 c.args.places.now (omega arith) c.requires.names }
-
 pub returns-clause-short : goal.returns-clause-short
 returns-clause-short g c =
     let s = c.args.tokens.now in

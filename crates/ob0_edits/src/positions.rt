@@ -1,0 +1,66 @@
+//! Where tokens stand, as spans and as ranges of positions.
+
+ghost use Rattle.std.specs.Prelude.{◌≡◌, IfOk, map};
+ghost use Rattle.ob0_edits.specs.Replaced.{range_of, span_at};
+
+use ob0_scan::{Span, Token};
+use ob0_text::{Range, TextStore};
+use std::alloc::{AllocError, Global};
+
+/// The ranges of spans, found in two passes over the text where the spans stand in text order.
+pub fn ranges<T: TextStore>(
+    alloc: Global,
+    store: &T,
+    spans: &[Span],
+) -> Result<Vec<Range>, AllocError>
+    ensures { IfOk result (λ ranges. ranges.items ≡ map (range_of (T.unit_of store.now) (T.content store.now)) spans.now) }
+{
+    let starts = starts(alloc, spans)?;
+    let ends = ends(alloc, spans)?;
+    let from = store.positions(alloc, &starts)?;
+    let to = store.positions(alloc, &ends)?;
+    let mut ranges = Vec::new(alloc);
+    for i in 0..spans.len() {
+        ranges.push(Range {
+            start: from[i],
+            end: to[i],
+        })?;
+    }
+    Ok(ranges)
+}
+
+fn starts(alloc: Global, spans: &[Span]) -> Result<Vec<usize>, AllocError>
+    ensures { IfOk result (λ offsets. offsets.items ≡ map (λ span. span.start) spans.now) }
+{
+    spans.iter().map(|span| span.start).collect(alloc)
+}
+
+fn ends(alloc: Global, spans: &[Span]) -> Result<Vec<usize>, AllocError>
+    ensures { IfOk result (λ offsets. offsets.items ≡ map (λ span. span.end) spans.now) }
+{
+    spans.iter().map(|span| span.end).collect(alloc)
+}
+
+/// Where the tokens with these numbers stand.
+pub(crate) fn spans_of(
+    alloc: Global,
+    tokens: &[Token],
+    places: &[usize],
+) -> Result<Vec<Span>, AllocError>
+    ensures { IfOk result (λ spans. spans.items ≡ map (span_at tokens.now) places.now) }
+{
+    places
+        .iter()
+        .map(|place| span_at(tokens, *place))
+        .collect(alloc)
+}
+
+/// Where a token stands; the text's start where there is no such token.
+fn span_at(tokens: &[Token], place: usize) -> Span
+    ensures { result ≡ span_at tokens.now place }
+{
+    match tokens.get(place) {
+        Some(token) => token.span,
+        None => Span { start: 0, end: 0 },
+    }
+}
