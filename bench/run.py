@@ -190,6 +190,29 @@ def on_file(words, text, given=b""):
         return best(3, lambda: Timed([BINARY, words[0], "m.mod", *words[1:]], given, cwd=room))
 
 
+@measure("parse: a module that ends too early, beside one with a bad character at its end", "check")
+def parsed():
+    """What comes behind the parser isn't begun where a module ends too early, and the parser isn't where the scanner tells a fault."""
+
+    def beside(sizes, **how):
+        rows = []
+        for size in sizes:
+            text = corpus.module(size, **how)
+            end = text.rindex("END Corpus.") + len("END Corpus")
+            text = text[:end] + text[end + 1 :]
+            scanned, both = on_file(["check"], text + " $"), on_file(["check"], text)
+            if scanned.status != 1 or both.status != 1:
+                said("NOTE: a fault was expected of each", f"status {scanned.status}, {both.status}")
+            seconds = max(both.processor - scanned.processor, 1e-4)
+            rows.append((len(text), seconds))
+            said(f"{len(text):,} bytes, {'on one line' if how else 'on many lines'}", f"parse {len(text) / seconds / 1e6:.1f} MB/s; scan and parse {both.processor * 1000:.1f} ms, {megabytes(both.memory)}; scan alone {scanned.processor * 1000:.1f} ms, {megabytes(scanned.memory)}")
+        (small, first), (large, last) = rows[0], rows[-1]
+        said(f"parse: time grew by {last / first:.1f} where the text grew by {large / small:.1f}", f"ratio {last / first / (large / small):.2f}")
+
+    beside([10000, 100000, MIB - 1000])
+    beside([100000, MIB - 1000], on_line=True)
+
+
 @measure("check: corpora, a large block, deep procedures", "check")
 def checked():
     def each(text, _):
@@ -223,6 +246,27 @@ def referred():
 
     for name, on_line in (("on many lines", False), ("on one line", True)):
         growth(f"references {name},", [10000, 100000], lambda size, on_line=on_line: corpus.uses(size, on_line), each)
+
+
+@measure("format: what a layout costs, from 100 KB to 1 MiB", "format")
+def laid_out():
+    options = {"insertSpaces": True, "tabSize": 2}
+    request = {"id": 5, "jsonrpc": "2.0", "method": "textDocument/formatting", "params": {"options": options, "textDocument": {"uri": "file:///m"}}}
+
+    def each(text, _):
+        talk = lambda more: frames([initialize(), did_open(text), *more, SHUTDOWN, EXIT])
+        without = best(3, lambda: Timed([BINARY, "serve"], talk([])))
+        found = best(3, lambda: Timed([BINARY, "serve"], talk([request])))
+        if b'"newText"' not in found.out:
+            said("NOTE: no edit was answered", found.out[-200:].decode(errors="replace"))
+        return max(found.processor - without.processor, 1e-9), found.memory
+
+    def wide(size):
+        """A module on one line with so many blanks between its words that its layout isn't longer than it is."""
+        return corpus.module(size * 39 // 100, on_line=True).replace(" ", " " * 5).ljust(size)
+
+    growth("layout of a module of", [100000, 900000], corpus.module, each)
+    growth("layout of a module on one line of", [100000, MIB], wide, each)
 
 
 @measure("run: loops, arrays and calls, against Lua and Python", "run")
