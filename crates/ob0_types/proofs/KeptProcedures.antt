@@ -88,7 +88,7 @@ heading_keeps w h v u p signature from_w signed as_before shapes back bound sect
     (bound.keeps (bind_typed (parameters_of h) all) (a_procedure (map (formal_in (shapes_of v.known)) signature.items)) refl (keeps_same (bind_typed (parameters_of h) all) h.walk.known v.known as_before (sections all keeps))))
 
 -- parameters that are bound twice
-abbrev or_else : {A : Type 0} → Option A → Option A → Option A
+abbrev pub or_else : {A : Type 0} → Option A → Option A → Option A
 or_else None b = b
 or_else (Some a) b = Some a
 
@@ -96,7 +96,7 @@ or-if : {A : Type 0} (b : Bool) (o : A) (p q : Option A) → cond b (Some o) (or
 or-if true o p q = refl
 or-if false o p q = refl
 
-newest-append : (xs ys : TypeEnvironment Label) (z : Label) → newest (from_binding as_labels (xs ++ ys) z) ≡ or_else (newest (from_binding as_labels xs z)) (newest (from_binding as_labels ys z))
+pub newest-append : (xs ys : TypeEnvironment Label) (z : Label) → newest (from_binding as_labels (xs ++ ys) z) ≡ or_else (newest (from_binding as_labels xs z)) (newest (from_binding as_labels ys z))
 newest-append [] ys z = refl
 newest-append ((y, o) ∷ xs) ys z =
     newest-if (as_labels.same z y) y o (xs ++ ys) (from_binding as_labels (xs ++ ys) z)
@@ -132,7 +132,7 @@ keeps_once ps y all t keeps = λ k.
     ∙ keeps k
 
 -- a procedure
-headed_bindings : (env : TypeEnvironment Label) (k : ℕ) (x closing : Label) (fs : Tree Label (maybe formals)) (b : Tree Label block) (qs : List (TypedParameter Label)) → typed_parameters as_labels env k (formal_sections fs) ≡ Some qs
+pub headed_bindings : (env : TypeEnvironment Label) (k : ℕ) (x closing : Label) (fs : Tree Label (maybe formals)) (b : Tree Label block) (qs : List (TypedParameter Label)) → typed_parameters as_labels env k (formal_sections fs) ≡ Some qs
     → procedure_bindings as_labels env k (declares_procedure x fs b closing) ≡ block_bindings as_labels (bind_typed qs (heading x qs env)) (k + formals_constructors (formal_sections fs)) b ++ bind_typed qs (heading x qs [])
 unfolding procedure_bindings
 headed_bindings env k x closing fs b qs e = ap (λ o. for_some o (λ ps. block_bindings as_labels (bind_typed ps (heading x ps env)) (k + formals_constructors (formal_sections fs)) b ++ bind_typed ps (heading x ps []))) e
@@ -209,7 +209,7 @@ procedures_keep_on {xs = xs} {v = v} {l = l} {done = done} u x g less here d kep
     }
 
 -- a block
-since-append : {A : Type 0} (first before : List A) → since before (first ++ before) ≡ first
+pub since-append : {A : Type 0} (first before : List A) → since before (first ++ before) ≡ first
 since-append first before =
     ap (λ n. take n (first ++ before)) (omega (arith, length-append first before))
     ∙ take-append_seam first before

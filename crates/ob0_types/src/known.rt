@@ -2,10 +2,11 @@
 
 ghost use Rattle.std.specs.Prelude.{◌≡◌, ◌≤◌, ◌++◌, ◌&&◌, nat_le, List, option_map};
 ghost use Rattle.ob0_values.specs.Values as shape;
+ghost use Rattle.ob0_types.specs.FieldPlaces.{field_selected};
 ghost use Rattle.ob0_types.specs.Tables.{fields_shape, type_shape};
 
 use crate::field_table::FieldTable;
-use crate::types::TypeId;
+use crate::types::{TypeId, scalar_type};
 use ob0_values::scalar::Scalar;
 use std::alloc::{AllocError, Global};
 use std::marker::Model;
@@ -22,6 +23,13 @@ pub const MOST_DEPTH: usize = 100;
 pub struct Field<'t> {
     pub name: &'t str,
     pub of: TypeId,
+}
+
+/// A field of a record: which of the ARRAY and RECORD of the text the record is, and which of its fields, each from 0 on.
+#[derive(Clone, Copy, Debug, PartialEq, Eq)]
+pub struct FieldOf {
+    pub ordinal: usize,
+    pub index: usize,
 }
 
 /// `ARRAY length OF element`, made by the constructor with this ordinal in the text.
@@ -111,6 +119,21 @@ pub struct Known<'t> {
     entries: Vec<Entry>,
 }
 
+impl<'t> RecordShape<'t> {
+    /// The first field of this name.
+    fn field_of(&self, name: &str) -> Option<FieldOf>
+        ensures { (shapes : List shape.Shape) → result ≡ field_selected (shape.record_shape self.now.ordinal (fields_shape shapes self.now.fields)) name.now }
+    {
+        match self.fields.place(name) {
+            None => None,
+            Some(index) => Some(FieldOf {
+                ordinal: self.ordinal,
+                index,
+            }),
+        }
+    }
+}
+
 /// Whether a type of so many scalars and so deep may be.
 fn is_within(scalars: usize, depth: usize) -> bool
     ensures { result ≡ (nat_le scalars 65536 && nat_le depth 100) }
@@ -134,7 +157,9 @@ impl<'t> Known<'t> {
     ghost use Rattle.ob0_types.specs.declared.known.Sight.TheVariants as sight;
     ghost use Rattle.ob0_types.specs.KnownTables.{AreTables, declared_in, known_meaning, predeclared, put_at, seen_in, seen_object, shapes_of};
     ghost use Rattle.ob0_types.specs.Tables.{object_in, IsCounted, IsEntry, ObjectIsMade, IsMade, made_shape, no_shape};
-    ghost use Rattle.ob0_types.specs.Typing.{depth, element_type, field_depth, field_scalars, field_type, scalars, within_limits};
+    ghost use Rattle.ob0_types.specs.Bindings.{type_declared};
+    ghost use Rattle.ob0_values.specs.Scalars.{scalar_value};
+    ghost use Rattle.ob0_types.specs.Typing.{constant_of, depth, element_type, field_depth, field_scalars, field_type, scalars, within_limits};
     ghost use Rattle.ob0_values.specs.Values.{array_shape, integer_shape, record_shape};
 
     /// The predeclared names.
@@ -317,6 +342,34 @@ impl<'t> Known<'t> {
         Some(&entry.object)
     }
 
+    /// The value of a declaration that is a constant.
+    pub fn constant(&self, ordinal: usize) -> Option<Scalar>
+        ensures { option_map scalar_value result ≡ constant_of (declared_in self.now ordinal) }
+    {
+        match self.object(ordinal)? {
+            Object::Constant(value) => Some(*value),
+            Object::Named(_) => None,
+            Object::FaultyConstant => None,
+            Object::Variable(_) => None,
+            Object::Procedure(_) => None,
+            Object::Standard(_) => None,
+        }
+    }
+
+    /// The type of a declaration: of a type, of a variable or parameter, and of a constant.
+    pub fn declared_type(&self, ordinal: usize) -> Option<TypeId>
+        ensures { option_map (type_shape (shapes_of self.now)) result ≡ type_declared (declared_in self.now ordinal) }
+    {
+        match self.object(ordinal)? {
+            Object::Named(of) => Some(*of),
+            Object::Variable(of) => Some(*of),
+            Object::Constant(value) => Some(scalar_type(*value)),
+            Object::FaultyConstant => None,
+            Object::Procedure(_) => None,
+            Object::Standard(_) => None,
+        }
+    }
+
     /// What the shape at a place of the table is.
     pub(crate) fn entry(&self, place: usize) -> Option<&Shape<'t>>
         ensures { MatchOption result (slice_index_or (shapes_of self.now) place no_shape ≡ no_shape) (λ m. (slice_index_or (shapes_of self.now) place no_shape ≡ made_shape (shapes_of self.now) m.now) × IsCounted m.now (made_shape (shapes_of self.now) m.now)) }
@@ -353,6 +406,24 @@ impl<'t> Known<'t> {
         match base {
             TypeId::Record(i) => match self.entry(i)? {
                 Shape::Record(record) => record.fields.find(name),
+                Shape::Integer => None,
+                Shape::Boolean => None,
+                Shape::Array(_) => None,
+            },
+            TypeId::Integer => None,
+            TypeId::Boolean => None,
+            TypeId::Array(_) => None,
+            TypeId::Unknown => None,
+        }
+    }
+
+    /// The first field of this name in a record.
+    pub fn field_of(&self, base: TypeId, name: &str) -> Option<FieldOf>
+        ensures { result ≡ field_selected (type_shape (shapes_of self.now) base) name.now }
+    {
+        match base {
+            TypeId::Record(i) => match self.entry(i)? {
+                Shape::Record(record) => record.field_of(name),
                 Shape::Integer => None,
                 Shape::Boolean => None,
                 Shape::Array(_) => None,
