@@ -1,6 +1,8 @@
-//! Examples of types and their faults, from texts of modules.
+//! Examples of types and their faults, of what declarations are and of what selectors select, from texts of modules.
 #![tactic(auto)]
 
+#[cfg(test)]
+mod declared;
 #[cfg(test)]
 mod denoting;
 #[cfg(test)]
