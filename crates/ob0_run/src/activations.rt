@@ -34,7 +34,7 @@ fn bind_variable<'t>(
     Ok(())
 }
 
-fn variables_in(machine: &Machine<'_, '_>) -> usize
+pub(crate) fn variables_in(machine: &Machine<'_, '_>) -> usize
     ensures { result ≡ length machine.now.state.store.items }
 {
     machine.state.store.len()
