@@ -1,21 +1,26 @@
 -- A call of a procedure: its activation begins, its body runs, and the machine is as it was but for the state.
-use Rattle.std.proofs.Common.{◌≡◌, ℕ, zero, suc, List, [], ◌∷◌, length, map, take, reverse, Option, Some, None, Ok, Err, Result, refl, sym, ap, ◌∙◌, subst, unwrap_or, option_and_then, slice_get}
+use Rattle.std.proofs.Common.{◌≡◌, ◌+◌, ℕ, zero, suc, List, [], ◌∷◌, length, map, take, reverse, Option, Some, None, Ok, Err, Result, refl, sym, ap, ◌∙◌, subst, unwrap_or, option_and_then, slice_get}
 use Rattle.std.proofs.lemmas.List.{length-map, take-map}
 use denote.MutBor.{MutBor}
 use Rattle.ob0_scan.specs.Scanned.{Scanned}
-use Rattle.ob0_tree.specs.Places.{text_at}
+use Rattle.ob0_tree.specs.Places.{text_at, value_at}
 use Rattle.ob0_tree.specs.Tree.{Tree, begins, block, body, item, maybe, none, one, procedure}
 use Rattle.ob0_tree.specs.declared.tree.Block.{Block, out-Block}
 use Rattle.ob0_tree.specs.declared.tree.Procedure.{Procedure, out-Procedure, roll-out-Procedure}
-use Rattle.ob0_tree.specs.View.{block_of, body_of, procedure_of}
+use Rattle.ob0_tree.specs.View.{block_of, body_of, formals_of, procedure_of}
 use Rattle.ob0_tree.proofs.Viewed.{block_parts, procedure_made}
 use Rattle.ob0_scope.specs.Names.{Label, as_labels, as_names, as_written, declared}
-use Rattle.ob0_scope.specs.Parts.{block_statements, procedure_block}
+use Rattle.ob0_scope.specs.Parts.{block_statements, formal_sections, procedure_block, procedure_formals}
 use Rattle.ob0_scope.specs.Scopes.{as_label}
+use Rattle.ob0_types.specs.Declarations.{after_formals, formals_constructors}
 use Rattle.ob0_types.specs.Environments.{from_binding, newest}
 use Rattle.ob0_types.specs.Expressions.{Object, a_constant, a_procedure, a_standard, a_type, a_variable}
+use Rattle.ob0_types.proofs.Counted.{counted_formals, sections_mapped}
 use Rattle.ob0_values.specs.Stored.{store_of, value_of}
 use Rattle.ob0_values.specs.Values.{CallBound, Place, Stuck}
+use Rattle.std.specs.declared.vec.Vec.{Vec}
+use Rattle.std.specs.declared.alloc.Global.{Global}
+use Rattle.ob0_run.specs.declared.calling.Argument as code
 use Rattle.ob0_run.specs.declared.calls.Interrupted.{Interrupted}
 use Rattle.ob0_run.specs.declared.machine.Bound.{Bound}
 use Rattle.ob0_run.specs.declared.machine.Machine.{Machine}
@@ -27,11 +32,11 @@ use Rattle.ob0_run.specs.declared.scene.Stop.{Stop}
 use Rattle.ob0_run.specs.declared.scene.Stop.TheVariants as stop
 use Rattle.ob0_run.specs.Activations.{Declares, Stands, label_there, surroundings, table_of}
 use Rattle.ob0_run.specs.Bindings.{Table, rewound}
-use Rattle.ob0_run.specs.Callings.{arguments_of}
+use Rattle.ob0_run.specs.Callings.{argument_of, arguments_of}
 use Rattle.ob0_run.specs.CallSteps.{Enters, Interrupts, Resumes, activation_frame, entry_at, executed_body, routine_in, text_read}
 use Rattle.ob0_run.specs.Held.{IsHeldIn, down_to, entry_of}
 use Rattle.ob0_run.specs.Machines.{Does, Named, Performs, Steps, executed_all, label_for, meaning_of, named, read_for, state_in}
-use Rattle.ob0_run.specs.Runs.{Activation, Argument, Calls, Code, Frame, Progress, State, activate, call, execute_all, execute_body, give_up, in_frame, running, statement_meanings, stopped}
+use Rattle.ob0_run.specs.Runs.{Activation, Argument, Calls, Code, Frame, Progress, State, activate, bind_parameters, call, declare_block, execute_all, execute_body, give_up, in_frame, parameters, running, statement_meanings, stopped}
 use Rattle.ob0_run.specs.Scenes.{end_of, label_with, ordinal_in, read_with}
 use Rattle.ob0_run.specs.States.{items_out}
 use Rattle.ob0_run.proofs.Activating.{adds_more}
@@ -64,6 +69,13 @@ pub declares_fails : (e : Stop) (m m₁ : Machine) (first second : Frame Label �
 declares_fails (stop.Ended x) m m₁ first second d = (d.0, d.1, λ f s. ap (option_and_then second) (d.2 f s))
 declares_fails stop.Memory m m₁ first second d = tt
 
+-- which arguments wait doesn't matter to declarations
+pub declares_waiting : (r : Result (Unit {0}) Stop) (m m' : Machine) (args : Vec code.Argument Global) (step : Frame Label → Option (Frame Label))
+    → Declares r record m { passed = args } m' step → Declares r m m' step
+declares_waiting (Ok done) m m' args step d = (record { same = d.0.same; bindings = d.0.bindings }, λ f s. d.1 f record { held = s.held; stored = s.stored })
+declares_waiting (Err (stop.Ended x)) m m' args step d = (d.0, d.1, λ f s. d.2 f record { held = s.held; stored = s.stored })
+declares_waiting (Err stop.Memory) m m' args step d = tt
+
 -- the parts of a procedure's text
 pub block_read : (source : Scanned) (ordinals : List (Option ℕ)) (p : Procedure)
     → procedure_block (read_with source ordinals (procedure_of p)) ≡ read_with source ordinals (block_of (out-Procedure p).block)
@@ -72,6 +84,30 @@ block_read source ordinals p = ap (λ t. procedure_block (read_with source ordin
 pub body_read : (source : Scanned) (ordinals : List (Option ℕ)) (b : Block)
     → block_statements (read_with source ordinals (block_of b)) ≡ read_with source ordinals (body_of (out-Block b).body)
 body_read source ordinals b = ap (λ t. block_statements (read_with source ordinals t)) (block_parts b)
+
+pub behind_formals : (source : Scanned) (ordinals : List (Option ℕ)) (p : Procedure) (k n : ℕ)
+    → n ≡ k + formals_constructors (formal_sections (formals_of (out-Procedure p).formals)) → n ≡ after_formals k (read_with source ordinals (procedure_of p))
+behind_formals source ordinals p k n e =
+    e
+    ∙ ap (λ i. k + i) (sym (
+    ap (λ t. formals_constructors (procedure_formals (read_with source ordinals t))) (sym (ap procedure_of (roll-out-Procedure p)) ∙ procedure_made (out-Procedure p))
+    ∙ ap formals_constructors (sections_mapped (label_with source ordinals) (value_at source) (formals_of (out-Procedure p).formals))
+    ∙ counted_formals (label_with source ordinals) (value_at source) (formal_sections (formals_of (out-Procedure p).formals))
+    ))
+
+-- a procedure's activation: its parameters, then its declarations
+pub activated : (r : Result (Unit {0}) Stop) (m m₁ m₂ : Machine) (p : Procedure) (k n : ℕ) (args : List Argument)
+    → n ≡ k + formals_constructors (formal_sections (formals_of (out-Procedure p).formals))
+    → Declares (Ok tt) m m₁ (bind_parameters (parameters (procedure_formals (text_read m p))) args)
+    → Declares r m₁ m₂ (declare_block as_labels n (read_with m₁.tokens.now m₁.ordinals.items (block_of (out-Procedure p).block)))
+    → Declares r m m₂ (activation_frame k (text_read m p) args)
+activated r m m₁ m₂ p k n args e passes declares =
+    declares_then r m m₁ m₂ (bind_parameters (parameters (procedure_formals (text_read m p))) args) (declare_block as_labels (after_formals k (text_read m p)) (procedure_block (text_read m p))) passes
+    (subst (λ step. Declares r m₁ m₂ step) (
+    ap (λ s. declare_block as_labels n (read_with s.source s.ordinals (block_of (out-Procedure p).block))) passes.0.same
+    ∙ ap (declare_block as_labels n) (sym (block_read m.tokens.now m.ordinals.items p))
+    ∙ ap (λ n. declare_block as_labels n (procedure_block (text_read m p))) (behind_formals m.tokens.now m.ordinals.items p k n e)
+    ) declares)
 
 -- what is entered for a name: the environment from its binding on
 record Entered (m : Machine) (env : Activation Label) (name : ℕ) (r : Routine) : Type 0 where
@@ -161,7 +197,7 @@ no_code source ordinals (Some meant.Nothing) code e is = cc
 
 not_entered : (m : Machine) (env : Activation Label) (name : ℕ) (code : Code Label) → IsHeldIn m.tokens.now m.ordinals.items env (table_of m) → routine_in (entry_at m name) ≡ None
     → newest (from_binding as_labels env (label_there m name)) ≡ Some (a_procedure code) → ⊥
-not_entered m env name code h none is = go (ordinal_in m.ordinals.items name) refl
+not_entered m env name code h lacks is = go (ordinal_in m.ordinals.items name) refl
   where
     go : (q : Option ℕ) → ordinal_in m.ordinals.items name ≡ q → ⊥
     go None e =
@@ -170,13 +206,13 @@ not_entered m env name code h none is = go (ordinal_in m.ordinals.items name) re
         cc
     go (Some k) e =
         let label : label_there m name ≡ declared k = ap (λ q. as_label as_names q (text_at m.tokens.now name)) e in
-        no_code m.tokens.now m.ordinals.items (slice_get m.meant.items k) code (ap (λ q. routine_in (option_and_then (slice_get m.meant.items) q)) (sym e) ∙ none)
+        no_code m.tokens.now m.ordinals.items (slice_get m.meant.items k) code (ap (λ q. routine_in (option_and_then (slice_get m.meant.items) q)) (sym e) ∙ lacks)
         (sym (held_means m.tokens.now m.ordinals.items env m.meant.items (reverse m.bound.items) k h.1) ∙ sym (ap (λ l. newest (from_binding as_labels env l)) label) ∙ is)
 
 pub call_of_none : (m : Machine) (c left name : ℕ) → c ≡ suc left → routine_in (entry_at m name) ≡ None → Enters (Err (stop.Ended ending.Stuck)) m m c name
-call_of_none m c left name e none = λ env h.
+call_of_none m c left name e lacks = λ env h.
     ap (λ c. call as_labels c m.turns env (label_there m name) (arguments_of m.passed) (state_in m)) e ∙ call_begins left m.turns env (label_there m name) (arguments_of m.passed) (state_in m)
-    ∙ activate_stuck (call as_labels left m.turns) m.turns (from_binding as_labels env (label_there m name)) (arguments_of m.passed) (state_in m) (λ code is. not_entered m env name code h none is)
+    ∙ activate_stuck (call as_labels left m.turns) m.turns (from_binding as_labels env (label_there m name)) (arguments_of m.passed) (state_in m) (λ code is. not_entered m env name code h lacks is)
 
 -- the statements of a body, in a frame that stands in the machine
 module _ (m m₂ : Machine) (left : ℕ) (same : surroundings m₂ ≡ surroundings m) where
@@ -237,7 +273,7 @@ module _ (m m₁ : Machine) (c left name : ℕ) (r : Routine) (i : Interrupted) 
   same_step : activation_frame r.first_constructor (text_read m₁ r.procedure.now) (arguments_of m₁.passed) ≡ step
   same_step =
       ap (λ s. activation_frame r.first_constructor (read_with s.source s.ordinals (procedure_of r.procedure.now)) (arguments_of m₁.passed)) waits.same
-      ∙ ap (λ args. activation_frame r.first_constructor text (map _ args)) waits.waiting
+      ∙ ap (λ args. activation_frame r.first_constructor text (map argument_of args)) waits.waiting
 
   -- the activation doesn't begin
   pub call_fails : (e : Stop) (m₂ : Machine) → Declares (Err e) m₁ m₂ (activation_frame r.first_constructor (text_read m₁ r.procedure.now) (arguments_of m₁.passed)) → Enters (Err e) m m₂ c name
@@ -260,7 +296,7 @@ module _ (m m₁ : Machine) (c left name : ℕ) (r : Routine) (i : Interrupted) 
       is : call as_labels c m.turns env (label_there m name) (arguments_of m.passed) (state_in m) ≡ give_up (length (state_in m).store) (going_on frame (state_in m₂))
 
     state_begun : (f : Frame Label) → Stands m₂ f → record (state_in m) { store = f.store } ≡ state_in m₂
-    state_begun f s = λ i. record { store = s.stored i; input = (same_surroundings (~ i)).input; output = (same_surroundings (~ i)).output }
+    state_begun f s = let back : surroundings m ≡ surroundings m₂ = sym same_surroundings in λ i. record { store = s.stored i; input = (back i).input; output = (back i).output }
 
     body_begun : (env : Activation Label) → IsHeldIn m.tokens.now m.ordinals.items env (table_of m) → Body env
     body_begun env h =
@@ -297,6 +333,7 @@ module _ (m m₁ : Machine) (c left name : ℕ) (r : Routine) (i : Interrupted) 
       call_returns m₃ m₄ d back = λ env h.
           let b : Body env = body_begun env h in
           let does : _ = activation_does (Ok tt) m₃ env b d in
+          let before : surroundings m₃ ≡ surroundings m₄ = sym back.same in
           let many : length (state_in m).store ≡ i.variables = length-map m.state.store.items value_of ∙ sym waits.variables_are in
           let cut : take (length (state_in m).store) (state_in m₃).store ≡ (state_in m₄).store =
           ap (λ n. take n (store_of m₃.state.store.items)) many ∙ take-map value_of i.variables m₃.state.store.items ∙ ap store_of (sym back.stored) in
@@ -305,7 +342,7 @@ module _ (m m₁ : Machine) (c left name : ℕ) (r : Routine) (i : Interrupted) 
           ap (λ n. down_to n (table_of m₃)) waits.depth_is ∙ ap (λ n. down_to (length m₁.bound.items) record { meant = n.meant; bound = n.bound }) does.1
           ∙ ap (down_to (length m₁.bound.items)) begun.0.bindings.1 ∙ taken_back begun.0.bindings.0 (table_of m₁)
           ) ∙ waits.restored in (
-            b.is ∙ ap (give_up (length (state_in m).store)) does.0 ∙ (λ i. running record { store = cut i; input = (back.same (~ i)).input; output = (back.same (~ i)).output }),
+            b.is ∙ ap (give_up (length (state_in m).store)) does.0 ∙ (λ i. running record { store = cut i; input = (before i).input; output = (before i).output }),
             λ i. record {
               source = (ap (λ s. s.source) back.same ∙ ap (λ n. n.source) does.1 ∙ ap (λ s. s.source) same_surroundings) i;
               ordinals = (ap (λ s. s.ordinals) back.same ∙ ap (λ n. n.ordinals) does.1 ∙ ap (λ s. s.ordinals) same_surroundings) i;

@@ -1,13 +1,14 @@
 -- The machine before a run: the table has room for the ordinals of all tokens, and holds the predeclared names.
-use Rattle.std.proofs.Common.{arith, ◌+◌, ◌<◌, ◌≤◌, ◌≡◌, ℕ, zero, suc, true, false, List, [], ◌∷◌, ◌++◌, length, reverse, Option, Some, None, slice_get, slice_index_or, option_and_then, refl, sym, ap, ◌∙◌, subst}
+use Rattle.std.proofs.Common.{arith, ◌+◌, ◌<◌, ◌≤◌, ◌≡◌, ℕ, ℤ, zero, suc, true, false, List, [], ◌∷◌, ◌++◌, length, reverse, Option, Some, None, slice_get, slice_index_or, option_and_then, refl, sym, ap, ◌∙◌, subst}
 use Rattle.std.proofs.lemmas.Bool.{ltb-false, ltb-true}
 use Rattle.std.proofs.Math.Dec.{ltb}
 use Rattle.ob0_scan.specs.Scanned.{Scanned}
 use Rattle.ob0_scope.specs.Names.{Label, as_labels, declared}
 use Rattle.ob0_types.specs.Environments.{outermost}
-use Rattle.ob0_types.specs.Expressions.{Object}
-use Rattle.ob0_values.specs.Values.{Place}
+use Rattle.ob0_types.specs.Expressions.{Object, a_constant, a_standard, a_type, reads, writes, writes_line}
+use Rattle.ob0_values.specs.Values.{Place, boolean_shape, integer_shape, truth}
 use Rattle.ob0_run.specs.declared.machine.Bound.{Bound}
+use Rattle.ob0_run.specs.declared.machine.Machine.{Machine}
 use Rattle.ob0_run.specs.declared.scene.Meant.{Meant}
 use Rattle.ob0_run.specs.declared.scene.Meant.TheVariants as meant
 use Rattle.ob0_run.specs.declared.scene.Standard.TheVariants as standards
@@ -16,7 +17,11 @@ use Rattle.ob0_values.specs.declared.scalar.Scalar.TheVariants.{Truth}
 use Rattle.ob0_values.specs.declared.value.Value.{Scalar}
 use Rattle.ob0_run.specs.Bindings.{Table, exchanged, put_at, with_binding}
 use Rattle.ob0_run.specs.Held.{DepthIs, Holds, IsBoundAt, IsHeldIn, Reaches, entry_of}
-use Rattle.ob0_run.specs.Outcomes.{AllNothing, predeclared_table}
+use Rattle.ob0_run.specs.Activations.{Stands, table_of}
+use Rattle.ob0_run.specs.Machines.{state_in}
+use Rattle.ob0_run.specs.Outcomes.{AllNothing, first_frame, predeclared_table}
+use Rattle.ob0_run.specs.States.{items_out}
+use Rattle.ob0_values.specs.Stored.{store_of}
 use Rattle.ob0_run.specs.Runs.{Activation, Code}
 use Rattle.ob0_run.specs.Scenes.{ordinal_in}
 use Rattle.ob0_run.proofs.Binding.{get_set, length_put, reaches}
@@ -146,11 +151,29 @@ module _ (source : Scanned) (ordinals : List (Option ℕ)) where
       let l4 : 6 < length t4.meant = as_long 3 (meant.Constant (Scalar (Truth false))) t3 l3 in
       let l5 : 6 < length t5.meant = as_long 4 (meant.Standard standards.Read) t4 l4 in
       let l6 : 6 < length t6.meant = as_long 5 (meant.Standard standards.Write) t5 l5 in
+      let e1 : Activation Label = (declared 0, a_type integer_shape) ∷ [] in
+      let e2 : Activation Label = (declared 1, a_type boolean_shape) ∷ e1 in
+      let e3 : Activation Label = (declared 2, a_constant (truth true)) ∷ e2 in
+      let e4 : Activation Label = (declared 3, a_constant (truth false)) ∷ e3 in
+      let e5 : Activation Label = (declared 4, a_standard reads) ∷ e4 in
+      let e6 : Activation Label = (declared 5, a_standard writes) ∷ e5 in
       let h0 : IsHeldIn source ordinals [] t0 = (reach, holds_nothing ms h) in
-      let h1 : _ = binds_at [] t0 0 (meant.Type Integer) _ h0 (omega (arith, less)) refl tt in
-      let h2 : _ = binds_at _ t1 1 (meant.Type Boolean) _ h1 (omega (arith, l1)) refl tt in
-      let h3 : _ = binds_at _ t2 2 (meant.Constant (Scalar (Truth true))) _ h2 (omega (arith, l2)) refl tt in
-      let h4 : _ = binds_at _ t3 3 (meant.Constant (Scalar (Truth false))) _ h3 (omega (arith, l3)) refl tt in
-      let h5 : _ = binds_at _ t4 4 (meant.Standard standards.Read) _ h4 (omega (arith, l4)) refl tt in
-      let h6 : _ = binds_at _ t5 5 (meant.Standard standards.Write) _ h5 (omega (arith, l5)) refl tt in
-      binds_at _ t6 6 (meant.Standard standards.WriteLn) _ h6 l6 refl tt
+      let h1 : IsHeldIn source ordinals e1 t1 = binds_at [] t0 0 (meant.Type Integer) (a_type integer_shape) h0 (omega (arith, less)) refl tt in
+      let h2 : IsHeldIn source ordinals e2 t2 = binds_at e1 t1 1 (meant.Type Boolean) (a_type boolean_shape) h1 (omega (arith, l1)) refl tt in
+      let h3 : IsHeldIn source ordinals e3 t3 = binds_at e2 t2 2 (meant.Constant (Scalar (Truth true))) (a_constant (truth true)) h2 (omega (arith, l2)) refl tt in
+      let h4 : IsHeldIn source ordinals e4 t4 = binds_at e3 t3 3 (meant.Constant (Scalar (Truth false))) (a_constant (truth false)) h3 (omega (arith, l3)) refl tt in
+      let h5 : IsHeldIn source ordinals e5 t5 = binds_at e4 t4 4 (meant.Standard standards.Read) (a_standard reads) h4 (omega (arith, l4)) refl tt in
+      let h6 : IsHeldIn source ordinals e6 t6 = binds_at e5 t5 5 (meant.Standard standards.Write) (a_standard writes) h5 (omega (arith, l5)) refl tt in
+      binds_at e6 t6 6 (meant.Standard standards.WriteLn) (a_standard writes_line) h6 l6 refl tt
+
+pub stands_first : (m : Machine) (ms : List Meant) (bs : List Bound) (os : List (Option ℕ)) → os ≡ m.ordinals.items → Reaches os ms → 6 < length ms → AllNothing ms
+    → table_of m ≡ predeclared_table record { meant = ms; bound = bs } → bs ≡ [] → m.state.store.items ≡ [] → Stands m first_frame
+stands_first m ms bs os same reach less h table empty store = record {
+  held =
+      subst (IsHeldIn m.tokens.now m.ordinals.items (outermost as_labels)) (sym (table ∙ ap (λ bs. predeclared_table record { meant = ms; bound = bs }) empty))
+      (holds_predeclared m.tokens.now m.ordinals.items ms (subst (λ os. Reaches os ms) same reach) less h);
+  stored = ap store_of (sym store);
+}
+
+pub state_first : (m : Machine) (input : List ℤ) → m.state.store.items ≡ [] → m.state.input.now ≡ input → m.state.output.items ≡ [] → state_in m ≡ record { store = []; input = input; output = [] }
+state_first m input store is output = λ i. record { store = store_of (store i); input = is i; output = items_out (output i) }

@@ -58,7 +58,8 @@ module _ (m m₁ : Machine) (c : ℕ) (b : Block) where
       → Declares (Ok tt) m m₁ (declare_block as_labels 0 text) → Does post q m₁ m₂ (executed_body (body_of (out-Block b).body)) → Stands m first_frame → Runs q m₂.state (block_run c m.turns text (state_in m))
   block_runs q m₂ post calls d does s =
       let g : _ = d.1 first_frame s in
-      let begun : record (state_in m) { store = g.0.store } ≡ state_in m₁ = (λ i. record { store = g.2.stored i; input = (d.0.same (~ i)).input; output = (d.0.same (~ i)).output }) in
+      let back : surroundings m ≡ surroundings m₁ = sym d.0.same in
+      let begun : record (state_in m) { store = g.0.store } ≡ state_in m₁ = (λ i. record { store = g.2.stored i; input = (back i).input; output = (back i).output }) in
       subst (Runs q m₂.state) (sym (ap (λ o. in_frame (state_in m) o going_on) g.1 ∙ ap (going_on g.0) begun))
       (runs_from q m₁ m₂ (going_on g.0 (state_in m₁)) (body_does m m₁ c d.0.same post calls q m₂ b g.0 g.2 does))
 

@@ -58,6 +58,12 @@ abbrev pub executed_body : Tree ℕ (maybe body) → Doing
 executed_body none n enters s = running s
 executed_body (one (begins statements)) n enters s = executed_all statements n enters s
 
+-- the newest variables and bindings are gone
+pub record GivesUp (variables depth : ℕ) (m m' : Machine) : Type 0 where
+  pub same : surroundings m' ≡ surroundings m
+  pub stored : m'.state.store.items ≡ take variables m.state.store.items
+  pub unwound : table_of m' ≡ down_to depth (table_of m)
+
 -- the variables of the call are given up, its bindings taken back, and those of the caller bound again
 pub record Resumes (i : Interrupted) (m m' : Machine) : Type 0 where
   pub same : surroundings m' ≡ surroundings m

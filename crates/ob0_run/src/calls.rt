@@ -5,11 +5,12 @@ ghost use Rattle.std.specs.Prelude.{◌≡◌, IfOk, OnOk, length};
 ghost use Rattle.ob0_tree.specs.View.{body_of};
 ghost use Rattle.ob0_run.specs.Activations.{Declares};
 ghost use Rattle.ob0_run.specs.Callings.{arguments_of};
-ghost use Rattle.ob0_run.specs.CallSteps.{Enters, Interrupts, Resumes, activation_frame, entry_at, executed_body, routine_in, text_read};
+ghost use Rattle.ob0_run.specs.CallSteps.{Enters, GivesUp, Interrupts, Resumes, activation_frame, entry_at, executed_body, routine_in, text_read};
 ghost use Rattle.ob0_run.specs.Machines.{Does};
 
 use crate::activations::{pass, variables_in};
-use crate::declaring::{after_formals, declare_block};
+use crate::counting::after_formals;
+use crate::declaring::declare_block;
 use crate::machine::{Bound, Machine, rewind, unwind};
 use crate::scene::{Ending, Meant, Routine, Stop, ordinal_at};
 use crate::statements::sequence;
@@ -66,9 +67,9 @@ fn interrupt<'t>(machine: &mut Machine<'_, 't>, depth: usize) -> Result<Interrup
 
 /// Begins the activation of a procedure, with the arguments that wait.
 fn activate<'t>(machine: &mut Machine<'_, 't>, routine: Routine<'t>) -> Result<(), Stop>
-    ensures { Declares result machine.old machine.new (activation_frame routine.first_constructor (text_read machine.old routine.procedure.now) (arguments_of machine.old.passed)) }
+    ensures { Declares result machine.old machine.new (activation_frame routine.entry.first_constructor (text_read machine.old routine.entry.procedure.now) (arguments_of machine.old.passed)) }
 {
-    let first = after_formals(routine.first_constructor, routine.procedure)?;
+    let first = after_formals(routine.first_constructor, &routine.procedure.formals)?;
     let args = mem::replace(&mut machine.passed, Vec::new(machine.alloc));
     pass(machine, routine.procedure, args)?;
     declare_block(machine, first, &routine.procedure.block)
@@ -89,18 +90,26 @@ pub(crate) fn body<F: Fn(&mut Machine<'_, '_>, usize) -> Result<(), Stop>>(
     }
 }
 
-/// Gives up the variables of a call and takes its bindings back. Those of the caller are visible again.
+/// Gives up the variables of a call, and takes its bindings back.
+fn give_up(machine: &mut Machine<'_, '_>, variables: usize, depth: usize) -> Result<(), AllocError>
+    ensures { OnOk result (GivesUp variables depth machine.old machine.new) }
+{
+    machine.state.store.truncate(variables);
+    let _own = unwind(machine.alloc, &mut machine.meant, &mut machine.bound, depth)?;
+    Ok(())
+}
+
+/// Ends a call that returns: the bindings of its caller are visible again.
 fn resume<'t>(machine: &mut Machine<'_, 't>, interrupted: Interrupted<'t>) -> Result<(), AllocError>
     ensures { OnOk result (Resumes interrupted.entry machine.old machine.new) }
 {
-    machine.state.store.truncate(interrupted.variables);
-    let _own = unwind(
-        machine.alloc,
-        &mut machine.meant,
-        &mut machine.bound,
-        interrupted.depth,
-    )?;
-    rewind(&mut machine.meant, &mut machine.bound, interrupted.hidden)
+    let Interrupted {
+        hidden,
+        depth,
+        variables,
+    } = interrupted;
+    give_up(machine, variables, depth)?;
+    rewind(&mut machine.meant, &mut machine.bound, hidden)
 }
 
 /// A call of what a name stands for, with the arguments that wait, where so many calls more may be open.

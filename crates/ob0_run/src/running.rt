@@ -184,19 +184,20 @@ fn end_of(ended: Result<(), Stop>) -> Result<End, AllocError>
 /// Want of memory.
 pub fn run(
     alloc: Global,
-    module: &WellTyped<'_, '_>,
+    checked: &WellTyped<'_, '_>,
     input: &[i32],
     calls: u32,
     turns: u32,
 ) -> Result<Outcome, AllocError>
-    ensures { IfOk result (λ o. run_of o ≡ run (named_tree_of module.now.module_read) input.now calls turns) }
+    ensures { IfOk result (λ o. run_of o ≡ run (named_tree_of checked.now.module_read) input.now calls turns) }
 {
-    let resolved = module.resolved();
+    let resolved = checked.resolved();
     let mut machine = machine_for(alloc, resolved, input, turns)?;
     let ended = run_block(&mut machine, calls as u64, resolved.module().block());
     let end = end_of(ended)?;
+    let state = machine.state;
     Ok(Outcome {
-        output: machine.state.output,
+        output: state.output,
         end,
     })
 }
