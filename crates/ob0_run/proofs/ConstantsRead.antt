@@ -154,3 +154,12 @@ untyped_value m e h = ap (option_and_then (λ s. given_value (evaluate {P = Unit
 pub stuck_then : {A B : Type 0} (o : Option A) (next : A → Option B) → or_stuck (option_and_then next o) ≡ (or_stuck o >>= (λ a. or_stuck (next a)))
 stuck_then None next = refl
 stuck_then (Some a) next = refl
+
+-- the types of the other factors
+pub integer_typed : {P : Type 0} (m : Meanings Label Shape P) (n : ℕ) → type_of_factor m (integer n) ≡ Some integer_shape
+unfolding type_of
+integer_typed m n = refl
+
+pub parenthesised_typed : {P : Type 0} (m : Meanings Label Shape P) (e : Tree Label expression) → type_of_factor m (parenthesised e) ≡ type_of m e
+unfolding type_of
+parenthesised_typed m e = refl

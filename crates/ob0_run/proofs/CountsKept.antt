@@ -2,6 +2,10 @@
 use Rattle.std.proofs.Common.{◌≡◌, ℕ, suc, ◌+◌, ◌<◌, ◌≤◌, List, [], ◌∷◌, length, get_or, drop, Ok, Err, Result, IfOk, refl, sym, ap, ◌∙◌, subst, arith, add_assoc, add-zero}
 use Rattle.std.proofs.lemmas.List.{drop_all, drop_more}
 use Rattle.ob0_tree.specs.Tree.{Tree, array_type, block, declares, declares_procedure, declares_type, declares_types, declares_variable, declares_variables, end, fields, formals, further_fields, further_section, has_body, item, items, mapped, maybe, more, named_type, no_fields, no_formals, none, one, procedure, record_type, section, some_fields, some_formals, then_fields, then_section, type_name, type_names, value_section, variable, variable_section, variables, written_type}
+use Rattle.ob0_tree.specs.declared.tree.Block.{out-Block}
+use Rattle.ob0_tree.specs.declared.tree.Procedure.{Procedure, out-Procedure, roll-out-Procedure}
+use Rattle.ob0_tree.specs.View.{formals_of, items_of, procedure_of, types_of, variables_of}
+use Rattle.ob0_tree.proofs.Viewed.{block_parts, procedure_made}
 use Rattle.ob0_scope.specs.Parts.{formal_sections, section_type, section_types, section_variables}
 use Rattle.ob0_types.specs.Declarations.{block_constructors, formals_constructors, procedure_constructors, procedures_constructors, types_constructors, variables_constructors}
 use Rattle.ob0_types.specs.Typing.{constructors, group_constructors, groups_constructors}
@@ -88,3 +92,15 @@ module _ {A : Type 0} (count : List A → ℕ) (one : A → ℕ) (is : IsCount c
 
 pub counted_as : {E : Type 0} (r : Result ℕ E) (a b : ℕ) → a ≡ b → IfOk r (λ n. n ≡ a) → IfOk r (λ n. n ≡ b)
 counted_as r a b e h = subst (λ a. IfOk r (λ n. n ≡ a)) e h
+
+pub procedures_count : IsCount (λ ps. procedures_constructors (items_of procedure_of ps)) (λ p. procedure_constructors (procedure_of p))
+procedures_count = record { ended = refl; stepped = λ p ps. refl }
+
+-- a procedure by its parts
+pub procedure_counted : (p : Procedure) → procedure_constructors (procedure_of p)
+    ≡ formals_constructors (formal_sections (formals_of (out-Procedure p).formals))
+    + (types_constructors (section_types (types_of (out-Block (out-Procedure p).block).types))
+    + (variables_constructors (section_variables (variables_of (out-Block (out-Procedure p).block).variables)) + procedures_constructors (items_of procedure_of (out-Block (out-Procedure p).block).procedures.items)))
+procedure_counted p =
+    ap procedure_constructors (sym (ap procedure_of (roll-out-Procedure p)) ∙ procedure_made (out-Procedure p))
+    ∙ ap (λ b. formals_constructors (formal_sections (formals_of (out-Procedure p).formals)) + block_constructors b) (block_parts (out-Procedure p).block)

@@ -102,26 +102,28 @@ pub record Walk {A S : Type 0} (all : S → List A → Step) (step : S → A →
   pub ended : (s : S) (g : Frame Label) → all s [] g ≡ Some g
   pub stepped : (s : S) (x : A) (xs : List A) (g : Frame Label) → all s (x ∷ xs) g ≡ option_and_then (all (after s x) xs) (step s x g)
 
-module _ {A S : Type 0} (all : S → List A → Step) (step : S → A → Step) (after : S → A → S) (w : Walk all step after) {start now : Machine} {first s : S} {xs : List A} {done : ℕ} where
-  walk_split : (x : A) → done < length xs → x ≡ get_or xs done x → (g : Frame Label) → all s (drop done xs) g ≡ option_and_then (all (after s x) (drop (done + 1) xs)) (step s x g)
-  walk_split x less here g =
-      ap (λ ys. all s ys g) (drop_more xs done x less ∙ ap (λ y. y ∷ drop (done + 1) xs) (sym here)) ∙ w.stepped s x (drop (done + 1) xs) g
+walk_split : {A S : Type 0} (all : S → List A → Step) (step : S → A → Step) (after : S → A → S) → Walk all step after → (s : S) (xs : List A) (done : ℕ) (x d : A) → done < length xs → x ≡ get_or xs done d
+    → (g : Frame Label) → all s (drop done xs) g ≡ option_and_then (all (after s x) (drop (done + 1) xs)) (step s x g)
+walk_split all step after w s xs done x d less here g =
+    ap (λ ys. all s ys g) (drop_more xs done d less ∙ ap (λ y. y ∷ drop (done + 1) xs) (sym here)) ∙ w.stepped s x (drop (done + 1) xs) g
 
-  pub walk_on : (m : Machine) (x : A) (next : S) → Declared start now (all first xs) (all s (drop done xs)) → done < length xs → x ≡ get_or xs done x → next ≡ after s x
-      → Declares (Ok tt) now m (step s x) → Declared start m (all first xs) (all next (drop (done + 1) xs))
-  walk_on m x next p less here number d =
-      subst (λ n. Declared start m (all first xs) (all n (drop (done + 1) xs))) (sym number) (declared_on m (step s x) (all (after s x) (drop (done + 1) xs)) p (walk_split x less here) d)
+module _ {A S : Type 0} (all : S → List A → Step) (step : S → A → Step) (after : S → A → S) (w : Walk all step after) {start now : Machine} (first s : S) (xs : List A) (done : ℕ) (p : Declared start now (all first xs) (all s (drop done xs))) where
+  pub walk_on : (m : Machine) (x d : A) (next : S) → done < length xs → x ≡ get_or xs done d → next ≡ after s x → Declares (Ok tt) now m (step s x) → Declared start m (all first xs) (all next (drop (done + 1) xs))
+  walk_on m x d next less here number h =
+      subst (λ n. Declared start m (all first xs) (all n (drop (done + 1) xs))) (sym number) (declared_on m (step s x) (all (after s x) (drop (done + 1) xs)) p (walk_split all step after w s xs done x d less here) h)
 
-  pub walk_fails : (m : Machine) (x : A) (e : Stop) → Declared start now (all first xs) (all s (drop done xs)) → done < length xs → x ≡ get_or xs done x
-      → Declares (Err e) now m (step s x) → Declares (Err e) start m (all first xs)
-  walk_fails m x e p less here d = declared_fails m (step s x) (all (after s x) (drop (done + 1) xs)) e p (walk_split x less here) d
+  pub walk_fails : (m : Machine) (x d : A) (e : Stop) → done < length xs → x ≡ get_or xs done d → Declares (Err e) now m (step s x) → Declares (Err e) start m (all first xs)
+  walk_fails m x d e less here h = declared_fails m (step s x) (all (after s x) (drop (done + 1) xs)) e p (walk_split all step after w s xs done x d less here) h
 
-  pub walk_ends : Declared start now (all first xs) (all s (drop done xs)) → length xs ≤ done → Declares (Ok tt) start now (all first xs)
-  walk_ends p every = declared_ends p (λ g. ap (λ ys. all s ys g) (drop_all done xs every) ∙ w.ended s g)
+  pub walk_ends : length xs ≤ done → Declares (Ok tt) start now (all first xs)
+  walk_ends every = declared_ends p (λ g. ap (λ ys. all s ys g) (drop_all done xs every) ∙ w.ended s g)
 
 -- what a token writes in a machine with the same surroundings
 pub same_read : {s : Sort} (m m' : Machine) (t : Tree ℕ s) → surroundings m' ≡ surroundings m → read_there m' t ≡ read_there m t
 same_read m m' t same = ap (λ s. read_with s.source s.ordinals t) same
+
+pub same_labelled : (m m' : Machine) (x : ℕ) → surroundings m' ≡ surroundings m → label_there m' x ≡ label_there m x
+same_labelled m m' x same = ap (λ s. label_with s.source s.ordinals x) same
 
 -- a name for an object
 pub name_bound : (m m' : Machine) (name : ℕ) (stands_for : Meant) (o : Object Place (Code Label)) → surroundings m' ≡ surroundings m → store_of m'.state.store.items ≡ store_of m.state.store.items

@@ -1,5 +1,5 @@
 -- The declarations of a block, kind by kind and one by one.
-use Rattle.std.proofs.Common.{◌≡◌, ℕ, ◌+◌, List, [], ◌∷◌, map, Option, Some, None, option_and_then, option_map, refl, sym, ap, ◌∙◌}
+use Rattle.std.proofs.Common.{◌≡◌, ℕ, ◌+◌, List, [], ◌∷◌, map, Option, Some, None, option_and_then, option_map, Result, refl, sym, ap, ◌∙◌, subst}
 use Rattle.ob0_tree.specs.Places.{value_at}
 use Rattle.ob0_tree.specs.Tree.{Tree, block, body, constants, declares, declares_constants, declares_types, declares_variables, end, further_name, has_body, item, items, maybe, more, none, one, procedure, then_name, type_names, variables}
 use Rattle.ob0_tree.specs.declared.tree.Constant.{Constant}
@@ -13,13 +13,15 @@ use Rattle.ob0_scope.specs.Names.{Label, as_labels}
 use Rattle.ob0_scope.specs.Parts.{block_constants, block_procedures, block_types, block_variables, further_names, names_listed, procedure_name, section_constants, section_types, section_variables}
 use Rattle.ob0_types.specs.Declarations.{after_types, after_variables, declare_constants, declare_first, declare_types, procedure_constructors}
 use Rattle.ob0_types.specs.Environments.{meanings}
-use Rattle.ob0_types.specs.Expressions.{a_constant, a_type}
+use Rattle.ob0_types.specs.Expressions.{a_constant, a_procedure, a_type}
 use Rattle.ob0_types.specs.Typing.{constant_value, constructors, denoted}
 use Rattle.ob0_values.specs.Values.{Shape, Value, initial}
 use Rattle.ob0_run.specs.declared.machine.Machine.{Machine}
-use Rattle.ob0_run.specs.Activations.{label_there}
+use Rattle.ob0_run.specs.declared.scene.Stop.{Stop}
+use Rattle.ob0_run.specs.Activations.{Declares, label_there, surroundings}
 use Rattle.ob0_run.specs.DeclaredFrames.{constant_declared, constants_declared, procedure_declared, procedures_declared, read_there, type_declared, types_declared, variables_declared, with_object}
 use Rattle.ob0_run.specs.Runs.{Activation, Frame, allocate, declare_block, declare_procedures, declare_variables, with_procedures}
+use Rattle.ob0_run.specs.Scenes.{label_with, read_with}
 use Rattle.ob0_run.proofs.CountsKept.{constructors-kept, procedure-kept}
 use Rattle.ob0_run.proofs.FramesDeclared.{Step, Walk}
 
@@ -113,7 +115,7 @@ module _ (m : Machine) where
   pub procedures_walk : Walk procedures_of_list procedure_of_list after_one
   procedures_walk = record {
     ended = λ k g. refl;
-    stepped = λ k p ps g. ap (λ x. procedures_of_list (after_one k p) ps (with_object x _ g)) (name_there p);
+    stepped = λ k p ps g. ap (λ x. procedures_of_list (after_one k p) ps (with_object x (a_procedure record { first_constructor = k; text = read_there m (procedure_of p) }) g)) (name_there p);
   }
 
   -- the numbers behind one of them, as they are counted over tokens
@@ -125,6 +127,20 @@ module _ (m : Machine) where
 
   pub after_one-counted : (k n : ℕ) (p : Procedure) → n ≡ k + procedure_constructors (procedure_of p) → n ≡ after_one k p
   after_one-counted k n p h = h ∙ ap (λ c. k + c) (sym (procedure-kept (label_there m) (value_at m.tokens.now) (procedure_of p)))
+
+-- one declaration, by the labels of a machine with the same surroundings
+module _ (start now m : Machine) (r : Result (Unit {0}) Stop) (same : surroundings now ≡ surroundings start) where
+  pub constant_moved : (c : Constant) → Declares r now m (constant_of_list now tt c) → Declares r now m (constant_of_list start tt c)
+  constant_moved c d = subst (λ s. Declares r now m (constant_declared (label_with s.source s.ordinals c.name) (read_with s.source s.ordinals (expression_of c.value)))) same d
+
+  pub type_moved : (k : ℕ) (t : TypeDeclaration) → Declares r now m (type_of_list now k t) → Declares r now m (type_of_list start k t)
+  type_moved k t d = subst (λ s. Declares r now m (type_declared k (label_with s.source s.ordinals t.name) (read_with s.source s.ordinals (type_of t.written)))) same d
+
+  pub section_moved : (k : ℕ) (v : Variables) → Declares r now m (section_of_list now k v) → Declares r now m (section_of_list start k v)
+  section_moved k v d = subst (λ s. Declares r now m (variables_declared k (names_listed (read_with s.source s.ordinals (names_of v.names))) (read_with s.source s.ordinals (type_of v.written)))) same d
+
+  pub procedure_moved : (k : ℕ) (p : Procedure) → Declares r now m (procedure_of_list now k p) → Declares r now m (procedure_of_list start k p)
+  procedure_moved k p d = subst (λ s. Declares r now m (procedure_declared k (label_with s.source s.ordinals (out-Procedure p).name) (read_with s.source s.ordinals (procedure_of p)))) same d
 
 -- a section that isn't there declares nothing
 pub no_constants : (g : Frame Label) → constants_declared end g ≡ Some g

@@ -1,7 +1,7 @@
 -- What the texts of types denote in a scene, part by part.
-use Rattle.std.proofs.Common.{◌≡◌, ℕ, suc, ◌+◌, ◌<◌, ◌≤◌, List, [], ◌∷◌, ◌++◌, length, map, get_or, drop, Option, Some, None, Ok, Err, Result, option_and_then, option_map, refl, sym, ap, ◌∙◌, subst, arith, unwrap_or}
+use Rattle.std.proofs.Common.{◌≡◌, ℕ, suc, ◌+◌, ◌<◌, ◌≤◌, List, [], ◌∷◌, ◌++◌, length, map, get_or, drop, Option, Some, None, Ok, Err, Result, option_and_then, option_map, refl, sym, ap, ◌∙◌, subst, arith, add-one, unwrap_or}
 use Rattle.std.proofs.lemmas.List.{drop_all, drop_more}
-use Rattle.ob0_tree.specs.Tree.{Tree, array_type, end, expression, fields, further_fields, further_name, item, items, more, named_type, names, no_fields, record_type, some_fields, then_fields, then_name, written_type}
+use Rattle.ob0_tree.specs.Tree.{Tree, array_type, end, expression, fields, further_fields, further_name, item, items, listed, more, named_type, names, no_fields, record_type, some_fields, then_fields, then_name, written_type}
 use Rattle.ob0_tree.specs.declared.tree.FieldList.{FieldList}
 use Rattle.ob0_tree.specs.declared.tree.Fields as group
 use Rattle.ob0_tree.specs.declared.tree.Names as tree_names
@@ -13,7 +13,7 @@ use Rattle.ob0_types.specs.DenotedTables.{joined}
 use Rattle.ob0_types.specs.Expressions.{Meanings}
 use Rattle.ob0_types.specs.Typing.{array_length, constant_value, constructors, denoted, denoted_group, denoted_groups, group_constructors, type_of_name, with_fields, within_limits}
 use Rattle.ob0_types.proofs.Added.{joined-assoc, joined-nothing}
-use Rattle.ob0_values.specs.Values.{FieldShapes, Outcome, Shape, array_shape, next_field_shape, no_field_shape, or_stuck, record_shape, ◌>>=◌}
+use Rattle.ob0_values.specs.Values.{FieldShapes, Outcome, Shape, array_shape, next_field_shape, no_field_shape, ends, or_stuck, record_shape, ◌>>=◌}
 use Rattle.ob0_run.specs.declared.scene.Ending.{Ending}
 use Rattle.ob0_run.specs.declared.scene.Ending.TheVariants as ending
 use Rattle.ob0_run.specs.declared.scene.Scene.{Scene}
@@ -21,7 +21,7 @@ use Rattle.ob0_run.specs.declared.scene.Stop.{Stop}
 use Rattle.ob0_run.specs.declared.scene.Stop.TheVariants as stop
 use Rattle.ob0_run.specs.declared.shapes.Field.{Field}
 use Rattle.ob0_run.specs.DeclaredFrames.{Extends, fields_listed, with_named}
-use Rattle.ob0_run.specs.Scenes.{Answers, label_in, meaning_in, read_in}
+use Rattle.ob0_run.specs.Scenes.{Answers, end_of, label_in, meaning_in, read_in}
 use Rattle.ob0_run.specs.Shapes.{fields_in, shape_of}
 use Rattle.ob0_run.proofs.ConstantsRead.{stuck_then}
 use Rattle.ob0_run.proofs.CountsKept.{group-kept}
@@ -192,9 +192,36 @@ further-labelled : (s : Scene) (xs : List ℕ) → further_names (read_in s (ite
 further-labelled s [] = refl
 further-labelled s (x ∷ xs) = ap (λ ys. label_in s x ∷ ys) (further-labelled s xs)
 
-pub naming_ends : {s : Scene} {t : Shape} {before now : List Field} {done : ℕ} (ns : tree_names.Names) → Naming s (ns.first ∷ ns.more.items) t before done now → length (ns.first ∷ ns.more.items) ≤ done
-    → Extends (Ok tt) before now (λ later. Some (with_named (read_in s (names_of ns)) t later))
-naming_ends {s} {t} {before} {now} {done} ns p all = λ later.
-    ap (λ ys. Some (joined (fields_in before) (with_fields (map label_text (label_in s ns.first ∷ ys)) t later))) (further-labelled s ns.more.items)
+pub naming_ends : {s : Scene} {t : Shape} {before now : List Field} {done : ℕ} (x : ℕ) (xs : List ℕ) → Naming s (x ∷ xs) t before done now → length (x ∷ xs) ≤ done
+    → Extends (Ok tt) before now (λ later. Some (with_named (read_in s (listed x (items_of then_name xs))) t later))
+naming_ends {s} {t} {before} {now} {done} x xs p all = λ later.
+    ap (λ ys. Some (joined (fields_in before) (with_fields (map label_text (label_in s x ∷ ys)) t later))) (further-labelled s xs)
     ∙ ap Some (sym (p.so_far later))
-    ∙ ap (λ ys. Some (joined (fields_in now) (with_fields (map label_text (map (label_in s) ys)) t later))) (drop_all done (ns.first ∷ ns.more.items) all)
+    ∙ ap (λ ys. Some (joined (fields_in now) (with_fields (map label_text (map (label_in s) ys)) t later))) (drop_all done (x ∷ xs) all)
+
+-- what always denotes something leaves nothing undone but for want of memory
+pub extends_never : (e : Stop) (before after before' after' : List Field) (f g : FieldShapes → FieldShapes) → Extends (Err e) before after (λ later. Some (f later)) → Extends (Err e) before' after' (λ later. Some (g later))
+extends_never stop.Memory before after before' after' f g h = tt
+extends_never (stop.Ended e) before after before' after' f g h = absurd (never (f no_field_shape) (h.1 no_field_shape))
+  where
+    never : (x : FieldShapes) → Some x ≡ None → ⊥
+    never x h = cc
+
+-- where a group denotes nothing, neither does the record
+pub record_fails : {s : Scene} {first : ℕ} {gs : List group.Fields} {done behind : ℕ} {found : List Field} (k : ℕ) (g : group.Fields) (found' : List Field) (e : Stop)
+    → Gathered s first gs done behind found → done < length gs → g ≡ get_or gs done g → first ≡ k + 1 → Extends (Err e) found found' (of_group s behind g)
+    → Answers shape_of (Err e) (or_stuck (denoted (meaning_in s) k (read_in s (record_listed gs))))
+record_fails k g found' stop.Memory p less here number h = tt
+record_fails {s} {first} {gs} {done} {behind} {found} k g found' (stop.Ended e) p less here number h =
+    record-worth s k gs
+    ∙ ap (λ n. or_stuck (denoted_groups (meaning_in s) n (read_in s (items_of further_fields_of_group gs))) >>= (λ fs. or_stuck (within_limits (record_shape k fs)))) (sym (number ∙ add-one k))
+    ∙ ap (λ o. or_stuck o >>= (λ fs. or_stuck (within_limits (record_shape k fs)))) (gathered_fails s g p less here h.1)
+    ∙ ap (λ e. ends (end_of e)) (sym h.0)
+
+-- where all groups denote fields, the record is theirs within the limits
+pub record_found : {s : Scene} {first : ℕ} {gs : List group.Fields} {done behind : ℕ} {found : List Field} (k : ℕ) → Gathered s first gs done behind found → length gs ≤ done → first ≡ k + 1
+    → or_stuck (denoted (meaning_in s) k (read_in s (record_listed gs))) ≡ or_stuck (within_limits (record_shape k (fields_in found)))
+record_found {s} {first} {gs} {done} {behind} {found} k p all number =
+    record-worth s k gs
+    ∙ ap (λ n. or_stuck (denoted_groups (meaning_in s) n (read_in s (items_of further_fields_of_group gs))) >>= (λ fs. or_stuck (within_limits (record_shape k fs)))) (sym (number ∙ add-one k))
+    ∙ ap (λ o. or_stuck o >>= (λ fs. or_stuck (within_limits (record_shape k fs)))) (gathered_ends s p all)

@@ -1,6 +1,7 @@
 //! The declarations of a block, when its activation begins: constants, types, variables and procedures, in text order.
 
 ghost use Rattle.std.specs.Prelude.{◌≡◌, ◌∷◌, [], Some, length, map, suc};
+ghost use Rattle.ob0_tree.specs.declared.tree.Procedure.{out-Procedure};
 ghost use Rattle.ob0_tree.specs.View.{block_of, constant_of, constants_of, expression_of, items_of, names_of, procedure_of, type_declaration_of, type_of, types_of, variable_of, variables_of};
 ghost use Rattle.ob0_scope.specs.Names.{Label, as_labels};
 ghost use Rattle.ob0_scope.specs.Parts.{names_listed, section_constants, section_types, section_variables};
@@ -21,10 +22,12 @@ use crate::counting::{after_procedure, after_type, after_types, after_variables,
 use crate::machine::{Machine, bind};
 use crate::scene::{Meant, Routine, Scene, Stop};
 use crate::shapes::{Shape, initial};
+use ob0_scan::Tokens;
 use ob0_tree::tree::{
     Block, Constant, Expression, Names, Procedure, TypeDeclaration, Variables, WrittenType,
 };
 use ob0_values::value::Value;
+use std::alloc::Global;
 
 /// Binds a name to what it stands for.
 fn bind_name<'t>(
@@ -44,17 +47,22 @@ fn bind_name<'t>(
     Ok(())
 }
 
-/// What the names of a machine stand for, where no variable holds anything.
-fn scene<'m, 't>(machine: &'m Machine<'_, 't>) -> Scene<'m, 't>
-    ensures tokens { result.tokens.now ≡ machine.now.tokens.now }
-    ensures ordinals { result.ordinals.now ≡ machine.now.ordinals.items }
-    ensures meant { result.meant.now ≡ machine.now.meant.items }
+/// What names stand for, where no variable holds anything.
+fn without_store<'s, 't>(
+    alloc: Global,
+    tokens: &'t Tokens,
+    ordinals: &'s [Option<usize>],
+    meant: &'s [Meant<'t>],
+) -> Scene<'s, 't>
+    ensures tokens { result.tokens.now ≡ tokens.now }
+    ensures ordinals { result.ordinals.now ≡ ordinals.now }
+    ensures meant { result.meant.now ≡ meant.now }
 {
     Scene {
-        alloc: machine.alloc,
-        tokens: machine.tokens,
-        ordinals: machine.ordinals.as_slice(),
-        meant: machine.meant.as_slice(),
+        alloc,
+        tokens,
+        ordinals,
+        meant,
         store: &[],
     }
 }
@@ -62,13 +70,25 @@ fn scene<'m, 't>(machine: &'m Machine<'_, 't>) -> Scene<'m, 't>
 fn value_in<'t>(machine: &Machine<'_, 't>, e: &Expression) -> Result<Value<'t>, Stop>
     ensures { Answers value_of result (or_stuck (constant_value (meaning_with machine.now.meant.items) (read_there machine.now (expression_of e.now)))) }
 {
-    scene(machine).constant(e)
+    let scene = without_store(
+        machine.alloc,
+        machine.tokens,
+        &machine.ordinals,
+        &machine.meant,
+    );
+    scene.constant(e)
 }
 
 fn shape_in<'t>(machine: &Machine<'_, 't>, next: usize, t: &WrittenType) -> Result<Shape<'t>, Stop>
     ensures { Answers shape_of result (or_stuck (denoted (meaning_with machine.now.meant.items) next (read_there machine.now (type_of t.now)))) }
 {
-    scene(machine).denote(next, t)
+    let scene = without_store(
+        machine.alloc,
+        machine.tokens,
+        &machine.ordinals,
+        &machine.meant,
+    );
+    scene.denote(next, t)
 }
 
 /// A constant is bound after its right side.
@@ -212,7 +232,7 @@ fn declare_procedure<'t>(
     next: usize,
     procedure: &'t Procedure,
 ) -> Result<(), Stop>
-    ensures { Declares result machine.old machine.new (procedure_declared next (label_there machine.old procedure.now.name) (read_there machine.old (procedure_of procedure.now))) }
+    ensures { Declares result machine.old machine.new (procedure_declared next (label_there machine.old (out-Procedure procedure.now).name) (read_there machine.old (procedure_of procedure.now))) }
 {
     let depth = one_more(machine.bound.len())?;
     let routine = Routine {

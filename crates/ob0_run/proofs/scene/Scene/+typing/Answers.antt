@@ -5,7 +5,7 @@ use Rattle.ob0_tree.specs.declared.tree.Comparison.{out-Comparison}
 use Rattle.ob0_tree.specs.declared.tree.Expression.{out-Expression}
 use Rattle.ob0_tree.specs.declared.tree.Simple.{out-Simple}
 use Rattle.ob0_tree.specs.declared.tree.Term.{out-Term}
-use Rattle.ob0_tree.specs.View.{items_of, addend_of, multiplier_of, term_of, factor_of, simple_of}
+use Rattle.ob0_tree.specs.View.{expression_of, items_of, addend_of, multiplier_of, term_of, factor_of, simple_of}
 use Rattle.ob0_types.specs.Selected.{both, type_added}
 use Rattle.ob0_types.specs.Tables.{type_shape}
 use Rattle.ob0_types.specs.Typing.{add_type, complement_type, multiply_type, relation_type, sign_type, type_of, type_of_addends, type_of_factor, type_of_multipliers, type_of_simple, type_of_term}
@@ -13,7 +13,7 @@ use Rattle.ob0_types.proofs.Judged.{added_chain, added_step, alone_typed, multip
 use Rattle.ob0_types.proofs.TreeParts.{addend_parts, expression_alone, expression_related}
 use Rattle.ob0_run.specs.DeclaredFrames.{constants_in}
 use Rattle.ob0_run.specs.Scenes.{read_in}
-use Rattle.ob0_run.proofs.ConstantsRead.{chain_ends, chain_goes_on}
+use Rattle.ob0_run.proofs.ConstantsRead.{chain_ends, chain_goes_on, integer_typed, parenthesised_typed}
 use Rattle.ob0_run.proofs.scene.Scene.+typing.Goals as goal
 
 pub type_of-returns-in-None : goal.type_of-returns-in-None
@@ -98,3 +98,17 @@ type_of_term-returns t c =
     ∙ ap (option_and_then (λ x. type_of_multipliers m x rest)) c.type_of_factor-so_far.ensures
     ∙ sym (term_typed m (read_in s (factor_of a.first)) rest)
     ∙ sym (ap (λ z. type_of_term m (read_in s z)) (term_parts c.args.t.now))
+
+pub type_of_factor-returns-in-Integer : goal.type_of_factor-returns-in-Integer
+type_of_factor-returns-in-Integer t c =
+    let m = constants_in c.args.self.now in
+    let s = c.args.self.now in
+    sym (integer_typed m _) ∙ sym (ap (λ f. type_of_factor m (read_in s (factor_of f))) c.in-Integer.is)
+
+pub type_of_factor-returns-in-Parenthesised : goal.type_of_factor-returns-in-Parenthesised
+type_of_factor-returns-in-Parenthesised t c =
+    let m = constants_in c.args.self.now in
+    let s = c.args.self.now in
+    c.type_of.ensures ∙ ap (λ e. type_of m (read_in s (expression_of e))) c.deref.ensures
+    ∙ sym (parenthesised_typed m (read_in s (expression_of c.in-Parenthesised.e.value)))
+    ∙ sym (ap (λ f. type_of_factor m (read_in s (factor_of f))) c.in-Parenthesised.is)
