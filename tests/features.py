@@ -13,7 +13,7 @@ BUILT = {
     "questions": True,  # definition, references, prepareRename
     "hover": False,
     "fields": False,  # questions at fields of records
-    "run": False,  # `ob0 run`
+    "run": True,  # `ob0 run`
     "rename": False,  # rename
     "rename command": False,  # `ob0 rename`
     "rename fields": False,  # rename of a record's field

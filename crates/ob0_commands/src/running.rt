@@ -1,42 +1,97 @@
 //! Running a file's module: its input, and what a run puts out.
 
-use crate::faults::Fault;
+ghost use Rattle.std.specs.Prelude.{◌≡◌, [], IfOk};
+ghost use Rattle.ob0_tree.specs.Parsed.{named_tree_of};
+ghost use Rattle.ob0_run.specs.Outcomes.{run_of};
+ghost use Rattle.ob0_run.specs.Runs.{run};
+ghost use Rattle.ob0_session.specs.Diagnosed.{Tells};
+ghost use Rattle.ob0_commands.specs.TextRuns.{RunsAs};
+
+use crate::checking::check;
+use crate::faults::{Fault, tell_fault};
 use crate::printing::print;
 use crate::reading::read_input;
+use ob0_run::running::{End, Outcome, run};
+use ob0_run::state::Item;
+use ob0_session::{Asked, Question, ask};
+use ob0_types::checked::WellTyped;
 use std::alloc::{AllocError, Global};
 use std::io::{Read, Write};
 
-/// What a run puts out.
-#[derive(Clone, Copy, Debug, PartialEq, Eq)]
-pub enum Item {
-    Number(i32),
-    Line,
+/// The run of a text's module.
+#[derive(Drop)]
+struct RunOf<'i> {
+    input: &'i [i32],
+    calls: u32,
+    turns: u32,
 }
 
-/// How a run ends.
-#[derive(Clone, Copy, Debug, PartialEq, Eq)]
-pub enum End {
-    Done,
-    Overflow,
-    Divisor,
-    Index,
-    InputEnd,
-    CallBound,
-    TurnBound,
+impl<'i> Question for RunOf<'i> {
+    type Answer = Outcome;
+
+    ghost answers = { λ q names outcome. run_of outcome ≡ run (named_tree_of names.module_read) q.input.now q.calls q.turns };
+
+    fn answer(&self, alloc: Global, module: &WellTyped<'_, '_>) -> Result<Outcome, AllocError> {
+        run(alloc, module, self.input, self.calls, self.turns)
+    }
 }
 
-impl End {
-    /// The line, with its ending, that tells an end other than `Done`.
-    fn line(self) -> Option<&'static str> {
-        match self {
-            End::Done => None,
-            End::Overflow => Some("fault: Overflow\n"),
-            End::Divisor => Some("fault: Divisor\n"),
-            End::Index => Some("fault: Index\n"),
-            End::InputEnd => Some("fault: InputEnd\n"),
-            End::CallBound => Some("fault: CallBound\n"),
-            End::TurnBound => Some("fault: TurnBound\n"),
-        }
+/// Runs a file's module on the numbers of `input`, with at most `calls` calls open at a time and at most `turns` turns of
+/// each execution of a loop, and prints what it puts out to `out`, an end other than Done to `err` as `fault: NAME`. A file
+/// that isn't a module is told as by `check_text`, before the input is read. Answers the status with which the program
+/// ends: 0 for Done, 1 for another end and for diagnostics, 4 and 5 as `check_text`, 4 also for an input that can't be read,
+/// is too long or is no list of numbers.
+pub fn run_text<R: Read, O: Write, E: Write>(
+    alloc: Global,
+    file: &[u8],
+    input: &mut R,
+    calls: u32,
+    turns: u32,
+    out: &mut O,
+    err: &mut E,
+) -> u8 {
+    match run_file(alloc, file, input, calls, turns, out, err) {
+        Ok(status) => status,
+        Err(fault) => tell_fault(fault, err),
+    }
+}
+
+fn run_file<R: Read, O: Write, E: Write>(
+    alloc: Global,
+    file: &[u8],
+    input: &mut R,
+    calls: u32,
+    turns: u32,
+    out: &mut O,
+    err: &mut E,
+) -> Result<u8, Fault> {
+    let Some(text) = check(alloc, file, out)? else {
+        return Ok(1);
+    };
+    let numbers = read_numbers(alloc, input)?;
+    let outcome = run_module(alloc, text, numbers.as_slice(), calls, turns)?;
+    print_outcome(alloc, outcome.output.as_slice(), outcome.end, out, err)
+}
+
+/// The run of the module that a text is, of which nothing is told.
+fn run_module(
+    alloc: Global,
+    text: &str,
+    input: &[i32],
+    calls: u32,
+    turns: u32,
+) -> Result<Outcome, AllocError>
+    requires { Tells text.now [] }
+    ensures { IfOk result (λ outcome. RunsAs text.now input.now calls turns (run_of outcome)) }
+{
+    let question = RunOf {
+        input,
+        calls,
+        turns,
+    };
+    match ask(alloc, text, &question)? {
+        Asked::Answered(outcome) => Ok(outcome),
+        Asked::IllTyped(_) => unreachable!(),
     }
 }
 
@@ -69,6 +124,19 @@ fn number_of(word: &str) -> Option<i32> {
     }
 }
 
+/// The line, with its ending, that tells an end other than `Done`.
+fn line_of(end: End) -> Option<&'static str> {
+    match end {
+        End::Done => None,
+        End::Overflow => Some("fault: Overflow\n"),
+        End::Divisor => Some("fault: Divisor\n"),
+        End::Index => Some("fault: Index\n"),
+        End::InputEnd => Some("fault: InputEnd\n"),
+        End::CallBound => Some("fault: CallBound\n"),
+        End::TurnBound => Some("fault: TurnBound\n"),
+    }
+}
+
 /// Prints what a run put out to `out`, and an end other than `Done` to `err`. Answers the status with which the program
 /// ends: 0 for `Done`, else 1.
 pub fn print_outcome<O: Write, E: Write>(
@@ -79,7 +147,7 @@ pub fn print_outcome<O: Write, E: Write>(
     err: &mut E,
 ) -> Result<u8, Fault> {
     print(out, text_of(alloc, output)?.as_str())?;
-    match end.line() {
+    match line_of(end) {
         Some(line) => {
             let _ = print(err, line);
             Ok(1)

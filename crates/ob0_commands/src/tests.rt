@@ -2,7 +2,9 @@
 
 use super::*;
 use crate::renaming::print_edited;
-use crate::running::{End, Item, print_outcome, read_numbers};
+use crate::running::{print_outcome, read_numbers, run_text};
+use ob0_run::running::End;
+use ob0_run::state::Item;
 use ob0_text::{Edit, EditRefusal, Position, Range, TextStore, Whole};
 use std::alloc::{AllocError, Global};
 use std::io::{self, Read, Write};
@@ -246,6 +248,93 @@ fn outcomes_are_printed(rt: HostRuntime) {
         let answer = print_outcome(rt.alloc(), output.as_slice(), *end, &mut out, &mut err);
         assert!(rt; answer == Ok(*status));
         assert!(rt; out.has(" -2 7\n -2147483648") && err.has(told));
+    }
+}
+
+/// A file, its input and bounds, and what `run_text` prints and answers.
+#[derive(Drop)]
+struct Ran<'a> {
+    file: &'a [u8],
+    input: &'a [u8],
+    calls: u32,
+    turns: u32,
+    out: &'a str,
+    err: &'a str,
+    status: u8,
+}
+
+const COUNTS_DOWN: &[u8] =
+    b"MODULE M;\nVAR n: INTEGER;\nPROCEDURE P; BEGIN Write(n) END P;\nBEGIN Read(n); WHILE n > 0 DO n := n - 1; WriteLn END; P END M.";
+
+const DIVIDES: &[u8] =
+    b"MODULE M; BEGIN Write(-7 DIV 3); Write((-7) DIV 3); Write((-7) MOD 3); Write(1 MOD 0) END M.";
+
+#[test]
+fn files_are_run(rt: HostRuntime) {
+    let rows = [
+        Ran {
+            file: DIVIDES,
+            input: b"",
+            calls: 64,
+            turns: 100_000,
+            out: " -2 -3 2",
+            err: "fault: Divisor\n",
+            status: 1,
+        },
+        Ran {
+            file: DIVIDES,
+            input: b"1 x",
+            calls: 64,
+            turns: 100_000,
+            out: "",
+            err: "fault: Input\n",
+            status: 4,
+        },
+        Ran {
+            file: b"MODULE M; BEGIN x := 1 END M.",
+            input: b"1 x",
+            calls: 64,
+            turns: 100_000,
+            out: "0:16: Undeclared: not declared\n",
+            err: "",
+            status: 1,
+        },
+        Ran {
+            file: COUNTS_DOWN,
+            input: b" 2\n",
+            calls: 1,
+            turns: 3,
+            out: "\n\n 0",
+            err: "",
+            status: 0,
+        },
+        Ran {
+            file: COUNTS_DOWN,
+            input: b"7",
+            calls: 0,
+            turns: 3,
+            out: "\n\n\n",
+            err: "fault: TurnBound\n",
+            status: 1,
+        },
+    ];
+    for row in &rows {
+        let mut input = Source {
+            bytes: row.input,
+            fails: false,
+        };
+        let mut out = Sink::new(rt.alloc(), 1000);
+        let mut err = Sink::new(rt.alloc(), 1000);
+        let status = run_text(
+            rt.alloc(),
+            row.file,
+            &mut input,
+            row.calls,
+            row.turns,
+            &mut out,
+            &mut err,
+        );
+        assert!(rt; status == row.status && out.has(row.out) && err.has(row.err));
     }
 }
 

@@ -27,7 +27,7 @@ use Rattle.ob0_run.proofs.Binding.{held_binds}
 use Rattle.ob0_run.proofs.Shaping.{map_pushed}
 
 -- what a table holds, where its surroundings are the same
-held_there : (m m' : Machine) (env : Activation Label) (t : Table) → surroundings m' ≡ surroundings m → table_of m' ≡ t → IsHeldIn m.tokens.now m.ordinals.items env t → IsHeldIn m'.tokens.now m'.ordinals.items env (table_of m')
+pub held_there : (m m' : Machine) (env : Activation Label) (t : Table) → surroundings m' ≡ surroundings m → table_of m' ≡ t → IsHeldIn m.tokens.now m.ordinals.items env t → IsHeldIn m'.tokens.now m'.ordinals.items env (table_of m')
 held_there m m' env t same is h =
     subst (λ s. IsHeldIn s.source s.ordinals env (table_of m')) (sym same) (subst (λ t. IsHeldIn m.tokens.now m.ordinals.items env t) (sym is) h)
 

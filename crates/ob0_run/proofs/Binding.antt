@@ -29,7 +29,7 @@ pub length_put : (o : Option ℕ) (m : Meant) (ms : List Meant) → length (put_
 length_put None m ms = refl
 length_put (Some k) m ms = length_set ms k m
 
-get_set : {A : Type 0} (xs : List A) (k : ℕ) (x : A) → k < length xs → slice_get (slice_set xs k x) k ≡ Some x
+pub get_set : {A : Type 0} (xs : List A) (k : ℕ) (x : A) → k < length xs → slice_get (slice_set xs k x) k ≡ Some x
 get_set [] k x h = absurd (omega (arith, h))
 get_set (y ∷ ys) zero x h = refl
 get_set (y ∷ ys) (suc k) x h = get_set ys k x (omega (arith, h))
@@ -39,7 +39,7 @@ length_without zero ms bs = refl
 length_without (suc n) ms [] = refl
 length_without (suc n) ms (b ∷ bs) = length_without n (put_at b.ordinal b.hidden ms) bs ∙ length_put b.ordinal b.hidden ms
 
-reaches : (ordinals : List (Option ℕ)) (ms ms' : List Meant) → length ms' ≡ length ms → Reaches ordinals ms → Reaches ordinals ms'
+pub reaches : (ordinals : List (Option ℕ)) (ms ms' : List Meant) → length ms' ≡ length ms → Reaches ordinals ms → Reaches ordinals ms'
 reaches ordinals ms ms' e r = λ token k at. let less : _ = r token k at in omega (arith, e, less)
 
 bound_here : (source : Scanned) (ordinals : List (Option ℕ)) (ms : List Meant) (n : ℕ) (name : ℕ) (m : Meant) (o : Object Place (Code Label))

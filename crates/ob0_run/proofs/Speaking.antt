@@ -56,7 +56,7 @@ entries-passing : (source : Scanned) (ordinals : List (Option ℕ)) (o : Option 
 entries-passing source ordinals None = refl
 entries-passing source ordinals (Some m) = entry-passing source ordinals m
 
-unbound : (env : Activation Label) (x : _) → from_binding as_labels env (as_written x) ≡ []
+pub unbound : (env : Activation Label) (x : _) → from_binding as_labels env (as_written x) ≡ []
 unbound [] x = refl
 unbound ((declared k, o) ∷ env) x = unbound env x
 unbound ((as_written y, o) ∷ env) x = unbound env x

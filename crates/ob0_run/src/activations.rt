@@ -34,14 +34,18 @@ fn bind_variable<'t>(
     Ok(())
 }
 
-fn variables_in(machine: &Machine<'_, '_>) -> usize
+pub(crate) fn variables_in(machine: &Machine<'_, '_>) -> usize
     ensures { result ≡ length machine.now.state.store.items }
 {
     machine.state.store.len()
 }
 
 /// A new variable, the last of the store.
-fn allocate<'t>(machine: &mut Machine<'_, 't>, name: usize, value: Value<'t>) -> Result<(), Stop>
+pub(crate) fn allocate<'t>(
+    machine: &mut Machine<'_, 't>,
+    name: usize,
+    value: Value<'t>,
+) -> Result<(), Stop>
     ensures { Declares result machine.old machine.new (bind_parameter by_value (label_there machine.old name) (value_argument (value_of value.entry))) }
 {
     let place = Place {

@@ -6,7 +6,7 @@ ghost use Rattle.ob0_run.specs.Held.{down_to};
 ghost use Rattle.ob0_run.specs.Scenes.{ordinal_in};
 
 use crate::calling::Argument;
-use crate::scene::{Meant, Stop, ordinal_at};
+use crate::scene::{Meant, ordinal_at};
 use crate::state::{Names, State};
 use ob0_scan::Tokens;
 use std::alloc::{AllocError, Global};
@@ -99,7 +99,7 @@ pub fn unwind<'t>(
     meant: &mut Vec<Meant<'t>>,
     bound: &mut Vec<Bound<'t>>,
     depth: usize,
-) -> Result<Vec<Bound<'t>>, Stop>
+) -> Result<Vec<Bound<'t>>, AllocError>
     ensures restored { IfOk result (λ taken. rewound (reverse taken.items) record { meant = meant.new.items; bound = bound.new.items } ≡ record { meant = meant.old.items; bound = bound.old.items }) }
     ensures left { OnOk result (record { meant = meant.new.items; bound = bound.new.items } ≡ down_to depth record { meant = meant.old.items; bound = bound.old.items }) }
 {
@@ -119,12 +119,33 @@ pub fn rewind<'t>(
     meant: &mut Vec<Meant<'t>>,
     bound: &mut Vec<Bound<'t>>,
     mut taken: Vec<Bound<'t>>,
-) -> Result<(), Stop>
+) -> Result<(), AllocError>
     ensures { OnOk result (record { meant = meant.new.items; bound = bound.new.items } ≡ rewound (reverse taken.entry.items) record { meant = meant.old.items; bound = bound.old.items }) }
 {
     while let Some(last) = taken.pop() {
         bound.push(exchange(meant, last))?;
     }
+    Ok(())
+}
+
+/// Binds a declaration, by its ordinal. Where it has none nothing can see it.
+///
+/// # Errors
+///
+/// Want of memory.
+pub(crate) fn bind_at<'t>(
+    meant: &mut Vec<Meant<'t>>,
+    bound: &mut Vec<Bound<'t>>,
+    ordinal: Option<usize>,
+    stands_for: Meant<'t>,
+) -> Result<(), AllocError>
+    ensures { OnOk result (record { meant = meant.new.items; bound = bound.new.items } ≡ with_binding ordinal stands_for.entry record { meant = meant.old.items; bound = bound.old.items }) }
+{
+    let newest = Bound {
+        ordinal,
+        hidden: stands_for,
+    };
+    bound.push(exchange(meant, newest))?;
     Ok(())
 }
 
@@ -142,10 +163,5 @@ pub(crate) fn bind<'t>(
 ) -> Result<(), AllocError>
     ensures { OnOk result (record { meant = meant.new.items; bound = bound.new.items } ≡ with_binding (ordinal_in ordinals.now name) stands_for.entry record { meant = meant.old.items; bound = bound.old.items }) }
 {
-    let newest = Bound {
-        ordinal: ordinal_at(ordinals, name),
-        hidden: stands_for,
-    };
-    bound.push(exchange(meant, newest))?;
-    Ok(())
+    bind_at(meant, bound, ordinal_at(ordinals, name), stands_for)
 }

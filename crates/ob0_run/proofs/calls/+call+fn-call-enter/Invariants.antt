@@ -1,5 +1,5 @@
-use Rattle.std.proofs.Common.{◌≡◌, ℕ, ◌+◌, ◌*◌}
-use Rattle.tryout.proofs.+call+fn-call-enter.Given as goal
+use Rattle.std.proofs.Common.{ℕ, ◌+◌, ◌*◌}
+use Rattle.ob0_run.proofs.calls.+call+fn-call-enter.Given as goal
 
 abbrev pub decreases-call : goal.decreases-call
 decreases-call l = l.calls * 2
