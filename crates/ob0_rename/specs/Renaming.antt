@@ -15,7 +15,8 @@ use Rattle.ob0_tree.specs.declared.tree.Role.TheVariants as role
 use Rattle.ob0_scope.specs.Names.{Name, same_name}
 use Rattle.ob0_scope.specs.Renames.{namesake}
 use Rattle.ob0_scope.specs.Resolution.{declaring_only, span_at, token_declaring}
-use Rattle.ob0_edits.specs.Replaced.{range_of, with_text_at}
+use Rattle.ob0_edits.specs.Replaced.{with_text_at}
+use Rattle.ob0_edits.specs.Ranges.{range_of}
 use Rattle.ob0_refs.specs.Standing.{at_name, name_on, tokens_bound}
 use Rattle.ob0_refs.specs.declared.answers.At as told
 use Rattle.ob0_refs.specs.declared.answers.Of as of
@@ -58,7 +59,7 @@ token_span source None = record { start = 0; end = 0 }
 token_span source (Some token) = span_at source token
 
 abbrev pub token_range : Renaming → Option ℕ → Range
-token_range r token = range_of r.unit r.text (token_span r.module_read.source token)
+token_range r token = range_of (width_of r.unit) r.text (token_span r.module_read.source token)
 
 -- the token that declares what has an ordinal; none for a predeclared name
 abbrev pub declaring_token : Renaming → ℕ → Option ℕ

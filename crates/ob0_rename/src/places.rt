@@ -4,7 +4,8 @@ ghost use Rattle.std.specs.Prelude.{◌≡◌, IfOk, not};
 ghost use Rattle.std.specs.List.{filter};
 ghost use Rattle.ob0_scope.specs.Names.{same_name};
 ghost use Rattle.ob0_tree.specs.Places.{text_at};
-ghost use Rattle.ob0_edits.specs.Replaced.{range_of};
+ghost use Rattle.ob0_text.specs.Units.{width_of};
+ghost use Rattle.ob0_edits.specs.Ranges.{range_of};
 ghost use Rattle.ob0_rename.specs.Renaming.{token_span, tokens_renamed};
 
 use ob0_refs::renamed_tokens;
@@ -56,7 +57,7 @@ fn is_written(tokens: &Tokens, token: usize, name: &str) -> bool
 
 /// The range of a token; the empty one at the text's start where there is none.
 pub(crate) fn token_range<T: TextStore>(store: &T, tokens: &Tokens, token: Option<usize>) -> Range
-    ensures { result ≡ range_of (T.unit_of store.now) (T.content store.now) (token_span tokens.now token) }
+    ensures { result ≡ range_of (width_of (T.unit_of store.now)) (T.content store.now) (token_span tokens.now token) }
 {
     let span = token_span(tokens, token);
     Range {
