@@ -1,0 +1,84 @@
+//! Places of a text: the tokens at which a new name is to be written, and ranges of tokens.
+
+ghost use Rattle.std.specs.Prelude.{◌≡◌, ℕ, IfOk, length, Some};
+ghost use Rattle.ob0_scope.specs.Names.{same_name};
+ghost use Rattle.ob0_scope.specs.Resolution.{span_at};
+ghost use Rattle.ob0_text.specs.Units.{width_of};
+ghost use Rattle.ob0_tree.specs.Order.{AreIdentifiers, Ascending};
+ghost use Rattle.ob0_tree.specs.Places.{text_at};
+ghost use Rattle.ob0_edits.specs.Ranges.{range_of};
+ghost use Rattle.ob0_edits.specs.Replaced.{AreNames};
+ghost use Rattle.ob0_refs.specs.Standing.{IsRenamedAt, tokens_bound};
+ghost use Rattle.ob0_rename.specs.Renaming.{is_declared_as, tokens_renamed};
+
+use ob0_refs::renamed_tokens;
+use ob0_scan::{Span, Tokens};
+use ob0_scope::resolved::Resolved;
+use ob0_text::{Range, TextStore};
+use std::alloc::{AllocError, Global};
+
+/// The tokens of a declaration's name, in text order; none where it has the new name.
+pub(crate) fn tokens_renamed(
+    alloc: Global,
+    names: &Resolved,
+    declaration: usize,
+    new: &str,
+) -> Result<Vec<usize>, AllocError>
+    ensures value { IfOk result (λ found. found.items ≡ tokens_renamed names.now.module_read declaration new.now) }
+    ensures names { IfOk result (λ found. AreNames names.now.module_read.source.tokens 0 found.items) }
+{
+    if is_declared_as(names, declaration, new) {
+        return Ok(Vec::new(alloc));
+    }
+    renamed_tokens(alloc, names, declaration)
+}
+
+/// Whether a declaration has this name.
+fn is_declared_as(names: &Resolved, declaration: usize, name: &str) -> bool
+    ensures { result ≡ is_declared_as names.now.module_read declaration name.now }
+{
+    let _module = names.module();
+    match names.declaring_token(declaration) {
+        Some(token) => is_written(names.tokens(), token, name),
+        None => false,
+    }
+}
+
+fn is_written(tokens: &Tokens, token: usize, name: &str) -> bool
+    ensures { result ≡ same_name (text_at tokens.now token) name.now }
+{
+    if token < tokens.tokens().len() {
+        tokens.token_text(token) == name
+    } else {
+        name.is_empty()
+    }
+}
+
+/// The range of a token; the empty one at the text's start where there is none.
+pub(crate) fn token_range<T: TextStore>(store: &T, tokens: &Tokens, token: Option<usize>) -> Range
+    ensures { (index : ℕ) → token ≡ Some index → result ≡ range_of (width_of (T.unit_of store.now)) (T.content store.now) (span_at tokens.now index) }
+{
+    match token {
+        Some(index) => span_range(store, span_of(tokens, index)),
+        None => span_range(store, Span { start: 0, end: 0 }),
+    }
+}
+
+fn span_range<T: TextStore>(store: &T, span: Span) -> Range
+    ensures { result ≡ range_of (width_of (T.unit_of store.now)) (T.content store.now) span }
+{
+    Range {
+        start: store.position(span.start),
+        end: store.position(span.end),
+    }
+}
+
+/// Where a token stands; the text's start where there is no such token.
+fn span_of(tokens: &Tokens, token: usize) -> Span
+    ensures { result ≡ span_at tokens.now token }
+{
+    match tokens.tokens().get(token) {
+        Some(found) => found.span,
+        None => Span { start: 0, end: 0 },
+    }
+}
