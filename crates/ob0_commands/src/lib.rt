@@ -11,6 +11,7 @@ mod running;
 pub use checking::check_text;
 pub use faults::{Fault, tell_fault};
 pub use reading::{MAX_FILE, read_file};
+pub use renaming::rename_text;
 
 #[cfg(test)]
 mod tests;
