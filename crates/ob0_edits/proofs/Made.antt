@@ -12,7 +12,8 @@ use Rattle.ob0_text.specs.declared.positions.Unit as counting
 use Rattle.ob0_text.specs.Units.{width_of}
 use Rattle.ob0_text.specs.Patches.{Cut, cut_at, cuts_of, patched_by_cuts}
 use Rattle.ob0_edits.specs.Changed.{words_of, changed, at_each}
-use Rattle.ob0_edits.specs.Replaced.{AreNames, span_at, cut_of, with_text_at, StandsForName, range_of, parts, edit_at, LeavesWords}
+use Rattle.ob0_edits.specs.Replaced.{AreNames, span_at, cut_of, with_text_at, StandsForName, parts, edit_at, LeavesWords}
+use Rattle.ob0_edits.specs.Ranges.{range_of}
 use Rattle.ob0_edits.proofs.Swaps.{Chain, AllClear, Swapped, swapped}
 use Rattle.ob0_edits.proofs.TextCuts.{AreSame, same_cut, patched_by_same}
 
@@ -28,7 +29,7 @@ module _ (unit : counting.Unit) (s : Scanned) (scan : IsScan s) (new : List ℕ)
 
   -- the cuts at the places, in bytes and in characters
   abbrev pub char_cut : ℕ → Cut
-  char_cut p = cut_at (width_of unit) (chars s.text) (range_of unit (chars s.text) (span_at s.tokens p)) (chars new)
+  char_cut p = cut_at (width_of unit) (chars s.text) (range_of (width_of unit) (chars s.text) (span_at s.tokens p)) (chars new)
 
   pub same_cuts : (least at : ℕ) (qs : List ℕ) → AreNames s.tokens least qs → Chain at (map (cut_of s.tokens new) qs) → AllClear s.text (map (cut_of s.tokens new) qs)
       → AreSame unit s.text scan.utf8 (map (cut_of s.tokens new) qs) (map char_cut qs)

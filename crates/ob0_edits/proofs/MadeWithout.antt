@@ -13,7 +13,8 @@ use Rattle.ob0_text.specs.declared.positions.Unit as counting
 use Rattle.ob0_text.specs.Units.{width_of}
 use Rattle.ob0_text.specs.Patches.{Cut, cut_at, cuts_of, patched_by_cuts}
 use Rattle.ob0_edits.specs.Changed.{words_of, changed, at_each}
-use Rattle.ob0_edits.specs.Replaced.{AreNames, span_at, cut_of, StandsForName, range_of, parts, edit_at, LeavesWords}
+use Rattle.ob0_edits.specs.Replaced.{AreNames, span_at, cut_of, StandsForName, parts, edit_at, LeavesWords}
+use Rattle.ob0_edits.specs.Ranges.{range_of}
 use Rattle.ob0_edits.specs.Removed.{without, IsDeclaration, span_over, removal, without_text}
 use Rattle.ob0_edits.proofs.TextCuts.{AreSame, same_cut, patched_by_same}
 use Rattle.ob0_edits.proofs.Removals.{Cleared, cleared}
@@ -34,7 +35,7 @@ module _ (unit : counting.Unit) (s : Scanned) (scan : IsScan s) (new : List ℕ)
       (record { tokens_are = scan.tokens; count = refl; rest = sym apart.0; apart = apart.1 }) (omega arith)
 
   first_cut : Cut
-  first_cut = cut_at (width_of unit) (chars s.text) (range_of unit (chars s.text) (span_over s.tokens first last)) (chars [])
+  first_cut = cut_at (width_of unit) (chars s.text) (range_of (width_of unit) (chars s.text) (span_over s.tokens first last)) (chars [])
 
   same_all : AreSame unit s.text scan.utf8 (removal s.tokens first last ∷ map (cut_of s.tokens new) places) (first_cut ∷ map (char_cut unit s scan new ws stands good places all_names) places)
   unfolding AreSame first_cut
@@ -48,16 +49,16 @@ module _ (unit : counting.Unit) (s : Scanned) (scan : IsScan s) (new : List ℕ)
   made : IsUtf8 (without_text s first last places new) × (patched_by_cuts (chars s.text) (first_cut ∷ map (char_cut unit s scan new ws stands good places all_names) places) ≡ Some (chars (without_text s first last places new)))
   made = patched_by_same unit s.text scan.utf8 (removal s.tokens first last ∷ map (cut_of s.tokens new) places) (first_cut ∷ map (char_cut unit s scan new ws stands good places all_names) places) same_all result.chain
 
-  cuts_are : (edits : List Edit) → map parts edits ≡ (range_of unit (chars s.text) (span_over s.tokens first last), []) ∷ map (edit_at unit (chars s.text) s.tokens new) places
+  cuts_are : (edits : List Edit) → map parts edits ≡ (range_of (width_of unit) (chars s.text) (span_over s.tokens first last), []) ∷ map (edit_at unit (chars s.text) s.tokens new) places
       → cuts_of (width_of unit) (chars s.text) edits ≡ first_cut ∷ map (char_cut unit s scan new ws stands good places all_names) places
   unfolding first_cut
   cuts_are [] e = absurd (cc)
   cuts_are (x ∷ xs) e =
-      let head : parts x ≡ (range_of unit (chars s.text) (span_over s.tokens first last), []) = ap (λ t. get_or t 0 (parts x)) e in
+      let head : parts x ≡ (range_of (width_of unit) (chars s.text) (span_over s.tokens first last), []) = ap (λ t. get_or t 0 (parts x)) e in
       ap₂ (λ c cs. c ∷ cs) (ap (λ (p : Range × List ℕ). cut_at (width_of unit) (chars s.text) p.0 (chars p.1)) head)
       (cuts_of_parts unit s scan new ws stands good places all_names xs places (ap (drop 1) e))
 
-  pub leaves_words_without : (edits : List Edit) → map parts edits ≡ (range_of unit (chars s.text) (span_over s.tokens first last), []) ∷ map (edit_at unit (chars s.text) s.tokens new) places
+  pub leaves_words_without : (edits : List Edit) → map parts edits ≡ (range_of (width_of unit) (chars s.text) (span_over s.tokens first last), []) ∷ map (edit_at unit (chars s.text) s.tokens new) places
       → length (without_text s first last places new) ≤ max_text → LeavesWords unit (chars s.text) edits (changed (without first last (at_each places ws)) 0 (words_of s))
   leaves_words_without edits e short =
       let lexed : Lexed (without_text s first last places new) result.lexemes = (lexed_by_next_bytes (without_text s first last places new) result.lexemes).1 (result.whole, result.apart) in

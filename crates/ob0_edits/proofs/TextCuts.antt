@@ -17,7 +17,7 @@ use Rattle.ob0_text.proofs.RoundTrip.{places_go_back}
 use Rattle.ob0_text.proofs.Prefixes.{bytes_up, border_at}
 use Rattle.ob0_text.proofs.CutOrder.{bytes_further}
 use Rattle.ob0_text.proofs.Pieces.{middle_chars, last_chars}
-use Rattle.ob0_edits.specs.Replaced.{range_of}
+use Rattle.ob0_edits.specs.Ranges.{range_of}
 use Rattle.ob0_edits.proofs.Swaps.{Chain, HasClearEnds}
 
 -- the characters before a border
@@ -85,7 +85,7 @@ module _ (unit : counting.Unit) (bytes : List ℕ) (u : IsUtf8 bytes) where
 
   pub same_cut : (span : Span) (new : List ℕ) → IsUtf8 new → IsCharBoundary bytes span.start → IsCharBoundary bytes span.end → span.start < span.end
       → HasClearEnds bytes (record { from = span.start; to = span.end; new = new })
-      → IsSameCut (record { from = span.start; to = span.end; new = new }) (cut_at (width_of unit) (chars bytes) (range_of unit (chars bytes) span) (chars new))
+      → IsSameCut (record { from = span.start; to = span.end; new = new }) (cut_at (width_of unit) (chars bytes) (range_of (width_of unit) (chars bytes) span) (chars new))
   unfolding cut_at
   same_cut span new good start end some clear =
       let p = place_at bytes u span.start start in

@@ -1,4 +1,5 @@
 pub mod Changed
+pub mod Ranges
 pub mod Replaced
 pub mod Written
 pub mod OfTrees

@@ -13,9 +13,9 @@ use Rattle.ob0_text.specs.declared.edits.Edit.{Edit}
 use Rattle.ob0_text.specs.declared.positions.Range.{Range}
 use Rattle.ob0_text.specs.declared.positions.Unit as counting
 use Rattle.ob0_text.specs.Units.{width_of}
-use Rattle.ob0_text.specs.Texts.{position_of}
 use Rattle.ob0_text.specs.Patches.{Cut, pieced, patched}
 use Rattle.ob0_edits.specs.Changed.{words_of}
+use Rattle.ob0_edits.specs.Ranges.{range_of}
 
 -- the token with a number, and its span
 abbrev pub token_at : List Token → ℕ → Token
@@ -57,16 +57,12 @@ pub record StandsForName (new : List ℕ) (ws : List Word) : Type 0 where
   pub front : (kind : LexemeKind) (letter : ℕ) → IsTrue (is_ascii_alphabetic letter) → goes_on kind letter ≡ false → goes_on kind (slice_index new 0) ≡ false
   pub apart : (byte : ℕ) → is_ascii_alphanumeric byte ≡ false → AreApartBefore lexemes byte
 
--- the range of a span, in positions that are counted in a unit
-abbrev pub range_of : counting.Unit → List ℕ → Span → Range
-range_of unit text span = record { start = position_of (width_of unit) text span.start; end = position_of (width_of unit) text span.end }
-
 abbrev pub parts : Edit → Range × List ℕ
 parts edit = (edit.range, string_bytes edit.text)
 
 -- the edit at a place: the token's range, and the new text
 abbrev pub edit_at : counting.Unit → List ℕ → List Token → List ℕ → ℕ → Range × List ℕ
-edit_at unit text tokens new p = (range_of unit text (span_at tokens p), new)
+edit_at unit text tokens new p = (range_of (width_of unit) text (span_at tokens p), new)
 
 -- The edits make of the text another one, which is scanned and has these words.
 pub record LeavesWords (unit : counting.Unit) (text : List ℕ) (edits : List Edit) (ws : List Word) : Type 0 where

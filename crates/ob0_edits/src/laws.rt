@@ -10,7 +10,9 @@ ghost use Rattle.ob0_edits.specs.Words.{word_lexeme};
 ghost use Rattle.ob0_tree.specs.Tree.{Tree, Sort, factor, spell, nesting};
 ghost use Rattle.ob0_edits.specs.Inlined.{inlined};
 ghost use Rattle.ob0_edits.specs.Changed.{words_of, changed, at_each};
-ghost use Rattle.ob0_edits.specs.Replaced.{AreNames, with_text_at, StandsForName, range_of, parts, edit_at, LeavesWords};
+ghost use Rattle.ob0_edits.specs.Replaced.{AreNames, with_text_at, StandsForName, parts, edit_at, LeavesWords};
+ghost use Rattle.ob0_text.specs.Units.{width_of};
+ghost use Rattle.ob0_edits.specs.Ranges.{range_of};
 ghost use Rattle.ob0_edits.specs.Removed.{without, IsDeclaration, span_over, without_text};
 ghost use Rattle.ob0_edits.specs.Written.{name_word, IsInt32, number_text, number_words, truth_text, truth_words};
 ghost use Rattle.ob0_edits.specs.Factors.{number_factor, truth_factor};
@@ -38,7 +40,7 @@ pub fn edits_leave_words()
 pub fn edits_leave_other_words()
     ensures { (s : Scanned) → IsScan s → (first last : ℕ) → IsDeclaration s.tokens first last → (places new : List ℕ) (ws : List Word) → AreNames s.tokens (suc last) places
         → IsUtf8 new → StandsForName new ws
-        → (unit : Unit) (edits : List Edit) → map parts edits ≡ (range_of unit (chars s.text) (span_over s.tokens first last), []) ∷ map (edit_at unit (chars s.text) s.tokens new) places
+        → (unit : Unit) (edits : List Edit) → map parts edits ≡ (range_of (width_of unit) (chars s.text) (span_over s.tokens first last), []) ∷ map (edit_at unit (chars s.text) s.tokens new) places
         → length (without_text s first last places new) ≤ max_text
         → LeavesWords unit (chars s.text) edits (changed (without first last (at_each places ws)) 0 (words_of s)) }
 {}

@@ -1,7 +1,9 @@
 //! Where tokens stand, as spans and as ranges of positions.
 
 ghost use Rattle.std.specs.Prelude.{◌≡◌, IfOk, map};
-ghost use Rattle.ob0_edits.specs.Replaced.{range_of, span_at};
+ghost use Rattle.ob0_edits.specs.Replaced.{span_at};
+ghost use Rattle.ob0_text.specs.Units.{width_of};
+ghost use Rattle.ob0_edits.specs.Ranges.{range_of};
 
 use ob0_scan::{Span, Token};
 use ob0_text::{Range, TextStore};
@@ -13,7 +15,7 @@ pub fn ranges<T: TextStore>(
     store: &T,
     spans: &[Span],
 ) -> Result<Vec<Range>, AllocError>
-    ensures { IfOk result (λ ranges. ranges.items ≡ map (range_of (T.unit_of store.now) (T.content store.now)) spans.now) }
+    ensures { IfOk result (λ ranges. ranges.items ≡ map (range_of (width_of (T.unit_of store.now)) (T.content store.now)) spans.now) }
 {
     let starts = starts(alloc, spans)?;
     let ends = ends(alloc, spans)?;

@@ -5,7 +5,9 @@ ghost use Rattle.std.specs.Str.{chars};
 ghost use Rattle.ob0_scan.specs.Scanned.{Word, IsScan, IsRangeOf, max_text};
 ghost use Rattle.ob0_text.specs.declared.refusals.EditRefusal.TheVariants.{TooLong, Memory};
 ghost use Rattle.ob0_edits.specs.Changed.{words_of, changed, at_each};
-ghost use Rattle.ob0_edits.specs.Replaced.{AreNames, AreInOrder, cut_of, with_text_at, StandsForName, range_of, parts, edit_at, LeavesWords};
+ghost use Rattle.ob0_edits.specs.Replaced.{AreNames, AreInOrder, cut_of, with_text_at, StandsForName, parts, edit_at, LeavesWords};
+ghost use Rattle.ob0_text.specs.Units.{width_of};
+ghost use Rattle.ob0_edits.specs.Ranges.{range_of};
 ghost use Rattle.ob0_text.specs.Patches.{pieced};
 ghost use Rattle.ob0_edits.specs.Removed.{without, IsDeclaration, span_over, without_text};
 
@@ -54,7 +56,7 @@ pub fn edits_without<T: TextStore>(
     requires declaration { IsDeclaration tokens.now.tokens first last }
     requires names { AreNames tokens.now.tokens (suc last) places.now }
     ensures edits { IfOk result (λ edits. map parts edits.items
-        ≡ (range_of (T.unit_of store.now) (T.content store.now) (span_over tokens.now.tokens first last), []) ∷ map (edit_at (T.unit_of store.now) (T.content store.now) tokens.now.tokens new.now) places.now) }
+        ≡ (range_of (width_of (T.unit_of store.now)) (T.content store.now) (span_over tokens.now.tokens first last), []) ∷ map (edit_at (T.unit_of store.now) (T.content store.now) tokens.now.tokens new.now) places.now) }
     ensures short { IfOk result (λ edits. length (without_text tokens.now first last places.now new.now) ≤ max_text) }
     ensures words { (ws : List Word) → StandsForName new.now ws
         → IfOk result (λ edits. LeavesWords (T.unit_of store.now) (T.content store.now) edits.items (changed (without first last (at_each places.now ws)) 0 (words_of tokens.now))) }
@@ -103,7 +105,7 @@ fn add_edits<T: TextStore>(
 }
 
 fn range_of<T: TextStore>(store: &T, span: Span) -> Range
-    ensures { result ≡ range_of (T.unit_of store.now) (T.content store.now) span }
+    ensures { result ≡ range_of (width_of (T.unit_of store.now)) (T.content store.now) span }
 {
     Range {
         start: store.position(span.start),

@@ -1,4 +1,3 @@
 pub mod Alike
 pub mod Placed
 pub mod Written
-pub mod Ranged

@@ -6,7 +6,6 @@ mod answers;
 mod hovers;
 mod naming;
 mod places;
-mod positions;
 
 pub use answers::{At, Named, Of};
 pub use hovers::{
@@ -14,6 +13,6 @@ pub use hovers::{
     record_text, variable_text,
 };
 pub use naming::{references, references_to, renamed_tokens, tokens_bound};
+pub use ob0_edits::ranges;
 pub use ob0_scope::captures::{Capture, captures};
 pub use places::{at, definition, name_at};
-pub use positions::ranges;

@@ -4,7 +4,9 @@ use Rattle.ob0_scan.specs.Scanned.{max_text}
 use Rattle.ob0_scan.specs.declared.lexeme.Token.{Token}
 use Rattle.ob0_text.specs.Patches.{pieced}
 use Rattle.ob0_edits.specs.Changed.{words_of, changed, at_each}
-use Rattle.ob0_edits.specs.Replaced.{span_at, cut_of, AreInOrder, parts, edit_at, range_of, LeavesWords}
+use Rattle.ob0_edits.specs.Replaced.{span_at, cut_of, AreInOrder, parts, edit_at, LeavesWords}
+use Rattle.ob0_text.specs.Units.{width_of}
+use Rattle.ob0_edits.specs.Ranges.{range_of}
 use Rattle.ob0_edits.specs.Removed.{without, span_over, without_text}
 use Rattle.ob0_edits.proofs.Lengths.{chain_without, length_without, end_inside}
 use Rattle.ob0_edits.proofs.MadeWithout.{lower, leaves_words_without}
@@ -54,12 +56,12 @@ returns-clause-words g c =
     let unit = g.T.TextStore.unit_of c.args.store.now in
     let start = ap (λ (ts : List Token). (span_at ts c.args.first).start) c.tokens.ensures in
     let end = ap (λ (ts : List Token). (span_at ts c.args.last).end) c.tokens-2.ensures in
-    let range : c.range_of-range.result ≡ range_of unit content (span_over s.tokens c.args.first c.args.last) =
-    c.range_of-range.ensures ∙ (λ i. range_of unit content (record { start = start i; end = end i })) in
-    let first : map parts c.push.new.self.items ≡ (range_of unit content (span_over s.tokens c.args.first c.args.last), []) ∷ [] =
+    let range : c.range_of-range.result ≡ range_of (width_of unit) content (span_over s.tokens c.args.first c.args.last) =
+    c.range_of-range.ensures ∙ (λ i. range_of (width_of unit) content (record { start = start i; end = end i })) in
+    let first : map parts c.push.new.self.items ≡ (range_of (width_of unit) content (span_over s.tokens c.args.first c.args.last), []) ∷ [] =
     ap (map parts) (c.in_ok-push.ensures.items ∙ ap (λ xs. xs ++ (record { range = c.range_of-range.result; text = c.new.result } ∷ [])) c.new-edits.ensures.items)
     ∙ (λ i. (range i, c.new.ensures.bytes i) ∷ []) in
-    let all : map parts c.add_edits.new.edits.items ≡ (range_of unit content (span_over s.tokens c.args.first c.args.last), []) ∷ map (edit_at unit content s.tokens c.args.new.now) c.args.places.now =
+    let all : map parts c.add_edits.new.edits.items ≡ (range_of (width_of unit) content (span_over s.tokens c.args.first c.args.last), []) ∷ map (edit_at unit content s.tokens c.args.new.now) c.args.places.now =
     c.in_ok-add_edits.ensures.added ∙ ap (λ xs. xs ++ map (edit_at unit content s.tokens c.args.new.now) c.args.places.now) first in
     let sum = (λ i. start i + length (pieced s.text (end i) (map (cut_of s.tokens c.args.new.now) c.args.places.now)))
     ∙ length_without s c.text-text.ensures.scan c.args.new.now c.args.places.now c.args.first c.args.last c.requires.declaration c.requires.names in
@@ -67,5 +69,5 @@ returns-clause-words g c =
     subst (λ n. n ≤ max_text) sum (ltb-false max_text _ (sym c.is_too_long.ensures ∙ c.if-is_too_long.false)) in
     λ ws stands.
     let made = leaves_words_without unit s c.text-text.ensures.scan c.args.new.now ws stands c.utf8.new c.args.first c.args.last c.requires.declaration c.args.places.now c.requires.names c.add_edits.new.edits.items
-    (subst (λ t. map parts c.add_edits.new.edits.items ≡ (range_of unit t (span_over s.tokens c.args.first c.args.last), []) ∷ map (edit_at unit t s.tokens c.args.new.now) c.args.places.now) c.requires.content all) short in
+    (subst (λ t. map parts c.add_edits.new.edits.items ≡ (range_of (width_of unit) t (span_over s.tokens c.args.first c.args.last), []) ∷ map (edit_at unit t s.tokens c.args.new.now) c.args.places.now) c.requires.content all) short in
     subst (λ t. LeavesWords unit t c.add_edits.new.edits.items (changed (without c.args.first c.args.last (at_each c.args.places.now ws)) 0 (words_of s))) (sym c.requires.content) made

@@ -1,0 +1,7 @@
+//! Another name for a declaration: the edits that write it, which leave a well-typed module with the same runs, or why it is refused.
+#![tactic(auto)]
+
+mod places;
+mod renaming;
+
+pub use renaming::rename;

@@ -1,0 +1,84 @@
+//! The edits that give a declaration another name.
+
+ghost use Rattle.std.specs.Prelude.{◌≡◌, List, ℕ};
+ghost use Rattle.std.specs.Str.{chars};
+ghost use Rattle.ob0_rename.specs.Answers.{Answers, AnswersFor, refusal_for};
+ghost use Rattle.ob0_text.specs.declared.positions.Position.{Position};
+
+use crate::places::{token_range, tokens_renamed};
+use ob0_edits::edits_for;
+use ob0_edits::laws::{names_stand_for_names, renamed_words_spell};
+use ob0_refs::{Capture, Of, at, captures};
+use ob0_run::laws::free_keeps_modules;
+use ob0_scan::is_identifier;
+use ob0_scope::resolved::Resolved;
+use ob0_text::{Edit, EditRefusal, Position, TextStore};
+use ob0_types::checked::WellTyped;
+use std::alloc::Global;
+
+/// The edits that write `new` for the declaration that is named at a place, one for each identifier that declares, closes
+/// or is bound to it, in text order; none where it has that name. The place may lie in the name or at its end.
+/// Refused are, the first of these where several apply: `NoName` where there is no name, at the module's name and, so far,
+/// at fields of records; `Predeclared`; `BadName`; `Duplicate` with the range of the other declaration; `Captures` with that
+/// of the first occurrence that would be bound to another declaration; `TooLong`.
+pub fn rename<T: TextStore>(
+    alloc: Global,
+    store: &T,
+    module: &WellTyped<'_, '_>,
+    place: Position,
+    new: &str,
+) -> Result<Vec<Edit>, EditRefusal>
+    requires { T.content store.now ≡ chars module.now.module_read.source.text }
+    ensures { Answers (record { unit = T.unit_of store.now; text = T.content store.now; module_read = module.now.module_read; place = place; new = new.now }) result }
+{
+    let names = module.resolved();
+    match at(names, store.offset(place)) {
+        Some(name) => match name.of {
+            Of::Declared(declaration) => rename_declaration(alloc, store, module, declaration, new),
+            Of::Predeclared => Err(EditRefusal::Predeclared),
+            Of::Field { .. } => Err(EditRefusal::NoName),
+        },
+        None => Err(EditRefusal::NoName),
+    }
+}
+
+/// The same for the declaration with an ordinal.
+fn rename_declaration<T: TextStore>(
+    alloc: Global,
+    store: &T,
+    module: &WellTyped<'_, '_>,
+    declaration: usize,
+    new: &str,
+) -> Result<Vec<Edit>, EditRefusal>
+    requires { T.content store.now ≡ chars module.now.module_read.source.text }
+    ensures { (place : Position) → AnswersFor (record { unit = T.unit_of store.now; text = T.content store.now; module_read = module.now.module_read; place = place; new = new.now }) declaration result }
+{
+    names_stand_for_names();
+    renamed_words_spell();
+    free_keeps_modules();
+    let names = module.resolved();
+    if !is_identifier(new) {
+        return Err(EditRefusal::BadName);
+    }
+    match captures(alloc, names, declaration, new)? {
+        Some(capture) => Err(refusal_of(store, names, capture)),
+        None => {
+            let tokens = tokens_renamed(alloc, names, declaration, new)?;
+            edits_for(alloc, store, names.tokens(), &tokens, new)
+        }
+    }
+}
+
+/// Why a name that isn't free is refused.
+fn refusal_of<T: TextStore>(store: &T, names: &Resolved, capture: Capture) -> EditRefusal
+    ensures { (place : Position) (new : List ℕ) → result ≡ refusal_for (record { unit = T.unit_of store.now; text = T.content store.now; module_read = names.now.module_read; place = place; new = new }) capture }
+{
+    match capture {
+        Capture::Duplicate(other) => EditRefusal::Duplicate {
+            range: token_range(store, names.tokens(), names.declaring_token(other)),
+        },
+        Capture::Occurrence(k) => EditRefusal::Captures {
+            range: token_range(store, names.tokens(), names.occurrences().get(k).copied()),
+        },
+    }
+}

@@ -1,0 +1,5 @@
+//! Examples of renamings, from a text to the renamed one.
+#![tactic(auto)]
+
+#[cfg(test)]
+mod tests;
