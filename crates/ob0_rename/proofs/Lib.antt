@@ -1,2 +1,9 @@
+pub mod Declared
+pub mod Kept
+pub mod Unrefused
 pub mod Named
+pub mod Owned
 pub mod Rewritten
+pub mod Told
+pub mod Spelled
+pub mod Outcomes

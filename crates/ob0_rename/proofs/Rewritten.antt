@@ -1,30 +1,32 @@
 -- A text whose words are those of a module, with a new name for a declaration, is a text of the renamed module.
-use Rattle.std.proofs.Common.{◌≡◌, ℕ, zero, suc, ◌+◌, ◌≤◌, if◌then◌else◌, List, [], ◌∷◌, ◌++◌, map, refl, sym, ap, ◌∙◌, subst, arith}
-use Rattle.std.specs.List.{filter}
-use Rattle.std.specs.Prelude.{not, slice_get, true}
+use Rattle.std.proofs.Common.{◌≡◌, ℕ, zero, suc, ◌≤◌, Bool, true, false, if◌then◌else◌, List, [], ◌∷◌, ◌++◌, map, refl, sym, ap, ◌∙◌, subst, arith}
+use Rattle.std.specs.Prelude.{slice_get}
 use Rattle.std.proofs.lemmas.List.{append_cancel_right}
 use Rattle.ob0_scan.specs.declared.lexeme.Token.{Token}
 use Rattle.ob0_scan.specs.Scanned.{IsScan, Scanned, read_in}
 use Rattle.ob0_tree.proofs.Mapped.{nesting_mapped}
 use Rattle.ob0_tree.specs.Lexeme.{EndOfText}
-use Rattle.ob0_tree.specs.Module.{ModuleOf, text_lexemes, token_lexeme}
+use Rattle.ob0_tree.specs.Module.{ModuleOf, token_lexeme}
 use Rattle.ob0_tree.specs.Parsed.{IsParsed, Parsed, named_tree_of, tree_of}
 use Rattle.ob0_tree.specs.Places as place
 use Rattle.ob0_tree.specs.Tree.{mapped, module_text, nesting, spell}
-use Rattle.ob0_scope.specs.Names.{Name, same_name}
+use Rattle.ob0_scope.specs.DeclaredOnce.{declared_once}
+use Rattle.ob0_scope.specs.Names.{Name}
 use Rattle.ob0_scope.specs.Scopes.{renamed}
-use Rattle.ob0_edits.specs.Changed.{at_each, changed, is_among, words_of}
+use Rattle.ob0_edits.specs.Changed.{at_each, changed, words_of}
 use Rattle.ob0_edits.specs.OfTrees.{RenamedWordsSpell, number_at, placed, renamed_at, text_at}
 use Rattle.ob0_edits.specs.Replaced.{AreNames}
 use Rattle.ob0_edits.specs.Words.{word_lexeme}
 use Rattle.ob0_edits.specs.Written.{name_word}
+use Rattle.ob0_refs.specs.Standing as standing
 use Rattle.ob0_refs.specs.Standing.{IsRenamedAt, tokens_bound}
-use Rattle.ob0_rename.specs.Renaming.{tokens_renamed}
-use Rattle.ob0_rename.proofs.Named.{new_at_others}
+use Rattle.ob0_rename.specs.Renaming.{is_declared_as, tokens_renamed}
+use Rattle.ob0_rename.proofs.Named.{among_same}
+use Rattle.ob0_rename.proofs.Owned.{own_module}
 
 -- words by their numbers, and tokens by theirs
 
-text_same : (s : Scanned) (k : ℕ) → text_at (words_of s) k ≡ place.text_at s k
+pub text_same : (s : Scanned) (k : ℕ) → text_at (words_of s) k ≡ place.text_at s k
 text_same s k = of_list s.tokens k
   where
     of_list : (ts : List Token) (k : ℕ) → text_at (map (read_in s.text) ts) k ≡ place.text_in s.text (slice_get ts k)
@@ -54,26 +56,34 @@ lexemes_same text (t ∷ ts) = ap (λ xs. token_lexeme text t ∷ xs) (lexemes_s
 
 -- the module with the new name at these tokens
 
-pub renamed_module : (m : Parsed) (d : ℕ) (new : Name) → IsRenamedAt m d (tokens_bound m d true)
-    → mapped (renamed_at (words_of m.source) (tokens_renamed m d new) new) (number_at (words_of m.source)) (tree_of m) ≡ renamed (named_tree_of m) d new
-renamed_module m d new there =
-    (λ i. mapped
-    (λ k. ((ap (λ x. if is_among k (tokens_renamed m d new) then new else x) (text_same m.source k)) ∙ new_at_others m.source new (tokens_bound m d true) k) i)
-    (λ k. number_same m.source k i) (tree_of m))
-    ∙ sym (there new)
+at_places : (m : Parsed) (new : Name) (places : List ℕ) (k : ℕ)
+    → renamed_at (words_of m.source) places new k ≡ (if standing.is_among k places then new else place.text_at m.source k)
+at_places m new places k = λ i. if among_same k places i then new else text_same m.source k i
 
-pub of_renamed : (m : Parsed) (d : ℕ) (new : Name) → IsParsed m → RenamedWordsSpell → IsRenamedAt m d (tokens_bound m d true) → AreNames m.source.tokens 0 (tokens_renamed m d new)
+renamed_there : (m : Parsed) (d : ℕ) (new : Name) (own : Bool) → is_declared_as m d new ≡ own → declared_once (named_tree_of m) ≡ true → IsRenamedAt m d (tokens_bound m d true)
+    → mapped (renamed_at (words_of m.source) (if own then [] else tokens_bound m d true) new) (number_at (words_of m.source)) (tree_of m) ≡ renamed (named_tree_of m) d new
+renamed_there m d new true e once there =
+    (λ i. mapped (λ k. text_same m.source k i) (λ k. number_same m.source k i) (tree_of m)) ∙ sym (own_module m d new e once)
+renamed_there m d new false e once there =
+    (λ i. mapped (λ k. at_places m new (tokens_bound m d true) k i) (λ k. number_same m.source k i) (tree_of m)) ∙ sym (there new)
+
+pub renamed_module : (m : Parsed) (d : ℕ) (new : Name) → declared_once (named_tree_of m) ≡ true → IsRenamedAt m d (tokens_bound m d true)
+    → mapped (renamed_at (words_of m.source) (tokens_renamed m d new) new) (number_at (words_of m.source)) (tree_of m) ≡ renamed (named_tree_of m) d new
+renamed_module m d new once there = renamed_there m d new (is_declared_as m d new) refl once there
+
+pub of_renamed : (m : Parsed) (d : ℕ) (new : Name) → IsParsed m → declared_once (named_tree_of m) ≡ true → RenamedWordsSpell → IsRenamedAt m d (tokens_bound m d true)
+    → AreNames m.source.tokens 0 (tokens_renamed m d new)
     → (after : Scanned) → IsScan after → words_of after ≡ changed (at_each (tokens_renamed m d new) (name_word new ∷ [])) 0 (words_of m.source)
     → ModuleOf after (renamed (named_tree_of m) d new)
-of_renamed m d new is spells there names after scan words =
+of_renamed m d new is once spells there names after scan words =
     record {
       spelled =
           lexemes_same after.text after.tokens ∙ (ap (map word_lexeme) words
-          ∙ (spells m.source module_text (tree_of m) (tokens_renamed m d new) new names (spelled_places m is) ∙ ap spell (renamed_module m d new there)));
+          ∙ (spells m.source module_text (tree_of m) (tokens_renamed m d new) new names (spelled_places m is) ∙ ap spell (renamed_module m d new once there)));
       short = scan.short;
       shallow =
           subst (λ n. n ≤ 100)
           (nesting_mapped (place.text_at m.source) (place.value_at m.source) (tree_of m)
-          ∙ (sym (nesting_mapped (renamed_at (words_of m.source) (tokens_renamed m d new) new) (number_at (words_of m.source)) (tree_of m)) ∙ ap nesting (renamed_module m d new there)))
+          ∙ (sym (nesting_mapped (renamed_at (words_of m.source) (tokens_renamed m d new) new) (number_at (words_of m.source)) (tree_of m)) ∙ ap nesting (renamed_module m d new once there)))
           is.module_of.shallow;
     }

@@ -1,5 +1,5 @@
 -- What is answered where a declaration is to have another name: edits, or a refusal.
-use Rattle.std.specs.Prelude.{◌≡◌, ◌⊎◌, ℕ, ◌<◌, ◌≤◌, List, Option, Some, None, Result, Ok, Err, Vec, length, map}
+use Rattle.std.specs.Prelude.{◌≡◌, ◌⊎◌, ℕ, ◌<◌, ◌≤◌, List, Option, Some, None, Result, Ok, Err, IfErr, Vec, length, map, true}
 use Rattle.std.specs.Str.{chars}
 use Rattle.std.specs.declared.alloc.Global.{Global}
 use Rattle.ob0_scan.specs.Classes.{IsIdentifier}
@@ -10,8 +10,6 @@ use Rattle.ob0_text.specs.declared.edits.Edit.{Edit}
 use Rattle.ob0_text.specs.declared.refusals.EditRefusal.{EditRefusal}
 use Rattle.ob0_text.specs.declared.refusals.EditRefusal.TheVariants as refusal
 use Rattle.ob0_tree.specs.Module.{ModuleOf}
-use Rattle.ob0_scope.specs.declared.captures.Capture as told
-use Rattle.ob0_scope.specs.declared.captures.Capture.TheVariants as tells_capture
 use Rattle.ob0_scope.specs.Occurrences.{Free, at_declaration, at_occurrence, first_captured}
 use Rattle.ob0_scope.specs.Scopes.{renamed}
 use Rattle.ob0_types.specs.WellTyped.{WellTyped}
@@ -19,7 +17,7 @@ use Rattle.ob0_run.specs.EditLaws.{SameRuns}
 use Rattle.ob0_edits.specs.Replaced.{edit_at, parts}
 use Rattle.ob0_refs.specs.declared.answers.Of as of
 use Rattle.ob0_refs.specs.declared.answers.Of.TheVariants as tells
-use Rattle.ob0_rename.specs.Renaming.{Means, Renaming, declaring_token, meant, occurrence_token, other_token, text_renamed, token_range, tokens_renamed, tree_of}
+use Rattle.ob0_rename.specs.Renaming.{Means, Renaming, is_declared_as, meant, occurrence_range, other_range, text_renamed, tokens_renamed, tree_of}
 
 -- The edits write the new name for the declaration d at the places of its name, and nowhere else. Made at once they leave a text of
 -- the renamed module, which is well-typed and has the same runs.
@@ -40,18 +38,13 @@ abbrev pub IsRefusedTo : Renaming → ℕ → EditRefusal → Type 0
 IsRefusedTo r d refusal.NoName = ⊥
 IsRefusedTo r d refusal.Predeclared = ⊥
 IsRefusedTo r d refusal.BadName = ¬ IsIdentifier r.new
-IsRefusedTo r d (refusal.Duplicate range) = IsIdentifier r.new × (first_captured (tree_of r) d r.new ≡ Some at_declaration) × (range ≡ token_range r (other_token r d))
-IsRefusedTo r d (refusal.Captures range) = IsIdentifier r.new × ((k : ℕ) × (first_captured (tree_of r) d r.new ≡ Some (at_occurrence k)) × (range ≡ token_range r (occurrence_token r k)))
+IsRefusedTo r d (refusal.Duplicate range) = IsIdentifier r.new × (first_captured (tree_of r) d r.new ≡ Some at_declaration) × (other_range r d ≡ Some range)
+IsRefusedTo r d (refusal.Captures range) = IsIdentifier r.new × ((k : ℕ) × (first_captured (tree_of r) d r.new ≡ Some (at_occurrence k)) × (occurrence_range r k ≡ Some range))
 IsRefusedTo r d refusal.TooLong = IsIdentifier r.new × Free (tree_of r) d r.new × (max_text < length (text_renamed r d))
 IsRefusedTo r d refusal.TooDeep = ⊥
 IsRefusedTo r d refusal.Shadowed = ⊥
 IsRefusedTo r d refusal.CommentInside = ⊥
 IsRefusedTo r d refusal.Memory = ⊥
-
--- what a capture is told as
-abbrev pub refusal_for : Renaming → told.Capture → EditRefusal
-refusal_for r (tells_capture.Duplicate other) = refusal.Duplicate (token_range r (declaring_token r other))
-refusal_for r (tells_capture.Occurrence k) = refusal.Captures (token_range r (occurrence_token r k))
 
 -- edits for the declaration d, or why there are none; want of memory may take the place of either
 abbrev pub AnswersFor : Renaming → ℕ → Result (Vec Edit Global) EditRefusal → Type 0
@@ -91,3 +84,7 @@ AreEdits r edits = (d : ℕ) × Means r d × Renames r d edits
 abbrev pub Answers : Renaming → Result (Vec Edit Global) EditRefusal → Type 0
 Answers r (Ok edits) = AreEdits r edits.items
 Answers r (Err why) = (why ≡ refusal.Memory) ⊎ IsRefused r why
+
+-- to what has the new name already it isn't refused
+abbrev pub TakesOwnName : Renaming → Result (Vec Edit Global) EditRefusal → Type 0
+TakesOwnName r result = (d : ℕ) → Means r d → is_declared_as r.module_read d r.new ≡ true → IfErr result (λ why. why ≡ refusal.Memory)

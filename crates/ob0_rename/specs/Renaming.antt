@@ -1,8 +1,5 @@
 -- Another name for the declaration that is named at a place of a text: where it is to be written, and what stands against it.
-use Rattle.std.specs.Prelude.{◌≡◌, ℕ, not, true, List, Option, Some, None, option_and_then, option_map, slice_get}
-use Rattle.std.specs.List.{filter}
-use Rattle.ob0_scan.specs.Scanned.{Scanned}
-use Rattle.ob0_scan.specs.declared.lexeme.Span.{Span}
+use Rattle.std.specs.Prelude.{◌≡◌, ℕ, Bool, true, false, if◌then◌else◌, List, [], Option, Some, None, option_and_then, option_map, slice_get}
 use Rattle.ob0_text.specs.Texts.{offset_of}
 use Rattle.ob0_text.specs.Units.{width_of}
 use Rattle.ob0_text.specs.declared.positions.Position.{Position}
@@ -43,9 +40,17 @@ Means r d = meant r ≡ Some (tells.Declared d)
 
 -- ---- where the new name is to be written
 
--- the tokens of the name, the declaring one and closing names too, where it isn't written so already
+-- the token that declares what has an ordinal; none for a predeclared name
+abbrev pub declaring_token : read.Parsed → ℕ → Option ℕ
+declaring_token m ordinal = token_declaring (declaring_only (identifiers role.Declaring (read.tree_of m))) ordinal
+
+-- whether that is written so
+abbrev pub is_declared_as : read.Parsed → ℕ → Name → Bool
+is_declared_as m d new = elim (declaring_token m d) [ Some token ↦ same_name (text_at m.source token) new | None ↦ false ]
+
+-- the tokens of the name, the declaring one and closing names too; none where the new name is the old one
 abbrev pub tokens_renamed : read.Parsed → ℕ → Name → List ℕ
-tokens_renamed m d new = filter (λ token. not (same_name (text_at m.source token) new)) (tokens_bound m d true)
+tokens_renamed m d new = if is_declared_as m d new then [] else tokens_bound m d true
 
 -- the text with the new name there, in bytes
 abbrev pub text_renamed : Renaming → ℕ → List ℕ
@@ -53,22 +58,13 @@ text_renamed r d = with_text_at r.module_read.source (tokens_renamed r.module_re
 
 -- ---- what stands against it
 
--- where a token stands; the text's start where there is none
-abbrev pub token_span : Scanned → Option ℕ → Span
-token_span source None = record { start = 0; end = 0 }
-token_span source (Some token) = span_at source token
+abbrev pub token_range : Renaming → ℕ → Range
+token_range r token = range_of (width_of r.unit) r.text (span_at r.module_read.source token)
 
-abbrev pub token_range : Renaming → Option ℕ → Range
-token_range r token = range_of (width_of r.unit) r.text (token_span r.module_read.source token)
-
--- the token that declares what has an ordinal; none for a predeclared name
-abbrev pub declaring_token : Renaming → ℕ → Option ℕ
-declaring_token r ordinal = token_declaring (declaring_only (identifiers role.Declaring (read.tree_of r.module_read))) ordinal
-
--- the token of the other declaration of the block that has the new name
-abbrev pub other_token : Renaming → ℕ → Option ℕ
-other_token r d = option_and_then (declaring_token r) (namesake (tree_of r) d r.new)
+-- the range of the other declaration of the block that has the new name
+abbrev pub other_range : Renaming → ℕ → Option Range
+other_range r d = option_map (token_range r) (option_and_then (declaring_token r.module_read) (namesake (tree_of r) d r.new))
 
 -- that of the occurrence with a number, counted from 0 in text order
-abbrev pub occurrence_token : Renaming → ℕ → Option ℕ
-occurrence_token r k = slice_get (occurrences (read.tree_of r.module_read)) k
+abbrev pub occurrence_range : Renaming → ℕ → Option Range
+occurrence_range r k = option_map (token_range r) (slice_get (occurrences (read.tree_of r.module_read)) k)

@@ -1,12 +1,15 @@
 //! Places of a text: the tokens at which a new name is to be written, and ranges of tokens.
 
-ghost use Rattle.std.specs.Prelude.{◌≡◌, IfOk, not};
-ghost use Rattle.std.specs.List.{filter};
+ghost use Rattle.std.specs.Prelude.{◌≡◌, ℕ, IfOk, length, Some};
 ghost use Rattle.ob0_scope.specs.Names.{same_name};
-ghost use Rattle.ob0_tree.specs.Places.{text_at};
+ghost use Rattle.ob0_scope.specs.Resolution.{span_at};
 ghost use Rattle.ob0_text.specs.Units.{width_of};
+ghost use Rattle.ob0_tree.specs.Order.{AreIdentifiers, Ascending};
+ghost use Rattle.ob0_tree.specs.Places.{text_at};
 ghost use Rattle.ob0_edits.specs.Ranges.{range_of};
-ghost use Rattle.ob0_rename.specs.Renaming.{token_span, tokens_renamed};
+ghost use Rattle.ob0_edits.specs.Replaced.{AreNames};
+ghost use Rattle.ob0_refs.specs.Standing.{IsRenamedAt, tokens_bound};
+ghost use Rattle.ob0_rename.specs.Renaming.{is_declared_as, tokens_renamed};
 
 use ob0_refs::renamed_tokens;
 use ob0_scan::{Span, Tokens};
@@ -14,35 +17,31 @@ use ob0_scope::resolved::Resolved;
 use ob0_text::{Range, TextStore};
 use std::alloc::{AllocError, Global};
 
-/// The tokens of a declaration's name, in text order, that aren't written so already.
+/// The tokens of a declaration's name, in text order; none where it has the new name.
 pub(crate) fn tokens_renamed(
     alloc: Global,
     names: &Resolved,
     declaration: usize,
     new: &str,
 ) -> Result<Vec<usize>, AllocError>
-    ensures { IfOk result (λ found. found.items ≡ tokens_renamed names.now.module_read declaration new.now) }
+    ensures value { IfOk result (λ found. found.items ≡ tokens_renamed names.now.module_read declaration new.now) }
+    ensures names { IfOk result (λ found. AreNames names.now.module_read.source.tokens 0 found.items) }
 {
-    let bound = renamed_tokens(alloc, names, declaration)?;
-    written_otherwise(alloc, names.tokens(), &bound, new)
+    if is_declared_as(names, declaration, new) {
+        return Ok(Vec::new(alloc));
+    }
+    renamed_tokens(alloc, names, declaration)
 }
 
-/// Those of some tokens that aren't written so.
-fn written_otherwise(
-    alloc: Global,
-    tokens: &Tokens,
-    bound: &[usize],
-    name: &str,
-) -> Result<Vec<usize>, AllocError>
-    ensures { IfOk result (λ found. found.items ≡ filter (λ token. not (same_name (text_at tokens.now token) name.now)) bound.now) }
+/// Whether a declaration has this name.
+fn is_declared_as(names: &Resolved, declaration: usize, name: &str) -> bool
+    ensures { result ≡ is_declared_as names.now.module_read declaration name.now }
 {
-    let mut found = Vec::new(alloc);
-    for token in bound {
-        if !is_written(tokens, *token, name) {
-            found.push(*token)?;
-        }
+    let _module = names.module();
+    match names.declaring_token(declaration) {
+        Some(token) => is_written(names.tokens(), token, name),
+        None => false,
     }
-    Ok(found)
 }
 
 fn is_written(tokens: &Tokens, token: usize, name: &str) -> bool
@@ -57,24 +56,29 @@ fn is_written(tokens: &Tokens, token: usize, name: &str) -> bool
 
 /// The range of a token; the empty one at the text's start where there is none.
 pub(crate) fn token_range<T: TextStore>(store: &T, tokens: &Tokens, token: Option<usize>) -> Range
-    ensures { result ≡ range_of (width_of (T.unit_of store.now)) (T.content store.now) (token_span tokens.now token) }
+    ensures { (index : ℕ) → token ≡ Some index → result ≡ range_of (width_of (T.unit_of store.now)) (T.content store.now) (span_at tokens.now index) }
 {
-    let span = token_span(tokens, token);
+    match token {
+        Some(index) => span_range(store, span_of(tokens, index)),
+        None => span_range(store, Span { start: 0, end: 0 }),
+    }
+}
+
+fn span_range<T: TextStore>(store: &T, span: Span) -> Range
+    ensures { result ≡ range_of (width_of (T.unit_of store.now)) (T.content store.now) span }
+{
     Range {
         start: store.position(span.start),
         end: store.position(span.end),
     }
 }
 
-/// Where a token stands; the text's start where there is none.
-fn token_span(tokens: &Tokens, token: Option<usize>) -> Span
-    ensures { result ≡ token_span tokens.now token }
+/// Where a token stands; the text's start where there is no such token.
+fn span_of(tokens: &Tokens, token: usize) -> Span
+    ensures { result ≡ span_at tokens.now token }
 {
-    match token {
-        Some(index) => match tokens.tokens().get(index) {
-            Some(found) => found.span,
-            None => Span { start: 0, end: 0 },
-        },
+    match tokens.tokens().get(token) {
+        Some(found) => found.span,
         None => Span { start: 0, end: 0 },
     }
 }

@@ -1,9 +1,17 @@
 //! The edits that give a declaration another name.
 
-ghost use Rattle.std.specs.Prelude.{◌≡◌, List, ℕ};
+ghost use Rattle.std.specs.Prelude.{◌≡◌, ℕ, IfErr, Some, slice_get, true};
 ghost use Rattle.std.specs.Str.{chars};
-ghost use Rattle.ob0_rename.specs.Answers.{Answers, AnswersFor, refusal_for};
-ghost use Rattle.ob0_text.specs.declared.positions.Position.{Position};
+ghost use Rattle.ob0_text.specs.Units.{width_of};
+ghost use Rattle.ob0_text.specs.declared.positions.Position as positions;
+ghost use Rattle.ob0_text.specs.declared.refusals.EditRefusal.TheVariants as refused;
+ghost use Rattle.ob0_tree.specs.Parsed.{tree_of};
+ghost use Rattle.ob0_tree.specs.Tree.{occurrences};
+ghost use Rattle.ob0_scope.specs.Resolution.{span_at};
+ghost use Rattle.ob0_scope.specs.declared.captures.Capture.TheVariants.{Duplicate, Occurrence};
+ghost use Rattle.ob0_edits.specs.Ranges.{range_of};
+ghost use Rattle.ob0_rename.specs.Answers.{Answers, AnswersFor, TakesOwnName};
+ghost use Rattle.ob0_rename.specs.Renaming.{declaring_token, is_declared_as};
 
 use crate::places::{token_range, tokens_renamed};
 use ob0_edits::edits_for;
@@ -24,17 +32,24 @@ use std::alloc::Global;
 pub fn rename<T: TextStore>(
     alloc: Global,
     store: &T,
-    module: &WellTyped<'_, '_>,
+    well_typed: &WellTyped<'_, '_>,
     place: Position,
     new: &str,
 ) -> Result<Vec<Edit>, EditRefusal>
-    requires { T.content store.now ≡ chars module.now.module_read.source.text }
-    ensures { Answers (record { unit = T.unit_of store.now; text = T.content store.now; module_read = module.now.module_read; place = place; new = new.now }) result }
+    requires { T.content store.now ≡ chars well_typed.now.module_read.source.text }
+    ensures answers { Answers (record { unit = T.unit_of store.now; text = T.content store.now; module_read = well_typed.now.module_read; place = place; new = new.now }) result }
+    ensures own_name { TakesOwnName (record { unit = T.unit_of store.now; text = T.content store.now; module_read = well_typed.now.module_read; place = place; new = new.now }) result }
 {
-    let names = module.resolved();
+    let names = well_typed.resolved();
     match at(names, store.offset(place)) {
         Some(name) => match name.of {
-            Of::Declared(declaration) => rename_declaration(alloc, store, module, declaration, new),
+            Of::Declared(declaration) => rename_declaration(
+                alloc,
+                store,
+                well_typed,
+                declaration,
+                new,
+            ),
             Of::Predeclared => Err(EditRefusal::Predeclared),
             Of::Field { .. } => Err(EditRefusal::NoName),
         },
@@ -46,17 +61,19 @@ pub fn rename<T: TextStore>(
 fn rename_declaration<T: TextStore>(
     alloc: Global,
     store: &T,
-    module: &WellTyped<'_, '_>,
+    well_typed: &WellTyped<'_, '_>,
     declaration: usize,
     new: &str,
 ) -> Result<Vec<Edit>, EditRefusal>
-    requires { T.content store.now ≡ chars module.now.module_read.source.text }
-    ensures { (place : Position) → AnswersFor (record { unit = T.unit_of store.now; text = T.content store.now; module_read = module.now.module_read; place = place; new = new.now }) declaration result }
+    requires { T.content store.now ≡ chars well_typed.now.module_read.source.text }
+    ensures answers { (place : positions.Position) → AnswersFor (record { unit = T.unit_of store.now; text = T.content store.now; module_read = well_typed.now.module_read; place = place; new = new.now }) declaration result }
+    ensures own_name { is_declared_as well_typed.now.module_read declaration new.now ≡ true → IfErr result (λ why. why ≡ refused.Memory) }
 {
     names_stand_for_names();
     renamed_words_spell();
     free_keeps_modules();
-    let names = module.resolved();
+    let names = well_typed.resolved();
+    let _text = names.tokens().text();
     if !is_identifier(new) {
         return Err(EditRefusal::BadName);
     }
@@ -71,14 +88,24 @@ fn rename_declaration<T: TextStore>(
 
 /// Why a name that isn't free is refused.
 fn refusal_of<T: TextStore>(store: &T, names: &Resolved, capture: Capture) -> EditRefusal
-    ensures { (place : Position) (new : List ℕ) → result ≡ refusal_for (record { unit = T.unit_of store.now; text = T.content store.now; module_read = names.now.module_read; place = place; new = new }) capture }
+    ensures duplicate { (other token : ℕ) → capture ≡ Duplicate other → declaring_token names.now.module_read other ≡ Some token
+        → result ≡ refused.Duplicate (range_of (width_of (T.unit_of store.now)) (T.content store.now) (span_at names.now.module_read.source token)) }
+    ensures occurrence { (k token : ℕ) → capture ≡ Occurrence k → slice_get (occurrences (tree_of names.now.module_read)) k ≡ Some token
+        → result ≡ refused.Captures (range_of (width_of (T.unit_of store.now)) (T.content store.now) (span_at names.now.module_read.source token)) }
 {
+    let _module = names.module();
     match capture {
         Capture::Duplicate(other) => EditRefusal::Duplicate {
             range: token_range(store, names.tokens(), names.declaring_token(other)),
         },
         Capture::Occurrence(k) => EditRefusal::Captures {
-            range: token_range(store, names.tokens(), names.occurrences().get(k).copied()),
+            range: token_range(store, names.tokens(), occurrence(names, k)),
         },
     }
+}
+
+fn occurrence(names: &Resolved, k: usize) -> Option<usize>
+    ensures { result ≡ slice_get names.now.uses k }
+{
+    names.occurrences().get(k).copied()
 }

@@ -1,0 +1,172 @@
+-- A declaration under its own name: the module stays as it is.
+use Rattle.std.proofs.Common.{◌≡◌, ℕ, suc, ◌+◌, ◌≤◌, ◌<◌, ◌==◌, ◌&&◌, Bool, true, false, if◌then◌else◌, Some, List, [], ◌∷◌, ◌++◌, slice_get, refl, sym, ◌∙◌, subst, arith, eqb-true}
+use Rattle.std.proofs.lemmas.Bool.{and_parts}
+use Rattle.std.proofs.lemmas.Slice.Eq.{bytes_eq-Decides}
+use Rattle.ob0_tree.specs.Tree.{Sort, Tree, block, constant, constants, declares, declares_constant, declares_constants, declares_procedure, declares_type, declares_types, declares_variable, declares_variables, end, formals, further_name, further_section, has_body, is_module, item, items, listed, maybe, module_text, more, names, no_formals, none, one, procedure, section, some_formals, then_name, then_section, type_name, type_names, value_section, variable, variable_section, variables}
+use Rattle.ob0_scope.specs.DeclaredOnce.{are_distinct, block_names, block_once, declared_once, formals_once, procedure_once, procedures_once, types_once, variables_once}
+use Rattle.ob0_scope.specs.Mapping.{with_names}
+use Rattle.ob0_scope.specs.Names.{Name, as_names, same_name}
+use Rattle.ob0_scope.specs.Parts.{constant_names, formal_names, formal_sections, further_names, module_block, named_types, names_listed, procedure_name, section_constants, section_names, section_types, section_variables, variable_names}
+use Rattle.ob0_scope.specs.Scopes.{Labels, Scope, after_names, after_procedure, declare_names, declare_procedure_names, first_procedure, first_type, first_variable, ordinal_of, predeclared_scope, procedures_scope, relabel_block, relabel_constant_section, relabel_constants, relabel_formals, relabel_further, relabel_names, relabel_procedure, relabel_procedures, relabel_section, relabel_sections, relabel_type_section, relabel_types, relabel_uses, relabel_variable_section, relabel_variables, renamed, types_scope, variables_scope, body_scope}
+use Rattle.ob0_scope.proofs.DistinctNames.{new_name}
+use Rattle.ob0_scope.proofs.SameNames.{with_names-id}
+use Rattle.ob0_rename.proofs.Declared.{after_names_in_procedure, names_in, names_in_procedure, names_in_procedures}
+
+module _ (d : ℕ) (new : Name) where
+  -- what has the ordinal d has the name
+  abbrev pub IsSo : ℕ → Name → Type 0
+  IsSo k x = (k == d) ≡ true → x ≡ new
+
+  abbrev pub AreSo : ℕ → List Name → Type 0
+  AreSo k [] = Unit {0}
+  AreSo k (x ∷ xs) = IsSo k x × AreSo (suc k) xs
+
+  abbrev pub InScope : Scope Name → Type 0
+  InScope [] = Unit {0}
+  InScope (b ∷ scope) = IsSo b.1 b.0 × InScope scope
+
+  pub so-append : (k : ℕ) (xs ys : List Name) → AreSo k (xs ++ ys) → AreSo k xs × AreSo (after_names k xs) ys
+  so-append k [] ys h = (tt, h)
+  so-append k (x ∷ xs) ys h = let later = so-append (suc k) xs ys h.1 in ((h.0, later.0), later.1)
+
+  pub in_scope-names : (k : ℕ) (xs : List Name) (scope : Scope Name) → AreSo k xs → InScope scope → InScope (declare_names k xs scope)
+  in_scope-names k [] scope h s = s
+  in_scope-names k (x ∷ xs) scope h s = in_scope-names (suc k) xs ((x, k) ∷ scope) h.1 (h.0, s)
+
+  abbrev ren : Labels Name Name
+  ren = new_name d new
+
+  declared-kept : (k : ℕ) (x : Name) → IsSo k x → ren (Some k) x ≡ x
+  declared-kept k x h = one (k == d) h
+    where
+      one : (b : Bool) → (b ≡ true → x ≡ new) → (if b then new else x) ≡ x
+      one true h = sym (h refl)
+      one false h = refl
+
+  looked_up-kept : (scope : Scope Name) (x : Name) → InScope scope → ren (ordinal_of as_names scope x) x ≡ x
+  looked_up-kept [] x s = refl
+  looked_up-kept (b ∷ scope) x s = one (same_name x b.0) refl (looked_up-kept scope x s.1)
+    where
+      one : (same : Bool) → same_name x b.0 ≡ same → ren (ordinal_of as_names scope x) x ≡ x → ren (elim same [ true ↦ Some b.1 | false ↦ ordinal_of as_names scope x ]) x ≡ x
+      one true e later = declared-kept b.1 x (λ h. (bytes_eq-Decides x b.0).0 e ∙ s.0 h)
+      one false e later = later
+
+  uses-kept : {s : Sort} (scope : Scope Name) (t : Tree Name s) → InScope scope → relabel_uses as_names ren scope t ≡ t
+  uses-kept scope t s = (λ i. with_names (λ x. looked_up-kept scope x s i) (λ x. x) t) ∙ with_names-id t
+
+  further-kept : (k : ℕ) (xs : Tree Name (items further_name)) → AreSo k (further_names xs) → relabel_further ren k xs ≡ xs
+  further-kept k end h = refl
+  further-kept k (more (then_name x) rest) h = λ i. more (then_name (declared-kept k x h.0 i)) (further-kept (suc k) rest h.1 i)
+
+  listed-kept : (k : ℕ) (ns : Tree Name names) → AreSo k (names_listed ns) → relabel_names ren k ns ≡ ns
+  listed-kept k (listed x rest) h = λ i. listed (declared-kept k x h.0 i) (further-kept (suc k) rest h.1 i)
+
+  constants-kept : (scope : Scope Name) (k : ℕ) (cs : Tree Name (items constant)) → InScope scope → AreSo k (constant_names cs) → relabel_constants as_names ren scope k cs ≡ cs
+  constants-kept scope k end s h = refl
+  constants-kept scope k (more (declares_constant x e) cs) s h = λ i.
+      more (declares_constant (declared-kept k x h.0 i) (uses-kept scope e s i)) (constants-kept ((x, k) ∷ scope) (suc k) cs (h.0, s) h.1 i)
+
+  constant_section-kept : (scope : Scope Name) (k : ℕ) (cs : Tree Name (maybe constants)) → InScope scope → AreSo k (constant_names (section_constants cs)) → relabel_constant_section as_names ren scope k cs ≡ cs
+  constant_section-kept scope k none s h = refl
+  constant_section-kept scope k (one (declares_constants cs)) s h = λ i. one (declares_constants (constants-kept scope k cs s h i))
+
+  types-kept : (scope : Scope Name) (k : ℕ) (ts : Tree Name (items type_name)) → InScope scope → AreSo k (named_types ts) → relabel_types as_names ren scope k ts ≡ ts
+  types-kept scope k end s h = refl
+  types-kept scope k (more (declares_type x t) ts) s h = λ i.
+      more (declares_type (declared-kept k x h.0 i) (uses-kept scope t s i)) (types-kept ((x, k) ∷ scope) (suc k) ts (h.0, s) h.1 i)
+
+  type_section-kept : (scope : Scope Name) (k : ℕ) (ts : Tree Name (maybe type_names)) → InScope scope → AreSo k (named_types (section_types ts)) → relabel_type_section as_names ren scope k ts ≡ ts
+  type_section-kept scope k none s h = refl
+  type_section-kept scope k (one (declares_types ts)) s h = λ i. one (declares_types (types-kept scope k ts s h i))
+
+  variables-kept : (scope : Scope Name) (k : ℕ) (vs : Tree Name (items variable)) → InScope scope → AreSo k (variable_names vs) → relabel_variables as_names ren scope k vs ≡ vs
+  variables-kept scope k end s h = refl
+  variables-kept scope k (more (declares_variable ns t) vs) s h =
+      let parts = so-append k (names_listed ns) (variable_names vs) h in
+      λ i. more (declares_variable (listed-kept k ns parts.0 i) (uses-kept scope t s i))
+      (variables-kept (declare_names k (names_listed ns) scope) (after_names k (names_listed ns)) vs (in_scope-names k (names_listed ns) scope parts.0 s) parts.1 i)
+
+  variable_section-kept : (scope : Scope Name) (k : ℕ) (vs : Tree Name (maybe variables)) → InScope scope → AreSo k (variable_names (section_variables vs)) → relabel_variable_section as_names ren scope k vs ≡ vs
+  variable_section-kept scope k none s h = refl
+  variable_section-kept scope k (one (declares_variables vs)) s h = λ i. one (declares_variables (variables-kept scope k vs s h i))
+
+  section-kept : (scope : Scope Name) (k : ℕ) (f : Tree Name section) → InScope scope → AreSo k (section_names f) → relabel_section as_names ren scope k f ≡ f
+  section-kept scope k (value_section ns t) s h = λ i. value_section (listed-kept k ns h i) (uses-kept scope t s i)
+  section-kept scope k (variable_section ns t) s h = λ i. variable_section (listed-kept k ns h i) (uses-kept scope t s i)
+
+  sections-kept : (scope : Scope Name) (k : ℕ) (fs : Tree Name (items further_section)) → InScope scope → AreSo k (formal_names fs) → relabel_sections as_names ren scope k fs ≡ fs
+  sections-kept scope k end s h = refl
+  sections-kept scope k (more (then_section f) fs) s h =
+      let parts = so-append k (section_names f) (formal_names fs) h in
+      λ i. more (then_section (section-kept scope k f s parts.0 i))
+      (sections-kept (declare_names k (section_names f) scope) (after_names k (section_names f)) fs (in_scope-names k (section_names f) scope parts.0 s) parts.1 i)
+
+  formals-kept : (scope : Scope Name) (k : ℕ) (fs : Tree Name (maybe formals)) → InScope scope → AreSo k (formal_names (formal_sections fs)) → relabel_formals as_names ren scope k fs ≡ fs
+  formals-kept scope k none s h = refl
+  formals-kept scope k (one no_formals) s h = refl
+  formals-kept scope k (one (some_formals f fs)) s h =
+      let parts = so-append k (section_names f) (formal_names fs) h in
+      λ i. one (some_formals (section-kept scope k f s parts.0 i)
+      (sections-kept (declare_names k (section_names f) scope) (after_names k (section_names f)) fs (in_scope-names k (section_names f) scope parts.0 s) parts.1 i))
+
+  mutual
+    block-kept : (scope : Scope Name) (k : ℕ) (own : List Name) (b : Tree Name block) → InScope scope → AreSo k (names_in b) → block_once own b ≡ true → relabel_block as_names ren scope k b ≡ b
+    block-kept scope k own (has_body (declares cs ts vs ps) statements) s h once =
+        let b : Tree Name block = has_body (declares cs ts vs ps) statements in
+        let xs = constant_names (section_constants cs) in
+        let ys = named_types (section_types ts) in
+        let zs = variable_names (section_variables vs) in
+        let parts = so-append k xs (ys ++ (zs ++ names_in_procedures ps)) h in
+        let parts₁ = so-append (first_type k b) ys (zs ++ names_in_procedures ps) parts.1 in
+        let parts₂ = so-append (first_variable k b) zs (names_in_procedures ps) parts₁.1 in
+        let s₁ = in_scope-names k xs scope parts.0 s in
+        let s₂ = in_scope-names (first_type k b) ys (types_scope k b scope) parts₁.0 s₁ in
+        let s₃ = in_scope-names (first_variable k b) zs (variables_scope k b scope) parts₂.0 s₂ in
+        let onces = and_parts (are_distinct (own ++ block_names b)) (types_once (section_types ts) && (variables_once (section_variables vs) && procedures_once ps)) once in
+        let onces₁ = and_parts (types_once (section_types ts)) (variables_once (section_variables vs) && procedures_once ps) onces.1 in
+        let onces₂ = and_parts (variables_once (section_variables vs)) (procedures_once ps) onces₁.1 in
+        let later = procedures-kept (procedures_scope k b scope) (first_procedure k b) ps s₃ parts₂.1 onces₂.1 in
+        λ i. has_body
+        (declares (constant_section-kept scope k cs s parts.0 i) (type_section-kept (types_scope k b scope) (first_type k b) ts s₁ parts₁.0 i)
+        (variable_section-kept (variables_scope k b scope) (first_variable k b) vs s₂ parts₂.0 i) (later.0 i))
+        (uses-kept (body_scope k b scope) statements later.1 i)
+
+    procedures-kept : (scope : Scope Name) (k : ℕ) (ps : Tree Name (items procedure)) → InScope scope → AreSo k (names_in_procedures ps) → procedures_once ps ≡ true
+        → (relabel_procedures as_names ren scope k ps ≡ ps) × InScope (declare_procedure_names k ps scope)
+    procedures-kept scope k end s h once = (refl, s)
+    procedures-kept scope k (more p rest) s h once =
+        let parts = so-append k (names_in_procedure p) (names_in_procedures rest) h in
+        let onces = and_parts (procedure_once p) (procedures_once rest) once in
+        let here = procedure-kept scope k p s parts.0 onces.0 in
+        let later = procedures-kept ((procedure_name p, k) ∷ scope) (after_procedure (suc k) p) rest (here.1, s)
+        (subst (λ n. AreSo n (names_in_procedures rest)) (sym (after_names_in_procedure k p)) parts.1) onces.1 in
+        ((λ i. more (here.0 i) (later.0 i)), later.1)
+
+    procedure-kept : (scope : Scope Name) (k : ℕ) (p : Tree Name (item procedure)) → InScope scope → AreSo k (names_in_procedure p) → procedure_once p ≡ true
+        → (relabel_procedure as_names ren scope k p ≡ p) × IsSo k (procedure_name p)
+    procedure-kept scope k (declares_procedure x fs b closing) s h once =
+        let own = formal_names (formal_sections fs) in
+        let parts = so-append (suc k) own (names_in b) h.1 in
+        let onces = and_parts (same_name x closing) (formals_once (formal_sections fs) && block_once own b) once in
+        let onces₁ = and_parts (formals_once (formal_sections fs)) (block_once own b) onces.1 in
+        let closed : x ≡ closing = (bytes_eq-Decides x closing).0 onces.0 in
+        let s₁ = in_scope-names (suc k) own ((x, k) ∷ scope) parts.0 (h.0, s) in
+        let inside = block-kept (declare_names (suc k) own ((x, k) ∷ scope)) (after_names (suc k) own) own b s₁ parts.1 onces₁.1 in
+        ((λ i. declares_procedure (declared-kept k x h.0 i) (formals-kept scope (suc k) fs s parts.0 i) (inside i) (declared-kept k closing (λ e. sym closed ∙ h.0 e) i)), h.0)
+
+  predeclared-so : 7 ≤ d → InScope (predeclared_scope as_names)
+  predeclared-so high = (none 6 _ (omega (arith, high)), (none 5 _ (omega (arith, high)), (none 4 _ (omega (arith, high)), (none 3 _ (omega (arith, high)), (none 2 _ (omega (arith, high)), (none 1 _ (omega (arith, high)), (none 0 _ (omega (arith, high)), tt)))))))
+    where
+      none : (k : ℕ) (x : Name) → k < d → IsSo k x
+      none k x low e = absurd (omega (arith, low, eqb-true k d e))
+
+  pub same_module : (t : Tree Name module_text) → 7 ≤ d → AreSo 7 (names_in (module_block t)) → declared_once t ≡ true → renamed t d new ≡ t
+  same_module (is_module x b closing) high h once =
+      let onces = and_parts (same_name x closing) (block_once [] b) once in
+      let inside = block-kept (predeclared_scope as_names) 7 [] b (predeclared-so high) h onces.1 in
+      λ i. is_module x (inside i) closing
+
+-- the names are so where the one at d's place is
+pub so_where : (d : ℕ) (new : Name) (k : ℕ) (xs : List Name) → ((j : ℕ) (x : Name) → slice_get xs j ≡ Some x → k + j ≡ d → x ≡ new) → AreSo d new k xs
+so_where d new k [] h = tt
+so_where d new k (x ∷ xs) h = ((λ e. h 0 x refl (omega (arith, eqb-true k d e))), so_where d new (suc k) xs (λ j y e count. h (suc j) y e (omega (arith, count))))

@@ -1,0 +1,138 @@
+-- What is answered for a declaration: by what stands against the new name, or by the edits.
+use Rattle.std.proofs.Common.{◌≡◌, ◌⊎◌, ℕ, ◌≤◌, ◌<◌, Bool, true, false, if◌then◌else◌, Option, Some, None, Result, Ok, Err, Vec, List, [], ◌∷◌, length, map, slice_get, option_map, option_and_then, inl, inr, refl, sym, ap, ◌∙◌, subst, arith}
+use Rattle.std.specs.Prelude.{IfErr, IfOk, IsErrOf}
+use Rattle.std.specs.declared.alloc.Global.{Global}
+use Rattle.ob0_scan.specs.Classes.{IsIdentifier}
+use Rattle.ob0_scan.specs.Scanned.{IsScan, Scanned, Word, max_text}
+use Rattle.ob0_text.specs.Patches.{pieced}
+use Rattle.ob0_text.specs.declared.edits.Edit.{Edit}
+use Rattle.ob0_text.specs.declared.positions.Position.{Position}
+use Rattle.ob0_text.specs.declared.positions.Unit as counting
+use Rattle.ob0_text.specs.declared.refusals.EditRefusal.{EditRefusal}
+use Rattle.ob0_text.specs.declared.refusals.EditRefusal.TheVariants as refusal
+use Rattle.ob0_tree.specs.Parsed.{Parsed, named_tree_of, tree_of}
+use Rattle.ob0_tree.specs.Tree.{Tree, module_text, occurrences}
+use Rattle.ob0_scope.specs.DeclaredOnce.{declared_once}
+use Rattle.ob0_scope.specs.Names.{Name}
+use Rattle.ob0_scope.specs.Occurrences.{Free, at_declaration, at_occurrence, bindings, first_captured, first_difference, is_duplicate}
+use Rattle.ob0_scope.specs.Renames.{namesake, other_of, place_of}
+use Rattle.ob0_scope.specs.Resolution.{IsResolution, Resolution}
+use Rattle.ob0_scope.specs.Scopes.{renamed}
+use Rattle.ob0_scope.specs.declared.captures.Capture as told
+use Rattle.ob0_scope.specs.declared.captures.Capture.TheVariants as tells
+use Rattle.ob0_types.specs.CheckedModules.{IsWellTyped}
+use Rattle.ob0_types.specs.WellTyped.{WellTyped}
+use Rattle.ob0_run.specs.EditLaws.{FreeKeepsModules}
+use Rattle.ob0_edits.specs.Changed.{at_each, changed, words_of}
+use Rattle.ob0_edits.specs.OfTrees.{RenamedWordsSpell}
+use Rattle.ob0_edits.specs.Replaced.{AreNames, LeavesWords, StandsForName, edit_at, parts, with_text_at}
+use Rattle.ob0_edits.specs.Written.{name_word}
+use Rattle.ob0_refs.specs.Standing.{tokens_bound}
+use Rattle.ob0_refs.proofs.Written.{renamed_there}
+use Rattle.ob0_rename.specs.Answers.{Answers, AnswersFor, IsRefused, IsRefusedTo}
+use Rattle.ob0_rename.specs.Renaming.{Means, Renaming, declaring_token, is_declared_as, token_range, tokens_renamed}
+use Rattle.ob0_rename.proofs.Owned.{other_stands}
+use Rattle.ob0_rename.proofs.Rewritten.{of_renamed}
+use Rattle.ob0_rename.proofs.Told.{occurrence_stands}
+
+-- what is known of edits at places, where the text is scanned so
+pub record Edited (unit : counting.Unit) (text : List ℕ) (new : Name) (s : Scanned) (places : List ℕ) (result : Result (Vec Edit Global) EditRefusal) : Type 0 where
+  pub edits : IfOk result (λ edits. map parts edits.items ≡ map (edit_at unit text s.tokens new) places)
+  pub short : IfOk result (λ edits. length (with_text_at s places new) ≤ max_text)
+  pub leaves : (ws : List Word) → StandsForName new ws → IfOk result (λ edits. LeavesWords unit text edits.items (changed (at_each places ws) 0 (words_of s)))
+  pub too_long : IsErrOf result refusal.TooLong → max_text < length (with_text_at s places new)
+  pub refusals : IfErr result (λ why. (why ≡ refusal.TooLong) ⊎ (why ≡ refusal.Memory))
+
+pub once_of : (t : Tree Name module_text) → WellTyped t → declared_once t ≡ true
+unfolding WellTyped
+once_of t well = well.0
+
+difference_of : (b : Bool) (o : Option ℕ) (k : ℕ) → (if b then Some at_declaration else option_map at_occurrence o) ≡ Some (at_occurrence k) → o ≡ Some k
+difference_of true o k e = absurd (cc)
+difference_of false (Some j) k e = let same : j ≡ k = cc in ap Some same
+difference_of false None k e = absurd (cc)
+
+module _ (unit : counting.Unit) (text : List ℕ) (place : Position) (new : Name) (d : ℕ) where
+  abbrev pub asked : Parsed → Renaming
+  asked m = record { unit = unit; text = text; module_read = m; place = place; new = new }
+
+  pub captured : (r : Resolution) → IsResolution r → IsIdentifier new → (capture : told.Capture) (why : EditRefusal)
+      → Some (place_of capture) ≡ first_captured (named_tree_of r.module_read) d new → other_of (Some capture) ≡ namesake (named_tree_of r.module_read) d new
+      → ((other token : ℕ) → capture ≡ tells.Duplicate other → declaring_token r.module_read other ≡ Some token → why ≡ refusal.Duplicate (token_range (asked r.module_read) token))
+      → ((k token : ℕ) → capture ≡ tells.Occurrence k → slice_get (occurrences (tree_of r.module_read)) k ≡ Some token → why ≡ refusal.Captures (token_range (asked r.module_read) token))
+      → IsRefusedTo (asked r.module_read) d why
+  captured r is id (tells.Duplicate other) why first named duplicate occurrence =
+      let m = r.module_read in
+      let stands = other_stands m d new other (sym named) in
+      let range = ap (λ o. option_map (token_range (asked m)) (option_and_then (declaring_token m) o)) (sym named) ∙ ap (option_map (token_range (asked m))) stands.1 in
+      subst (IsRefusedTo (asked m) d) (sym (duplicate other stands.0 refl stands.1)) (id, sym first, range)
+  captured r is id (tells.Occurrence k) why first named duplicate occurrence =
+      let m = r.module_read in
+      let bound = bindings (renamed (named_tree_of m) d new) in
+      let found = difference_of (is_duplicate (named_tree_of m) d new) (first_difference bound (bindings (named_tree_of m))) k (sym first) in
+      let stands = occurrence_stands r bound k is found in
+      subst (IsRefusedTo (asked m) d) (sym (occurrence k stands.0 refl stands.1)) (id, (k, sym first, ap (option_map (token_range (asked m))) stands.1))
+
+  pub answered : (r : Resolution) → IsWellTyped r → IsIdentifier new → Free (named_tree_of r.module_read) d new → FreeKeepsModules → RenamedWordsSpell
+      → ((name : List ℕ) → IsIdentifier name → StandsForName name (name_word name ∷ [])) → AreNames r.module_read.source.tokens 0 (tokens_renamed r.module_read d new)
+      → (result : Result (Vec Edit Global) EditRefusal) → Edited unit text new r.module_read.source (tokens_renamed r.module_read d new) result → AnswersFor (asked r.module_read) d result
+  answered r well id free keeps spells stand names (Ok edits) made =
+      let m = r.module_read in
+      let words = made.leaves (name_word new ∷ []) (stand new id) in
+      let kept = keeps (named_tree_of m) d new free well.well_typed in
+      record {
+        identifier = id;
+        free = free;
+        short = made.short;
+        changes = made.edits;
+        after = words.after;
+        scan = words.scan;
+        made = words.made;
+        of_module = of_renamed m d new well.resolved.parsed (once_of (named_tree_of m) well.well_typed) spells (renamed_there r d well.resolved) names words.after words.scan words.words_are;
+        well_typed = kept.0;
+        same_runs = kept.1;
+      }
+  answered r well id free keeps spells stand names (Err why) made =
+      elim made.refusals [
+        | inl e ↦ inr (subst (IsRefusedTo (asked r.module_read) d) (sym e) (id, free, made.too_long (ap Err e)))
+        | inr e ↦ inl e
+      ]
+
+whole : (text : List ℕ) → length (pieced text 0 []) ≡ length text
+unfolding pieced
+whole text = refl
+
+-- the name that is there makes no text longer
+pub own_answered : (unit : counting.Unit) (text : List ℕ) (new : Name) (d : ℕ) (m : Parsed) → IsScan m.source → is_declared_as m d new ≡ true
+    → (result : Result (Vec Edit Global) EditRefusal) → Edited unit text new m.source (tokens_renamed m d new) result → IfErr result (λ why. why ≡ refusal.Memory)
+own_answered unit text new d m scan own (Ok edits) made = tt
+own_answered unit text new d m scan own (Err why) made =
+    elim made.refusals [
+      | inl e ↦
+          let none : tokens_renamed m d new ≡ [] = own_places (tokens_bound m d true) (is_declared_as m d new) own in
+          let long = subst (λ places. max_text < length (with_text_at m.source places new)) none (made.too_long (ap Err e)) in
+          absurd (omega (arith, long, whole m.source.text, scan.short))
+      | inr e ↦ e
+    ]
+  where
+    own_places : (places : List ℕ) (b : Bool) → b ≡ true → (if b then [] else places) ≡ []
+    own_places places true e = refl
+    own_places places false e = absurd (cc)
+
+-- an answer for the declaration that is named at the place is the answer
+
+refused_there : (a : Renaming) (d : ℕ) → Means a d → (why : EditRefusal) → IsRefusedTo a d why → IsRefused a why
+refused_there a d means refusal.NoName h = absurd h
+refused_there a d means refusal.Predeclared h = absurd h
+refused_there a d means refusal.BadName h = (d, means, h)
+refused_there a d means (refusal.Duplicate range) h = (d, means, h)
+refused_there a d means (refusal.Captures range) h = (d, means, h)
+refused_there a d means refusal.TooLong h = (d, means, h)
+refused_there a d means refusal.TooDeep h = absurd h
+refused_there a d means refusal.Shadowed h = absurd h
+refused_there a d means refusal.CommentInside h = absurd h
+refused_there a d means refusal.Memory h = absurd h
+
+pub answered_there : (a : Renaming) (d : ℕ) → Means a d → (result : Result (Vec Edit Global) EditRefusal) → AnswersFor a d result → Answers a result
+answered_there a d means (Ok edits) h = (d, means, h)
+answered_there a d means (Err why) h = elim h [ inl e ↦ inl e | inr e ↦ inr (refused_there a d means why e) ]

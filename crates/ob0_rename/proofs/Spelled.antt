@@ -1,0 +1,79 @@
+-- The name that something is declared by is an identifier.
+use Rattle.std.proofs.Common.{◌≡◌, ℕ, zero, suc, ◌-◌, ◌<◌, List, [], ◌∷◌, ◌++◌, Some, length, map, slice_get, refl, sym, ◌∙◌, subst, arith, true}
+use Rattle.std.proofs.lemmas.List.{length-map}
+use Rattle.ob0_scan.specs.Classes.{Belongs, IsIdentifier}
+use Rattle.ob0_scan.specs.Lexed.{AreLexemes, Lexeme}
+use Rattle.ob0_scan.specs.Scanned.{IsScan, Scanned, Word, read_in, word_of, words}
+use Rattle.ob0_scan.specs.declared.lexeme.LexemeKind.{LexemeKind}
+use Rattle.ob0_scan.specs.declared.lexeme.LexemeKind.TheVariants as lexeme
+use Rattle.ob0_scan.specs.declared.lexeme.Token.{Token}
+use Rattle.ob0_scan.specs.declared.lexeme.TokenKind.TheVariants as token
+use Rattle.ob0_scan.proofs.Spans.{scan_words}
+use Rattle.ob0_tree.proofs.Leaves.{leaves_are_identifiers}
+use Rattle.ob0_tree.specs.Order as order
+use Rattle.ob0_tree.specs.Order.{AreIdentifiers, names_only}
+use Rattle.ob0_tree.specs.Parsed.{IsParsed, Parsed, tree_of}
+use Rattle.ob0_tree.specs.Tree.{identifiers}
+use Rattle.ob0_tree.specs.declared.tree.Role.{Role}
+use Rattle.ob0_tree.specs.declared.tree.Role.TheVariants as role
+use Rattle.ob0_scope.specs.Names.{Name}
+use Rattle.ob0_scope.specs.Resolution.{declaring_only}
+use Rattle.ob0_edits.specs.Changed.{words_of}
+use Rattle.ob0_edits.specs.OfTrees.{text_at, word_at}
+use Rattle.ob0_edits.specs.Replaced as edit
+use Rattle.ob0_rename.specs.Renaming.{is_declared_as}
+use Rattle.ob0_rename.proofs.Owned.{IsDeclaredBy, declared_by, declaring_tokens}
+use Rattle.ob0_rename.proofs.Rewritten.{text_same}
+
+-- words that are names are identifiers
+
+abbrev EachNamed : List Word → Type 0
+EachNamed [] = Unit {0}
+EachNamed (w ∷ ws) = (w.kind ≡ token.Identifier → IsIdentifier w.text) × EachNamed ws
+
+words_named : (ls : List Lexeme) (after : List ℕ) → AreLexemes ls after → EachNamed (words ls)
+words_named [] after are = tt
+words_named (l ∷ ls) after are = one l.kind are.0.belongs (words_named ls after are.1)
+  where
+    one : (kind : LexemeKind) → Belongs kind l.text → EachNamed (words ls) → EachNamed (word_of l kind ++ words ls)
+    one lexeme.Space belongs later = later
+    one lexeme.Comment belongs later = later
+    one (lexeme.Token kind) belongs later = ((λ e. subst (λ k. Belongs (lexeme.Token k) l.text) e belongs), later)
+
+named_word : (ws : List Word) (k : ℕ) → EachNamed ws → k < length ws → (word_at ws k).kind ≡ token.Identifier → IsIdentifier (text_at ws k)
+named_word [] k each low e = absurd (omega (arith, low))
+named_word (w ∷ ws) zero each low e = each.0 e
+named_word (w ∷ ws) (suc k) each low e = named_word ws k each.1 (omega (arith, low)) e
+
+word_kind : (s : Scanned) (k : ℕ) → (word_at (words_of s) k).kind ≡ (edit.token_at s.tokens k).kind
+word_kind s k = of_list s.tokens k
+  where
+    of_list : (ts : List Token) (k : ℕ) → (word_at (map (read_in s.text) ts) k).kind ≡ (edit.token_at ts k).kind
+    of_list [] k = refl
+    of_list (t ∷ ts) zero = refl
+    of_list (t ∷ ts) (suc k) = of_list ts k
+
+-- what declares is an identifier
+
+declaring_stand : (ts : List Token) (xs : List (Role × ℕ)) → AreIdentifiers ts (names_only xs) → AreIdentifiers ts (declaring_only xs)
+declaring_stand ts [] h = tt
+declaring_stand ts ((role.Declaring, n) ∷ xs) h = (h.0, declaring_stand ts xs h.1)
+declaring_stand ts ((role.LookedUp, n) ∷ xs) h = declaring_stand ts xs h.1
+declaring_stand ts ((role.ClosingName, n) ∷ xs) h = declaring_stand ts xs h.1
+declaring_stand ts ((role.FieldName, n) ∷ xs) h = declaring_stand ts xs h.1
+declaring_stand ts ((role.ModuleName, n) ∷ xs) h = declaring_stand ts xs h.1
+
+one_stands : (ts : List Token) (places : List ℕ) (j k : ℕ) → AreIdentifiers ts places → slice_get places j ≡ Some k → order.IsIdentifier ts k
+one_stands ts [] j k h e = absurd (cc)
+one_stands ts (p ∷ ps) zero k h e = let same : p ≡ k = cc in subst (order.IsIdentifier ts) same h.0
+one_stands ts (p ∷ ps) (suc j) k h e = one_stands ts ps j k h.1 e
+
+pub own_identifier : (m : Parsed) (d : ℕ) (new : Name) → IsParsed m → IsScan m.source → is_declared_as m d new ≡ true → IsIdentifier new
+own_identifier m d new is scan e =
+    let found = declared_by m d new e in
+    let by : IsDeclaredBy m d new found.0 = found.1 in
+    let k : ℕ = found.0 in
+    let stands = one_stands m.source.tokens (declaring_tokens m) (d - 7) k (declaring_stand m.source.tokens (identifiers role.Declaring (tree_of m)) (leaves_are_identifiers m is)) by.there in
+    let each : EachNamed (words_of m.source) = subst EachNamed (sym (scan_words m.source scan)) (words_named scan.lexemes [] scan.lexed.each) in
+    let low : k < length (words_of m.source) = omega (arith, stands.0, length-map m.source.tokens (read_in m.source.text)) in
+    subst IsIdentifier (text_same m.source k ∙ by.written) (named_word (words_of m.source) k each low (word_kind m.source k ∙ stands.1 _))
