@@ -1,1 +1,2 @@
 pub mod RanTexts
+mod Renames

@@ -1,2 +1,3 @@
+pub mod Renamed
 pub mod Statuses
 pub mod TextRuns

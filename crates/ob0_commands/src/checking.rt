@@ -34,19 +34,39 @@ pub fn check<'f, O: Write>(
 ) -> Result<Option<&'f str>, Fault>
     ensures { IfOk result (λ found. IfSome found (λ text. (text.now ≡ file.entry.now) × Tells file.entry.now [])) }
 {
-    if file.len() >= MAX_FILE {
-        print(out, "0:0: TooLong: text too long\n")?;
+    let Some(text) = text_of(file, out)? else {
         return Ok(None);
-    }
-    let Ok(text) = str::from_utf8(file) else {
-        return Err(Fault::Utf8);
     };
     let told = diagnose(alloc, text)?;
     if told.is_empty() {
         return Ok(Some(text));
     }
-    print(out, lines_of(alloc, text, told.as_slice())?.as_str())?;
+    print_diagnoses(alloc, text, told.as_slice(), out)?;
     Ok(None)
+}
+
+/// The text of a file that isn't too long; else that is printed.
+pub fn text_of<'f, O: Write>(file: &'f [u8], out: &mut O) -> Result<Option<&'f str>, Fault>
+    ensures { IfOk result (λ found. IfSome found (λ text. text.now ≡ file.entry.now)) }
+{
+    if file.len() >= MAX_FILE {
+        print(out, "0:0: TooLong: text too long\n")?;
+        return Ok(None);
+    }
+    match str::from_utf8(file) {
+        Ok(text) => Ok(Some(text)),
+        Err(_) => Err(Fault::Utf8),
+    }
+}
+
+/// Prints what is wrong with a text.
+pub fn print_diagnoses<O: Write>(
+    alloc: Global,
+    text: &str,
+    told: &[Diagnosis],
+    out: &mut O,
+) -> Result<(), Fault> {
+    print(out, lines_of(alloc, text, told)?.as_str())
 }
 
 /// A line for each diagnostic.

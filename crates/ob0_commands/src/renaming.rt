@@ -1,10 +1,58 @@
-//! Printing a text with its edits.
+//! Another name in a file's text.
 
-use crate::faults::Fault;
+ghost use Rattle.std.specs.Prelude.{◌≡◌, true, IfOk, is_ok};
+ghost use Rattle.ob0_commands.specs.Renamed.{CanBeRenamed};
+
+use crate::checking::{print_diagnoses, text_of};
+use crate::faults::{Fault, tell_fault};
 use crate::printing::print;
-use ob0_text::{Edit, EditRefusal, PatchFault, TextStore, patch};
+use ob0_session::{Asked, rename_in};
+use ob0_text::{Edit, EditRefusal, Position, TextStore, Whole, patch};
 use std::alloc::Global;
 use std::io::Write;
+
+/// Prints to `out` a file's text with `new` in place of the name at a position, which counts lines and UTF-16 units from 0
+/// on. A refused name is told to `err` as `refused: TEXT`, and a file that is no well-typed module as by `check_text`. Answers
+/// the status with which the program ends: 0 for a text, 1 for a refusal or diagnostics, 4 for bytes that are no UTF-8 or a
+/// failed write, 5 for want of memory.
+pub fn rename_text<O: Write, E: Write>(
+    alloc: Global,
+    file: &[u8],
+    position: Position,
+    new: &str,
+    out: &mut O,
+    err: &mut E,
+) -> u8
+    ensures { result ≡ 0 → CanBeRenamed file.now position new.now }
+{
+    match rename_file(alloc, file, position, new, out, err) {
+        Ok(status) => status,
+        Err(fault) => tell_fault(fault, err),
+    }
+}
+
+fn rename_file<O: Write, E: Write>(
+    alloc: Global,
+    file: &[u8],
+    position: Position,
+    new: &str,
+    out: &mut O,
+    err: &mut E,
+) -> Result<u8, Fault>
+    ensures { IfOk result (λ status. status ≡ 0 → CanBeRenamed file.now position new.now) }
+{
+    let Some(text) = text_of(file, out)? else {
+        return Ok(1);
+    };
+    let store = Whole::from_str(alloc, text)?;
+    match rename_in(alloc, &store, position, new)? {
+        Asked::Answered(outcome) => print_edited(alloc, &store, outcome, out, err),
+        Asked::IllTyped(told) => {
+            print_diagnoses(alloc, text, told.as_slice(), out)?;
+            Ok(1)
+        }
+    }
+}
 
 /// Prints the text that the edits make to `out`, or the refusal to `err` as `refused: TEXT`. Answers the status with
 /// which the program ends: 0 for edits, 1 for a refusal.
@@ -14,7 +62,9 @@ pub fn print_edited<T: TextStore, O: Write, E: Write>(
     edits: Result<Vec<Edit>, EditRefusal>,
     out: &mut O,
     err: &mut E,
-) -> Result<u8, Fault> {
+) -> Result<u8, Fault>
+    ensures { IfOk result (λ status. status ≡ 0 → is_ok edits ≡ true) }
+{
     match edits {
         Ok(edits) => match patch(alloc, store, edits.as_slice()) {
             Ok(text) => {

@@ -371,3 +371,75 @@ fn edited_texts_and_refusals_are_printed(rt: HostRuntime) {
     let status = print_edited(rt.alloc(), &store, edits, &mut out, &mut err);
     assert!(rt; status == Err(Fault::Memory));
 }
+
+/// A file, the character of its first line and the name that takes the place of the one there, what `rename_text` prints, the
+/// fault or refusal that it tells, and its status.
+#[derive(Drop)]
+struct Renamed<'a> {
+    file: &'a [u8],
+    character: u64,
+    new: &'a str,
+    out: &'a str,
+    err: &'a str,
+    status: u8,
+}
+
+#[test]
+fn files_get_other_names(rt: HostRuntime) {
+    let rows = [
+        Renamed {
+            file: b"MODULE M; VAR x: INTEGER; (* \xC3\xA9 *) BEGIN x := x END M.",
+            character: 14,
+            new: "yz",
+            out: "MODULE M; VAR yz: INTEGER; (* \u{E9} *) BEGIN yz := yz END M.",
+            err: "",
+            status: 0,
+        },
+        Renamed {
+            file: b"MODULE M; VAR x: INTEGER; (* \xC3\xA9 *) BEGIN x := x END M.",
+            character: 41,
+            new: "x",
+            out: "MODULE M; VAR x: INTEGER; (* \u{E9} *) BEGIN x := x END M.",
+            err: "",
+            status: 0,
+        },
+        Renamed {
+            file: b"MODULE M; VAR x, y: INTEGER; END M.",
+            character: 14,
+            new: "y",
+            out: "",
+            err: "refused: Duplicate 0:17-0:18\n",
+            status: 1,
+        },
+        Renamed {
+            file: b"MODULE M; END N.",
+            character: 7,
+            new: "y",
+            out: "0:14: EndName: wrong closing name\n",
+            err: "",
+            status: 1,
+        },
+        Renamed {
+            file: b"MODULE \xFF",
+            character: 7,
+            new: "y",
+            out: "",
+            err: "fault: Utf8\n",
+            status: 4,
+        },
+    ];
+    for row in &rows {
+        let mut out = Sink::new(rt.alloc(), 1000);
+        let mut err = Sink::new(rt.alloc(), 1000);
+        let position = Position {
+            line: 0,
+            character: row.character,
+        };
+        let status = rename_text(rt.alloc(), row.file, position, row.new, &mut out, &mut err);
+        assert!(rt;
+            status == row.status && out.has(row.out) && err.has(row.err),
+            "{}",
+            row.new
+        );
+    }
+}

@@ -45,14 +45,17 @@ pub lays_out : (unit : Unit) (indent : Indent) (text : List ℕ) (edits : List E
     → patched (width_of unit) text edits ≡ Some (chars (layout_of indent m)) → length (layout_of indent m) ≤ max_text
     → IsUtf8 (layout_of indent m) → Lexed (layout_of indent m) (laid_out indent m.tree m.text_of.scan.scan.lexemes) → ModuleStays
     → LaysOut unit indent text edits
-lays_out unit indent text edits m changes made short u lexed law = record {
-  before = m;
-  changes = changes;
-  after = chars (layout_of indent m);
-  made = made;
-  laid_out = encodes-chars (layout_of indent m) u;
-  same_module = stays_module indent (utf8 text) m u lexed short law;
-}
+lays_out unit indent text edits m changes made short u lexed law =
+    let stays : IsTextOf m.tree (utf8 (chars (layout_of indent m))) = stays_module indent (utf8 text) m u lexed short law in
+    record {
+      before = m;
+      changes = changes;
+      after = chars (layout_of indent m);
+      made = made;
+      laid_out = encodes-chars (layout_of indent m) u;
+      same_module = stays;
+      runs = record { old = m; new = record { tree = m.tree; text_of = stays; well_typed = m.well_typed }; same = λ input c t. refl };
+    }
 
 -- what the maker of the edits says of a module that was read
 abbrev pub Made : Unit → Indent → List ℕ → List Edit → Parsed → Type 0

@@ -23,7 +23,7 @@ use Rattle.ob0_session.specs.declared.questions.NameQuestion.{NameQuestion}
 use Rattle.ob0_session.specs.declared.questions.NameQuestion.TheVariants.{Definition, References, PrepareRename}
 use Rattle.ob0_session.proofs.Scanning.{utf8_of}
 
-read_as : (text : List ℕ) (names : Resolution) → IsModuleIn text names → IsReadAs text names.module_read
+pub read_as : (text : List ℕ) (names : Resolution) → IsModuleIn text names → IsReadAs text names.module_read
 read_as text names h = record { scan = h.scan; parsed = h.well_typed.resolved.parsed; well_typed = h.well_typed.well_typed }
 
 -- what was found of the module that a text is read as, or that there is none

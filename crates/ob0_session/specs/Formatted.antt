@@ -17,6 +17,7 @@ use Rattle.ob0_layout.specs.Sites.{Said, said, edit_of, changed_sites, all_sites
 use Rattle.ob0_layout.specs.Standings.{standings}
 use Rattle.ob0_session.specs.Diagnosed.{IsTextOf, IsWellTypedModule}
 use Rattle.ob0_session.specs.Diagnostics.{utf8}
+use Rattle.ob0_session.specs.RunsKept.{RunsAsBefore}
 use Rattle.ob0_session.specs.Shapes.{edits_value, edit_refused}
 
 -- the layout of a module's text
@@ -29,7 +30,7 @@ changes_of unit indent characters m =
     let source = m.text_of.scanned in
     map (edit_of indent (width_of unit) characters) (changed_sites indent source.text (all_sites (standings 0 m.tree) m.text_of.scan.scan.lexemes))
 
--- These edits lay out a text: one for each gap that changes, which it replaces. Made at once they leave the layout, a text of the same module.
+-- These edits lay out a text: one for each gap that changes, which it replaces. Made at once they leave the layout, a text of the same module, which runs as before.
 pub record LaysOut (unit : Unit) (indent : Indent) (text : List ℕ) (edits : List Edit) : Type 0 where
   pub before : IsWellTypedModule (utf8 text)
   pub changes : map said edits ≡ changes_of unit indent text before
@@ -37,6 +38,7 @@ pub record LaysOut (unit : Unit) (indent : Indent) (text : List ℕ) (edits : Li
   pub made : patched (width_of unit) text edits ≡ Some after
   pub laid_out : utf8 after ≡ layout_of indent before
   pub same_module : IsTextOf before.tree (utf8 after)
+  pub runs : RunsAsBefore (utf8 text) (utf8 after)
 
 -- the layout of the text is longer than a text may be
 pub record IsTooLongLaidOut (indent : Indent) (text : List ℕ) : Type 0 where

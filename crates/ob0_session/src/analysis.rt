@@ -1,6 +1,6 @@
 //! Asking a text: it is scanned, parsed, resolved and checked once.
 
-ghost use Rattle.std.specs.Prelude.{◌≡◌, ⊤, IfOk, map};
+ghost use Rattle.std.specs.Prelude.{◌≡◌, ⊤, ℕ, List, IfOk, map};
 ghost use Rattle.ob0_scope.specs.Resolution.{Resolution};
 ghost use Rattle.ob0_session.specs.Analysed.{Finds};
 ghost use Rattle.ob0_session.specs.Diagnosed.{Tells, complaint_in};
@@ -21,10 +21,14 @@ const MOST_TOLD: usize = 100;
 pub trait Question {
     type Answer;
 
+    /// What is known of the text, by its bytes, where the question is asked.
+    ghost is_about: { Self → List ℕ → Type 0 } = { λ _ _. ⊤ };
+
     /// What an answer says of the module.
     ghost answers: { Self → Resolution → Self.Answer → Type 0 };
 
     fn answer(&self, alloc: Global, module: &WellTyped<'_, '_>) -> Result<Self::Answer, AllocError>
+        requires { is_about self.now module.now.module_read.source.text }
         ensures { IfOk result (λ answer. answers self.now module.now answer) };
 }
 
@@ -41,6 +45,7 @@ pub fn ask<Q: Question>(
     text: &str,
     question: &Q,
 ) -> Result<Asked<Q::Answer>, AllocError>
+    requires { Q.is_about question.now text.now }
     ensures { IfOk result (Finds text.now (Q.answers question.now)) }
 {
     match scan(alloc, text) {
@@ -59,6 +64,7 @@ fn ask_tokens<Q: Question>(
     tokens: &Tokens,
     question: &Q,
 ) -> Result<Asked<Q::Answer>, AllocError>
+    requires { Q.is_about question.now tokens.now.text }
     ensures { IfOk result (Finds tokens.now.text (Q.answers question.now)) }
 {
     one_scan();
@@ -78,6 +84,7 @@ fn ask_module<Q: Question>(
     module: &Module<'_>,
     question: &Q,
 ) -> Result<Asked<Q::Answer>, AllocError>
+    requires { Q.is_about question.now module.now.source.text }
     ensures { IfOk result (Finds module.now.source.text (Q.answers question.now)) }
 {
     one_scan();

@@ -9,7 +9,7 @@ ghost use Rattle.ob0_session.specs.Diagnostics.{utf8};
 ghost use Rattle.ob0_session.specs.Formatted.{AnswersFormatting, Formats};
 
 use crate::analysis::{Asked, Question, ask};
-use crate::results::{edits_value, refused};
+use crate::results::{edits_value, refused, refused_ill_typed};
 use ob0_layout::format;
 use ob0_layout::laws::{gaps_make_the_layout, lexemes_stay, module_stays};
 use ob0_rpc::{Id, result};
@@ -67,6 +67,6 @@ pub fn formatted<T: TextStore>(
             Ok(edits) => result(alloc, id, edits_value(alloc, edits.as_slice())?),
             Err(refusal) => refused(alloc, id, refusal.text(alloc)?.as_str()),
         },
-        Asked::IllTyped(_) => refused(alloc, id, "ill-typed"),
+        Asked::IllTyped(_) => refused_ill_typed(alloc, id),
     }
 }

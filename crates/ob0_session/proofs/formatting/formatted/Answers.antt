@@ -50,4 +50,4 @@ returns g c =
     let text : List ℕ = g.T.TextStore.content c.args.store.now in
     let found = found_of unit c.args.indent c.as_str.result.now text c.in_ok-outcome.field-0 c.as_str.utf8 (ap chars c.as_str.ensures.value ∙ c.in_ok-text.ensures) c.in_ok-outcome.ensures in
     let ill = subst (λ (o : Asked (Result (Vec Edit Global) EditRefusal)). FoundOf unit c.args.indent text o) c.in-IllTyped.is found in
-    IfOk-weaker c.refused-in-IllTyped.result _ _ (λ bytes sent. (edit_refused (id_data c.args.id.now) (codes "ill-typed"), inr (inr (ill, refl)), sent)) c.refused-in-IllTyped.ensures
+    IfOk-weaker c.refused_ill_typed.result _ _ (λ bytes sent. (edit_refused (id_data c.args.id.now) (codes "ill-typed"), inr (inr (ill, refl)), sent)) c.refused_ill_typed.ensures

@@ -18,7 +18,7 @@ returns-in_ok-answered-in-Some-InStep g c =
     let unit = (rw c.in-Some-InStep.field-0-is at c.in-Some-InStep.ensures.unit) ∙ ap (λ (h : OpenDocuments). h.unit) is in
     let text = g.T.TextStore.content c.in-Some-InStep.text.now in
     let answer = c.in_ok-answered-in-Some-InStep.ensures in
-    of_held s id _ place.uri (Some (InStep _ text)) (answers_name s.held.unit id place c.args.question) _ is there
+    of_held s id _ place.uri (Some (InStep _ text)) (λ version. answers_name s.held.unit id place c.args.question) _ is there
     (refl, (answer.0, subst (λ (u : Unit). AnswersName u text place c.args.question answer.0) unit answer.1, (_, refl, answer.2)))
 
 pub returns-in-Some-OutOfStep : goal.returns-in-Some-OutOfStep
@@ -29,4 +29,4 @@ returns-in-Some-OutOfStep g c =
     let is = ap (λ (t : State). t.held) c.self.view_is in
     let there = (rw c.in-Some-OutOfStep.field-0-is at c.in-Some-OutOfStep.ensures.held) ∙ ap (document_at c.self.inside.documents) c.as_str.ensures.value in
     IfOk-weaker c.refuse_document.result _ _ (λ sent said.
-    of_held s id _ place.uri (Some OutOfStep) (answers_name s.held.unit id place c.args.question) _ is there said) c.refuse_document.ensures
+    of_held s id _ place.uri (Some OutOfStep) (λ version. answers_name s.held.unit id place c.args.question) _ is there said) c.refuse_document.ensures

@@ -16,7 +16,7 @@ returns-in_ok-formatted-in-Some-InStep g c =
     let unit = (rw c.in-Some-InStep.field-0-is at c.in-Some-InStep.ensures.unit) ∙ ap (λ (h : OpenDocuments). h.unit) is in
     let text = g.T.TextStore.content c.in-Some-InStep.text.now in
     let answer = c.in_ok-formatted-in-Some-InStep.ensures in
-    of_held s id _ c.args.uri.now (Some (InStep _ text)) (lays_out s.held.unit id c.args.indent) _ is there
+    of_held s id _ c.args.uri.now (Some (InStep _ text)) (λ version. lays_out s.held.unit id c.args.indent) _ is there
     (refl, (answer.0, subst (λ (u : Unit). AnswersFormatting u id c.args.indent text answer.0) unit answer.1, (_, refl, answer.2)))
 
 pub returns-in_ok-refused-in-Some-OutOfStep : goal.returns-in_ok-refused-in-Some-OutOfStep
@@ -25,4 +25,4 @@ returns-in_ok-refused-in-Some-OutOfStep g c =
     let id = id_data c.args.id.now in
     let is = ap (λ (t : State). t.held) c.self.view_is in
     let there = rw c.in-Some-OutOfStep.field-0-is at c.in-Some-OutOfStep.ensures.held in
-    of_held s id _ c.args.uri.now (Some OutOfStep) (lays_out s.held.unit id c.args.indent) _ is there (refl, (_, refl, c.in_ok-refused-in-Some-OutOfStep.ensures))
+    of_held s id _ c.args.uri.now (Some OutOfStep) (λ version. lays_out s.held.unit id c.args.indent) _ is there (refl, (_, refl, c.in_ok-refused-in-Some-OutOfStep.ensures))
