@@ -9,7 +9,7 @@ use Rattle.ob0_tree.specs.Lexeme.{EndOfText}
 use Rattle.ob0_tree.specs.Module.{ModuleOf, token_lexeme}
 use Rattle.ob0_tree.specs.Parsed.{IsParsed, Parsed, named_tree_of, tree_of}
 use Rattle.ob0_tree.specs.Places as place
-use Rattle.ob0_tree.specs.Tree.{mapped, module_text, nesting, spell}
+use Rattle.ob0_tree.specs.Tree.{Tree, mapped, module_text, nesting, spell}
 use Rattle.ob0_scope.specs.DeclaredOnce.{declared_once}
 use Rattle.ob0_scope.specs.Names.{Name}
 use Rattle.ob0_scope.specs.Scopes.{renamed}
@@ -56,7 +56,7 @@ lexemes_same text (t ∷ ts) = ap (λ xs. token_lexeme text t ∷ xs) (lexemes_s
 
 -- the module with the new name at these tokens
 
-at_places : (m : Parsed) (new : Name) (places : List ℕ) (k : ℕ)
+pub at_places : (m : Parsed) (new : Name) (places : List ℕ) (k : ℕ)
     → renamed_at (words_of m.source) places new k ≡ (if standing.is_among k places then new else place.text_at m.source k)
 at_places m new places k = λ i. if among_same k places i then new else text_same m.source k i
 
@@ -71,19 +71,26 @@ pub renamed_module : (m : Parsed) (d : ℕ) (new : Name) → declared_once (name
     → mapped (renamed_at (words_of m.source) (tokens_renamed m d new) new) (number_at (words_of m.source)) (tree_of m) ≡ renamed (named_tree_of m) d new
 renamed_module m d new once there = renamed_there m d new (is_declared_as m d new) refl once there
 
-pub of_renamed : (m : Parsed) (d : ℕ) (new : Name) → IsParsed m → declared_once (named_tree_of m) ≡ true → RenamedWordsSpell → IsRenamedAt m d (tokens_bound m d true)
-    → AreNames m.source.tokens 0 (tokens_renamed m d new)
-    → (after : Scanned) → IsScan after → words_of after ≡ changed (at_each (tokens_renamed m d new) (name_word new ∷ [])) 0 (words_of m.source)
-    → ModuleOf after (renamed (named_tree_of m) d new)
-of_renamed m d new is once spells there names after scan words =
+-- where a text has the words of a module with a new name at some places, it is a text of the tree that has that name there
+pub of_rewritten : (m : Parsed) (t : Tree Name module_text) (places : List ℕ) (new : Name) → IsParsed m → RenamedWordsSpell → AreNames m.source.tokens 0 places
+    → mapped (renamed_at (words_of m.source) places new) (number_at (words_of m.source)) (tree_of m) ≡ t
+    → (after : Scanned) → IsScan after → words_of after ≡ changed (at_each places (name_word new ∷ [])) 0 (words_of m.source) → ModuleOf after t
+of_rewritten m t places new is spells names there after scan words =
     record {
       spelled =
-          lexemes_same after.text after.tokens ∙ (ap (map word_lexeme) words
-          ∙ (spells m.source module_text (tree_of m) (tokens_renamed m d new) new names (spelled_places m is) ∙ ap spell (renamed_module m d new once there)));
+          lexemes_same after.text after.tokens
+          ∙ (ap (map word_lexeme) words ∙ (spells m.source module_text (tree_of m) places new names (spelled_places m is) ∙ ap spell there));
       short = scan.short;
       shallow =
           subst (λ n. n ≤ 100)
           (nesting_mapped (place.text_at m.source) (place.value_at m.source) (tree_of m)
-          ∙ (sym (nesting_mapped (renamed_at (words_of m.source) (tokens_renamed m d new) new) (number_at (words_of m.source)) (tree_of m)) ∙ ap nesting (renamed_module m d new once there)))
+          ∙ (sym (nesting_mapped (renamed_at (words_of m.source) places new) (number_at (words_of m.source)) (tree_of m)) ∙ ap nesting there))
           is.module_of.shallow;
     }
+
+pub of_renamed : (m : Parsed) (d : ℕ) (new : Name) → IsParsed m → declared_once (named_tree_of m) ≡ true → RenamedWordsSpell → IsRenamedAt m d (tokens_bound m d true)
+    → AreNames m.source.tokens 0 (tokens_renamed m d new)
+    → (after : Scanned) → IsScan after → words_of after ≡ changed (at_each (tokens_renamed m d new) (name_word new ∷ [])) 0 (words_of m.source)
+    → ModuleOf after (renamed (named_tree_of m) d new)
+of_renamed m d new is once spells there names =
+    of_rewritten m (renamed (named_tree_of m) d new) (tokens_renamed m d new) new is spells names (renamed_module m d new once there)
