@@ -1,0 +1,11 @@
+pub mod Apart
+pub mod RefieldedTypes
+pub mod RefieldedStatements
+pub mod RefieldedModules
+pub mod Values
+pub mod Outcomes
+pub mod RefieldedExpressions
+pub mod RefieldedExecution
+pub mod ScalarConstants
+pub mod RefieldedActivations
+pub mod RefieldedRuns

@@ -1,0 +1,3 @@
+pub mod Fields
+pub mod Renaming
+pub mod FieldLaws

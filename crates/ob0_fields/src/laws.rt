@@ -1,0 +1,8 @@
+//! The laws. Each function does nothing: its contract is the law.
+
+ghost use Rattle.ob0_fields.specs.FieldLaws.{RefieldingKeepsFitting};
+
+/// Fields written anew, those of a record kept apart, keep a module's declarations and statements fitting.
+pub fn refielding_keeps_fitting()
+    ensures { RefieldingKeepsFitting }
+{}
