@@ -9,3 +9,5 @@ pub mod RefieldedExecution
 pub mod ScalarConstants
 pub mod RefieldedActivations
 pub mod RefieldedRuns
+pub mod RefieldedOnce
+pub mod Proved

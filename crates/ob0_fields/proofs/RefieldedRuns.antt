@@ -42,11 +42,14 @@ in_frame-goes l s o₁ o₂ n₁ n₂ h each = subst₂ (λ p q. Goes l (in_fram
     go None = inl refl
     go (Some f) = each f record { store = f.store; input = s.input; output = s.output }
 
+abbrev cut : ℕ → State → State
+cut n s = record { store = take n s.store; input = s.input; output = s.output }
+
 give_up-goes : (l : FieldNames) (n : ℕ) (p₁ p₂ : Progress) → Goes l p₁ p₂ → Goes l (give_up n p₁) (give_up n p₂)
 give_up-goes l n (running s₁) (running s₂) h = (
-  record { store = take n h.0.store; input = h.0.input; output = h.0.output },
-  ap (λ s. record s { store = take n s.store }) h.1 ∙ (λ i. record { store = take-map (value_by tagged) n h.0.store i; input = h.0.input; output = h.0.output }),
-  ap (λ s. record s { store = take n s.store }) h.2 ∙ (λ i. record { store = take-map (value_by l) n h.0.store i; input = h.0.input; output = h.0.output }),
+  cut n h.0,
+  ap (cut n) h.1 ∙ (λ i. record { store = take-map (value_by tagged) n h.0.store i; input = h.0.input; output = h.0.output }),
+  ap (cut n) h.2 ∙ (λ i. record { store = take-map (value_by l) n h.0.store i; input = h.0.input; output = h.0.output }),
 )
 give_up-goes l n (running s₁) (stopped e out) h = absurd h
 give_up-goes l n (stopped e out) p₂ h = go h
