@@ -11,3 +11,6 @@ pub mod RefieldedActivations
 pub mod RefieldedRuns
 pub mod RefieldedOnce
 pub mod Proved
+pub mod AgreeingFields
+pub mod AgreeingModules
+pub mod Exchange

@@ -1,5 +1,5 @@
 -- Steps of two runs: the first gets stuck, or both give what stands for one thing, or both end alike.
-use Rattle.std.proofs.Common.{◌≡◌, ℕ, zero, suc, Bool, true, false, List, [], ◌∷◌, map, ℤ, pos, negsuc, ◌+ℤ◌, ◌-ℤ◌, ◌*ℤ◌, neg_ℤ, ◌⊎◌, inl, inr, if◌then◌else◌, nat_lt, Some, None, Option, sym, refl, ap, ◌∙◌, subst, subst₂}
+use Rattle.std.proofs.Common.{◌≡◌, ℕ, zero, suc, Bool, true, false, ℤ, pos, negsuc, ◌+ℤ◌, ◌-ℤ◌, ◌*ℤ◌, neg_ℤ, ◌⊎◌, inl, inr, if◌then◌else◌, nat_lt, Some, None, Option, sym, refl, ap, subst₂}
 use Rattle.ob0_tree.specs.declared.tree.Relation.{Relation}
 use Rattle.ob0_tree.specs.declared.tree.Relation.TheVariants as relation
 use Rattle.ob0_tree.specs.declared.tree.Sign.{Sign}
@@ -9,9 +9,9 @@ use Rattle.ob0_tree.specs.declared.tree.AddOperator.TheVariants as add_operator
 use Rattle.ob0_tree.specs.declared.tree.MultiplyOperator.{MultiplyOperator}
 use Rattle.ob0_tree.specs.declared.tree.MultiplyOperator.TheVariants as multiply_operator
 use Rattle.ob0_types.specs.Expressions.{element_step}
-use Rattle.ob0_values.specs.Values.{End, Index, Outcome, Overflow, Step, Stuck, Value, Values, add, add_is_settled, at_index, compare_numbers, count_values, divided_by, elements, ends, fits, gives, in_range, members, multiply, multiply_is_settled, negated, number, or_stuck, quotient, relate, remainder, same_truth, signed, truth, ◌>>=◌}
+use Rattle.ob0_values.specs.Values.{Index, Outcome, Overflow, Step, Stuck, Value, add, add_is_settled, at_index, compare_numbers, count_values, divided_by, elements, ends, fits, gives, in_range, multiply, multiply_is_settled, negated, number, or_stuck, quotient, relate, remainder, same_truth, signed, truth, ◌>>=◌}
 use Rattle.ob0_fields.specs.Fields.{FieldNames}
-use Rattle.ob0_fields.proofs.Values.{Finds, Move, count_values-by, step_by, tagged, to_index, value_by, values_by}
+use Rattle.ob0_fields.proofs.Values.{Finds, count_values-by, step_by, tagged, to_index, value_by}
 
 abbrev pub Follows : {A X Y : Type 0} → (A → X) → (A → Y) → Outcome X → Outcome Y → Type 0
 Follows {A} f g (gives x) (gives y) = (a : A) × (x ≡ f a) × (y ≡ g a)

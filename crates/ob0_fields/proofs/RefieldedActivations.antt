@@ -1,24 +1,24 @@
 -- Two runs declare alike: one with tagged fields, the other with fields written anew.
-use Rattle.std.proofs.Common.{◌≡◌, ℕ, zero, suc, ◌+◌, Bool, true, false, List, [], ◌∷◌, ◌++◌, map, length, Some, None, Option, option_map, option_and_then, sym, refl, ap, ◌∙◌, subst, subst₂}
+use Rattle.std.proofs.Common.{◌≡◌, ℕ, zero, suc, ◌+◌, true, false, List, [], ◌∷◌, ◌++◌, map, length, Some, None, Option, option_map, option_and_then, sym, refl, ap, ◌∙◌, subst₂}
 use Rattle.std.proofs.lemmas.List.{length-map, map-append}
-use Rattle.ob0_tree.specs.Tree.{Tree, addend, adds, begins, block, body, compares, constant, constants, declares, declares_constant, declares_procedure, declares_type, declares_variable, designator, end, expression, factor, field, further_section, has_body, index, integer, item, items, maybe, more, multiplier, multiplies, negation, none, one, parenthesised, procedure, product, relates, section, simple, sum, term, then_section, type_name, type_names, value_section, variable, variable_section, variables, written_type}
+use Rattle.ob0_tree.specs.Tree.{Tree, block, body, constant, constants, declares, declares_constant, declares_type, declares_variable, end, expression, further_section, has_body, item, items, maybe, more, procedure, then_section, type_name, type_names, variable, variables, written_type}
 use Rattle.ob0_scope.specs.Names.{Name, as_names, same_name}
-use Rattle.ob0_scope.specs.Parts.{block_procedures, block_statements, block_variables, names_listed, procedure_formals, procedure_name, section_constants, section_names, section_type, section_types, section_variables}
-use Rattle.ob0_types.specs.Declarations.{after_types, after_variables, declare_constants, declare_first, declare_types, procedure_constructors}
+use Rattle.ob0_scope.specs.Parts.{names_listed, procedure_formals, procedure_name, section_constants, section_type, section_types, section_variables}
+use Rattle.ob0_types.specs.Declarations.{after_types, after_variables, declare_constants, declare_types, procedure_constructors}
 use Rattle.ob0_types.specs.Environments.{from_binding, meanings, newest}
-use Rattle.ob0_types.specs.Expressions.{Meanings, Object, a_constant, a_procedure, a_standard, a_type, a_variable}
+use Rattle.ob0_types.specs.Expressions.{Object, a_constant, a_procedure, a_standard, a_type, a_variable}
 use Rattle.ob0_types.specs.Typing.{constant_of, constant_value, constructors, denoted, type_of_name}
-use Rattle.ob0_types.specs.WellTyped.{Mode, TypeEnvironment, bind_typed, by_place, by_value, section_mode}
-use Rattle.ob0_values.specs.Values.{FieldShapes, Place, Shape, Store, Value, Values, array_shape, boolean_shape, copies, elements, initial, initial_members, integer_shape, members, next_field_shape, next_member, next_value, no_field_shape, record_shape}
-use Rattle.ob0_run.specs.Runs.{Activation, Argument, Code, Frame, Parameter, allocate, bind_parameter, bind_parameters, declare_block, declare_procedures, declare_variables, formal_modes, parameters, passing, statement_meanings, with_procedures}
-use Rattle.ob0_fields.specs.Fields.{FieldNames, behind_heading, behind_procedures, behind_variables, parameters_of, refield, refield_block, refield_procedure, refield_procedures, refield_sections, refield_type, refield_types, refield_variables}
+use Rattle.ob0_types.specs.WellTyped.{Mode, TypeEnvironment, bind_typed, by_place, by_value}
+use Rattle.ob0_values.specs.Values.{FieldShapes, Shape, Store, Value, array_shape, boolean_shape, copies, elements, initial, initial_members, integer_shape, members, next_field_shape, next_member, next_value, no_field_shape, record_shape}
+use Rattle.ob0_run.specs.Runs.{Activation, Code, Frame, Parameter, allocate, bind_parameter, bind_parameters, declare_block, declare_procedures, declare_variables, formal_modes, parameters, passing, statement_meanings, with_procedures}
+use Rattle.ob0_fields.specs.Fields.{FieldNames, behind_heading, behind_variables, parameters_of, refield_block, refield_procedure, refield_procedures, refield_sections, refield_type, refield_types, refield_variables}
 use Rattle.ob0_fields.proofs.Apart.{fields_by, named, shape_by}
 use Rattle.ob0_fields.proofs.RefieldedExecution.{Given, Modes, argument_by, place_given, value_given}
 use Rattle.ob0_fields.proofs.RefieldedExpressions.{Scalar, Thing, Things, active, constant_thing, procedure_thing, scalar_value, standard_thing, thing_by, type_thing, variable_thing}
-use Rattle.ob0_fields.proofs.RefieldedModules.{procedure_constructors-refield, procedure_formals-refield, procedure_name-refield, section_constructors-refield, section_mode-refield, section_names-refield, section_types-refield, section_variables-refield, types_count-refield, variables_count-refield}
+use Rattle.ob0_fields.proofs.RefieldedModules.{procedure_constructors-refield, procedure_formals-refield, procedure_name-refield, section_mode-refield, section_names-refield, section_types-refield, section_variables-refield, types_count-refield, variables_count-refield}
 use Rattle.ob0_fields.proofs.RefieldedTypes.{constant_value-alike, constructors-refield, denoted-refield}
 use Rattle.ob0_fields.proofs.ScalarConstants.{constant_value-scalar}
-use Rattle.ob0_fields.proofs.Values.{Spot, members_by, place_by, store_by, tagged, value_by, values_by}
+use Rattle.ob0_fields.proofs.Values.{Spot, members_by, store_by, tagged, value_by, values_by}
 
 -- a procedure in both runs: its text, the ordinal of the first ARRAY or RECORD in it, and what names stand for in its block when it is checked
 pub record Text : Type 0 where

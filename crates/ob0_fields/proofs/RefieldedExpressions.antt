@@ -1,16 +1,16 @@
 -- Two runs evaluate an expression alike: one with tagged fields, the other with fields written anew.
-use Rattle.std.proofs.Common.{◌≡◌, ℤ, Bool, List, [], ◌∷◌, ◌++◌, map, inl, inr, pos, true, false, Some, None, Option, option_map, sym, refl, ap, ◌∙◌, subst, subst₂}
+use Rattle.std.proofs.Common.{◌≡◌, ℤ, Bool, List, [], ◌∷◌, ◌++◌, map, inl, pos, true, false, Some, None, Option, option_map, sym, refl}
 use Rattle.std.proofs.lemmas.List.{map-append}
 use Rattle.ob0_tree.specs.Tree.{Tree, addend, adds, compares, designator, end, expression, factor, field, index, integer, items, more, multiplier, multiplies, negation, none, one, parenthesised, product, relates, selector, simple, sum, term}
 use Rattle.ob0_scope.specs.Names.{Name}
 use Rattle.ob0_types.specs.Expressions.{Meanings, Object, Standard, a_constant, a_procedure, a_standard, a_type, a_variable, designate, element_step, evaluate, evaluate_addends, evaluate_factor, evaluate_multipliers, evaluate_simple, evaluate_term, follow, place_of, value_of}
 use Rattle.ob0_types.specs.Typing.{object_type}
 use Rattle.ob0_types.specs.WellTyped.{Typed}
-use Rattle.ob0_values.specs.Values.{Outcome, Place, Shape, Step, Store, Value, add, add_is_settled, at_field, at_path, gives, multiply, multiply_is_settled, negated, number, or_stuck, part, read_place, relate, signed, truth, ◌>>=◌}
+use Rattle.ob0_values.specs.Values.{Outcome, Place, Shape, Step, Store, Value, add, add_is_settled, at_path, gives, multiply, multiply_is_settled, negated, number, or_stuck, part, read_place, relate, signed, truth, ◌>>=◌}
 use Rattle.ob0_fields.specs.Fields.{FieldNames, behind, record_of, refield}
 use Rattle.ob0_fields.specs.FieldLaws.{KeepsApart}
 use Rattle.ob0_fields.proofs.Apart.{named, shape_by}
-use Rattle.ob0_fields.proofs.Outcomes.{Follows, MovesFollow, ValuesFollow, add-follows, add_is_settled-by, element_step-follows, follows-then, multiply-follows, multiply_is_settled-by, negated-follows, or_stuck-follows, relate-follows, settled-follows, signed-follows}
+use Rattle.ob0_fields.proofs.Outcomes.{Follows, ValuesFollow, add-follows, add_is_settled-by, element_step-follows, follows-then, multiply-follows, multiply_is_settled-by, negated-follows, or_stuck-follows, relate-follows, settled-follows, signed-follows}
 use Rattle.ob0_fields.proofs.Values.{Move, Spot, at_path-finds, part-finds, place_by, read_place-finds, step_by, store_by, tagged, to_field, value_by}
 
 -- the value of a constant

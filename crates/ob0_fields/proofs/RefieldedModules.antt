@@ -1,17 +1,17 @@
 -- A module fits exactly where it fits with its fields written anew.
 use Rattle.std.proofs.Common.{◌≡◌, ℕ, ◌+◌, true, false, ◌&&◌, List, [], ◌∷◌, ◌++◌, map, Some, None, Option, option_map, option_and_then, unwrap_or, refl, ap, ◌∙◌}
-use Rattle.ob0_tree.specs.Tree.{Tree, begins, block, body, constant, declares, declares_constant, declares_procedure, declares_type, declares_types, declares_variable, declares_variables, end, expression, formals, further_section, has_body, is_module, item, items, maybe, module_text, more, no_formals, none, one, procedure, section, some_formals, then_section, type_name, type_names, value_section, variable, variable_section, variables, written_type}
+use Rattle.ob0_tree.specs.Tree.{Tree, begins, block, body, constant, declares, declares_constant, declares_procedure, declares_type, declares_types, declares_variable, declares_variables, end, formals, further_section, has_body, is_module, item, items, maybe, more, no_formals, none, one, procedure, section, some_formals, then_section, type_name, type_names, value_section, variable, variable_section, variables, written_type}
 use Rattle.ob0_scope.specs.Names.{Name, as_names, same_name}
 use Rattle.ob0_scope.specs.Parts.{formal_sections, names_listed, procedure_formals, procedure_name, section_constants, section_names, section_type, section_types, section_variables}
 use Rattle.ob0_types.specs.Declarations.{after_formals, after_types, after_variables, block_constructors, declare_constants, declare_first, declare_types, formals_constructors, procedure_constructors, procedures_constructors, types_constructors, variables_constructors}
 use Rattle.ob0_types.specs.Environments.{from_binding, meanings, newest, outermost}
 use Rattle.ob0_types.specs.Expressions.{Object, a_constant, a_procedure, a_type, a_variable}
 use Rattle.ob0_types.specs.Typing.{constant_of, constant_value, constructors, denoted, type_of_name}
-use Rattle.ob0_types.specs.WellTyped.{Formal, Mode, Signature, TypeEnvironment, TypedParameter, bind_names, bind_typed, block_fits, body_fits, declare_typed, fits_over, heading, hold, procedure_fits, procedures_fit, section_mode, sequence_fits, typed_parameters}
+use Rattle.ob0_types.specs.WellTyped.{Mode, Signature, TypeEnvironment, TypedParameter, bind_names, bind_typed, block_fits, body_fits, declare_typed, fits_over, heading, hold, procedure_fits, procedures_fit, section_mode, sequence_fits, typed_parameters}
 use Rattle.ob0_values.specs.Values.{Shape}
 use Rattle.ob0_fields.specs.Fields.{FieldNames, behind_heading, behind_procedures, behind_variables, parameters_of, refield, refield_block, refield_formals, refield_procedure, refield_procedures, refield_section, refield_sections, refield_type, refield_type_section, refield_types, refield_variable_section, refield_variables}
 use Rattle.ob0_fields.specs.FieldLaws.{KeepsApart, RefieldingKeepsFitting}
-use Rattle.ob0_fields.proofs.Apart.{constant_of-by, each-then, formal_by, map-then, named, named_by, object_by, shape_by, type_of_name-by}
+use Rattle.ob0_fields.proofs.Apart.{constant_of-by, each-then, formal_by, map-then, named, object_by, shape_by, type_of_name-by}
 use Rattle.ob0_fields.proofs.RefieldedTypes.{constant_value-alike, constructors-refield, denoted-refield}
 use Rattle.ob0_fields.proofs.RefieldedStatements.{sequence_fits-refield}
 
@@ -232,9 +232,9 @@ mutual
       ≡ hold o (λ qs. procedure_fits as_names (bind_typed qs (heading (procedure_name p) qs env)) k p && procedures_fit as_names (heading (procedure_name p) qs env) (k + procedure_constructors p) statements rest)) [
         | None ↦ refl
         | Some qs ↦
-          (λ i. procedure_fits as_names ((ap (bind_typed (map (parameter_by l) qs)) (heading-by l (procedure_name p) qs env) ∙ bind_typed-by l qs (heading (procedure_name p) qs env)) i) k (refield_procedure l (bind_typed qs (heading (procedure_name p) qs env)) k p)
-          && procedures_fit as_names (heading-by l (procedure_name p) qs env i) (k + procedure_constructors p) (refield l (meanings as_names (behind_procedures (heading (procedure_name p) qs env) (k + procedure_constructors p) rest)) None statements) (refield_procedures l (heading (procedure_name p) qs env) (k + procedure_constructors p) rest))
-          ∙ (λ i. procedure_fits-refield l apart (bind_typed qs (heading (procedure_name p) qs env)) k p i && procedures_fit-refield l apart (heading (procedure_name p) qs env) (k + procedure_constructors p) statements rest i)
+            (λ i. procedure_fits as_names ((ap (bind_typed (map (parameter_by l) qs)) (heading-by l (procedure_name p) qs env) ∙ bind_typed-by l qs (heading (procedure_name p) qs env)) i) k (refield_procedure l (bind_typed qs (heading (procedure_name p) qs env)) k p)
+            && procedures_fit as_names (heading-by l (procedure_name p) qs env i) (k + procedure_constructors p) (refield l (meanings as_names (behind_procedures (heading (procedure_name p) qs env) (k + procedure_constructors p) rest)) None statements) (refield_procedures l (heading (procedure_name p) qs env) (k + procedure_constructors p) rest))
+            ∙ (λ i. procedure_fits-refield l apart (bind_typed qs (heading (procedure_name p) qs env)) k p i && procedures_fit-refield l apart (heading (procedure_name p) qs env) (k + procedure_constructors p) statements rest i)
       ]))
 
   pub procedure_fits-refield : (l : FieldNames) → KeepsApart l → (env : TypeEnvironment Name) (k : ℕ) (p : Tree Name (item procedure)) → procedure_fits as_names (env_by l env) k (refield_procedure l env k p) ≡ procedure_fits as_names env k p

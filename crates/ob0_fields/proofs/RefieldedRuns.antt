@@ -5,17 +5,17 @@ use Rattle.ob0_tree.specs.Tree.{Tree, begins, block, body, declares, declares_pr
 use Rattle.ob0_scope.specs.Names.{Name, as_names}
 use Rattle.ob0_scope.specs.Parts.{block_procedures, block_statements, formal_sections}
 use Rattle.ob0_types.specs.Declarations.{after_variables, formals_constructors}
-use Rattle.ob0_types.specs.Environments.{from_binding, meanings, outermost}
-use Rattle.ob0_types.specs.Expressions.{a_procedure, reads, writes, writes_line}
+use Rattle.ob0_types.specs.Environments.{meanings, outermost}
+use Rattle.ob0_types.specs.Expressions.{reads, writes, writes_line}
 use Rattle.ob0_types.specs.WellTyped.{TypeEnvironment, Typed, fits_over}
-use Rattle.ob0_values.specs.Values.{End, Store, Stuck, boolean_shape, integer_shape}
-use Rattle.ob0_run.specs.Runs.{Activation, Argument, Calls, Frame, Progress, State, activate, bind_parameters, call, declare_block, execute_all, execute_body, finished, give_up, in_frame, parameters, run, run_over, running, stopped}
+use Rattle.ob0_values.specs.Values.{Stuck, boolean_shape, integer_shape}
+use Rattle.ob0_run.specs.Runs.{Activation, Calls, Frame, Progress, State, activate, bind_parameters, call, declare_block, execute_all, execute_body, finished, give_up, in_frame, parameters, run_over, running, stopped}
 use Rattle.ob0_run.proofs.SoundCalls.{fitting-run}
-use Rattle.ob0_fields.specs.Fields.{FieldNames, behind_procedures, behind_variables, refield, refield_block, refield_formals, refielded}
+use Rattle.ob0_fields.specs.Fields.{FieldNames, behind_procedures, behind_variables, refield, refield_block, refielded}
 use Rattle.ob0_fields.specs.FieldLaws.{KeepsApart}
-use Rattle.ob0_fields.proofs.RefieldedActivations.{Both, FramesBoth, Scene, Stage, Text, bind_parameters-both, both-then, code_by, declare_block-both, env_as, frame_by, from_binding-as, meanings-as, newest_thing, parameters-refield, scene_from, things_in}
-use Rattle.ob0_fields.proofs.RefieldedExecution.{Alike, CallsAlike, EntersAlike, Given, Goes, argument_by, execute_all-alike, state_by}
-use Rattle.ob0_fields.proofs.RefieldedExpressions.{Thing, constant_thing, logical, procedure_thing, standard_thing, thing_by, type_thing, variable_thing}
+use Rattle.ob0_fields.proofs.RefieldedActivations.{FramesBoth, Scene, Stage, bind_parameters-both, both-then, declare_block-both, env_as, frame_by, from_binding-as, meanings-as, parameters-refield, scene_from, things_in}
+use Rattle.ob0_fields.proofs.RefieldedExecution.{Alike, CallsAlike, Given, Goes, argument_by, execute_all-alike, state_by}
+use Rattle.ob0_fields.proofs.RefieldedExpressions.{constant_thing, logical, procedure_thing, standard_thing, type_thing, variable_thing}
 use Rattle.ob0_fields.proofs.RefieldedModules.{formal_sections-refield, formals_count-refield, refielding_keeps_fitting-holds}
 use Rattle.ob0_fields.proofs.Values.{store_by, tagged, tagged-apart, value_by}
 

@@ -1,5 +1,5 @@
 -- Types of expressions, and types that texts denote, with fields written anew.
-use Rattle.std.proofs.Common.{◌≡◌, ℕ, suc, ◌+◌, List, [], ◌∷◌, map, Some, None, Option, option_map, option_and_then, refl, ap, ◌∙◌, sym}
+use Rattle.std.proofs.Common.{◌≡◌, ℕ, suc, ◌+◌, ◌∷◌, map, Some, None, Option, option_map, option_and_then, refl, ap, ◌∙◌, sym}
 use Rattle.ob0_tree.specs.Tree.{Tree, addend, adds, array_type, compares, designator, end, expression, factor, field, fields, further_fields, further_name, index, integer, items, listed, more, multiplier, multiplies, named_type, names, negation, no_fields, none, one, parenthesised, product, record_type, relates, selector, simple, some_fields, sum, term, then_fields, then_name, written_type}
 use Rattle.ob0_scope.specs.Mapping.{with_names}
 use Rattle.ob0_scope.specs.Names.{Name}
@@ -9,8 +9,8 @@ use Rattle.ob0_types.specs.Expressions.{Object}
 use Rattle.ob0_types.specs.Typing.{add_type, array_length, complement_type, constant_of, constant_value, constructors, denoted, denoted_group, denoted_groups, element_type, field_type, group_constructors, groups_constructors, multiply_type, object_type, relation_type, sign_type, type_at, type_of, type_of_addends, type_of_factor, type_of_multipliers, type_of_name, type_of_simple, type_of_term, with_fields, within_limits}
 use Rattle.ob0_types.specs.WellTyped.{Signature}
 use Rattle.ob0_types.proofs.TypeNaturality.{constant_value-map}
-use Rattle.ob0_values.specs.Values.{FieldShapes, Shape, array_shape, boolean_shape, integer_shape, record_shape}
-use Rattle.ob0_fields.specs.Fields.{FieldNames, behind, refield, refield_group, refield_groups, refield_type}
+use Rattle.ob0_values.specs.Values.{FieldShapes, Shape, array_shape, integer_shape, record_shape}
+use Rattle.ob0_fields.specs.Fields.{FieldNames, refield, refield_group, refield_groups, refield_type}
 use Rattle.ob0_fields.specs.FieldLaws.{KeepsApart}
 use Rattle.ob0_fields.proofs.Apart.{add_type-by, complement_type-by, each-then, field_type-by, fields_by, map-then, multiply_type-by, named, named_by, object_type-by, relation_type-by, shape_by, sign_type-by, with_fields-by, within_limits-by}
 

@@ -1,6 +1,6 @@
 //! The laws. Each function does nothing: its contract is the law.
 
-ghost use Rattle.ob0_fields.specs.FieldLaws.{RefieldingKeepsFitting, RefieldingKeepsModules};
+ghost use Rattle.ob0_fields.specs.FieldLaws.{FreeFieldKeepsModules, RefieldingKeepsFitting, RefieldingKeepsModules};
 
 /// Fields written anew, those of a record kept apart, keep a module's declarations and statements fitting.
 pub fn refielding_keeps_fitting()
@@ -10,4 +10,9 @@ pub fn refielding_keeps_fitting()
 /// Fields written anew, those of a record kept apart, keep a module well-typed, and its runs.
 pub fn refielding_keeps_modules()
     ensures { RefieldingKeepsModules }
+{}
+
+/// Where a new name for a field is free, the module with that field renamed is well-typed where the module was, and has its runs.
+pub fn free_field_keeps_modules()
+    ensures { FreeFieldKeepsModules }
 {}
