@@ -14,3 +14,4 @@ pub mod Proved
 pub mod AgreeingFields
 pub mod AgreeingModules
 pub mod Exchange
+pub mod WorkedFields
