@@ -9,7 +9,7 @@ use Rattle.ob0_types.specs.WellTyped.{WellTyped}
 use Rattle.ob0_run.specs.EditLaws.{SameRuns}
 use Rattle.ob0_fields.specs.Fields.{FieldNames, refielded}
 use Rattle.ob0_fields.specs.FieldLaws.{FreeFieldKeepsModules, KeepsApart}
-use Rattle.ob0_fields.specs.Renaming.{FieldFree, RecordFields, field_renamed, one_renamed, records}
+use Rattle.ob0_fields.specs.Renaming.{FieldFree, RecordFields, field_renamed, names_another_field, one_renamed, records}
 use Rattle.ob0_fields.proofs.AgreeingFields.{NamesAgree, RecordsAgree}
 use Rattle.ob0_fields.proofs.AgreeingModules.{module-alike}
 use Rattle.ob0_fields.proofs.Proved.{refielding_keeps_modules-holds}
@@ -81,16 +81,16 @@ or-false : (p q : Bool) → (p || q) ≡ false → (p ≡ false) × (q ≡ false
 or-false true q h = absurd (cc)
 or-false false q h = (refl, h)
 
-names-agree : (r : ℕ) (f new : Name) (k : ℕ) (xs : List Name) → ((k == r) && list_any (λ x. same_name x new && not (same_name x f)) xs) ≡ false → NamesAgree (one_renamed r f new) (exchanged r f new) k xs
+names-agree : (r : ℕ) (f new : Name) (k : ℕ) (xs : List Name) → ((k == r) && names_another_field xs f new) ≡ false → NamesAgree (one_renamed r f new) (exchanged r f new) k xs
 names-agree r f new k [] h = tt
 names-agree r f new k (x ∷ xs) h =
-    let g = and-or-false (k == r) (same_name x new && not (same_name x f)) (list_any (λ x. same_name x new && not (same_name x f)) xs) h in
+    let g = and-or-false (k == r) (same_name x new && not (same_name x f)) (names_another_field xs f new) h in
     (agree-cases f new x (k == r) (same_name x f) (same_name x new) g.0, names-agree r f new k xs g.1)
 
-records-agree : (r : ℕ) (f new : Name) (ts : List RecordFields) → list_any (λ t. (t.ordinal == r) && list_any (λ x. same_name x new && not (same_name x f)) t.declared) ts ≡ false → RecordsAgree (one_renamed r f new) (exchanged r f new) ts
+records-agree : (r : ℕ) (f new : Name) (ts : List RecordFields) → list_any (λ t. (t.ordinal == r) && names_another_field t.declared f new) ts ≡ false → RecordsAgree (one_renamed r f new) (exchanged r f new) ts
 records-agree r f new [] h = tt
 records-agree r f new (t ∷ ts) h =
-    let g = or-false ((t.ordinal == r) && list_any (λ x. same_name x new && not (same_name x f)) t.declared) (list_any (λ t. (t.ordinal == r) && list_any (λ x. same_name x new && not (same_name x f)) t.declared) ts) h in
+    let g = or-false ((t.ordinal == r) && names_another_field t.declared f new) (list_any (λ t. (t.ordinal == r) && names_another_field t.declared f new) ts) h in
     (names-agree r f new t.ordinal t.declared g.0, records-agree r f new ts g.1)
 
 pub renamed-exchanged : (m : Tree Name module_text) (r : ℕ) (f new : Name) → FieldFree m r f new → WellTyped m → field_renamed m r f new ≡ refielded (exchanged r f new) m

@@ -15,3 +15,4 @@ pub mod AgreeingFields
 pub mod AgreeingModules
 pub mod Exchange
 pub mod WorkedFields
+pub mod ByToken

@@ -1,14 +1,13 @@
 -- Worked renames of fields: which identifiers get the new name, and which new names are free.
-use Rattle.std.proofs.Common.{◌≡◌, true, not, ◌&&◌, [], ◌∷◌, None, codes, refl, ◌==◌}
+use Rattle.std.proofs.Common.{◌≡◌, true, [], ◌∷◌, None, codes, refl}
 use Rattle.ob0_tree.specs.Tree.{Tree, adds, array_type, assigns, begins, calls, declares, declares_procedure, declares_type, declares_types, declares_variable, declares_variables, designator, end, field, has_body, index, integer, is_module, listed, module_text, more, named_type, none, one, product, record_type, runs, some_arguments, some_fields, some_formals, sum, compares, then_argument, then_fields, then_name, then_section, then_statement, value_section, variable_section}
 use Rattle.ob0_tree.specs.declared.tree.AddOperator.TheVariants as add_operator
-use Rattle.std.specs.List.{list_any}
-use Rattle.ob0_scope.specs.Names.{Name, same_name}
+use Rattle.ob0_scope.specs.Names.{Name}
 use Rattle.ob0_scope.proofs.WorkedTrees as worked
 use Rattle.ob0_scope.proofs.WorkedTrees.{alone}
 use Rattle.ob0_types.specs.Declarations.{declare_first}
 use Rattle.ob0_types.specs.WellTyped.{declare_typed, typed_parameters}
-use Rattle.ob0_fields.specs.Renaming.{FieldFree, field_renamed, records}
+use Rattle.ob0_fields.specs.Renaming.{FieldFree, field_renamed, is_duplicate_field, records}
 
 -- TYPE R = RECORD a, b: INTEGER END; VAR r: R; s: RECORD a: INTEGER END; a: INTEGER; BEGIN r.a := 1; s.a := 2; a := r.a + s.a; Write(a) END M.
 -- The field a of R to c: its declaration, and the two selectors behind r
@@ -37,7 +36,7 @@ pub second_record-free : FieldFree worked.records 1 (codes "a") (codes "b")
 second_record-free = refl
 
 -- a to b isn't: the record has that field
-pub to_b-taken : list_any (λ t. (t.ordinal == 0) && list_any (λ x. same_name x (codes "b") && not (same_name x (codes "a"))) t.declared) (records worked.records) ≡ true
+pub to_b-taken : is_duplicate_field worked.records 0 (codes "a") (codes "b") ≡ true
 to_b-taken = refl
 
 -- TYPE P = RECORD x: INTEGER; q: ARRAY 2 OF RECORD x: INTEGER END END; VAR p: P; PROCEDURE S(VAR r: P; x: INTEGER); BEGIN r.q[r.x].x := x END S; BEGIN S(p, p.x) END M.

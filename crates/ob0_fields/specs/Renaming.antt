@@ -1,5 +1,5 @@
 -- The renaming of a record's field.
-use Rattle.std.specs.Prelude.{◌≡◌, ℕ, suc, ◌+◌, false, not, ◌&&◌, List, [], ◌∷◌, ◌++◌, if◌then◌else◌, ◌==◌}
+use Rattle.std.specs.Prelude.{◌≡◌, ℕ, suc, ◌+◌, Bool, false, not, ◌&&◌, List, [], ◌∷◌, ◌++◌, if◌then◌else◌, ◌==◌}
 use Rattle.std.specs.List.{list_any}
 use Rattle.ob0_tree.specs.Tree.{Tree, array_type, block, declares_procedure, declares_type, declares_variable, end, fields, further_fields, further_section, has_body, declares, item, items, module_text, more, named_type, no_fields, procedure, record_type, some_fields, then_fields, then_section, type_name, variable, written_type}
 use Rattle.ob0_scope.specs.DeclaredOnce.{group_fields, groups_fields}
@@ -71,6 +71,14 @@ abbrev mutual
 abbrev pub records : Tree Name module_text → List RecordFields
 records m = records_in_block 0 (module_block m)
 
+-- another of the fields than f has the name
+abbrev pub names_another_field : List Name → Name → Name → Bool
+names_another_field xs f new = list_any (λ x. same_name x new && not (same_name x f)) xs
+
+-- another field of the record r than f has the name
+abbrev pub is_duplicate_field : Tree Name module_text → ℕ → Name → Name → Bool
+is_duplicate_field m r f new = list_any (λ t. (t.ordinal == r) && names_another_field t.declared f new) (records m)
+
 -- a new name for the field f of the record r is free: no other field of that record has it
 abbrev pub FieldFree : Tree Name module_text → ℕ → Name → Name → Type 0
-FieldFree m r f new = list_any (λ t. (t.ordinal == r) && list_any (λ x. same_name x new && not (same_name x f)) t.declared) (records m) ≡ false
+FieldFree m r f new = is_duplicate_field m r f new ≡ false
