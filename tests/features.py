@@ -14,8 +14,8 @@ BUILT = {
     "hover": False,
     "fields": False,  # questions at fields of records
     "run": True,  # `ob0 run`
-    "rename": False,  # rename
-    "rename command": False,  # `ob0 rename`
+    "rename": True,  # rename
+    "rename command": True,  # `ob0 rename`
     "rename fields": False,  # rename of a record's field
     "inline": False,  # code actions
     "format": True,  # formatting
