@@ -1,2 +1,1 @@
-pub mod RanTexts
 mod Renames
