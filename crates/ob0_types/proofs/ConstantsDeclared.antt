@@ -1,14 +1,14 @@
 -- The value of a constant by its ordinal is what its declaration is bound to in the numbered tree.
-use Rattle.std.proofs.Common.{◌≡◌, ℕ, zero, suc, ◌+◌, ◌<◌, ◌≤◌, ◌==◌, Bool, true, false, cond, if◌then◌else◌, nat_lt, ◌&&◌, List, [], ◌∷◌, ◌++◌, map, Some, None, Option, option_map, option_and_then, refl, sym, ap, ◌∙◌, subst, subst₂, append_assoc, arith, le_refl, le_of_lt, lit<, eq-eqb, eqb-true, true≢false}
+use Rattle.std.proofs.Common.{◌≡◌, ℕ, suc, ◌+◌, ◌<◌, ◌≤◌, ◌==◌, Bool, true, false, cond, if◌then◌else◌, nat_lt, ◌&&◌, List, [], ◌∷◌, ◌++◌, map, Some, None, Option, option_map, option_and_then, refl, sym, ap, ◌∙◌, subst, subst₂, append_assoc, arith, le_refl, le_of_lt, lit<, eq-eqb, eqb-true, true≢false}
 use Rattle.std.proofs.lemmas.Bool.{and_parts, le-ltb, lt-ltb, ltb-false, ltb-true, ne_eqb}
 use Rattle.std.proofs.lemmas.List.{append-nil}
 use Rattle.ob0_tree.specs.Tree.{Tree, block, body, constant, declares, declares_constant, declares_procedure, declares_type, declares_variable, end, expression, formals, has_body, is_module, item, items, maybe, module_text, more, procedure, type_name, variable}
 use Rattle.ob0_scope.specs.Names.{Label, Name, as_labels, as_names, declared, same_label, same_name}
-use Rattle.ob0_scope.specs.Parts.{block_constants, block_procedures, block_statements, block_types, block_variables, constant_names, formal_names, formal_sections, module_block, named_types, names_listed, procedure_formals, section_constants, section_types, section_variables, variable_names}
-use Rattle.ob0_scope.specs.Scopes.{Scope, after_block, after_names, after_procedure, after_procedures, as_label, declare_names, first_procedure, first_type, first_variable, numbered, procedures_scope, relabel_block, relabel_constants, relabel_formals, relabel_names, relabel_procedure, relabel_procedures, relabel_sections, relabel_types, relabel_uses, relabel_variables, types_scope, variables_scope}
+use Rattle.ob0_scope.specs.Parts.{block_constants, block_procedures, block_statements, block_types, block_variables, constant_names, formal_names, formal_sections, module_block, named_types, names_listed, section_constants, section_types, section_variables, variable_names}
+use Rattle.ob0_scope.specs.Scopes.{Scope, after_block, after_names, after_procedure, after_procedures, as_label, declare_names, first_procedure, first_type, first_variable, numbered, procedures_scope, relabel_block, relabel_constants, relabel_formals, relabel_names, relabel_procedures, relabel_sections, relabel_types, relabel_uses, relabel_variables, types_scope, variables_scope}
 use Rattle.ob0_scope.proofs.Ordinals.{after_names-append, declare_names-append, le-after_names, le-after_block, le-after_procedure, le-after_procedures}
 use Rattle.ob0_scope.proofs.Relabelled.{constants-section, formals-section, names-relabel, types-section, variables-section}
-use Rattle.ob0_types.specs.Bindings.{block_bindings, declared_object, for_some, module_bindings, object_bound, procedure_bindings, procedures_bindings, since}
+use Rattle.ob0_types.specs.Bindings.{block_bindings, declared_object, for_some, object_bound, procedure_bindings, procedures_bindings, since}
 use Rattle.ob0_types.specs.Checking.{declare_block, declare_procedure}
 use Rattle.ob0_types.specs.ConstantValues.{Known, known_object, no_constant, predeclared_known, value_among, value_in_block, value_in_procedure, value_in_procedures, value_of_constant}
 use Rattle.ob0_types.specs.Declarations.{after_types, after_variables, declare_constants, declare_first, declare_types, formals_constructors, procedure_constructors}
@@ -27,23 +27,23 @@ use Rattle.ob0_types.proofs.TypedElsewhere.{then_some}
 use Rattle.ob0_types.proofs.TypeNaturality.{constant_value-map}
 use Rattle.ob0_types.proofs.TypesByOrdinal.{TypeNoted, TypedBelow, TypedBelow-weaken, TypedWithin, bind_names-by_ordinal, bind_typed-by_ordinal, label_typed, label_typed-formals, noted_names, noted_parameters, parameters_typed, typed_by_name, typed_by_ordinal, typed_label, typed_meanings-agree, typed_names, typed_outermost, typed_scope}
 
-abbrev worth : TypeEnvironment Label → ℕ → Option Value
+abbrev pub worth : TypeEnvironment Label → ℕ → Option Value
 worth env d = constant_of (object_bound env d)
 
 -- bindings of ordinals from k on and below n alone
-abbrev Binds : ℕ → ℕ → TypeEnvironment Label → Type 0
+abbrev pub Binds : ℕ → ℕ → TypeEnvironment Label → Type 0
 Binds k n [] = Unit {0}
 Binds k n (b ∷ env) = ((i : ℕ) × (b.0 ≡ declared i) × (k ≤ i) × (i < n)) × Binds k n env
 
-binds-append : (k n : ℕ) (xs ys : TypeEnvironment Label) → Binds k n xs → Binds k n ys → Binds k n (xs ++ ys)
+pub binds-append : (k n : ℕ) (xs ys : TypeEnvironment Label) → Binds k n xs → Binds k n ys → Binds k n (xs ++ ys)
 binds-append k n [] ys a b = b
 binds-append k n (x ∷ xs) ys a b = (a.0, binds-append k n xs ys a.1 b)
 
-binds-wider : (k n j m : ℕ) (xs : TypeEnvironment Label) → j ≤ k → n ≤ m → Binds k n xs → Binds j m xs
+pub binds-wider : (k n j m : ℕ) (xs : TypeEnvironment Label) → j ≤ k → n ≤ m → Binds k n xs → Binds j m xs
 binds-wider k n j m [] l h a = tt
 binds-wider k n j m (x ∷ xs) l h a = ((a.0.0, a.0.1, omega (arith, l, a.0.2), omega (arith, h, a.0.3)), binds-wider k n j m xs l h a.1)
 
-bound-elsewhere : (k n d : ℕ) (xs env : TypeEnvironment Label) → Binds k n xs → (k ≤ d → d < n → ⊥) → object_bound (xs ++ env) d ≡ object_bound env d
+pub bound-elsewhere : (k n d : ℕ) (xs env : TypeEnvironment Label) → Binds k n xs → (k ≤ d → d < n → ⊥) → object_bound (xs ++ env) d ≡ object_bound env d
 bound-elsewhere k n d [] env b h = refl
 bound-elsewhere k n d ((x, o) ∷ xs) env b h =
     newest-if (same_label (declared d) x) x o (xs ++ env) (from_binding as_labels (xs ++ env) (declared d))
@@ -54,14 +54,14 @@ or-none : {A : Type 0} (o : Option A) → or_else o None ≡ o
 or-none None = refl
 or-none (Some a) = refl
 
-bound-first : (k n d : ℕ) (xs ys : TypeEnvironment Label) → Binds k n ys → (k ≤ d → d < n → ⊥) → object_bound (xs ++ ys) d ≡ object_bound xs d
+pub bound-first : (k n d : ℕ) (xs ys : TypeEnvironment Label) → Binds k n ys → (k ≤ d → d < n → ⊥) → object_bound (xs ++ ys) d ≡ object_bound xs d
 bound-first k n d xs ys b h =
     newest-append xs ys (declared d)
     ∙ ap (or_else (object_bound xs d)) (ap (λ e. object_bound e d) (sym (append-nil ys)) ∙ bound-elsewhere k n d ys [] b h)
     ∙ or-none (object_bound xs d)
 
 -- bindings of no constant
-abbrev AllPlain : TypeEnvironment Label → Type 0
+abbrev pub AllPlain : TypeEnvironment Label → Type 0
 AllPlain [] = Unit {0}
 AllPlain (b ∷ env) = (constant_of (Some b.1) ≡ None) × AllPlain env
 
@@ -76,7 +76,7 @@ plain-worth ((x, o) ∷ env) d a =
     ∙ (elim (same_label (declared d) x) as (λ t. constant_of (cond t (Some o) (object_bound env d)) ≡ None) [ true ↦ a.0 | false ↦ plain-worth env d a.1 ])
 
 -- the same constants are known
-abbrev Knows : Known → TypeNoted Name → Type 0
+abbrev pub Knows : Known → TypeNoted Name → Type 0
 Knows known noted = (x : Name) → constant_of (newest (from_binding as_names known x)) ≡ constant_of (newest (from_binding as_names (typed_by_name noted) x))
 
 knows-more : (known : Known) (noted : TypeNoted Name) (x : Name) (k : ℕ) (o : Object (Unit {0}) (Unit {0})) (p : Object Shape Signature) → constant_of (Some o) ≡ constant_of (Some p) → Knows known noted → Knows ((x, o) ∷ known) (record { name = x; ordinal = k; object = p } ∷ noted)
@@ -91,7 +91,7 @@ known-worth known noted k knows below e =
     (λ x. ap constant_of (typed_meanings-agree as_names k noted below x) ∙ sym (knows x)) (λ x. refl)
 
 -- constants
-record Constants (known : Known) (noted : TypeNoted Name) (k : ℕ) (cs : Tree Name (items constant)) (env : TypeEnvironment Label) : Type 0 where
+pub record Constants (known : Known) (noted : TypeNoted Name) (k : ℕ) (cs : Tree Name (items constant)) (env : TypeEnvironment Label) : Type 0 where
   pub bound : TypeEnvironment Label
   pub front : env ≡ bound ++ typed_by_ordinal noted
   pub binds : Binds k (after_names k (constant_names cs)) bound
@@ -152,7 +152,7 @@ constants-bound known noted k knows below (more (declares_constant x e) cs) env 
     }
 
 -- names that stand for no constant
-record Plain (noted : TypeNoted Name) (k : ℕ) (names : List Name) (after : TypeNoted Name) : Type 0 where
+pub record Plain (noted : TypeNoted Name) (k : ℕ) (names : List Name) (after : TypeNoted Name) : Type 0 where
   pub bound : TypeEnvironment Label
   pub front : typed_by_ordinal after ≡ bound ++ typed_by_ordinal noted
   pub binds : Binds k (after_names k names) bound
@@ -206,7 +206,7 @@ plain-parameters noted k (p ∷ ps) below =
     plain-then noted own (noted_parameters (suc k) ps own) k (p.name ∷ []) (typed_names ps) (plain-one noted k p.name o refl below) (plain-parameters own (suc k) ps (le_refl (suc k), below))
 
 -- types and variables
-abbrev LeavesPlain : TypeNoted Name → ℕ → List Name → TypeEnvironment Label → Type 0
+abbrev pub LeavesPlain : TypeNoted Name → ℕ → List Name → TypeEnvironment Label → Type 0
 LeavesPlain noted k names env = (after : TypeNoted Name) × (env ≡ typed_by_ordinal after) × Plain noted k names after
 
 types-bound : (noted : TypeNoted Name) (j k : ℕ) → TypedBelow k noted → (ds : Tree Name (items type_name)) (env : TypeEnvironment Label)
@@ -260,7 +260,7 @@ held None test h = absurd (true≢false (sym h))
 held (Some a) test h = (a, refl, h)
 
 -- bindings that hold the values of constants, ordinal by ordinal
-record Worths (k n : ℕ) (value : ℕ → Option Value) (bindings : TypeEnvironment Label) : Type 0 where
+pub record Worths (k n : ℕ) (value : ℕ → Option Value) (bindings : TypeEnvironment Label) : Type 0 where
   pub binds : Binds k n bindings
   pub worth_is : (d : ℕ) → k ≤ d → value d ≡ worth bindings d
 
@@ -278,25 +278,25 @@ firsts : (env : TypeEnvironment Label) (j : ℕ) (b : Tree Label block) (after :
 unfolding declare_first
 firsts env j b after h = then_some (declare_constants as_labels env (block_constants b)) (λ e. declare_types as_labels e j (block_types b)) after h
 
-block-parts : (env : TypeEnvironment Label) (j : ℕ) (b : Tree Label block) → block_fits as_labels env j b ≡ true
+pub block-parts : (env : TypeEnvironment Label) (j : ℕ) (b : Tree Label block) → block_fits as_labels env j b ≡ true
     → (inner : TypeEnvironment Label) × (declare_block as_labels env j b ≡ Some inner) × (procedures_fit as_labels inner (after_variables j b) (block_statements b) (block_procedures b) ≡ true)
 unfolding block_fits
 block-parts env j (has_body (declares cs ts vs ps) statements) h =
     held (declare_block as_labels env j (has_body (declares cs ts vs ps) statements)) (λ inner. procedures_fit as_labels inner (after_variables j (has_body (declares cs ts vs ps) statements)) statements ps) h
 
-block-listed : (env : TypeEnvironment Label) (j : ℕ) (b : Tree Label block) (inner : TypeEnvironment Label) → declare_block as_labels env j b ≡ Some inner
+pub block-listed : (env : TypeEnvironment Label) (j : ℕ) (b : Tree Label block) (inner : TypeEnvironment Label) → declare_block as_labels env j b ≡ Some inner
     → block_bindings as_labels env j b ≡ procedures_bindings as_labels inner (after_variables j b) (block_procedures b) ++ since env inner
 unfolding block_bindings
 block-listed env j (has_body (declares cs ts vs ps) statements) inner e =
     ap (λ o. for_some o (λ z. procedures_bindings as_labels z (after_variables j (has_body (declares cs ts vs ps) statements)) ps ++ since env z)) e
 
-record FitParts (env : TypeEnvironment Label) (j : ℕ) (statements : Tree Label (maybe body)) (x : Label) (fs : Tree Label (maybe formals)) (b : Tree Label block) (closing : Label) (rest : Tree Label (items procedure)) : Type 0 where
+pub record FitParts (env : TypeEnvironment Label) (j : ℕ) (statements : Tree Label (maybe body)) (x : Label) (fs : Tree Label (maybe formals)) (b : Tree Label block) (closing : Label) (rest : Tree Label (items procedure)) : Type 0 where
   pub listed : List (TypedParameter Label)
   pub typed : typed_parameters as_labels env j (formal_sections fs) ≡ Some listed
   pub block_right : block_fits as_labels (bind_typed listed (heading x listed env)) (j + formals_constructors (formal_sections fs)) b ≡ true
   pub rest_right : procedures_fit as_labels (heading x listed env) (j + procedure_constructors (declares_procedure x fs b closing)) statements rest ≡ true
 
-procedure-parts : (env : TypeEnvironment Label) (j : ℕ) (statements : Tree Label (maybe body)) (x : Label) (fs : Tree Label (maybe formals)) (b : Tree Label block) (closing : Label) (rest : Tree Label (items procedure))
+pub procedure-parts : (env : TypeEnvironment Label) (j : ℕ) (statements : Tree Label (maybe body)) (x : Label) (fs : Tree Label (maybe formals)) (b : Tree Label block) (closing : Label) (rest : Tree Label (items procedure))
     → procedures_fit as_labels env j statements (more (declares_procedure x fs b closing) rest) ≡ true → FitParts env j statements x fs b closing rest
 unfolding block_fits
 procedure-parts env j statements x fs b closing rest h =
@@ -305,7 +305,7 @@ procedure-parts env j statements x fs b closing rest h =
     let both = and_parts (procedure_fits as_labels (bind_typed all.0 (heading x all.0 env)) j p) (procedures_fit as_labels (heading x all.0 env) (j + procedure_constructors p) statements rest) all.2 in
     record { listed = all.0; typed = all.1; block_right = both.0; rest_right = both.1 }
 
-procedures-listed : (env : TypeEnvironment Label) (j : ℕ) (statements : Tree Label (maybe body)) (x : Label) (fs : Tree Label (maybe formals)) (b : Tree Label block) (closing : Label) (rest : Tree Label (items procedure)) (f : FitParts env j statements x fs b closing rest)
+pub procedures-listed : (env : TypeEnvironment Label) (j : ℕ) (statements : Tree Label (maybe body)) (x : Label) (fs : Tree Label (maybe formals)) (b : Tree Label block) (closing : Label) (rest : Tree Label (items procedure)) (f : FitParts env j statements x fs b closing rest)
     → procedures_bindings as_labels env j (more (declares_procedure x fs b closing) rest)
     ≡ procedures_bindings as_labels (heading x f.listed env) (j + procedure_constructors (declares_procedure x fs b closing)) rest ++ (block_bindings as_labels (bind_typed f.listed (heading x f.listed env)) (j + formals_constructors (formal_sections fs)) b ++ bind_typed f.listed (heading x f.listed []))
 unfolding block_bindings declare_procedure block_fits
@@ -318,7 +318,7 @@ procedures-listed env j statements x fs b closing rest f =
     ∙ ap (λ e. procedures_bindings as_labels (heading x f.listed env) (j + procedure_constructors p) rest ++ e) (headed_bindings env j x closing fs b f.listed f.typed)
 
 -- a block's constants, types and variables
-record Opened (known : Known) (noted : TypeNoted Name) (k : ℕ) (b : Tree Name block) (inner : TypeEnvironment Label) : Type 0 where
+pub record Opened (known : Known) (noted : TypeNoted Name) (k : ℕ) (b : Tree Name block) (inner : TypeEnvironment Label) : Type 0 where
   pub mid : TypeEnvironment Label
   pub constants : Constants known noted k (block_constants b) mid
   pub last : TypeNoted Name
@@ -327,7 +327,7 @@ record Opened (known : Known) (noted : TypeNoted Name) (k : ℕ) (b : Tree Name 
   pub scoped : typed_scope last ≡ procedures_scope k b (typed_scope noted)
   pub below : TypedBelow (first_procedure k b) last
 
-block-opened : (known : Known) (noted : TypeNoted Name) (j k : ℕ) → Knows known noted → TypedBelow k noted → (b : Tree Name block) (inner : TypeEnvironment Label)
+pub block-opened : (known : Known) (noted : TypeNoted Name) (j k : ℕ) → Knows known noted → TypedBelow k noted → (b : Tree Name block) (inner : TypeEnvironment Label)
     → declare_block as_labels (typed_by_ordinal noted) j (relabel_block as_names (as_label as_names) (typed_scope noted) k b) ≡ Some inner → Opened known noted k b inner
 block-opened known noted j k knows below (has_body (declares cs ts vs ps) statements) inner h =
     let b : Tree Name block = has_body (declares cs ts vs ps) statements in
@@ -355,13 +355,36 @@ block-opened known noted j k knows below (has_body (declares cs ts vs ps) statem
       below = v.2.within.1;
     }
 
-opened-since : (known : Known) (noted : TypeNoted Name) (k : ℕ) (b : Tree Name block) (inner : TypeEnvironment Label) (o : Opened known noted k b inner) → since (typed_by_ordinal noted) inner ≡ o.others.bound ++ o.constants.bound
-opened-since known noted k b inner o =
-    let env : TypeEnvironment Label = typed_by_ordinal noted in
+pub opened-grown : (known : Known) (noted : TypeNoted Name) (k : ℕ) (b : Tree Name block) (inner : TypeEnvironment Label) (o : Opened known noted k b inner) → inner ≡ (o.others.bound ++ o.constants.bound) ++ typed_by_ordinal noted
+opened-grown known noted k b inner o =
     let w : TypeEnvironment Label = o.others.bound in
     let c : TypeEnvironment Label = o.constants.bound in
-    let grown : inner ≡ (w ++ c) ++ env = o.reads ∙ o.others.front ∙ ap (λ e. w ++ e) (sym o.constants.reads ∙ o.constants.front) ∙ sym (append_assoc w c env) in
-    ap (since env) grown ∙ since-append (w ++ c) env
+    o.reads ∙ o.others.front ∙ ap (λ e. w ++ e) (sym o.constants.reads ∙ o.constants.front) ∙ sym (append_assoc w c (typed_by_ordinal noted))
+
+pub opened-since : (known : Known) (noted : TypeNoted Name) (k : ℕ) (b : Tree Name block) (inner : TypeEnvironment Label) (o : Opened known noted k b inner) → since (typed_by_ordinal noted) inner ≡ o.others.bound ++ o.constants.bound
+opened-since known noted k b inner o =
+    ap (since (typed_by_ordinal noted)) (opened-grown known noted k b inner o) ∙ since-append (o.others.bound ++ o.constants.bound) (typed_by_ordinal noted)
+
+others-end : (k : ℕ) (b : Tree Name block) → after_names (first_type k b) (named_types (block_types b) ++ variable_names (block_variables b)) ≡ first_procedure k b
+others-end k b = after_names-append (first_type k b) (named_types (block_types b)) (variable_names (block_variables b))
+
+types-above : (k : ℕ) (b : Tree Name block) → k ≤ first_type k b
+types-above k b = le-after_names k (constant_names (block_constants b))
+
+procedures-above : (k : ℕ) (b : Tree Name block) → first_type k b ≤ first_procedure k b
+procedures-above k b = subst (λ z. first_type k b ≤ z) (others-end k b) (le-after_names (first_type k b) (named_types (block_types b) ++ variable_names (block_variables b)))
+
+pub opened-above : (k : ℕ) (b : Tree Name block) → k ≤ first_procedure k b
+opened-above k b = omega (arith, types-above k b, procedures-above k b)
+
+others-binds : (known : Known) (noted : TypeNoted Name) (k : ℕ) (b : Tree Name block) (inner : TypeEnvironment Label) (o : Opened known noted k b inner) → Binds (first_type k b) (first_procedure k b) o.others.bound
+others-binds known noted k b inner o = subst (λ z. Binds (first_type k b) z o.others.bound) (others-end k b) o.others.binds
+
+pub opened-binds : (known : Known) (noted : TypeNoted Name) (k : ℕ) (b : Tree Name block) (inner : TypeEnvironment Label) (o : Opened known noted k b inner) → Binds k (first_procedure k b) (o.others.bound ++ o.constants.bound)
+opened-binds known noted k b inner o =
+    let kt : ℕ = first_type k b in
+    let kp : ℕ = first_procedure k b in
+    binds-append k kp o.others.bound o.constants.bound (binds-wider kt kp k kp o.others.bound (types-above k b) (le_refl kp) (others-binds known noted k b inner o)) (binds-wider k kt k kp o.constants.bound (le_refl k) (procedures-above k b) o.constants.binds)
 
 -- the bindings of a block, before them those of its procedures
 block-values : (known : Known) (noted : TypeNoted Name) (k : ℕ) (b : Tree Name block) (inner P : TypeEnvironment Label) (o : Opened known noted k b inner)
@@ -377,12 +400,11 @@ block-values known noted k (has_body (declares cs ts vs ps) statements) inner P 
     let w : TypeEnvironment Label = o.others.bound in
     let c : TypeEnvironment Label = o.constants.bound in
     let own : TypeEnvironment Label = w ++ c in
-    let whole : after_names kt names ≡ kp = after_names-append kt (named_types (section_types ts)) (variable_names (section_variables vs)) in
-    let first : k ≤ kt = le-after_names k (constant_names (section_constants cs)) in
-    let second : kt ≤ kp = subst (λ z. kt ≤ z) whole (le-after_names kt names) in
+    let first : k ≤ kt = types-above k b in
+    let second : kt ≤ kp = procedures-above k b in
     let third : kp ≤ n = le-after_procedures kp ps in
-    let plain_binds : Binds kt kp w = subst (λ z. Binds kt z w) whole o.others.binds in
-    let own_binds : Binds k kp own = binds-append k kp w c (binds-wider kt kp k kp w first (le_refl kp) plain_binds) (binds-wider k kt k kp c (le_refl k) second o.constants.binds) in
+    let plain_binds : Binds kt kp w = others-binds known noted k b inner o in
+    let own_binds : Binds k kp own = opened-binds known noted k b inner o in
     record {
       binds = binds-append k n P own (binds-wider kp n k n P (omega (arith, first, second)) (le_refl n) p.binds) (binds-wider k kp k n own (le_refl k) third own_binds);
       worth_is = λ d l.
@@ -396,7 +418,7 @@ block-values known noted k (has_body (declares cs ts vs ps) statements) inner P 
     }
 
 -- a procedure's name and parameters
-record Entered (known : Known) (noted : TypeNoted Name) (k : ℕ) (x : Name) (xs : List Name) (qs : List (TypedParameter Label)) : Type 0 where
+pub record Entered (known : Known) (noted : TypeNoted Name) (k : ℕ) (x : Name) (xs : List Name) (qs : List (TypedParameter Label)) : Type 0 where
   pub own : TypeNoted Name
   pub headed : typed_by_ordinal own ≡ heading (declared k) qs (typed_by_ordinal noted)
   pub own_scope : typed_scope own ≡ (x, k) ∷ typed_scope noted
@@ -409,6 +431,7 @@ record Entered (known : Known) (noted : TypeNoted Name) (k : ℕ) (x : Name) (xs
   pub below : TypedBelow (after_names (suc k) xs) inner
   pub binds : Binds k (after_names (suc k) xs) (bind_typed qs (heading (declared k) qs []))
   pub plain : AllPlain (bind_typed qs (heading (declared k) qs []))
+  pub parameters_bind : Binds (suc k) (after_names (suc k) xs) (bind_typed qs [])
 
 entered : (known : Known) (noted : TypeNoted Name) (k : ℕ) → Knows known noted → TypedBelow k noted → (x : Name) (ps : List (TypedParameter Name)) → Entered known noted k x (typed_names ps) (label_typed (suc k) ps)
 entered known noted k knows below x ps =
@@ -430,9 +453,10 @@ entered known noted k knows below x ps =
       below = a.within.1;
       binds = listed-binds k (suc k) ps (heading (declared k) qs []) (le_of_lt (le_refl (suc k))) ((k, refl, le_refl k, le_refl (suc k)), tt);
       plain = listed-plain (suc k) ps (heading (declared k) qs []) (refl, tt);
+      parameters_bind = listed-binds (suc k) (suc k) ps [] (le_refl (suc k)) tt;
     }
 
-procedure-entered : (known : Known) (noted : TypeNoted Name) (j k : ℕ) → Knows known noted → TypedBelow k noted → (x : Name) (fs : Tree Name (maybe formals)) (qs : List (TypedParameter Label))
+pub procedure-entered : (known : Known) (noted : TypeNoted Name) (j k : ℕ) → Knows known noted → TypedBelow k noted → (x : Name) (fs : Tree Name (maybe formals)) (qs : List (TypedParameter Label))
     → typed_parameters as_labels (typed_by_ordinal noted) j (formal_sections (relabel_formals as_names (as_label as_names) (typed_scope noted) (suc k) fs)) ≡ Some qs → Entered known noted k x (formal_names (formal_sections fs)) qs
 procedure-entered known noted j k knows below x fs qs h =
     let env : TypeEnvironment Label = typed_by_ordinal noted in
@@ -478,7 +502,7 @@ unfolding value_in_block block_bindings
 no-procedures known noted j k = record { binds = tt; worth_is = λ d l. refl }
 
 mutual
-  block-worths : (known : Known) (noted : TypeNoted Name) (j k : ℕ) → Knows known noted → TypedBelow k noted → (b : Tree Name block)
+  pub block-worths : (known : Known) (noted : TypeNoted Name) (j k : ℕ) → Knows known noted → TypedBelow k noted → (b : Tree Name block)
       → block_fits as_labels (typed_by_ordinal noted) j (relabel_block as_names (as_label as_names) (typed_scope noted) k b) ≡ true
       → Worths k (after_block k b) (λ d. value_in_block known d k b) (block_bindings as_labels (typed_by_ordinal noted) j (relabel_block as_names (as_label as_names) (typed_scope noted) k b))
   block-worths known noted j k knows below (has_body (declares cs ts vs ps) statements) h =
@@ -495,7 +519,7 @@ mutual
       ∙ sym (block-listed (typed_by_ordinal noted) j b' parts.0 parts.1))
       (block-values known noted k b parts.0 P o p)
 
-  procedures-worths : (known : Known) (noted : TypeNoted Name) (j k : ℕ) → Knows known noted → TypedBelow k noted → (statements : Tree Label (maybe body)) (ps : Tree Name (items procedure))
+  pub procedures-worths : (known : Known) (noted : TypeNoted Name) (j k : ℕ) → Knows known noted → TypedBelow k noted → (statements : Tree Label (maybe body)) (ps : Tree Name (items procedure))
       → procedures_fit as_labels (typed_by_ordinal noted) j statements (relabel_procedures as_names (as_label as_names) (typed_scope noted) k ps) ≡ true
       → Worths k (after_procedures k ps) (λ d. value_in_procedures known d k ps) (procedures_bindings as_labels (typed_by_ordinal noted) j (relabel_procedures as_names (as_label as_names) (typed_scope noted) k ps))
   procedures-worths known noted j k knows below statements end h = no-procedures known noted j k
@@ -529,19 +553,19 @@ same_known (a_variable s) = refl
 same_known (a_procedure fs) = refl
 same_known (a_standard p) = refl
 
-all_known : TypeNoted Name → Known
+unfoldable pub all_known : TypeNoted Name → Known
 all_known [] = []
 all_known (b ∷ noted) = (b.name, known_object b.object) ∷ all_known noted
 
-knows-all : (noted : TypeNoted Name) → Knows (all_known noted) noted
+pub knows-all : (noted : TypeNoted Name) → Knows (all_known noted) noted
 unfolding all_known
 knows-all [] = λ x. refl
 knows-all (b ∷ noted) = knows-more (all_known noted) noted b.name b.ordinal (known_object b.object) b.object (same_known b.object) (knows-all noted)
 
-predeclared-below : TypedBelow 7 (typed_outermost as_names)
+pub predeclared-below : TypedBelow 7 (typed_outermost as_names)
 predeclared-below = (lit< tt, (lit< tt, (lit< tt, (lit< tt, (lit< tt, (lit< tt, (lit< tt, tt)))))))
 
-outermost-binds : Binds 0 7 (outermost as_labels)
+pub outermost-binds : Binds 0 7 (outermost as_labels)
 outermost-binds = ((6, refl, omega arith, omega arith), ((5, refl, omega arith, omega arith), ((4, refl, omega arith, omega arith), ((3, refl, omega arith, omega arith), ((2, refl, omega arith, omega arith), ((1, refl, omega arith, omega arith), ((0, refl, omega arith, omega arith), tt)))))))
 
 module-worths : (m : Tree Name module_text) → fits_over as_labels (numbered m) ≡ true → (d : ℕ) → 7 ≤ d → value_in_block predeclared_known d 7 (module_block m) ≡ constant_of (declared_object m d)

@@ -1,5 +1,5 @@
 -- One declaration: behind its text, and behind its binding.
-use Rattle.std.proofs.Common.{◌≡◌, ℕ, zero, suc, ◌+◌, ◌<◌, ◌≤◌, List, [], ◌∷◌, map, length, get_or, drop, IfSome, Some, None, Option, option_and_then, option_map, refl, sym, ap, ◌∙◌, subst, arith}
+use Rattle.std.proofs.Common.{◌≡◌, ℕ, zero, suc, ◌+◌, ◌<◌, ◌≤◌, List, [], ◌∷◌, map, length, get_or, drop, IfSome, Some, None, Option, option_map, refl, sym, ap, ◌∙◌, subst, arith}
 use Rattle.std.proofs.lemmas.List.{drop_all, drop_more}
 use Rattle.ob0_tree.specs.declared.tree.Names as tree_names
 use Rattle.ob0_tree.specs.Tree.{Tree, declares_constant, declares_type, declares_variable, end, expression, more, names, written_type}
@@ -12,7 +12,7 @@ use Rattle.ob0_types.specs.declared.known.Object.TheVariants as kind
 use Rattle.ob0_types.specs.declared.types.TypeId.{TypeId}
 use Rattle.ob0_types.specs.declared.walk.Parameter.{Parameter}
 use Rattle.ob0_types.specs.declared.walk.Typed.{Typed}
-use Rattle.ob0_types.specs.Checking.{Agrees, Declares, Follows, Grows, Keeps, Walking, parameter_in}
+use Rattle.ob0_types.specs.Checking.{Agrees, Declares, Follows, Keeps, Walking, parameter_in}
 use Rattle.ob0_types.specs.Declarations.{declare_constants, declare_types}
 use Rattle.ob0_types.specs.Environments.{meanings}
 use Rattle.ob0_types.specs.Expressions.{Object, a_constant, a_type, a_variable}
@@ -20,7 +20,7 @@ use Rattle.ob0_types.specs.InLabels.{in_labels, label_in}
 use Rattle.ob0_types.specs.KnownTables.{Tables, known_meaning, shapes_of}
 use Rattle.ob0_types.specs.Tables.{IsMade, object_in, type_shape}
 use Rattle.ob0_types.specs.Typing.{constant_value, constructors, denoted}
-use Rattle.ob0_types.specs.WellTyped.{Signature, TypeEnvironment, TypedParameter, bind_names, bind_typed, declare_typed}
+use Rattle.ob0_types.specs.WellTyped.{Signature, TypeEnvironment, bind_names, bind_typed, declare_typed}
 use Rattle.ob0_values.specs.declared.scalar.Scalar.{Scalar}
 use Rattle.ob0_values.specs.Scalars.{scalar_value}
 use Rattle.ob0_values.specs.Values.{Shape}

@@ -1,7 +1,6 @@
 -- What fits, part by part: designators alone, what may be assigned to, calls, and sequences.
-use Rattle.std.proofs.Common.{◌≡◌, ℕ, ◌+◌, ◌<◌, ◌≤◌, true, false, Bool, ◌&&◌, List, [], ◌∷◌, map, length, get_or, drop, Some, None, Option, option_map, option_and_then, refl, sym, ap, ◌∙◌, arith}
-use Rattle.std.proofs.lemmas.List.{drop_all, drop_more}
-use Rattle.ob0_tree.specs.Tree.{Tree, addend, comparison, compares, designator, end, expression, integer, item, items, more, multiplier, negation, none, one, parenthesised, product, selector, simple, sum, term}
+use Rattle.std.proofs.Common.{◌≡◌, ℕ, ◌<◌, List, [], ◌∷◌, length, Some, None, Option, option_map, refl, sym, ap, ◌∙◌, arith}
+use Rattle.ob0_tree.specs.Tree.{Tree, addend, comparison, compares, designator, end, expression, integer, item, items, more, negation, none, one, parenthesised, product, selector, simple, sum, term}
 use Rattle.ob0_tree.specs.View.{addend_of, factor_of, items_of, multiplier_of}
 use Rattle.ob0_tree.specs.declared.tree.Addend.{Addend}
 use Rattle.ob0_tree.specs.declared.tree.Factor.{Factor}

@@ -14,7 +14,7 @@ use Rattle.ob0_types.specs.FieldIndex.{IsIndexFrom, first_from}
 use Rattle.ob0_types.specs.FieldPlaces.{place_of_field}
 use Rattle.ob0_types.specs.Tables.{fields_shape, type_shape}
 use Rattle.ob0_types.specs.Typing.{shape_of_field}
-use Rattle.ob0_values.specs.Values.{FieldShapes, Shape}
+use Rattle.ob0_values.specs.Values.{Shape}
 
 either_type : (shapes : List Shape) (b : Bool) (k : ℕ) (t : TypeId) (o : Option First)
     → option_map (type_shape shapes) (option_map (λ (e : First). e.of) (cond b (Some (record { place = k; of = t })) o)) ≡ cond b (Some (type_shape shapes t)) (option_map (type_shape shapes) (option_map (λ (e : First). e.of) o))

@@ -1,9 +1,8 @@
 -- Statements that fit, part by part.
-use Rattle.std.proofs.Common.{◌≡◌, true, false, Bool, ◌&&◌, List, [], ◌∷◌, map, Some, None, Option, option_map, option_and_then, refl, sym, ap, ◌∙◌, ℕ, length, nat_eq, ne_eqb, arith}
-use Rattle.ob0_tree.specs.Tree.{Tree, assigns, branches, calls, elsif_branch, elsif_part, else_branch, else_part, empty, end, expression, item, items, maybe, more, none, one, arguments, repeat_loop, selector, sequence, statement, while_loop}
+use Rattle.std.proofs.Common.{◌≡◌, true, false, Bool, ◌&&◌, List, [], ◌∷◌, map, Some, None, Option, option_and_then, refl, sym, ap, ◌∙◌, length, nat_eq, ne_eqb, arith}
+use Rattle.ob0_tree.specs.Tree.{Tree, assigns, branches, calls, elsif_branch, elsif_part, else_branch, else_part, empty, end, expression, items, maybe, more, none, one, arguments, repeat_loop, selector, sequence, while_loop}
 use Rattle.ob0_tree.specs.View as view
 use Rattle.ob0_tree.specs.View.{arguments_of, elsif_of, elsifs_in, expression_of, further_argument_of, further_statement_of, items_of, sequence_listed, statement_of}
-use Rattle.ob0_tree.specs.declared.tree.Elsif.{Elsif}
 use Rattle.ob0_tree.specs.declared.tree.Expression.{Expression}
 use Rattle.ob0_tree.specs.declared.tree.Statement.{Statement}
 use Rattle.ob0_scope.specs.Names.{Label}
@@ -13,13 +12,13 @@ use Rattle.ob0_types.specs.Arguments.{arguments_listed, further_arguments}
 use Rattle.ob0_types.specs.Constants.{variable_of}
 use Rattle.ob0_types.specs.Expressions.{Object, a_constant, a_procedure, a_standard, a_type, a_variable}
 use Rattle.ob0_types.specs.FittingParts.{all_in_labels}
-use Rattle.ob0_types.specs.InLabels.{in_labels, label_in, meaning_in, where_only}
+use Rattle.ob0_types.specs.InLabels.{in_labels, meaning_in, where_only}
 use Rattle.ob0_types.specs.KnownTables.{Tables, label_object}
 use Rattle.ob0_types.specs.Tables.{formal_in, mode_of, type_shape}
 use Rattle.ob0_types.specs.Typing.{designated, type_at, type_of}
-use Rattle.ob0_types.specs.WellTyped.{Formal, Signature, Typed, agree, argument_fits, arguments_fit, by_place, by_value, call_fits, condition_fits, else_fits, elsifs_fit, sequence_fits, signature_of, statement_fits, statements_fit, variable_type}
+use Rattle.ob0_types.specs.WellTyped.{Signature, Typed, agree, argument_fits, arguments_fit, by_place, by_value, call_fits, condition_fits, else_fits, elsifs_fit, sequence_fits, signature_of, statement_fits, statements_fit, variable_type}
 use Rattle.ob0_types.proofs.AllFit.{IsEach, IsPairwise, and-assoc}
-use Rattle.ob0_values.specs.Values.{Shape, boolean_shape}
+use Rattle.ob0_values.specs.Values.{Shape}
 
 -- what may be assigned to, by what its name stands for
 at_object : {P : Type 0} (o : Option (Object Shape P)) (at : Shape → Option Shape) → elim o [ Some (a_variable s) ↦ at s | _ ↦ None ] ≡ option_and_then at (variable_of o)

@@ -13,12 +13,12 @@ use Rattle.ob0_types.specs.declared.known.Object.TheVariants as kind
 use Rattle.ob0_types.specs.declared.walk.Typed.{Typed}
 use Rattle.ob0_types.specs.Checking.{Agrees, Declares, Grows, Keeps, Leaves, Walking, declare_block}
 use Rattle.ob0_types.specs.Declarations.{declare_constants, declare_types, types_constructors}
-use Rattle.ob0_types.specs.Environments.{from_binding, meanings}
+use Rattle.ob0_types.specs.Environments.{from_binding}
 use Rattle.ob0_types.specs.Expressions.{Object, a_constant, a_type, a_variable}
 use Rattle.ob0_types.specs.InLabels.{in_labels, label_in}
 use Rattle.ob0_types.specs.KnownTables.{AreTables, EntryIsMade, Tables, declared_in, known_meaning, put_at, shapes_of}
 use Rattle.ob0_types.specs.Tables.{object_in, type_shape}
-use Rattle.ob0_types.specs.Typing.{constant_value, denoted}
+use Rattle.ob0_types.specs.Typing.{constant_value}
 use Rattle.ob0_types.specs.WellTyped.{Signature, TypeEnvironment, bind_names, declare_typed}
 use Rattle.ob0_values.specs.declared.scalar.Scalar.{Scalar}
 use Rattle.ob0_values.specs.Scalars.{scalar_value}

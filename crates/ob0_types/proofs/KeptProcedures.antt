@@ -118,7 +118,7 @@ twice xs ys zs z =
     ∙ ap (or_else p) (sym (newest-append ys zs z))
     ∙ sym (newest-append xs (ys ++ zs) z)
 
-bind_typed-append : (ps : List (TypedParameter Label)) (first env : TypeEnvironment Label) → bind_typed ps (first ++ env) ≡ bind_typed ps first ++ env
+pub bind_typed-append : (ps : List (TypedParameter Label)) (first env : TypeEnvironment Label) → bind_typed ps (first ++ env) ≡ bind_typed ps first ++ env
 bind_typed-append [] first env = refl
 bind_typed-append (p ∷ ps) first env = bind_typed-append ps ((p.name, a_variable p.formal.shape) ∷ first) env
 

@@ -1,5 +1,5 @@
 -- More shapes change nothing that a name stands for.
-use Rattle.std.proofs.Common.{◌≡◌, ℕ, zero, suc, cond, List, [], ◌∷◌, ◌++◌, All, map, length, slice_get, Some, None, option_and_then, refl, sym, ap, ◌∙◌, subst}
+use Rattle.std.proofs.Common.{◌≡◌, ℕ, zero, suc, List, [], ◌∷◌, ◌++◌, All, map, length, slice_get, Some, option_and_then, refl, sym, ap, ◌∙◌, subst}
 use Rattle.std.proofs.lemmas.List.Elements.{All-head, All-tail}
 use Rattle.ob0_values.specs.Values.{Shape}
 use Rattle.ob0_scope.specs.Names.{Label, as_written, declared, label_text}

@@ -1,5 +1,5 @@
 -- Blocks and procedures: back behind a procedure what was in sight is in sight again.
-use Rattle.std.proofs.Common.{◌≡◌, ℕ, ◌+◌, ◌<◌, ◌≤◌, Bool, true, false, ◌&&◌, cond, List, [], ◌∷◌, ◌++◌, map, length, get_or, All, Result, Ok, Err, IfOk, IfSome, is_some, Some, None, Option, option_and_then, option_map, refl, sym, ap, ◌∙◌, subst, arith}
+use Rattle.std.proofs.Common.{◌≡◌, ℕ, ◌+◌, ◌<◌, ◌≤◌, Bool, true, false, ◌&&◌, cond, List, [], ◌∷◌, ◌++◌, map, length, get_or, Result, Ok, Err, IfOk, is_some, Some, None, Option, option_and_then, refl, sym, ap, ◌∙◌, subst, arith}
 use Rattle.std.proofs.lemmas.List.{drop_all}
 use Rattle.std.specs.declared.vec.Vec.{Vec}
 use Rattle.std.specs.declared.alloc.Global.{Global}
@@ -16,18 +16,18 @@ use Rattle.ob0_types.specs.declared.known.Formal as formal
 use Rattle.ob0_types.specs.declared.known.Object.TheVariants as kind
 use Rattle.ob0_types.specs.declared.known.Shadowed.{Shadowed}
 use Rattle.ob0_types.specs.declared.walk.Parameter.{Parameter}
-use Rattle.ob0_types.specs.Checking.{Agrees, Decides, Declares, DeclaresHeading, DeclaresSections, Follows, Heading, Walking, declare_block, declare_procedure, parameter_in, parameters_in, parameters_of}
+use Rattle.ob0_types.specs.Checking.{Agrees, Decides, Declares, DeclaresHeading, DeclaresSections, Follows, Heading, Walking, declare_block, declare_procedure, parameter_in, parameters_of}
 use Rattle.ob0_types.specs.Declarations.{block_constructors, declare_constants, declare_first, declare_types, formals_constructors, procedure_constructors, procedures_constructors, types_constructors, variables_constructors}
 use Rattle.ob0_types.specs.Expressions.{a_procedure}
 use Rattle.ob0_types.specs.InLabels.{in_labels, label_in}
-use Rattle.ob0_types.specs.KnownTables.{AreTables, Tables, before_all, seen_object, shapes_of}
-use Rattle.ob0_types.specs.Tables.{formal_in, object_in}
-use Rattle.ob0_types.specs.WellTyped.{Signature, TypeEnvironment, TypedParameter, bind_typed, block_fits, body_fits, declare_typed, heading, hold, procedure_fits, procedures_fit, typed_parameters}
+use Rattle.ob0_types.specs.KnownTables.{AreTables, before_all, seen_object, shapes_of}
+use Rattle.ob0_types.specs.Tables.{formal_in}
+use Rattle.ob0_types.specs.WellTyped.{TypeEnvironment, TypedParameter, bind_typed, block_fits, body_fits, declare_typed, heading, hold, procedure_fits, procedures_fit, typed_parameters}
 use Rattle.ob0_values.specs.Values.{Shape}
-use Rattle.ob0_types.proofs.Agreement.{agrees_same, follows_itself, follows_more, follows_on}
-use Rattle.ob0_types.proofs.Counted.{counted_block, counted_formals, counted_procedure, counted_types, counted_variables, sections_mapped, types_mapped, variables_mapped}
+use Rattle.ob0_types.proofs.Agreement.{agrees_same, follows_more, follows_on}
+use Rattle.ob0_types.proofs.Counted.{counted_formals, counted_procedure, counted_types, counted_variables, sections_mapped, types_mapped, variables_mapped}
 use Rattle.ob0_types.proofs.Declared.{Binding}
-use Rattle.ob0_types.proofs.Walked.{Giving, IsWalk, Walked, declared_as, declared_none, declared_then, walked_ends, walked_stops}
+use Rattle.ob0_types.proofs.Walked.{Giving, IsWalk, Walked, declared_none, declared_then, walked_ends, walked_stops}
 
 pub ifok_map : {A E : Type 0} (P Q : A → Type 0) (res : Result A E) → ((x : A) → P x → Q x) → IfOk res P → IfOk res Q
 ifok_map P Q (Ok x) f h = f x h

@@ -1,25 +1,23 @@
 -- The sections of a heading: what was typed so far, with what is left, is the whole.
-use Rattle.std.proofs.Common.{◌≡◌, ℕ, ◌+◌, ◌<◌, ◌≤◌, Bool, true, false, cond, List, [], ◌∷◌, ◌++◌, map, length, get_or, drop, All, IfSome, Some, None, Option, option_and_then, option_map, refl, sym, ap, ◌∙◌, subst, arith, append_assoc, append-nil, length-append}
+use Rattle.std.proofs.Common.{◌≡◌, ℕ, ◌+◌, ◌<◌, ◌≤◌, Bool, true, false, cond, List, [], ◌∷◌, ◌++◌, map, length, get_or, drop, All, Some, None, Option, option_and_then, option_map, refl, sym, ap, ◌∙◌, subst, arith, append_assoc, append-nil}
 use Rattle.std.proofs.lemmas.List.{drop_all, drop_more, map-append}
 use Rattle.std.proofs.lemmas.List.Elements.{All-append, All-head, All-map, All-tail}
-use Rattle.ob0_tree.specs.declared.tree.Names as tree_names
 use Rattle.ob0_tree.specs.declared.tree.Section.{Section}
-use Rattle.ob0_tree.specs.Tree.{Tree, end, further_section, item, items, more, names, one, section, then_section, value_section, variable_section, written_type}
+use Rattle.ob0_tree.specs.Tree.{Tree, end, further_section, items, more, one, section, then_section, value_section, variable_section}
 use Rattle.ob0_tree.specs.View.{formals_listed, further_section_of, items_of, names_of, section_of, type_of}
 use Rattle.ob0_tree.specs.Places.{value_at}
 use Rattle.ob0_scope.specs.Names.{Label, as_labels}
 use Rattle.ob0_scope.specs.Parts.{formal_sections, names_listed, section_names, section_type}
 use Rattle.ob0_scope.specs.Resolution.{Resolution}
 use Rattle.ob0_types.specs.declared.known.Formal as formal
-use Rattle.ob0_types.specs.declared.types.TypeId.{TypeId}
 use Rattle.ob0_types.specs.declared.walk.Parameter.{Parameter}
 use Rattle.ob0_types.specs.declared.walk.Typed.{Typed}
-use Rattle.ob0_types.specs.Checking.{Agrees, DeclaresSection, DeclaresSections, Follows, Heading, LeavesSection, Walking, parameter_in, parameters_in, parameters_of, typed_section}
+use Rattle.ob0_types.specs.Checking.{Agrees, DeclaresSection, DeclaresSections, Follows, Heading, Walking, parameter_in, parameters_in, parameters_of, typed_section}
 use Rattle.ob0_types.specs.Declarations.{formals_constructors}
 use Rattle.ob0_types.specs.Environments.{meanings}
 use Rattle.ob0_types.specs.Expressions.{a_variable}
 use Rattle.ob0_types.specs.InLabels.{in_labels, label_in}
-use Rattle.ob0_types.specs.KnownTables.{Tables, shapes_of}
+use Rattle.ob0_types.specs.KnownTables.{shapes_of}
 use Rattle.ob0_types.specs.Tables.{IsMade, formal_in, mode_of, type_shape}
 use Rattle.ob0_types.specs.Typing.{constructors, denoted}
 use Rattle.ob0_types.specs.WellTyped.{TypeEnvironment, TypedParameter, bind_names, section_mode, typed_parameters}

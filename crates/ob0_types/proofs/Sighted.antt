@@ -1,13 +1,10 @@
 -- What is in sight after a binding, and after it is put back.
-use Rattle.std.proofs.Common.{◌≡◌, ℕ, zero, suc, ◌<◌, ◌≤◌, true, false, ◌==◌, cond, List, [], ◌∷◌, ◌++◌, All, IfSome, length, map, slice_get, slice_set, get_or, Some, None, Option, option_and_then, sym, refl, ap, ◌∙◌, subst, arith}
+use Rattle.std.proofs.Common.{◌≡◌, ℕ, zero, suc, ◌<◌, cond, List, [], ◌∷◌, ◌++◌, length, slice_get, slice_set, get_or, None, Option, option_and_then, sym, refl, ap, ◌∙◌, arith}
 use Rattle.std.proofs.Math.Dec.{eqb-suc-suc, eqb-suc-zero, eqb-zero-suc}
 use Rattle.std.proofs.lemmas.Option.{slice_get_read}
-use Rattle.std.proofs.lemmas.List.Elements.{All-head, All-tail}
-use Rattle.ob0_types.specs.declared.known.Entry.{Entry}
 use Rattle.ob0_types.specs.declared.known.Shadowed.{Shadowed}
 use Rattle.ob0_types.specs.declared.known.Object as declaration
-use Rattle.ob0_types.specs.declared.known.Object.TheVariants as kind
-use Rattle.ob0_types.specs.KnownTables.{Tables, before_all, object_seen, put_at, seen_object}
+use Rattle.ob0_types.specs.KnownTables.{before_all, put_at}
 
 -- an element that is set
 pub set_seen : {X Y : Type 0} (f : X → Option Y) (xs : List X) (i k : ℕ) (x : X) → i < length xs → option_and_then f (slice_get (slice_set xs i x) k) ≡ put_at i (f x) (λ j. option_and_then f (slice_get xs j)) k

@@ -1,11 +1,11 @@
 -- Loops of the walk over declarations: what is left, in the environment that agrees with what is in sight, gives what the whole gives.
-use Rattle.std.proofs.Common.{◌≡◌, ℕ, ◌+◌, ◌<◌, ◌≤◌, List, [], ◌∷◌, length, get_or, drop, Some, None, Option, option_and_then, option_map, refl, sym, ap, ◌∙◌, subst, arith}
+use Rattle.std.proofs.Common.{◌≡◌, ℕ, ◌+◌, ◌<◌, ◌≤◌, List, ◌∷◌, length, get_or, drop, Some, None, Option, option_and_then, option_map, refl, sym, ap, ◌∙◌, subst, arith}
 use Rattle.std.proofs.lemmas.List.{drop_all, drop_more}
 use Rattle.ob0_tree.specs.Tree.{Tree, Item, constant, declares_constant, declares_type, declares_variable, end, expression, item, items, more, names, type_name, variable, written_type}
 use Rattle.ob0_tree.specs.View.{items_of}
 use Rattle.ob0_scope.specs.Names.{Label, as_labels}
 use Rattle.ob0_scope.specs.Resolution.{Resolution}
-use Rattle.ob0_types.specs.Checking.{Agrees, Declares, Follows, Leaves, Walking}
+use Rattle.ob0_types.specs.Checking.{Agrees, Declares, Follows, Walking}
 use Rattle.ob0_types.specs.Declarations.{declare_constants, declare_types, types_constructors, variables_constructors}
 use Rattle.ob0_types.specs.Environments.{meanings}
 use Rattle.ob0_types.specs.Expressions.{a_constant, a_type, a_variable}

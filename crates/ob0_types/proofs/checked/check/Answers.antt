@@ -1,7 +1,4 @@
-use Rattle.std.proofs.Common.{◌≡◌, ◌&&◌, not, subst, ap, ◌∙◌}
-use Rattle.std.specs.List.{list_any}
-use Rattle.ob0_scope.specs.Resolution.{is_of_declarations}
-use Rattle.ob0_types.specs.CheckedModules.{IsTold}
+use Rattle.std.proofs.Common.{◌∙◌}
 use Rattle.ob0_types.proofs.AllTold.{checked_told}
 use Rattle.ob0_types.proofs.checked.check.Goals as goal
 

@@ -1,6 +1,5 @@
-use Rattle.std.proofs.Common.{◌≡◌, ◌&&◌, ◌++◌, List, length, not, arith, subst, sym, ap, ◌∙◌, ◌+◌, ◌-◌}
+use Rattle.std.proofs.Common.{◌≡◌, ◌&&◌, ◌++◌, length, not, arith, subst, sym, ap, ◌∙◌, ◌+◌, ◌-◌}
 use Rattle.std.specs.List.{filter, list_any}
-use Rattle.ob0_scan.specs.declared.fault.Fault.{Fault}
 use Rattle.ob0_scope.specs.Resolution.{is_of_declarations}
 use Rattle.ob0_types.specs.CheckedModules.{IsTold}
 use Rattle.ob0_types.proofs.AllTold.{told_alike, told_with}

@@ -1,4 +1,4 @@
-use Rattle.std.proofs.Common.{◌≡◌, ◌++◌, IfSome, is_some, Some, None, sym, ap, ◌∙◌, subst}
+use Rattle.std.proofs.Common.{◌≡◌, ◌++◌, IfSome, Some, None, sym, ap, ◌∙◌, subst}
 use Rattle.ob0_tree.specs.declared.tree.Block.{Block}
 use Rattle.ob0_tree.specs.View.{block_of}
 use Rattle.ob0_scope.specs.Names.{as_labels}

@@ -1,4 +1,4 @@
-use Rattle.std.proofs.Common.{◌≡◌, length, nat_eq, ap, ◌∙◌}
+use Rattle.std.proofs.Common.{length, nat_eq, ap, ◌∙◌}
 use Rattle.ob0_types.proofs.SameShapes.{nothing_kept}
 use Rattle.ob0_types.proofs.sameness.is_nothing.Goals as goal
 

@@ -1,4 +1,4 @@
-use Rattle.std.proofs.Common.{option_map, ap, ◌∙◌, arith}
+use Rattle.std.proofs.Common.{ap, ◌∙◌, arith}
 use Rattle.ob0_tree.specs.Parsed.{named_tree_of}
 use Rattle.ob0_types.specs.Typing.{constant_of}
 use Rattle.ob0_types.proofs.ConstantsDeclared.{constant-declared, predeclared-none}

@@ -1,4 +1,4 @@
-use Rattle.std.proofs.Common.{◌∷◌, IfSome, length, Some, None, sym, ap, subst, arith}
+use Rattle.std.proofs.Common.{◌∷◌, length, Some, None, sym, ap, subst, arith}
 use Rattle.ob0_tree.specs.View.{section_of, type_of}
 use Rattle.ob0_types.specs.Checking.{DeclaresSection, Heading, Keeps, parameters_of}
 use Rattle.ob0_types.specs.InLabels.{in_labels}

@@ -1,8 +1,7 @@
-use Rattle.std.proofs.Common.{◌≡◌, ◌+◌, ◌*◌, ◌<◌, ◌≤◌, List, [], ◌∷◌, ◌++◌, length, length-append, rules, subst, sym, ap, ◌∙◌, arith}
+use Rattle.std.proofs.Common.{◌≡◌, ◌+◌, [], ◌∷◌, ◌++◌, length, length-append, rules, subst, sym, ap, ◌∙◌, arith}
 use Rattle.std.proofs.lemmas.Slice.Zip.{zip_turn}
 use Rattle.ob0_types.specs.KnownTables.{shapes_of}
 use Rattle.ob0_types.specs.Tables.{fields_shape, type_shape}
-use Rattle.ob0_types.specs.Typing.{depth, field_depth}
 use Rattle.ob0_types.specs.WellTyped.{same_fields}
 use Rattle.ob0_types.proofs.AllFit.{PairSoFar, pairs_differ, pairs_go_on}
 use Rattle.ob0_types.proofs.SameShapes.{field_depth-at, fields_pairwise, same_shape-same}

@@ -1,5 +1,4 @@
 use Rattle.std.proofs.Common.{◌+◌, ◌*◌, length}
-use Rattle.ob0_types.specs.FittingParts.{parts_shape}
 use Rattle.ob0_types.specs.KnownTables.{shapes_of}
 use Rattle.ob0_types.specs.Tables.{fields_shape, type_shape}
 use Rattle.ob0_types.specs.Typing.{depth, field_depth}

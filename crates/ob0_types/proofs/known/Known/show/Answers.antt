@@ -1,4 +1,4 @@
-use Rattle.std.proofs.Common.{ℕ, ◌<◌, Some, None, length, refl, sym, ap, ◌∙◌, subst}
+use Rattle.std.proofs.Common.{◌<◌, Some, length, refl, sym, ap, ◌∙◌, subst}
 use Rattle.ob0_types.specs.declared.known.Entry.{Entry}
 use Rattle.ob0_types.specs.declared.known.Sight.TheVariants as sight
 use Rattle.ob0_types.specs.KnownTables.{Tables, declared_in, object_seen, put_at, seen_object, shapes_of}

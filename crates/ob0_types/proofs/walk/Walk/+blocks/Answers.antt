@@ -1,11 +1,11 @@
-use Rattle.std.proofs.Common.{◌+◌, IfSome, Some, None, sym, ap, ◌∙◌, subst}
+use Rattle.std.proofs.Common.{IfSome, Some, sym, ap, ◌∙◌, subst}
 use Rattle.ob0_tree.specs.declared.tree.Block.{out-Block}
 use Rattle.ob0_tree.specs.declared.tree.Procedure.{out-Procedure}
 use Rattle.ob0_tree.specs.View.{block_of, body_of, procedure_of}
 use Rattle.ob0_scope.specs.Names.{Label, as_labels}
-use Rattle.ob0_scope.specs.Parts.{block_types, block_variables, procedure_name}
-use Rattle.ob0_types.specs.Checking.{Agrees, Decides, Declares, DeclaresHeading, Grows, Heading, Keeps, KeepsAll, KeepsHeading, declare_block, parameters_in, parameters_of}
-use Rattle.ob0_types.specs.Declarations.{block_constructors, procedure_constructors, procedures_constructors, types_constructors, variables_constructors}
+use Rattle.ob0_scope.specs.Parts.{procedure_name}
+use Rattle.ob0_types.specs.Checking.{Agrees, Decides, Declares, DeclaresHeading, Grows, Heading, Keeps, KeepsAll, KeepsHeading, declare_block, parameters_in}
+use Rattle.ob0_types.specs.Declarations.{block_constructors, procedure_constructors, procedures_constructors}
 use Rattle.ob0_types.specs.InLabels.{in_labels}
 use Rattle.ob0_types.specs.WellTyped.{TypeEnvironment, bind_typed, block_fits}
 use Rattle.ob0_types.proofs.Agreement.{follows_on}

@@ -1,4 +1,4 @@
-use Rattle.std.proofs.Common.{◌≡◌, ◌≤◌, ℕ, Some, None, IfSome, [], ◌∷◌, ◌++◌, length, sym, ap, ◌∙◌, subst, arith}
+use Rattle.std.proofs.Common.{◌≡◌, ℕ, Some, None, IfSome, [], ◌∷◌, ◌++◌, length, sym, ap, ◌∙◌, subst, arith}
 use Rattle.ob0_scope.specs.Resolution.{ordinal_in}
 use Rattle.ob0_types.specs.declared.known.Shadowed.{Shadowed}
 use Rattle.ob0_types.specs.Checking.{Agrees, Keeps, Walking}

@@ -1,4 +1,4 @@
-use Rattle.std.proofs.Common.{refl, sym, ap, ◌∙◌}
+use Rattle.std.proofs.Common.{sym, ap, ◌∙◌}
 use Rattle.ob0_tree.specs.View.{body_of, sequence_in}
 use Rattle.ob0_scope.specs.Names.{as_labels}
 use Rattle.ob0_types.specs.InLabels.{in_labels}

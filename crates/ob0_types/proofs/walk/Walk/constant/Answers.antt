@@ -1,4 +1,4 @@
-use Rattle.std.proofs.Common.{◌≡◌, option_map, sym, ap, ◌∙◌}
+use Rattle.std.proofs.Common.{ap, ◌∙◌}
 use Rattle.ob0_tree.specs.View.{expression_of}
 use Rattle.ob0_types.specs.InLabels.{in_labels}
 use Rattle.ob0_types.specs.KnownTables.{known_meaning}

@@ -1,8 +1,8 @@
-use Rattle.std.proofs.Common.{◌+◌, IfOk, IfSome, Some, None, sym, subst}
+use Rattle.std.proofs.Common.{◌+◌, IfOk, IfSome, None, sym, subst}
 use Rattle.ob0_tree.proofs.Viewed.{block_parts}
 use Rattle.ob0_tree.specs.declared.tree.Block.{out-Block}
 use Rattle.ob0_tree.specs.Tree.{declares, has_body}
-use Rattle.ob0_tree.specs.View.{block_of, body_of, constants_of, items_of, procedure_of, types_of, variables_of}
+use Rattle.ob0_tree.specs.View.{body_of, constants_of, items_of, procedure_of, types_of, variables_of}
 use Rattle.ob0_scope.specs.Names.{as_labels}
 use Rattle.ob0_scope.specs.Parts.{block_types, block_variables, section_constants, section_types, section_variables}
 use Rattle.ob0_types.specs.Checking.{Declares, Grows, declare_block}

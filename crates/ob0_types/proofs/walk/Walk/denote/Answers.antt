@@ -1,4 +1,4 @@
-use Rattle.std.proofs.Common.{Some, option_map, sym, ap, ◌∙◌, subst}
+use Rattle.std.proofs.Common.{option_map, sym, ap, ◌∙◌, subst}
 use Rattle.ob0_tree.specs.View.{type_of}
 use Rattle.ob0_types.specs.declared.denoting.Denoted.{Denoted}
 use Rattle.ob0_types.specs.InLabels.{in_labels}

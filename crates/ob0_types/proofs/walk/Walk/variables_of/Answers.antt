@@ -1,10 +1,9 @@
-use Rattle.std.proofs.Common.{[], sym, subst, IfOk, IfSome, Some}
-use Rattle.ob0_tree.specs.Tree.{end}
+use Rattle.std.proofs.Common.{sym, subst, IfOk, IfSome, Some}
 use Rattle.ob0_tree.specs.View.{variables_of, variable_of, items_of}
 use Rattle.ob0_scope.specs.Names.{as_labels}
 use Rattle.ob0_scope.specs.Parts.{section_variables}
 use Rattle.ob0_types.specs.Checking.{Declares, Grows}
-use Rattle.ob0_types.specs.Declarations.{declare_constants, declare_types, types_constructors, variables_constructors}
+use Rattle.ob0_types.specs.Declarations.{variables_constructors}
 use Rattle.ob0_types.specs.InLabels.{in_labels}
 use Rattle.ob0_types.specs.WellTyped.{declare_typed}
 use Rattle.ob0_types.proofs.Declared.{declared_nothing}
