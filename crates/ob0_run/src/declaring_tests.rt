@@ -5,8 +5,9 @@ use crate::shapes::Shape;
 use crate::state::State;
 use ob0_scan::{Tokens, scan};
 use ob0_tree::tree::{
-    AddOperator, Addend, ArrayType, Block, Constant, Designator, Expression, Factor, Names,
-    Procedure, Simple, Term, TypeDeclaration, Variables, WrittenType,
+    AddOperator, Addend, ArrayType, Block, Constant, Designator, Expression, Factor, FieldList,
+    Fields, Names, Procedure, RecordType, Section, Simple, Term, TypeDeclaration, Variables,
+    WrittenType,
 };
 use ob0_values::scalar::Scalar;
 use ob0_values::value::Value;
@@ -14,10 +15,11 @@ use std::alloc::{AllocError, Global};
 use std::test::Fail;
 
 const TEXT: &str =
-    "MODULE M; CONST n = 2; TYPE t = ARRAY n OF INTEGER; VAR a, b: t; PROCEDURE p; END p; END M.";
+    "MODULE M; CONST n = 2; TYPE t = ARRAY n OF INTEGER; VAR a, b: t; c: RECORD x, y: t END; \
+PROCEDURE p(q: ARRAY n OF INTEGER); END p; PROCEDURE r; END r; END M.";
 
-/// The tokens at which n, t, INTEGER, a, b and p stand, and their ordinals.
-static BOUND: [(usize, usize); 8] = [
+/// The tokens at which n, t, INTEGER, a, b, c, p, q and r stand, and their ordinals.
+static BOUND: [(usize, usize); 14] = [
     (4, 7),
     (9, 8),
     (12, 7),
@@ -25,12 +27,18 @@ static BOUND: [(usize, usize); 8] = [
     (17, 9),
     (19, 10),
     (21, 8),
-    (24, 11),
+    (23, 11),
+    (30, 8),
+    (34, 12),
+    (36, 13),
+    (39, 7),
+    (41, 0),
+    (48, 14),
 ];
 
 fn ordinals(alloc: Global) -> Result<Vec<Option<usize>>, AllocError> {
     let mut ordinals = Vec::new(alloc);
-    for token in 0..32usize {
+    for token in 0..56usize {
         let mut ordinal = None;
         for (at, bound_to) in &BOUND {
             if *at == token {
@@ -67,23 +75,76 @@ fn name(alloc: Global, name: usize) -> Factor {
     })
 }
 
-/// `ARRAY n OF INTEGER`
-fn array(alloc: Global) -> Result<WrittenType, AllocError> {
+/// `ARRAY n OF INTEGER`, by its tokens
+fn array(alloc: Global, token: usize) -> Result<WrittenType, AllocError> {
     Ok(WrittenType::Array(ArrayType {
-        token: 11,
-        size: plain(alloc, name(alloc, 12)),
-        element: Box::new(alloc, WrittenType::Named(14))?,
+        token,
+        size: plain(alloc, name(alloc, token.saturating_add(1))),
+        element: Box::new(alloc, WrittenType::Named(token.saturating_add(3)))?,
     }))
 }
 
-fn empty(alloc: Global) -> Block {
-    Block {
-        constants: None,
-        types: None,
-        variables: None,
-        procedures: Vec::new(alloc),
-        body: None,
+/// `RECORD x, y: t END`
+fn record(alloc: Global) -> Result<WrittenType, AllocError> {
+    let mut more = Vec::new(alloc);
+    more.push(28usize)?;
+    let mut groups = Vec::new(alloc);
+    groups.push(Fields::Listed(FieldList {
+        names: Names { first: 26, more },
+        written: WrittenType::Named(30),
+    }))?;
+    groups.push(Fields::Empty)?;
+    Ok(WrittenType::Record(RecordType { token: 25, groups }))
+}
+
+fn variables(alloc: Global) -> Result<Vec<Variables>, AllocError> {
+    let mut more = Vec::new(alloc);
+    more.push(19usize)?;
+    let mut variables = Vec::new(alloc);
+    variables.push(Variables {
+        names: Names { first: 17, more },
+        written: WrittenType::Named(21),
+    })?;
+    variables.push(Variables {
+        names: Names {
+            first: 23,
+            more: Vec::new(alloc),
+        },
+        written: record(alloc)?,
+    })?;
+    Ok(variables)
+}
+
+fn procedure(alloc: Global, name: usize, formals: Option<Vec<Section>>) -> Procedure {
+    Procedure {
+        token: name,
+        name,
+        formals,
+        block: Block {
+            constants: None,
+            types: None,
+            variables: None,
+            procedures: Vec::new(alloc),
+            body: None,
+        },
+        closing: 0,
     }
+}
+
+fn procedures(alloc: Global) -> Result<Vec<Procedure>, AllocError> {
+    let mut formals = Vec::new(alloc);
+    formals.push(Section {
+        by_reference: false,
+        names: Names {
+            first: 36,
+            more: Vec::new(alloc),
+        },
+        written: array(alloc, 38)?,
+    })?;
+    let mut procedures = Vec::new(alloc);
+    procedures.push(procedure(alloc, 34, Some(formals)))?;
+    procedures.push(procedure(alloc, 48, None))?;
+    Ok(procedures)
 }
 
 /// The block of the text, with the value of its constant.
@@ -93,28 +154,13 @@ fn block(alloc: Global, value: Expression) -> Result<Block, AllocError> {
     let mut types = Vec::new(alloc);
     types.push(TypeDeclaration {
         name: 9,
-        written: array(alloc)?,
-    })?;
-    let mut more = Vec::new(alloc);
-    more.push(19usize)?;
-    let mut variables = Vec::new(alloc);
-    variables.push(Variables {
-        names: Names { first: 17, more },
-        written: WrittenType::Named(21),
-    })?;
-    let mut procedures = Vec::new(alloc);
-    procedures.push(Procedure {
-        token: 23,
-        name: 24,
-        formals: None,
-        block: empty(alloc),
-        closing: 27,
+        written: array(alloc, 11)?,
     })?;
     Ok(Block {
         constants: Some(constants),
         types: Some(types),
-        variables: Some(variables),
-        procedures,
+        variables: Some(variables(alloc)?),
+        procedures: procedures(alloc)?,
         body: None,
     })
 }
@@ -124,7 +170,7 @@ fn machine<'t>(alloc: Global, tokens: &'t Tokens) -> Result<Machine<'static, 't>
     meant.push(Meant::Type(Shape::Integer))?;
     meant.push(Meant::Type(Shape::Boolean))?;
     meant.push(Meant::Constant(Value::Scalar(Scalar::Truth(true))))?;
-    for _ in 3..12 {
+    for _ in 3..15 {
         meant.push(Meant::Nothing)?;
     }
     Ok(Machine {
@@ -159,6 +205,14 @@ fn zeros(value: &Value) -> usize {
     found
 }
 
+/// The first ARRAY or RECORD of a procedure, and how many names are visible in it.
+fn routine(machine: &Machine, ordinal: usize) -> Option<(usize, usize)> {
+    match machine.meant.get(ordinal) {
+        Some(Meant::Procedure(routine)) => Some((routine.first_constructor, routine.depth)),
+        _ => None,
+    }
+}
+
 #[test]
 fn declares_what_a_block_declares(rt: HostRuntime) -> Result<(), Fail> {
     let alloc = rt.alloc();
@@ -166,24 +220,33 @@ fn declares_what_a_block_declares(rt: HostRuntime) -> Result<(), Fail> {
     let block = block(alloc, plain(alloc, Factor::Integer(6)))?;
     let mut machine = machine(alloc, &tokens)?;
     assert_eq!(rt; declare_block(&mut machine, 3, &block), Ok(()));
-    assert_eq!(rt; machine.state.store.len(), 2);
-    for variable in &machine.state.store {
-        assert_eq!(rt; zeros(variable), 2);
-    }
-    let Some(Meant::Procedure(routine)) = machine.meant.get(11) else {
-        return Err("no procedure".into());
-    };
-    assert_eq!(rt; routine.first_constructor, 4);
-    assert_eq!(rt; routine.depth, 5);
     let Some(Meant::Type(Shape::Array(ordinal, length, _))) = machine.meant.get(8) else {
         return Err("no array".into());
     };
     assert_eq!(rt; *ordinal, 3);
     assert_eq!(rt; *length, 2);
+    let [a, b, c] = machine.state.store.as_slice() else {
+        return Err("not three variables".into());
+    };
+    assert_eq!(rt; zeros(a), 2);
+    assert_eq!(rt; zeros(b), 2);
+    let Value::Members(constructor, members) = c else {
+        return Err("no record".into());
+    };
+    assert_eq!(rt; *constructor, 4);
+    let [x, y] = members.as_slice() else {
+        return Err("not two fields".into());
+    };
+    assert_eq!(rt; x.name, "x");
+    assert_eq!(rt; zeros(&x.value), 2);
+    assert_eq!(rt; y.name, "y");
+    assert_eq!(rt; zeros(&y.value), 2);
+    assert_eq!(rt; routine(&machine, 12), Some((5, 6)));
+    assert_eq!(rt; routine(&machine, 14), Some((6, 7)));
     Ok(())
 }
 
-/// `2 OR 2` has no type, and an array of no elements is none.
+/// `2 OR 2` has no type, and a variable is no constant.
 #[test]
 fn declares_nothing_where_a_constant_has_no_value(rt: HostRuntime) -> Result<(), Fail> {
     let alloc = rt.alloc();
