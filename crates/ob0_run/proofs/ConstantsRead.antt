@@ -1,22 +1,20 @@
 -- Constant expressions in a scene: chains of operands, their types, and their values without a store.
-use Rattle.std.proofs.Common.{◌≡◌, ℕ, ◌+◌, ◌<◌, ◌≤◌, true, false, List, [], ◌∷◌, length, get_or, drop, Option, Some, None, Ok, Err, Result, option_and_then, option_map, slice_get, refl, sym, ap, ◌∙◌, arith}
+use Rattle.std.proofs.Common.{◌≡◌, ℕ, ◌+◌, ◌<◌, ◌≤◌, true, false, List, [], ◌∷◌, length, get_or, drop, Option, Some, None, Err, option_and_then, option_map, refl, sym, ap, ◌∙◌, arith}
 use Rattle.std.proofs.lemmas.List.{drop_all, drop_more}
 use Rattle.ob0_tree.specs.Tree.{Tree, Item, addend, adds, compares, designator, end, expression, factor, field, index, integer, item, items, more, multiplier, multiplies, negation, none, one, parenthesised, product, relates, selector, simple, sum, term}
-use Rattle.ob0_tree.specs.declared.tree.Designator.{Designator}
 use Rattle.ob0_tree.specs.declared.tree.Selector.{Selector}
-use Rattle.ob0_tree.specs.View.{designator_of, items_of, selector_of}
+use Rattle.ob0_tree.specs.View.{items_of, selector_of}
 use Rattle.ob0_scope.specs.Names.{Label}
 use Rattle.ob0_types.specs.Expressions.{Meanings, Object, a_constant, a_procedure, a_standard, a_type, a_variable, element_step, evaluate, evaluate_addends, evaluate_factor, evaluate_multipliers, evaluate_simple, evaluate_term, follow, value_of}
-use Rattle.ob0_types.specs.Typing.{constant_of, constant_value, constants_only, element_type, field_type, given_value, object_type, type_at, type_of, type_of_factor, value_type}
-use Rattle.ob0_values.specs.Stored as stored
-use Rattle.ob0_values.specs.Values.{Outcome, Place, Shape, Store, Stuck, Value, add, add_is_settled, at_field, at_path, elements, ends, gives, integer_shape, boolean_shape, members, multiply, multiply_is_settled, negated, number, or_stuck, part, read_place, relate, signed, truth, ◌>>=◌}
+use Rattle.ob0_types.specs.Typing.{constant_of, constant_value, constants_only, element_type, given_value, object_type, type_at, type_of, type_of_factor, value_type}
+use Rattle.ob0_values.specs.Values.{Outcome, Place, Shape, Store, Value, add, add_is_settled, at_field, at_path, elements, gives, integer_shape, boolean_shape, members, multiply, multiply_is_settled, negated, number, or_stuck, part, relate, signed, truth, ◌>>=◌}
 use Rattle.ob0_types.proofs.Chains.{IsChain}
 use Rattle.ob0_types.proofs.Judged.{designator_typed}
 use Rattle.ob0_run.specs.declared.scene.Scene.{Scene}
 use Rattle.ob0_run.specs.declared.scene.Stop.{Stop}
 use Rattle.ob0_run.specs.declared.scene.Stop.TheVariants as stop
 use Rattle.ob0_run.specs.DeclaredFrames.{constants_in, only_stuck}
-use Rattle.ob0_run.specs.Scenes.{Answers, end_of, label_in, meaning_in, read_in}
+use Rattle.ob0_run.specs.Scenes.{Answers, label_in, meaning_in, read_in}
 
 -- what the items so far give, and then those left, is what all give
 pub record Chained {X A : Type 0} {i : Item} (chain : X → Tree Label (items i) → Option X) (s : Scene) (f : A → Tree ℕ (item i)) (start : Option X) (xs : List A) (done : ℕ) (out : Option X) : Type 0 where

@@ -1,5 +1,5 @@
 -- How many ARRAY and RECORD stand in declarations: a mapped tree has as many, and lists are counted one by one.
-use Rattle.std.proofs.Common.{◌≡◌, ℕ, suc, ◌+◌, ◌<◌, ◌≤◌, List, [], ◌∷◌, length, get_or, drop, Ok, Err, Result, IfOk, refl, sym, ap, ◌∙◌, subst, arith, add_assoc, add-zero}
+use Rattle.std.proofs.Common.{◌≡◌, ℕ, suc, ◌+◌, ◌<◌, ◌≤◌, List, [], ◌∷◌, length, get_or, drop, Result, IfOk, refl, sym, ap, ◌∙◌, subst, arith}
 use Rattle.std.proofs.lemmas.List.{drop_all, drop_more}
 use Rattle.ob0_tree.specs.Tree.{Tree, array_type, block, declares, declares_procedure, declares_type, declares_types, declares_variable, declares_variables, end, fields, formals, further_fields, further_section, has_body, item, items, mapped, maybe, more, named_type, no_fields, no_formals, none, one, procedure, record_type, section, some_fields, some_formals, then_fields, then_section, type_name, type_names, value_section, variable, variable_section, variables, written_type}
 use Rattle.ob0_tree.specs.declared.tree.Block.{out-Block}

@@ -8,9 +8,8 @@ use Rattle.ob0_types.specs.Environments.{from_binding, meanings, newest}
 use Rattle.ob0_types.specs.Expressions.{Object}
 use Rattle.ob0_types.specs.Typing.{constant_value, denoted}
 use Rattle.ob0_types.proofs.TypeNaturality.{constant_value-map, denoted-map}
-use Rattle.ob0_values.specs.Values.{Place, Stuck, ends, gives, or_stuck}
+use Rattle.ob0_values.specs.Values.{Place, ends, gives, or_stuck}
 use Rattle.ob0_values.specs.Stored.{store_of}
-use Rattle.ob0_run.specs.declared.machine.Bound.{Bound}
 use Rattle.ob0_run.specs.declared.machine.Machine.{Machine}
 use Rattle.ob0_run.specs.declared.scene.Ending.{Ending}
 use Rattle.ob0_run.specs.declared.scene.Ending.TheVariants as ending

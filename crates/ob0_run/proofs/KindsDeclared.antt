@@ -1,7 +1,7 @@
 -- The declarations of a block, kind by kind and one by one.
 use Rattle.std.proofs.Common.{◌≡◌, ℕ, ◌+◌, List, [], ◌∷◌, map, Option, Some, None, option_and_then, option_map, Result, refl, sym, ap, ◌∙◌, subst}
 use Rattle.ob0_tree.specs.Places.{value_at}
-use Rattle.ob0_tree.specs.Tree.{Tree, block, body, constants, declares, declares_constants, declares_types, declares_variables, end, further_name, has_body, item, items, maybe, more, none, one, procedure, then_name, type_names, variables}
+use Rattle.ob0_tree.specs.Tree.{Tree, block, end, then_name}
 use Rattle.ob0_tree.specs.declared.tree.Constant.{Constant}
 use Rattle.ob0_tree.specs.declared.tree.Names as tree_names
 use Rattle.ob0_tree.specs.declared.tree.Procedure.{Procedure, out-Procedure, roll-out-Procedure}
@@ -10,7 +10,7 @@ use Rattle.ob0_tree.specs.declared.tree.Variables.{Variables}
 use Rattle.ob0_tree.specs.View.{constant_of, expression_of, items_of, names_of, procedure_of, type_declaration_of, type_of, variable_of}
 use Rattle.ob0_tree.proofs.Viewed.{procedure_made}
 use Rattle.ob0_scope.specs.Names.{Label, as_labels}
-use Rattle.ob0_scope.specs.Parts.{block_constants, block_procedures, block_types, block_variables, further_names, names_listed, procedure_name, section_constants, section_types, section_variables}
+use Rattle.ob0_scope.specs.Parts.{block_constants, block_procedures, block_types, block_variables, further_names, names_listed, procedure_name}
 use Rattle.ob0_types.specs.Declarations.{after_types, after_variables, declare_constants, declare_first, declare_types, procedure_constructors}
 use Rattle.ob0_types.specs.Environments.{meanings}
 use Rattle.ob0_types.specs.Expressions.{a_constant, a_procedure, a_type}
@@ -20,7 +20,7 @@ use Rattle.ob0_run.specs.declared.machine.Machine.{Machine}
 use Rattle.ob0_run.specs.declared.scene.Stop.{Stop}
 use Rattle.ob0_run.specs.Activations.{Declares, label_there, surroundings}
 use Rattle.ob0_run.specs.DeclaredFrames.{constant_declared, constants_declared, procedure_declared, procedures_declared, read_there, type_declared, types_declared, variables_declared, with_object}
-use Rattle.ob0_run.specs.Runs.{Activation, Frame, allocate, declare_block, declare_procedures, declare_variables, with_procedures}
+use Rattle.ob0_run.specs.Runs.{Activation, Frame, allocate, declare_block, declare_variables, with_procedures}
 use Rattle.ob0_run.specs.Scenes.{label_with, read_with}
 use Rattle.ob0_run.proofs.CountsKept.{constructors-kept, procedure-kept}
 use Rattle.ob0_run.proofs.FramesDeclared.{Step, Walk}

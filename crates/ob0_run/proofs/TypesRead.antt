@@ -1,26 +1,22 @@
 -- What the texts of types denote in a scene, part by part.
-use Rattle.std.proofs.Common.{◌≡◌, ℕ, suc, ◌+◌, ◌<◌, ◌≤◌, List, [], ◌∷◌, ◌++◌, length, map, get_or, drop, Option, Some, None, Ok, Err, Result, option_and_then, option_map, refl, sym, ap, ◌∙◌, subst, arith, add-one, unwrap_or}
+use Rattle.std.proofs.Common.{◌≡◌, ℕ, suc, ◌+◌, ◌<◌, ◌≤◌, List, [], ◌∷◌, ◌++◌, length, map, get_or, drop, Option, Some, None, Ok, Err, Result, option_and_then, option_map, refl, sym, ap, ◌∙◌, subst, add-one, unwrap_or}
 use Rattle.std.proofs.lemmas.List.{drop_all, drop_more}
-use Rattle.ob0_tree.specs.Tree.{Tree, array_type, end, expression, fields, further_fields, further_name, item, items, listed, more, named_type, names, no_fields, record_type, some_fields, then_fields, then_name, written_type}
-use Rattle.ob0_tree.specs.declared.tree.FieldList.{FieldList}
+use Rattle.ob0_tree.specs.Tree.{Tree, array_type, end, expression, fields, further_fields, items, listed, more, named_type, names, no_fields, some_fields, then_fields, then_name, written_type}
 use Rattle.ob0_tree.specs.declared.tree.Fields as group
-use Rattle.ob0_tree.specs.declared.tree.Names as tree_names
 use Rattle.ob0_tree.specs.Places.{value_at}
-use Rattle.ob0_tree.specs.View.{fields_of, further_fields_of_group, items_of, names_of, record_listed, type_of}
+use Rattle.ob0_tree.specs.View.{fields_of, further_fields_of_group, items_of, record_listed}
 use Rattle.ob0_scope.specs.Names.{Label, label_text}
 use Rattle.ob0_scope.specs.Parts.{further_names, names_listed}
 use Rattle.ob0_types.specs.DenotedTables.{joined}
 use Rattle.ob0_types.specs.Expressions.{Meanings}
-use Rattle.ob0_types.specs.Typing.{array_length, constant_value, constructors, denoted, denoted_group, denoted_groups, group_constructors, type_of_name, with_fields, within_limits}
+use Rattle.ob0_types.specs.Typing.{array_length, constant_value, denoted, denoted_group, denoted_groups, group_constructors, type_of_name, with_fields, within_limits}
 use Rattle.ob0_types.proofs.Added.{joined-assoc, joined-nothing}
-use Rattle.ob0_values.specs.Values.{FieldShapes, Outcome, Shape, array_shape, next_field_shape, no_field_shape, ends, or_stuck, record_shape, ◌>>=◌}
-use Rattle.ob0_run.specs.declared.scene.Ending.{Ending}
-use Rattle.ob0_run.specs.declared.scene.Ending.TheVariants as ending
+use Rattle.ob0_values.specs.Values.{FieldShapes, Shape, array_shape, next_field_shape, no_field_shape, ends, or_stuck, record_shape, ◌>>=◌}
 use Rattle.ob0_run.specs.declared.scene.Scene.{Scene}
 use Rattle.ob0_run.specs.declared.scene.Stop.{Stop}
 use Rattle.ob0_run.specs.declared.scene.Stop.TheVariants as stop
 use Rattle.ob0_run.specs.declared.shapes.Field.{Field}
-use Rattle.ob0_run.specs.DeclaredFrames.{Extends, fields_listed, with_named}
+use Rattle.ob0_run.specs.DeclaredFrames.{Extends, with_named}
 use Rattle.ob0_run.specs.Scenes.{Answers, end_of, label_in, meaning_in, read_in}
 use Rattle.ob0_run.specs.Shapes.{fields_in, shape_of}
 use Rattle.ob0_run.proofs.ConstantsRead.{stuck_then}

@@ -1,6 +1,6 @@
 -- What the declarations of a block do to the frame of an activation, one by one.
 use Rattle.std.specs.Prelude.{◌≡◌, ℕ, List, ◌∷◌, map, Option, Some, None, Ok, Err, Result, option_map}
-use Rattle.ob0_tree.specs.Tree.{Sort, Tree, block, constant, expression, fields, item, items, names, procedure, some_fields, type_name, variable, written_type}
+use Rattle.ob0_tree.specs.Tree.{Sort, Tree, constant, expression, fields, item, items, names, procedure, some_fields, type_name, written_type}
 use Rattle.ob0_tree.specs.declared.tree.FieldList.{FieldList}
 use Rattle.ob0_tree.specs.View.{names_of, type_of}
 use Rattle.ob0_scope.specs.Names.{Label, as_labels, label_text}
@@ -18,7 +18,7 @@ use Rattle.ob0_run.specs.declared.scene.Scene.{Scene}
 use Rattle.ob0_run.specs.declared.scene.Stop.{Stop}
 use Rattle.ob0_run.specs.declared.scene.Stop.TheVariants as stop
 use Rattle.ob0_run.specs.declared.shapes.Field.{Field}
-use Rattle.ob0_run.specs.Runs.{Activation, Code, Frame, allocate, declare_procedures, with_procedures}
+use Rattle.ob0_run.specs.Runs.{Activation, Code, Frame, allocate, with_procedures}
 use Rattle.ob0_run.specs.Scenes.{meaning_in, read_with}
 use Rattle.ob0_run.specs.Shapes.{fields_in}
 

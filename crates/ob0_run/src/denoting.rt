@@ -1,6 +1,6 @@
 //! The types that texts denote in an activation.
 
-ghost use Rattle.std.specs.Prelude.{◌≡◌, Some};
+ghost use Rattle.std.specs.Prelude.{Some};
 ghost use Rattle.ob0_tree.specs.Tree.{named_type};
 ghost use Rattle.ob0_tree.specs.View.{fields_of, names_of, record_in, type_of};
 ghost use Rattle.ob0_types.specs.DenotedTables.{array_in};

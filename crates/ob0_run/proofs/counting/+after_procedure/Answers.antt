@@ -1,9 +1,8 @@
-use Rattle.std.proofs.Common.{◌≡◌, ◌+◌, refl, sym, ap, ◌∙◌, arith}
+use Rattle.std.proofs.Common.{ap, arith}
 use Rattle.ob0_tree.specs.declared.tree.Block.{out-Block}
 use Rattle.ob0_tree.specs.declared.tree.Procedure.{out-Procedure}
-use Rattle.ob0_tree.specs.View.{formals_of, items_of, procedure_of, types_of, variables_of}
-use Rattle.ob0_scope.specs.Parts.{formal_sections, section_types, section_variables}
-use Rattle.ob0_types.specs.Declarations.{formals_constructors, procedure_constructors, procedures_constructors, types_constructors, variables_constructors}
+use Rattle.ob0_tree.specs.View.{items_of, procedure_of}
+use Rattle.ob0_types.specs.Declarations.{procedures_constructors}
 use Rattle.ob0_run.proofs.CountsKept.{counting_ends, procedure_counted, procedures_count}
 use Rattle.ob0_run.proofs.counting.+after_procedure.Goals as goal
 

@@ -1,11 +1,9 @@
 use Rattle.std.proofs.Common.{Ok, sym, subst}
 use Rattle.ob0_tree.specs.Tree.{end}
 use Rattle.ob0_tree.specs.View.{constants_of}
-use Rattle.ob0_scope.specs.Names.{as_labels}
 use Rattle.ob0_scope.specs.Parts.{section_constants}
 use Rattle.ob0_run.specs.Activations.{Declares}
 use Rattle.ob0_run.specs.DeclaredFrames.{read_there, constants_declared}
-use Rattle.ob0_run.specs.Runs.{declare_variables}
 use Rattle.ob0_run.proofs.FramesDeclared.{declared_begins, declared_ends}
 use Rattle.ob0_run.proofs.KindsDeclared.{no_constants}
 use Rattle.ob0_run.proofs.declaring.declare_constants.Goals as goal

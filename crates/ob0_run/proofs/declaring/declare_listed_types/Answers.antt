@@ -1,4 +1,4 @@
-use Rattle.std.proofs.Common.{Ok, Err, refl}
+use Rattle.std.proofs.Common.{Ok, Err}
 use Rattle.std.proofs.lemmas.Result.{err_from_is_err_and}
 use Rattle.ob0_run.proofs.Activating.{declares_left}
 use Rattle.ob0_run.proofs.FramesDeclared.{walk_ends, walk_fails, walk_on}

@@ -1,4 +1,4 @@
-use Rattle.std.proofs.Common.{◌∷◌, [], ◌+◌, Ok, Some, get_or, refl, sym, ap, ◌∙◌, subst, arith, add-one}
+use Rattle.std.proofs.Common.{◌∷◌, [], ◌+◌, Ok, Some, get_or, refl, sym, ap, subst, arith, add-one}
 use Rattle.ob0_values.specs.Values.{initial}
 use Rattle.ob0_run.specs.Activations.{Declares}
 use Rattle.ob0_run.specs.Runs.{allocate}

@@ -1,7 +1,5 @@
-use Rattle.std.proofs.Common.{Ok, Err, refl}
-use Rattle.std.proofs.lemmas.Result.{err_from_is_err_and}
-use Rattle.ob0_run.proofs.Activating.{declares_left}
-use Rattle.ob0_run.proofs.FramesDeclared.{walk_ends, walk_fails, walk_on}
+use Rattle.std.proofs.Common.{Ok}
+use Rattle.ob0_run.proofs.FramesDeclared.{walk_on}
 use Rattle.ob0_run.proofs.KindsDeclared.{after_one, after_one-counted, procedure_moved, procedure_of_list, procedures_of_list, procedures_walk}
 use Rattle.ob0_run.proofs.declaring.declare_procedures.Goals as goal
 

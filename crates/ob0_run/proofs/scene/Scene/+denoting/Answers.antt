@@ -1,6 +1,6 @@
 use Rattle.std.proofs.Common.{suc, Ok, Err, option_and_then, Some, map, sym, ap, ◌∙◌, subst, add-one}
 use Rattle.std.proofs.lemmas.Result.{err_from_is_err_and}
-use Rattle.ob0_tree.specs.View.{expression_of, fields_of, names_of, record_in, record_listed, type_of}
+use Rattle.ob0_tree.specs.View.{expression_of, fields_of, names_of, record_listed, type_of}
 use Rattle.ob0_tree.proofs.Viewed.{record_made}
 use Rattle.ob0_scope.specs.Names.{label_text}
 use Rattle.ob0_scope.specs.Parts.{names_listed}

@@ -1,4 +1,4 @@
-use Rattle.std.proofs.Common.{◌∷◌, ◌+◌, Ok, Some, get_or, refl, sym, ap, subst, arith, add-one}
+use Rattle.std.proofs.Common.{◌∷◌, Ok, Some, get_or, refl, sym, ap, subst, arith, add-one}
 use Rattle.std.proofs.lemmas.Result.{err_from_is_err_and}
 use Rattle.ob0_tree.specs.Tree.{listed, then_name}
 use Rattle.ob0_tree.specs.View.{items_of, names_of}
