@@ -1,5 +1,5 @@
 -- A checked module: its names, and what was told of it.
-use Rattle.std.specs.Prelude.{◌≡◌, ℕ, Bool, true, List, [], ◌↔◌, IfSome, is_some, Option}
+use Rattle.std.specs.Prelude.{◌≡◌, ℕ, ◌≤◌, Bool, true, List, [], length, ◌↔◌, IfSome, is_some, Option}
 use Rattle.ob0_scan.specs.declared.fault.Fault.{Fault}
 use Rattle.ob0_scope.specs.Resolution.{Resolution, IsResolution}
 use Rattle.ob0_scope.specs.Names.{Name}
@@ -28,6 +28,7 @@ pub record IsChecked (c : CheckedModule) : Type 0 where
   pub told : (c.faults ≡ []) ↔ WellTyped (named_tree_of c.names.module_read)
   pub holds : IfSome c.known (HoldsDeclarations (named_tree_of c.names.module_read))
   pub kept : c.faults ≡ [] → is_some c.known ≡ true
+  pub few : length c.faults ≤ 100
 
 -- a module that is well-typed
 pub record IsWellTyped (names : Resolution) : Type 0 where

@@ -3,7 +3,7 @@
 ghost use Rattle.ob0_scope.specs.Resolution.{is_of_declarations};
 ghost use Rattle.ob0_types.specs.CheckedModules.{IsTold};
 ghost use Rattle.std.specs.List.{filter, list_any};
-ghost use Rattle.std.specs.Prelude.{◌≡◌, ◌&&◌, ◌++◌, [], not, IfOk, OnOk, MatchOption};
+ghost use Rattle.std.specs.Prelude.{◌≡◌, ◌≤◌, ◌&&◌, ◌++◌, [], length, not, IfOk, OnOk, MatchOption};
 
 use crate::deciding::decide;
 use crate::known::Known;
@@ -87,7 +87,8 @@ fn faults_of<'t>(
     resolved: &'t Resolved<'t>,
     fits: bool,
 ) -> Result<Vec<Fault>, AllocError>
-    ensures { IfOk result (λ faults. IsTold (fits && not (list_any is_of_declarations resolved.now.faults)) faults.items) }
+    ensures told { IfOk result (λ faults. IsTold (fits && not (list_any is_of_declarations resolved.now.faults)) faults.items) }
+    ensures few { IfOk result (λ faults. length faults.items ≤ 100) }
 {
     let mut faults = of_types(alloc, resolved, fits)?;
     add_declarations(&mut faults, resolved.faults())?;

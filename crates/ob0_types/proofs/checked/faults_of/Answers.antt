@@ -5,8 +5,8 @@ use Rattle.ob0_types.specs.CheckedModules.{IsTold}
 use Rattle.ob0_types.proofs.AllTold.{told_alike, told_with}
 use Rattle.ob0_types.proofs.checked.faults_of.Goals as goal
 
-pub returns : goal.returns
-returns c =
+pub returns-clause-told : goal.returns-clause-told
+returns-clause-told c =
     let right = c.args.fits && not (list_any is_of_declarations c.args.resolved.now.faults) in
     let first = c.in_ok-faults.faults.items in
     let added = c.add_declarations.new.faults in
@@ -20,3 +20,9 @@ returns c =
     let same : length sorted.items ≡ length added.items = omega (arith, c.sort_by_key.ensures.len, a, s) in
     let cut : length kept.items + (length sorted.items - 100) ≡ length sorted.items = omega (arith, c.truncate.ensures.len, k, s) in
     told_alike right added.items kept.items (λ e. omega (arith, e, same, cut)) (λ e. omega (arith, e, same, cut)) told
+
+pub returns-clause-few : goal.returns-clause-few
+returns-clause-few c =
+    let s = c.sort_by_key.new.self.ok.0 in
+    let k = c.truncate.new.self.ok.0 in
+    omega (arith, c.truncate.ensures.len, k, s)
