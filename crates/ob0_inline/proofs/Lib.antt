@@ -1,2 +1,6 @@
 pub mod Depths
 pub mod ModuleTexts
+pub mod OnOccurrences
+pub mod Alone
+pub mod UsesStand
+pub mod AtUses

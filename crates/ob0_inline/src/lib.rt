@@ -3,10 +3,10 @@
 
 mod depth;
 mod inlining;
-mod parts;
-#[cfg(test)]
-mod tests;
+mod shown;
+mod uses;
 mod writing;
 mod written;
 
-pub use inlining::{inline_all, inline_here};
+pub use inlining::inline_here;
+pub use uses::Use;

@@ -1,6 +1,6 @@
 //! The edits that write a value in the place of names.
 
-ghost use Rattle.std.specs.Prelude.{◌≡◌, ◌⊎◌, ◌<◌, IfOk, IfErr, IsErrOf, length, map};
+ghost use Rattle.std.specs.Prelude.{◌≡◌, ◌⊎◌, ◌<◌, ◌≤◌, IfOk, IfErr, IsErrOf, length, map};
 ghost use Rattle.std.specs.Str.{chars};
 ghost use Rattle.ob0_scan.specs.Scanned.{max_text};
 ghost use Rattle.ob0_text.specs.declared.refusals.EditRefusal.TheVariants.{Memory, TooDeep, TooLong};
@@ -31,6 +31,8 @@ pub(crate) fn edits_at<T: TextStore>(
     ensures inlined { StandAlone names.now.module_read places.now value → IfOk result (λ edits. LeavesModule (T.unit_of store.now) (T.content store.now) edits.items (inlined_at names.now.module_read places.now value)) }
     ensures too_long { IsErrOf result TooLong → max_text < length (with_text_at names.now.module_read.source places.now (value_text value)) }
     ensures too_deep { StandAlone names.now.module_read places.now value → IsErrOf result TooDeep → 100 < nesting (inlined_at names.now.module_read places.now value) }
+    ensures short { IfOk result (λ edits. length (with_text_at names.now.module_read.source places.now (value_text value)) ≤ max_text) }
+    ensures deep_and_short { IsErrOf result TooDeep → length (with_text_at names.now.module_read.source places.now (value_text value)) ≤ max_text }
     ensures refusals { IfErr result (λ refusal. (refusal ≡ TooLong) ⊎ ((refusal ≡ TooDeep) ⊎ (refusal ≡ Memory))) }
 {
     let _module = names.module();

@@ -1,8 +1,11 @@
 //! How a value is written.
 
-ghost use Rattle.std.specs.Prelude.{◌≡◌, IfOk, string_bytes};
+ghost use Rattle.std.specs.Prelude.{◌≡◌, IfOk, IsTrue, string_bytes};
 ghost use Rattle.ob0_edits.specs.Replaced.{StandsForName};
 ghost use Rattle.ob0_edits.specs.Written.{number_text, number_words};
+ghost use Rattle.ob0_types.specs.EditLaws.{IsScalar};
+ghost use Rattle.ob0_values.specs.Scalars.{scalar_value};
+ghost use Rattle.ob0_values.specs.Values.{fits};
 ghost use Rattle.ob0_inline.specs.Values.{value_text, value_words};
 
 use ob0_values::scalar::Scalar;
@@ -40,3 +43,18 @@ fn number_text(alloc: Global, number: i32) -> Result<String, AllocError>
 fn stands_for_name(number: i32)
     ensures { StandsForName (number_text number) (number_words number) }
 {}
+
+/// A value is a number of 32 bits or a truth value.
+pub(crate) fn is_scalar(value: Scalar)
+    ensures { IsScalar (scalar_value value) }
+{
+    if let Scalar::Number(number) = value {
+        fits(number);
+    }
+}
+
+fn fits(number: i32)
+    ensures { IsTrue (fits number) }
+{
+    let _ = number;
+}

@@ -302,14 +302,14 @@ forgotten naming m =
     back (Some k) x = refl
 
 -- the table of the occurrences has the first ordinal at each of them, and at no other identifier
-abbrev Told : List (Option ℕ) → Role → ℕ → Type 0
+abbrev pub Told : List (Option ℕ) → Role → ℕ → Type 0
 Told table role.LookedUp i = ordinal_in table i ≡ Some 0
 Told table role.Declaring i = ordinal_in table i ≡ None
 Told table role.ClosingName i = ordinal_in table i ≡ None
 Told table role.FieldName i = ordinal_in table i ≡ None
 Told table role.ModuleName i = ordinal_in table i ≡ None
 
-abbrev AllTold : List (Option ℕ) → List (Role × ℕ) → Type 0
+abbrev pub AllTold : List (Option ℕ) → List (Role × ℕ) → Type 0
 AllTold table [] = Unit {0}
 AllTold table (x ∷ xs) = Told table x.0 x.1 × AllTold table xs
 
@@ -366,6 +366,21 @@ nothing_there n i =
       | false ↦ (λ e. let past : n ≤ i = ltb-false i n e in get_or_past (replicate n none) i none (subst (λ l. l ≤ i) (sym (length-replicate n none)) past))
     ]) refl
 
+-- the table of a module's occurrences
+abbrev pub occurrence_table : Resolution → List (Option ℕ)
+occurrence_table r = with_marks (replicate (length r.module_read.source.tokens) None) (map first_at r.uses)
+
+pub uses_told : (r : Resolution) → IsResolution r → AllTold (occurrence_table r) (identifiers role.Declaring (tree_of r.module_read))
+uses_told r is =
+    let m = r.module_read in
+    let ids = identifiers role.Declaring (tree_of m) in
+    let count = length m.source.tokens in
+    let none : Option ℕ = None in
+    let long : count ≤ length (replicate count none) = subst (λ n. count ≤ n) (sym (length-replicate count none)) (le_refl count) in
+    let found : looked_up_only ids ≡ r.uses = looked_up-occurrences role.Declaring (λ n xs. refl) (tree_of m) ∙ sym is.occurring in
+    let told = all_told 0 count ids (replicate count none) (leaves_ascend m is.parsed) long (λ i le. nothing_there count i) in
+    subst (λ (t : List (Option ℕ)). AllTold t ids) (ap (λ us. with_marks (replicate count none) (map first_at us)) found) told
+
 -- so the identifiers are written as they are sought
 all_sought : (source : Scanned) (table : List (Option ℕ)) (y : Name) (xs : List (Role × ℕ)) → AllTold table xs
     → AllSought y (name_at (record { source = source; ordinals = table; declaration = Some 0; new = y })) (text_at source) xs
@@ -384,14 +399,9 @@ seen_in_places r y v sought ordinals is table gone tabled =
     let m = r.module_read in
     let w : Writing = record { source = m.source; ordinals = sought; declaration = Some 0; new = y } in
     let ids = identifiers role.Declaring (tree_of m) in
-    let count = length m.source.tokens in
-    let none : Option ℕ = None in
     let passed = module_passed (ordinal_in ordinals) forget w (tree_of m) (started w) (record { writing = refl; scope = refl; next = refl }) in
     let agree = (passed.agree (marks_in_table m w v ordinals is.parsed gone tabled)).1 in
-    let long : count ≤ length (replicate count none) = subst (λ n. count ≤ n) (sym (length-replicate count none)) (le_refl count) in
-    let found : looked_up_only ids ≡ r.uses = looked_up-occurrences role.Declaring (λ n xs. refl) (tree_of m) ∙ sym is.occurring in
-    let told = all_told 0 count ids (replicate count none) (leaves_ascend m is.parsed) long (λ i le. nothing_there count i) in
-    let told_so : AllTold sought ids = subst (λ (t : List (Option ℕ)). AllTold t ids) (ap (λ us. with_marks (replicate count none) (map first_at us)) found ∙ sym table) told in
+    let told_so : AllTold sought ids = subst (λ (t : List (Option ℕ)). AllTold t ids) (sym table) (uses_told r is) in
     ap (map (ordinal_in ordinals)) is.occurring
     ∙ (sym (occurrences-mapped (ordinal_in ordinals) (value_at m.source) (tree_of m))
     ∙ (sym (ap occurrences agree)
