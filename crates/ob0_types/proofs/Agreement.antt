@@ -15,10 +15,12 @@ use Rattle.ob0_types.specs.declared.known.Formal as formal
 use Rattle.ob0_types.specs.declared.known.Shadowed.{Shadowed}
 use Rattle.ob0_types.specs.declared.known.Object as declaration
 use Rattle.ob0_types.specs.declared.known.Object.TheVariants as kind
+use Rattle.ob0_types.specs.declared.known.Sight.{Sight}
+use Rattle.ob0_types.specs.declared.known.Sight.TheVariants as sight
 use Rattle.ob0_types.specs.Checking.{Agrees, Follows, Walking}
 use Rattle.ob0_types.specs.Environments.{from_binding, meanings, newest, outermost}
 use Rattle.ob0_types.specs.Expressions.{Object, a_constant, a_procedure, a_standard, a_type, a_variable, reads, writes, writes_line}
-use Rattle.ob0_types.specs.KnownTables.{AreTables, CanBePutBack, Tables, before_all, label_object, object_seen, predeclared, put_at, seen_entry, seen_in, seen_object, shapes_of}
+use Rattle.ob0_types.specs.KnownTables.{AreTables, CanBePutBack, EntryIsMade, SightIsMade, Tables, before_all, declared_in, in_sight_of, label_object, object_seen, predeclared, put_at, seen_entry, seen_in, seen_object, shapes_of}
 use Rattle.ob0_types.specs.Tables.{IsMade, ObjectIsMade, formal_in, mode_of, object_in, type_shape}
 use Rattle.ob0_types.specs.WellTyped.{Signature, TypeEnvironment}
 use Rattle.ob0_types.proofs.Sighted.{before_all-append, last_of}
@@ -27,27 +29,21 @@ use Rattle.ob0_types.proofs.Tables.{ObjectIsMade-more, length-table, type_shape-
 -- what an ordinal stands for, by the object in sight
 seen_entry-object : (shapes : List Shape) (e : Option Entry) → option_and_then (seen_entry shapes) e ≡ option_and_then (object_in shapes) (option_and_then object_seen e)
 seen_entry-object shapes None = refl
-seen_entry-object shapes (Some e) = by_sight e.in_sight
-  where
-    by_sight : (b : Bool) → cond b (object_in shapes e.object) None ≡ option_and_then (object_in shapes) (cond b (Some e.object) None)
-    by_sight true = refl
-    by_sight false = refl
+seen_entry-object shapes (Some e) = refl
 
 pub seen_in-object : (t : Tables) (k : ℕ) → seen_in t k ≡ option_and_then (object_in (shapes_of t)) (seen_object t k)
 seen_in-object t k = seen_entry-object (shapes_of t) (slice_get t.entries k)
 
 -- what is in sight was made
-made_entry : (n : ℕ) (e : Entry) → ObjectIsMade n e.object → IfSome (object_seen e) (ObjectIsMade n)
-made_entry n e h = by_sight e.in_sight
-  where
-    by_sight : (b : Bool) → IfSome (cond b (Some e.object) None) (ObjectIsMade n)
-    by_sight true = h
-    by_sight false = tt
+made_sight : (n : ℕ) (last : declaration.Object) (s : Sight) → ObjectIsMade n last → SightIsMade n s → IfSome (in_sight_of last s) (ObjectIsMade n)
+made_sight n last sight.Nothing h made = tt
+made_sight n last sight.Last h made = h
+made_sight n last (sight.Earlier o) h made = made
 
-made_at : (n : ℕ) (es : List Entry) (k : ℕ) → All (λ e. ObjectIsMade n e.object) es → IfSome (option_and_then object_seen (slice_get es k)) (ObjectIsMade n)
+made_at : (n : ℕ) (es : List Entry) (k : ℕ) → All (EntryIsMade n) es → IfSome (option_and_then object_seen (slice_get es k)) (ObjectIsMade n)
 made_at n [] k h = tt
-made_at n (e ∷ es) zero h = made_entry n e (All-head (λ e. ObjectIsMade n e.object) e es h)
-made_at n (e ∷ es) (suc k) h = made_at n es k (All-tail (λ e. ObjectIsMade n e.object) e es h)
+made_at n (e ∷ es) zero h = let made = All-head (EntryIsMade n) e es h in made_sight n e.object e.sight made.0 made.1
+made_at n (e ∷ es) (suc k) h = made_at n es k (All-tail (EntryIsMade n) e es h)
 
 -- more shapes change no object that was made
 formals-more : (shapes later : List Shape) (fs : List formal.Formal) → All (λ f. IsMade (length shapes) f.of) fs → map (formal_in (shapes ++ later)) fs ≡ map (formal_in shapes) fs
@@ -98,7 +94,7 @@ agrees_unbound env t x o agrees = agrees_by_label ((as_written x, o) ∷ env) t 
     by_label (declared k) = agrees_at env t agrees (declared k)
     by_label (as_written y) = agrees_at env t agrees (as_written y)
 
-newest-if : (b : Bool) (x : Label) (o : Object Shape Signature) (env rest : TypeEnvironment Label) → newest (elim b [ true ↦ (x, o) ∷ env | false ↦ rest ]) ≡ cond b (Some o) (newest rest)
+pub newest-if : (b : Bool) (x : Label) (o : Object Shape Signature) (env rest : TypeEnvironment Label) → newest (elim b [ true ↦ (x, o) ∷ env | false ↦ rest ]) ≡ cond b (Some o) (newest rest)
 newest-if true x o env rest = refl
 newest-if false x o env rest = refl
 
@@ -155,7 +151,7 @@ first_6 = (declared 5, a_standard writes) ∷ first_5
 abbrev first_7 : TypeEnvironment Label
 first_7 = (declared 6, a_standard writes_line) ∷ first_6
 
-past : (k : ℕ) → 6 < k → newest (from_binding as_labels first_7 (declared k)) ≡ None
+pub past : (k : ℕ) → 6 < k → newest (from_binding as_labels first_7 (declared k)) ≡ None
 past k less =
     other k 6 (a_standard writes_line) first_6 (omega arith)
     ∙ other k 5 (a_standard writes) first_5 (omega arith)

@@ -1,5 +1,5 @@
 -- What is told of a module: nothing exactly where it is well-typed.
-use Rattle.std.proofs.Common.{◌≡◌, ℕ, ◌+◌, ◌-◌, ◌&&◌, ◌||◌, if◌then◌else◌, Bool, true, false, not, IsTrue, List, [], ◌∷◌, ◌++◌, length, refl, sym, ap, ◌∙◌, subst, true≢false, arith, length-append}
+use Rattle.std.proofs.Common.{◌≡◌, ℕ, ◌+◌, ◌-◌, ◌&&◌, ◌||◌, if◌then◌else◌, Bool, true, false, not, IsTrue, List, [], ◌∷◌, ◌++◌, IfSome, is_some, Option, Some, None, length, refl, sym, ap, ◌∙◌, subst, true≢false, arith, length-append}
 use Rattle.std.proofs.lemmas.List.{nil_from_length}
 use Rattle.std.specs.List.{filter, list_any}
 use Rattle.ob0_scan.specs.declared.fault.Fault.{Fault}
@@ -8,7 +8,10 @@ use Rattle.ob0_scope.specs.DeclaredOnce.{declared_once}
 use Rattle.ob0_scope.specs.Resolution.{IsResolution, Resolution, is_of_declarations}
 use Rattle.ob0_tree.specs.Parsed.{named_tree_of, tree_of}
 use Rattle.ob0_types.specs.CheckedModules.{IsChecked, IsTold}
+use Rattle.ob0_types.specs.Bindings.{module_bindings, object_bound}
+use Rattle.ob0_types.specs.Checking.{Keeps}
 use Rattle.ob0_types.specs.InLabels.{in_labels}
+use Rattle.ob0_types.specs.KnownTables.{Tables}
 use Rattle.ob0_types.specs.Laws.{FitsByOrdinal}
 use Rattle.ob0_types.specs.WellTyped.{WellTyped, fits_over}
 
@@ -65,11 +68,16 @@ once_from false any e f = absurd (true≢false (sym e ∙ f))
 from_once : (b : Bool) (any : Bool) → any ≡ not b → b ≡ true → any ≡ false
 from_once b any e t = e ∙ ap not t
 
+if_some : {A : Type 0} {P Q : A → Type 0} (o : Option A) → ((a : A) → P a → Q a) → IfSome o P → IfSome o Q
+if_some None f h = tt
+if_some (Some a) f h = f a h
+
 -- where nothing is told exactly of a module that fits and declares each name once, it is told exactly of a well-typed one
 pub checked_told : (r : Resolution) (fits : Bool) (faults : List Fault) → FitsByOrdinal → IsResolution r → fits ≡ fits_over as_labels (in_labels r (tree_of r.module_read))
-    → IsTold (fits && not (list_any is_of_declarations r.faults)) faults → IsChecked (record { names = r; faults = faults })
+    → IsTold (fits && not (list_any is_of_declarations r.faults)) faults
+    → (known : Option Tables) → fits ≡ is_some known → IfSome known (Keeps (module_bindings as_labels (in_labels r (tree_of r.module_read)))) → IsChecked (record { names = r; faults = faults; known = known })
 unfolding WellTyped
-checked_told r fits faults law h e told =
+checked_told r fits faults law h e told known some keeps =
     let m = named_tree_of r.module_read in
     let any = list_any is_of_declarations r.faults in
     let by_names : fits ≡ fits_over as_names m = e ∙ ap (fits_over as_labels) (sym h.numbering) ∙ sym (law m) in
@@ -81,4 +89,6 @@ checked_told r fits faults law h e told =
             (once_from (declared_once m) any h.told.declared_twice (second_right fits any right), sym by_names ∙ first_right fits any right)),
         (λ w. told.1 (both_right fits any (by_names ∙ w.1) (from_once (declared_once m) any h.told.declared_twice w.0))),
       );
+      holds = if_some known (λ t kept d. sym (kept d) ∙ ap (λ z. object_bound (module_bindings as_labels z) d) (sym h.numbering)) keeps;
+      kept = λ none. sym some ∙ first_right fits any (told.0 none);
     }

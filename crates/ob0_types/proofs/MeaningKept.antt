@@ -7,8 +7,10 @@ use Rattle.ob0_types.specs.declared.known.Entry.{Entry}
 use Rattle.ob0_types.specs.declared.known.Formal as formal
 use Rattle.ob0_types.specs.declared.known.Object as declaration
 use Rattle.ob0_types.specs.declared.known.Object.TheVariants as kind
+use Rattle.ob0_types.specs.declared.known.Sight.{Sight}
+use Rattle.ob0_types.specs.declared.known.Sight.TheVariants as sight
 use Rattle.ob0_types.specs.Expressions.{a_procedure, a_type, a_variable}
-use Rattle.ob0_types.specs.KnownTables.{AreTables, Tables, known_meaning, label_object, seen_entry, shapes_of}
+use Rattle.ob0_types.specs.KnownTables.{AreTables, EntryIsMade, SightIsMade, Tables, in_sight_of, known_meaning, label_object, seen_entry, shapes_of}
 use Rattle.ob0_types.specs.Tables.{IsMade, ObjectIsMade, formal_in, mode_of, object_in}
 use Rattle.ob0_types.proofs.Tables.{length-table, type_shape-more}
 
@@ -26,15 +28,21 @@ object_in-more shapes later (kind.Variable t) h = ap (λ s. Some (a_variable s))
 object_in-more shapes later (kind.Procedure fs) h = ap (λ z. Some (a_procedure z)) (formals-more shapes later fs.items h)
 object_in-more shapes later (kind.Standard s) h = refl
 
-seen-more : (shapes later : List Shape) (es : List Entry) (k : ℕ) → All (λ e. ObjectIsMade (length shapes) e.object) es
+sight-more : (shapes later : List Shape) (last : declaration.Object) (s : Sight) → ObjectIsMade (length shapes) last → SightIsMade (length shapes) s
+    → option_and_then (object_in (shapes ++ later)) (in_sight_of last s) ≡ option_and_then (object_in shapes) (in_sight_of last s)
+sight-more shapes later last sight.Nothing h made = refl
+sight-more shapes later last sight.Last h made = object_in-more shapes later last h
+sight-more shapes later last (sight.Earlier o) h made = object_in-more shapes later o made
+
+seen-more : (shapes later : List Shape) (es : List Entry) (k : ℕ) → All (EntryIsMade (length shapes)) es
     → option_and_then (seen_entry (shapes ++ later)) (slice_get es k) ≡ option_and_then (seen_entry shapes) (slice_get es k)
 seen-more shapes later [] k h = refl
-seen-more shapes later (e ∷ es) zero h = ap (λ o. cond e.in_sight o None) (object_in-more shapes later e.object (All-head (λ e. ObjectIsMade (length shapes) e.object) e es h))
-seen-more shapes later (e ∷ es) (suc k) h = seen-more shapes later es k (All-tail (λ e. ObjectIsMade (length shapes) e.object) e es h)
+seen-more shapes later (e ∷ es) zero h = let made = All-head (EntryIsMade (length shapes)) e es h in sight-more shapes later e.object e.sight made.0 made.1
+seen-more shapes later (e ∷ es) (suc k) h = seen-more shapes later es k (All-tail (EntryIsMade (length shapes)) e es h)
 
 label-more : (t u : Tables) (later : List Shape) → AreTables t → u.entries ≡ t.entries → shapes_of u ≡ shapes_of t ++ later → (x : Label) → label_object u x ≡ label_object t x
 label-more t u later h es ss (declared k) =
-    let made : All (λ e. ObjectIsMade (length (shapes_of t)) e.object) t.entries = subst (λ n. All (λ e. ObjectIsMade n e.object) t.entries) (sym (length-table t.shapes)) h.entries_made in
+    let made : All (EntryIsMade (length (shapes_of t))) t.entries = subst (λ n. All (EntryIsMade n) t.entries) (sym (length-table t.shapes)) h.entries_made in
     (λ i. option_and_then (seen_entry (ss i)) (slice_get (es i) k)) ∙ seen-more (shapes_of t) later t.entries k made
 label-more t u later h es ss (as_written x) = refl
 

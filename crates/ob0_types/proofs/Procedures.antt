@@ -112,7 +112,7 @@ pub returned_follows : (w v u : Walking) → Follows w v → Returns w v u → F
 returned_follows w v u f b = follows_more w u f.shapes.0 (b.same ∙ f.same) (later_shapes w v u f b) (omega (arith, ap length b.shapes, f.longer)) b.bound b.seen
 
 -- the signature of a heading
-signature-formals : (r : Resolution) (shapes : List Shape) (ps : List Parameter) → map (formal_in shapes) (map (λ (p : Parameter). p.formal) ps) ≡ map (λ p. p.formal) (map (parameter_in r shapes) ps)
+pub signature-formals : (r : Resolution) (shapes : List Shape) (ps : List Parameter) → map (formal_in shapes) (map (λ (p : Parameter). p.formal) ps) ≡ map (λ p. p.formal) (map (parameter_in r shapes) ps)
 signature-formals r shapes [] = refl
 signature-formals r shapes (p ∷ ps) = ap (λ fs. formal_in shapes p.formal ∷ fs) (signature-formals r shapes ps)
 

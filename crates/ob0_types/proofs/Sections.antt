@@ -71,7 +71,7 @@ section-constructors r s = counted_section (label_in r) (value_at r.module_read.
     by_mode false = refl
 
 -- the parameters that are put behind
-listed-parameters : (r : Resolution) (shapes : List Shape) (f : formal.Formal) (xs : List ℕ) → map (parameter_in r shapes) (map (λ n. record { name = n; formal = f }) xs) ≡ map (λ x. record { name = x; formal = formal_in shapes f }) (map (label_in r) xs)
+pub listed-parameters : (r : Resolution) (shapes : List Shape) (f : formal.Formal) (xs : List ℕ) → map (parameter_in r shapes) (map (λ n. record { name = n; formal = f }) xs) ≡ map (λ x. record { name = x; formal = formal_in shapes f }) (map (label_in r) xs)
 listed-parameters r shapes f [] = refl
 listed-parameters r shapes f (x ∷ xs) = ap (λ ys. record { name = label_in r x; formal = formal_in shapes f } ∷ ys) (listed-parameters r shapes f xs)
 

@@ -46,9 +46,10 @@ last_of (y ∷ first) more (z ∷ others) x e less =
 pub seen_at : {X Y : Type 0} (f : X → Option Y) (xs : List X) (k : ℕ) (x : X) → k < length xs → x ≡ get_or xs k x → option_and_then f (slice_get xs k) ≡ f x
 seen_at f xs k x less here = ap (option_and_then f) (slice_get_read xs (length xs) k x refl less here)
 
--- an entry in or out of sight
-pub shown : (e : Entry) → e.in_sight ≡ true → object_seen e ≡ Some e.object
-shown e is = ap (λ b. cond b (Some e.object) None) is
-
-pub hidden : (e : Entry) → e.in_sight ≡ false → object_seen e ≡ None
-hidden e is = ap (λ b. cond b (Some e.object) None) is
+-- an entry set in place of one of which the same is read
+pub set_same : {X Y : Type 0} (f : X → Option Y) (xs : List X) (i k : ℕ) (x y : X) → i < length xs → y ≡ get_or xs i y → f x ≡ f y → option_and_then f (slice_get (slice_set xs i x) k) ≡ option_and_then f (slice_get xs k)
+set_same f [] i k x y less here same = absurd (omega arith)
+set_same f (z ∷ xs) zero zero x y less here same = same ∙ ap f here
+set_same f (z ∷ xs) zero (suc k) x y less here same = refl
+set_same f (z ∷ xs) (suc i) zero x y less here same = refl
+set_same f (z ∷ xs) (suc i) (suc k) x y less here same = set_same f xs i k x y (omega arith) here same

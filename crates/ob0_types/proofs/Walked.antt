@@ -34,7 +34,7 @@ pub record Walked {R A : Type 0} {i : Item} (D : Resolution → ℕ → Tree ℕ
 pub walked_begins : {R A : Type 0} {i : Item} (D : Resolution → ℕ → Tree ℕ (items i) → TypeEnvironment Label → R) (N : Tree ℕ (items i) → ℕ) (f : A → Tree ℕ (item i)) (xs : List A) (w : Walking) → Walked D N f xs w w 0
 walked_begins D N f xs w = record { on = λ env agrees. (env, agrees, refl); follows = follows_itself w; next = refl }
 
-split : {A : Type 0} (done : ℕ) (xs : List A) (x : A) → done < length xs → x ≡ get_or xs done x → drop done xs ≡ x ∷ drop (done + 1) xs
+pub split : {A : Type 0} (done : ℕ) (xs : List A) (x : A) → done < length xs → x ≡ get_or xs done x → drop done xs ≡ x ∷ drop (done + 1) xs
 split done xs x less here = drop_more xs done x less ∙ ap (λ y. y ∷ drop (done + 1) xs) (sym here)
 
 pub walked_on : {R A : Type 0} {i : Item} {D : Resolution → ℕ → Tree ℕ (items i) → TypeEnvironment Label → R} {S : Giving (Tree ℕ (item i))} {n : Tree ℕ (item i) → ℕ} {N : Tree ℕ (items i) → ℕ} {stopped : R} {f : A → Tree ℕ (item i)} {xs : List A} {w v : Walking} {done : ℕ} (u : Walking) (x : A)

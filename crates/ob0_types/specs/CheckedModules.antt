@@ -1,22 +1,33 @@
 -- A checked module: its names, and what was told of it.
-use Rattle.std.specs.Prelude.{◌≡◌, Bool, true, List, [], ◌↔◌}
+use Rattle.std.specs.Prelude.{◌≡◌, ℕ, Bool, true, List, [], ◌↔◌, IfSome, is_some, Option}
 use Rattle.ob0_scan.specs.declared.fault.Fault.{Fault}
 use Rattle.ob0_scope.specs.Resolution.{Resolution, IsResolution}
+use Rattle.ob0_scope.specs.Names.{Name}
 use Rattle.ob0_tree.specs.Parsed.{named_tree_of}
+use Rattle.ob0_tree.specs.Tree.{Tree, module_text}
+use Rattle.ob0_types.specs.Bindings.{declared_object}
+use Rattle.ob0_types.specs.KnownTables.{Tables, declared_in}
 use Rattle.ob0_types.specs.WellTyped.{WellTyped}
 
 pub record CheckedModule : Type 0 where
   pub names : Resolution
   pub faults : List Fault
+  pub known : Option Tables
+
+-- a table holds what each declaration of a module is, in sight or not
+abbrev pub HoldsDeclarations : Tree Name module_text → Tables → Type 0
+HoldsDeclarations m t = (k : ℕ) → declared_in t k ≡ declared_object m k
 
 -- nothing is told exactly where all is right
 abbrev pub IsTold : Bool → List Fault → Type 0
 IsTold right faults = (faults ≡ []) ↔ (right ≡ true)
 
--- no fault is told exactly where the module is well-typed
+-- no fault is told exactly where the module is well-typed; then what its declarations are is kept
 pub record IsChecked (c : CheckedModule) : Type 0 where
   pub resolved : IsResolution c.names
   pub told : (c.faults ≡ []) ↔ WellTyped (named_tree_of c.names.module_read)
+  pub holds : IfSome c.known (HoldsDeclarations (named_tree_of c.names.module_read))
+  pub kept : c.faults ≡ [] → is_some c.known ≡ true
 
 -- a module that is well-typed
 pub record IsWellTyped (names : Resolution) : Type 0 where

@@ -1,16 +1,16 @@
 -- The walk over declarations: what is in sight at each place of a module is what its environment there says.
 use Rattle.std.specs.Prelude.{◌≡◌, ℕ, ◌+◌, ◌≤◌, Bool, List, ◌++◌, map, length, if◌then◌else◌, IfSome, is_some, Some, None, Option, option_map}
 use Rattle.ob0_tree.specs.Tree.{Tree, block, further_section, item, items, procedure, section}
-use Rattle.ob0_scope.specs.Names.{Label, Naming, as_labels}
+use Rattle.ob0_scope.specs.Names.{Label, Naming, as_labels, declared}
 use Rattle.ob0_scope.specs.Parts.{block_variables, procedure_formals, procedure_name, section_names, section_type}
 use Rattle.ob0_scope.specs.Resolution.{Resolution}
 use Rattle.ob0_types.specs.declared.known.Shadowed.{Shadowed}
 use Rattle.ob0_types.specs.declared.walk.Parameter.{Parameter}
 use Rattle.ob0_types.specs.Declarations.{after_types, declare_first, formals_constructors}
-use Rattle.ob0_types.specs.Environments.{meanings}
+use Rattle.ob0_types.specs.Environments.{from_binding, meanings, newest}
 use Rattle.ob0_types.specs.Expressions.{a_variable}
 use Rattle.ob0_types.specs.InLabels.{label_in}
-use Rattle.ob0_types.specs.KnownTables.{Tables, before_all, known_meaning, seen_object, shapes_of}
+use Rattle.ob0_types.specs.KnownTables.{Tables, before_all, declared_in, known_meaning, seen_object, shapes_of}
 use Rattle.ob0_types.specs.Tables.{formal_in}
 use Rattle.ob0_types.specs.Typing.{constructors, denoted, ◌>>=◌}
 use Rattle.ob0_types.specs.WellTyped.{TypeEnvironment, TypedParameter, bind_names, bind_typed, declare_typed, heading, procedure_fits, section_mode, typed_parameters}
@@ -19,6 +19,10 @@ use Rattle.ob0_values.specs.Values.{Shape}
 -- what names stand for in an environment is what is in sight
 abbrev pub Agrees : TypeEnvironment Label → Tables → Type 0
 Agrees env t = meanings as_labels env ≡ known_meaning t
+
+-- the latest bindings are what was declared last, in sight or not
+abbrev pub Keeps : TypeEnvironment Label → Tables → Type 0
+Keeps all t = (k : ℕ) → newest (from_binding as_labels all (declared k)) ≡ declared_in t k
 
 -- A module on its way through the checker: what is known, the bindings by which it came in sight, and the ordinal of the
 -- next ARRAY or RECORD.
@@ -46,6 +50,15 @@ pub record Declares (w : Walking) (n : ℕ) (given : TypeEnvironment Label → O
   pub follows : IfSome r (Follows w)
   pub next : IfSome r (λ v. v.next ≡ w.next + n)
 
+-- what is bound on the way is put before what was in sight, and before all that was declared
+abbrev pub Grows : Walking → (TypeEnvironment Label → Option (TypeEnvironment Label)) → Walking → Type 0
+Grows w given v = (env : TypeEnvironment Label) → Agrees env w.known
+    → (bound : TypeEnvironment Label) × (given env ≡ Some (bound ++ env)) × ((all : TypeEnvironment Label) → Keeps all w.known → Keeps (bound ++ all) v.known)
+
+-- all that is bound on the way is put before all that was declared
+abbrev pub KeepsAll : Walking → (TypeEnvironment Label → TypeEnvironment Label) → Walking → Type 0
+KeepsAll w bindings v = (env all : TypeEnvironment Label) → Agrees env w.known → Keeps all w.known → Keeps (bindings env ++ all) v.known
+
 -- a walk over what fits or doesn't
 pub record Decides (w : Walking) (n : ℕ) (fits : TypeEnvironment Label → Bool) (r : Option Walking) : Type 0 where
   pub decided : (env : TypeEnvironment Label) → Agrees env w.known → is_some r ≡ fits env
@@ -65,6 +78,13 @@ parameters_in r t ps = map (parameter_in r (shapes_of t)) ps
 
 abbrev pub parameters_of : Heading → List (TypedParameter Label)
 parameters_of h = parameters_in h.walk.resolved h.walk.known h.parameters
+
+-- parameters are what was declared last behind their sections; behind the heading it is the procedure
+abbrev pub KeepsParameters : Tables → Heading → Type 0
+KeepsParameters t h = (all : TypeEnvironment Label) → Keeps all t → Keeps (bind_typed (parameters_of h) all) h.walk.known
+
+abbrev pub KeepsHeading : Tables → Label → Heading → Type 0
+KeepsHeading t x h = (all : TypeEnvironment Label) → Keeps all t → Keeps (heading x (parameters_of h) (bind_typed (parameters_of h) all)) h.walk.known
 
 -- parameters of one type
 abbrev pub typed_section : Tree Label section → Shape → List (TypedParameter Label)

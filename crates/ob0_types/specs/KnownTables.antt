@@ -5,6 +5,8 @@ use Rattle.ob0_types.specs.declared.known.Shape as code
 use Rattle.ob0_types.specs.declared.known.Shape.TheVariants as made
 use Rattle.ob0_types.specs.declared.known.Entry.{Entry}
 use Rattle.ob0_types.specs.declared.known.Object as declaration
+use Rattle.ob0_types.specs.declared.known.Sight.{Sight}
+use Rattle.ob0_types.specs.declared.known.Sight.TheVariants as sight
 use Rattle.ob0_types.specs.declared.known.Shadowed.{Shadowed}
 use Rattle.ob0_types.specs.declared.known.Object.TheVariants as kind
 use Rattle.ob0_types.specs.declared.known.Standard.TheVariants as standards
@@ -22,21 +24,39 @@ pub record Tables : Type 0 where
 abbrev pub shapes_of : Tables → List Shape
 shapes_of t = shapes_from [] t.shapes
 
+-- what is in sight was made
+abbrev pub SightIsMade : ℕ → Sight → Type 0
+SightIsMade n (sight.Earlier o) = ObjectIsMade n o
+SightIsMade n _ = Unit {0}
+
+abbrev pub EntryIsMade : ℕ → Entry → Type 0
+EntryIsMade n e = ObjectIsMade n e.object × SightIsMade n e.sight
+
 pub record AreTables (t : Tables) : Type 0 where
   pub in_order : AreMadeInOrder [] t.shapes
-  pub entries_made : All (λ e. ObjectIsMade (length t.shapes) e.object) t.entries
+  pub entries_made : All (EntryIsMade (length t.shapes)) t.entries
+
+-- what is in sight at an ordinal, where this was declared there last
+abbrev pub in_sight_of : declaration.Object → Sight → Option declaration.Object
+in_sight_of last sight.Nothing = None
+in_sight_of last sight.Last = Some last
+in_sight_of last (sight.Earlier o) = Some o
+
+abbrev pub object_seen : Entry → Option declaration.Object
+object_seen e = in_sight_of e.object e.sight
 
 -- what an entry is, where it is in sight
 abbrev pub seen_entry : List Shape → Entry → Option (Object Shape Signature)
-seen_entry shapes e = if e.in_sight then object_in shapes e.object else None
+seen_entry shapes e = option_and_then (object_in shapes) (object_seen e)
 
 abbrev pub seen_in : Tables → ℕ → Option (Object Shape Signature)
 seen_in t k = option_and_then (seen_entry (shapes_of t)) (slice_get t.entries k)
 
--- what is declared at an ordinal, where it is in sight
-abbrev pub object_seen : Entry → Option declaration.Object
-object_seen e = if e.in_sight then Some e.object else None
+-- what was declared last at an ordinal, in sight or not
+abbrev pub declared_in : Tables → ℕ → Option (Object Shape Signature)
+declared_in t k = option_and_then (λ (e : Entry). object_in (shapes_of t) e.object) (slice_get t.entries k)
 
+-- what is declared at an ordinal, where it is in sight
 abbrev pub seen_object : Tables → ℕ → Option declaration.Object
 seen_object t k = option_and_then object_seen (slice_get t.entries k)
 
@@ -63,7 +83,7 @@ known_meaning t = record { stands_for = label_object t; written = label_text }
 
 -- an entry in sight
 abbrev pub in_sight : declaration.Object → Entry
-in_sight o = record { object = o; in_sight = true }
+in_sight o = record { object = o; sight = sight.Last }
 
 -- the tables of the predeclared names: INTEGER, BOOLEAN, TRUE, FALSE, Read, Write, WriteLn
 abbrev pub predeclared : Tables

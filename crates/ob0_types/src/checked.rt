@@ -10,7 +10,8 @@ use crate::known::Known;
 use crate::laws::fits_by_ordinal;
 use crate::telling::tell;
 use ob0_scan::{Code, Fault, Span};
-use ob0_scope::resolved::Resolved;
+use ob0_scope::resolved::{PREDECLARED, Resolved};
+use ob0_values::scalar::Scalar;
 use std::alloc::{AllocError, Global};
 use std::marker::Model;
 
@@ -32,19 +33,21 @@ impl<'t> Model for Checked<'t> {
 
     ghost coded = { Prim.hlevel (codes, block_contract.the_row.coded) };
 
-    ghost view = { λ c. record { names = c.resolved.now; faults = c.faults.items } };
+    ghost view = { λ c. record { names = c.resolved.now; faults = c.faults.items; known = c.known } };
 
-    ghost invariant = { λ c. IsChecked (record { names = c.resolved.now; faults = c.faults.items }) };
+    ghost invariant = { λ c. IsChecked (record { names = c.resolved.now; faults = c.faults.items; known = c.known }) };
 }
 
-/// A module without faults.
+/// A module without faults, and what is known of its declarations.
 #[derive(Drop)]
 pub struct WellTyped<'c, 't> {
     checked: &'c Checked<'t>,
+    known: &'c Known<'t>,
 }
 
 impl<'c, 't> Model for WellTyped<'c, 't> {
-    ghost use Rattle.ob0_types.specs.CheckedModules.{IsWellTyped};
+    ghost use Rattle.ob0_types.specs.CheckedModules.{HoldsDeclarations, IsWellTyped};
+    ghost use Rattle.ob0_tree.specs.Parsed.{named_tree_of};
     ghost use Rattle.ob0_scope.specs.Resolution.{Resolution};
 
     ghost Value = { Resolution };
@@ -56,7 +59,7 @@ impl<'c, 't> Model for WellTyped<'c, 't> {
 
     ghost view = { λ w. w.checked.now.names };
 
-    ghost invariant = { λ w. IsWellTyped w.checked.now.names };
+    ghost invariant = { λ w. IsWellTyped w.checked.now.names × HoldsDeclarations (named_tree_of w.checked.now.names.module_read) w.known.now };
 }
 
 /// The most faults that are kept.
@@ -166,16 +169,28 @@ impl<'t> Checked<'t> {
     pub fn well_typed(&self) -> Option<WellTyped<'_, 't>>
         ensures { MatchOption result (self.now.faults ≡ [] → ⊥) (λ w. w ≡ self.now.names) }
     {
-        if self.faults.is_empty() {
-            Some(WellTyped { checked: self })
-        } else {
-            None
+        match &self.known {
+            None => None,
+            Some(known) => {
+                if self.faults.is_empty() {
+                    Some(WellTyped {
+                        checked: self,
+                        known,
+                    })
+                } else {
+                    None
+                }
+            }
         }
     }
 }
 
 impl<'c, 't> WellTyped<'c, 't> {
-    ghost use Rattle.ob0_types.specs.CheckedModules.{IsWellTyped};
+    ghost use Rattle.std.specs.Prelude.{option_map};
+    ghost use Rattle.ob0_tree.specs.Parsed.{named_tree_of};
+    ghost use Rattle.ob0_types.specs.CheckedModules.{HoldsDeclarations, IsWellTyped};
+    ghost use Rattle.ob0_types.specs.ConstantValues.{value_of_constant};
+    ghost use Rattle.ob0_values.specs.Scalars.{scalar_value};
 
     /// The module with its names bound.
     pub fn resolved(&self) -> &'t Resolved<'t>
@@ -183,5 +198,26 @@ impl<'c, 't> WellTyped<'c, 't> {
         ensures well_typed { IsWellTyped self.now }
     {
         self.checked.resolved()
+    }
+
+    /// What is known of the module: what each declaration is, by its ordinal (`Known::object`), and the parts of types.
+    pub fn known(&self) -> &'c Known<'t>
+        ensures { HoldsDeclarations (named_tree_of self.now.module_read) result.now }
+    {
+        self.known
+    }
+
+    /// The value of a constant that a CONST section declares, by its ordinal. None for every other declaration, TRUE and
+    /// FALSE among them.
+    pub fn constant(&self, declaration: usize) -> Option<Scalar>
+        ensures { option_map scalar_value result ≡ value_of_constant (named_tree_of self.now.module_read) declaration }
+    {
+        let _module = self.resolved();
+        let value = self.known().constant(declaration);
+        if declaration < PREDECLARED {
+            None
+        } else {
+            value
+        }
     }
 }

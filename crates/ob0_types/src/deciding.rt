@@ -1,9 +1,11 @@
 //! Whether a module fits: its declarations, in text order, each in sight from its place on, and its statements. The walk
 //! ends at the first thing that doesn't fit.
 
-ghost use Rattle.std.specs.Prelude.{◌≡◌, ◌++◌, ◌∷◌, map, IfOk, OnOk, is_some};
+ghost use Rattle.std.specs.Prelude.{◌≡◌, ◌++◌, ◌∷◌, map, IfOk, IfSome, OnOk, is_some};
 ghost use Rattle.ob0_tree.specs.Parsed.{tree_of};
 ghost use Rattle.ob0_scope.specs.Names.{as_labels};
+ghost use Rattle.ob0_types.specs.Bindings.{module_bindings};
+ghost use Rattle.ob0_types.specs.Checking.{Keeps};
 ghost use Rattle.ob0_types.specs.InLabels.{in_labels};
 ghost use Rattle.ob0_types.specs.WellTyped.{fits_over};
 
@@ -43,12 +45,13 @@ impl<'t> Model for Headed<'t> {
 }
 
 impl<'t> Walk<'t> {
-    ghost use Rattle.std.specs.Prelude.{◌≡◌, ◌+◌, All, IfOk, length};
+    ghost use Rattle.std.specs.Prelude.{◌≡◌, ◌+◌, All, IfOk, IfSome, length};
     ghost use Rattle.ob0_tree.specs.Tree.{end, more};
     ghost use Rattle.ob0_tree.specs.View.{block_of, body_of, constant_of, constants_of, formals_of, further_section_of, items_of, names_of, procedure_of, type_declaration_of, type_of, types_of, variable_of, variables_of};
     ghost use Rattle.ob0_scope.specs.Names.{Label, as_labels};
-    ghost use Rattle.ob0_scope.specs.Parts.{block_types, block_variables, formal_sections, names_listed, section_constants, section_types, section_variables};
-    ghost use Rattle.ob0_types.specs.Checking.{Agrees, Decides, Declares, DeclaresHeading, DeclaresSections, Follows, declare_block, declare_procedure, parameters_in};
+    ghost use Rattle.ob0_scope.specs.Parts.{block_types, block_variables, formal_sections, names_listed, procedure_name, section_constants, section_types, section_variables};
+    ghost use Rattle.ob0_types.specs.Bindings.{block_bindings, procedure_bindings};
+    ghost use Rattle.ob0_types.specs.Checking.{Agrees, Decides, Declares, DeclaresHeading, DeclaresSections, Follows, Grows, Keeps, KeepsAll, KeepsHeading, KeepsParameters, declare_block, declare_procedure, parameters_in};
     ghost use Rattle.ob0_types.specs.Declarations.{block_constructors, declare_constants, declare_types, procedure_constructors, types_constructors, variables_constructors};
     ghost use Rattle.ob0_types.specs.Expressions.{a_variable};
     ghost use Rattle.ob0_types.specs.InLabels.{in_labels};
@@ -59,7 +62,8 @@ impl<'t> Walk<'t> {
 
     /// A constant is known behind its right side.
     fn constant(self, c: &Constant) -> Result<Option<Walk<'t>>, AllocError>
-        ensures { IfOk result (Declares self.entry 0 (λ env. declare_constants as_labels env (in_labels self.entry.resolved (more (constant_of c.now) end)))) }
+        ensures declares { IfOk result (Declares self.entry 0 (λ env. declare_constants as_labels env (in_labels self.entry.resolved (more (constant_of c.now) end)))) }
+        ensures grows { IfOk result (λ r. IfSome r (Grows self.entry (λ env. declare_constants as_labels env (in_labels self.entry.resolved (more (constant_of c.now) end))))) }
     {
         let names = Names {
             known: &self.known,
@@ -74,7 +78,8 @@ impl<'t> Walk<'t> {
     }
 
     fn constants(self, constants: &[Constant]) -> Result<Option<Walk<'t>>, AllocError>
-        ensures { IfOk result (Declares self.entry 0 (λ env. declare_constants as_labels env (in_labels self.entry.resolved (items_of constant_of constants.now)))) }
+        ensures declares { IfOk result (Declares self.entry 0 (λ env. declare_constants as_labels env (in_labels self.entry.resolved (items_of constant_of constants.now)))) }
+        ensures grows { IfOk result (λ r. IfSome r (Grows self.entry (λ env. declare_constants as_labels env (in_labels self.entry.resolved (items_of constant_of constants.now))))) }
     {
         let mut walk = self;
         for c in constants {
@@ -87,7 +92,8 @@ impl<'t> Walk<'t> {
     }
 
     fn constants_of(self, section: &Option<Vec<Constant>>) -> Result<Option<Walk<'t>>, AllocError>
-        ensures { IfOk result (Declares self.entry 0 (λ env. declare_constants as_labels env (section_constants (in_labels self.entry.resolved (constants_of section.now))))) }
+        ensures declares { IfOk result (Declares self.entry 0 (λ env. declare_constants as_labels env (section_constants (in_labels self.entry.resolved (constants_of section.now))))) }
+        ensures grows { IfOk result (λ r. IfSome r (Grows self.entry (λ env. declare_constants as_labels env (section_constants (in_labels self.entry.resolved (constants_of section.now)))))) }
     {
         match section {
             None => Ok(Some(self)),
@@ -97,7 +103,8 @@ impl<'t> Walk<'t> {
 
     /// A type is known behind its text.
     fn type_declaration(self, d: &TypeDeclaration) -> Result<Option<Walk<'t>>, AllocError>
-        ensures { IfOk result (Declares self.entry (constructors (type_of d.now.written)) (λ env. declare_types as_labels env self.entry.next (in_labels self.entry.resolved (more (type_declaration_of d.now) end)))) }
+        ensures declares { IfOk result (Declares self.entry (constructors (type_of d.now.written)) (λ env. declare_types as_labels env self.entry.next (in_labels self.entry.resolved (more (type_declaration_of d.now) end)))) }
+        ensures grows { IfOk result (λ r. IfSome r (Grows self.entry (λ env. declare_types as_labels env self.entry.next (in_labels self.entry.resolved (more (type_declaration_of d.now) end))))) }
     {
         let typed = match self.denote(&d.written)? {
             None => return Ok(None),
@@ -108,7 +115,8 @@ impl<'t> Walk<'t> {
     }
 
     fn types(self, types: &[TypeDeclaration]) -> Result<Option<Walk<'t>>, AllocError>
-        ensures { IfOk result (Declares self.entry (types_constructors (items_of type_declaration_of types.now)) (λ env. declare_types as_labels env self.entry.next (in_labels self.entry.resolved (items_of type_declaration_of types.now)))) }
+        ensures declares { IfOk result (Declares self.entry (types_constructors (items_of type_declaration_of types.now)) (λ env. declare_types as_labels env self.entry.next (in_labels self.entry.resolved (items_of type_declaration_of types.now)))) }
+        ensures grows { IfOk result (λ r. IfSome r (Grows self.entry (λ env. declare_types as_labels env self.entry.next (in_labels self.entry.resolved (items_of type_declaration_of types.now))))) }
     {
         let mut walk = self;
         for d in types {
@@ -124,7 +132,8 @@ impl<'t> Walk<'t> {
         self,
         section: &Option<Vec<TypeDeclaration>>,
     ) -> Result<Option<Walk<'t>>, AllocError>
-        ensures { IfOk result (Declares self.entry (types_constructors (section_types (types_of section.now))) (λ env. declare_types as_labels env self.entry.next (section_types (in_labels self.entry.resolved (types_of section.now))))) }
+        ensures declares { IfOk result (Declares self.entry (types_constructors (section_types (types_of section.now))) (λ env. declare_types as_labels env self.entry.next (section_types (in_labels self.entry.resolved (types_of section.now))))) }
+        ensures grows { IfOk result (λ r. IfSome r (Grows self.entry (λ env. declare_types as_labels env self.entry.next (section_types (in_labels self.entry.resolved (types_of section.now)))))) }
     {
         match section {
             None => Ok(Some(self)),
@@ -136,6 +145,7 @@ impl<'t> Walk<'t> {
     fn variables_named(self, names: &NameList, of: TypeId) -> Result<Walk<'t>, AllocError>
         requires { IsMade (length self.known.shapes) of }
         ensures agrees { IfOk result (λ w. (env : TypeEnvironment Label) → Agrees env self.entry.known → Agrees (bind_names (names_listed (in_labels self.entry.resolved (names_of names.now))) (a_variable (type_shape (shapes_of self.entry.known) of)) env) w.known) }
+        ensures keeps { IfOk result (λ w. (all : TypeEnvironment Label) → Keeps all self.entry.known → Keeps (bind_names (names_listed (in_labels self.entry.resolved (names_of names.now))) (a_variable (type_shape (shapes_of self.entry.known) of)) all) w.known) }
         ensures follows { IfOk result (Follows self.entry) }
         ensures shapes { IfOk result (λ w. w.known.shapes ≡ self.entry.known.shapes) }
         ensures next { IfOk result (λ w. w.next ≡ self.entry.next) }
@@ -148,7 +158,8 @@ impl<'t> Walk<'t> {
     }
 
     fn variables_group(self, v: &Variables) -> Result<Option<Walk<'t>>, AllocError>
-        ensures { IfOk result (Declares self.entry (constructors (type_of v.now.written)) (λ env. declare_typed as_labels self.entry.next (in_labels self.entry.resolved (more (variable_of v.now) end)) env)) }
+        ensures declares { IfOk result (Declares self.entry (constructors (type_of v.now.written)) (λ env. declare_typed as_labels self.entry.next (in_labels self.entry.resolved (more (variable_of v.now) end)) env)) }
+        ensures grows { IfOk result (λ r. IfSome r (Grows self.entry (λ env. declare_typed as_labels self.entry.next (in_labels self.entry.resolved (more (variable_of v.now) end)) env))) }
     {
         let typed = match self.denote(&v.written)? {
             None => return Ok(None),
@@ -159,7 +170,8 @@ impl<'t> Walk<'t> {
     }
 
     fn variables(self, groups: &[Variables]) -> Result<Option<Walk<'t>>, AllocError>
-        ensures { IfOk result (Declares self.entry (variables_constructors (items_of variable_of groups.now)) (declare_typed as_labels self.entry.next (in_labels self.entry.resolved (items_of variable_of groups.now)))) }
+        ensures declares { IfOk result (Declares self.entry (variables_constructors (items_of variable_of groups.now)) (declare_typed as_labels self.entry.next (in_labels self.entry.resolved (items_of variable_of groups.now)))) }
+        ensures grows { IfOk result (λ r. IfSome r (Grows self.entry (declare_typed as_labels self.entry.next (in_labels self.entry.resolved (items_of variable_of groups.now))))) }
     {
         let mut walk = self;
         for v in groups {
@@ -172,7 +184,8 @@ impl<'t> Walk<'t> {
     }
 
     fn variables_of(self, section: &Option<Vec<Variables>>) -> Result<Option<Walk<'t>>, AllocError>
-        ensures { IfOk result (Declares self.entry (variables_constructors (section_variables (variables_of section.now))) (declare_typed as_labels self.entry.next (section_variables (in_labels self.entry.resolved (variables_of section.now))))) }
+        ensures declares { IfOk result (Declares self.entry (variables_constructors (section_variables (variables_of section.now))) (declare_typed as_labels self.entry.next (section_variables (in_labels self.entry.resolved (variables_of section.now))))) }
+        ensures grows { IfOk result (λ r. IfSome r (Grows self.entry (declare_typed as_labels self.entry.next (section_variables (in_labels self.entry.resolved (variables_of section.now)))))) }
     {
         match section {
             None => Ok(Some(self)),
@@ -182,7 +195,8 @@ impl<'t> Walk<'t> {
 
     /// The constants, types and variables of a block.
     fn declarations(self, b: &Block) -> Result<Option<Walk<'t>>, AllocError>
-        ensures { IfOk result (Declares self.entry (types_constructors (block_types (block_of b.now)) + variables_constructors (block_variables (block_of b.now))) (λ env. declare_block as_labels env self.entry.next (in_labels self.entry.resolved (block_of b.now)))) }
+        ensures declares { IfOk result (Declares self.entry (types_constructors (block_types (block_of b.now)) + variables_constructors (block_variables (block_of b.now))) (λ env. declare_block as_labels env self.entry.next (in_labels self.entry.resolved (block_of b.now)))) }
+        ensures grows { IfOk result (λ r. IfSome r (Grows self.entry (λ env. declare_block as_labels env self.entry.next (in_labels self.entry.resolved (block_of b.now))))) }
     {
         let walk = match self.constants_of(&b.constants)? {
             None => return Ok(None),
@@ -197,7 +211,8 @@ impl<'t> Walk<'t> {
 
     /// The sections of formal parameters. Each parameter is in sight of the sections behind its own.
     fn sections(self, sections: &[Section]) -> Result<Option<Headed<'t>>, AllocError>
-        ensures { IfOk result (DeclaresSections self.entry (in_labels self.entry.resolved (items_of further_section_of sections.now))) }
+        ensures declares { IfOk result (DeclaresSections self.entry (in_labels self.entry.resolved (items_of further_section_of sections.now))) }
+        ensures keeps { IfOk result (λ r. IfSome r (KeepsParameters self.entry.known)) }
     {
         let mut headed = Headed {
             parameters: Vec::new(self.alloc),
@@ -213,7 +228,8 @@ impl<'t> Walk<'t> {
     }
 
     fn sections_of(self, formals: &Option<Vec<Section>>) -> Result<Option<Headed<'t>>, AllocError>
-        ensures { IfOk result (DeclaresSections self.entry (formal_sections (in_labels self.entry.resolved (formals_of formals.now)))) }
+        ensures declares { IfOk result (DeclaresSections self.entry (formal_sections (in_labels self.entry.resolved (formals_of formals.now)))) }
+        ensures keeps { IfOk result (λ r. IfSome r (KeepsParameters self.entry.known)) }
     {
         match formals {
             None => self.sections(&[]),
@@ -223,7 +239,8 @@ impl<'t> Walk<'t> {
 
     /// The heading of a procedure, behind which its name is in sight, and none of its parameters yet.
     fn heading(self, p: &Procedure) -> Result<Option<Headed<'t>>, AllocError>
-        ensures { IfOk result (DeclaresHeading self.entry (in_labels self.entry.resolved (procedure_of p.now))) }
+        ensures declares { IfOk result (DeclaresHeading self.entry (in_labels self.entry.resolved (procedure_of p.now))) }
+        ensures keeps { IfOk result (λ r. IfSome r (KeepsHeading self.entry.known (procedure_name (in_labels self.entry.resolved (procedure_of p.now))))) }
     {
         let alloc = self.alloc;
         let outside = self.mark();
@@ -242,6 +259,7 @@ impl<'t> Walk<'t> {
     fn parameters(self, parameters: &[Parameter]) -> Result<Walk<'t>, AllocError>
         requires { All (λ p. IsMade (length self.known.shapes) p.formal.of) parameters.now }
         ensures agrees { IfOk result (λ w. (env : TypeEnvironment Label) → Agrees env self.entry.known → Agrees (bind_typed (parameters_in self.entry.resolved self.entry.known parameters.now) env) w.known) }
+        ensures keeps { IfOk result (λ w. (all : TypeEnvironment Label) → Keeps all self.entry.known → Keeps (bind_typed (parameters_in self.entry.resolved self.entry.known parameters.now) all) w.known) }
         ensures follows { IfOk result (Follows self.entry) }
         ensures next { IfOk result (λ w. w.next ≡ self.entry.next) }
     {
@@ -256,7 +274,8 @@ impl<'t> Walk<'t> {
     /// sight up to its end.
     #[cycle(blocks)]
     fn procedure(self, p: &Procedure) -> Result<Option<Walk<'t>>, AllocError>
-        ensures { IfOk result (Declares self.entry (procedure_constructors (procedure_of p.now)) (λ env. declare_procedure as_labels env self.entry.next (in_labels self.entry.resolved (procedure_of p.now)))) }
+        ensures declares { IfOk result (Declares self.entry (procedure_constructors (procedure_of p.now)) (λ env. declare_procedure as_labels env self.entry.next (in_labels self.entry.resolved (procedure_of p.now)))) }
+        ensures keeps { IfOk result (λ r. IfSome r (KeepsAll self.entry (λ env. procedure_bindings as_labels env self.entry.next (in_labels self.entry.resolved (procedure_of p.now))))) }
     {
         let headed = match self.heading(p)? {
             None => return Ok(None),
@@ -275,7 +294,8 @@ impl<'t> Walk<'t> {
     /// A block: constants, types, variables, procedures, and then its statements.
     #[cycle(blocks)]
     fn block(self, b: &Block) -> Result<Option<Walk<'t>>, AllocError>
-        ensures { IfOk result (Decides self.entry (block_constructors (block_of b.now)) (λ env. block_fits as_labels env self.entry.next (in_labels self.entry.resolved (block_of b.now)))) }
+        ensures decides { IfOk result (Decides self.entry (block_constructors (block_of b.now)) (λ env. block_fits as_labels env self.entry.next (in_labels self.entry.resolved (block_of b.now)))) }
+        ensures keeps { IfOk result (λ r. IfSome r (KeepsAll self.entry (λ env. block_bindings as_labels env self.entry.next (in_labels self.entry.resolved (block_of b.now))))) }
     {
         let mut walk = match self.declarations(b)? {
             None => return Ok(None),
@@ -310,14 +330,17 @@ impl<'t> Walk<'t> {
 }
 
 impl<'t> Headed<'t> {
-    ghost use Rattle.std.specs.Prelude.{IfOk};
+    ghost use Rattle.std.specs.Prelude.{IfOk, IfSome};
     ghost use Rattle.ob0_tree.specs.View.{section_of};
-    ghost use Rattle.ob0_types.specs.Checking.{DeclaresSection};
+    ghost use Rattle.ob0_scope.specs.Names.{Label};
+    ghost use Rattle.ob0_types.specs.Checking.{DeclaresSection, Keeps, parameters_of};
+    ghost use Rattle.ob0_types.specs.WellTyped.{TypeEnvironment, bind_typed};
     ghost use Rattle.ob0_types.specs.InLabels.{in_labels};
 
     /// Parameters of one type.
     fn section(self, s: &Section) -> Result<Option<Headed<'t>>, AllocError>
-        ensures { IfOk result (DeclaresSection self.entry (in_labels self.entry.walk.resolved (section_of s.now))) }
+        ensures declares { IfOk result (DeclaresSection self.entry (in_labels self.entry.walk.resolved (section_of s.now))) }
+        ensures keeps { IfOk result (λ r. IfSome r (λ g. (all : TypeEnvironment Label) → Keeps (bind_typed (parameters_of self.entry) all) self.entry.walk.known → Keeps (bind_typed (parameters_of g) all) g.walk.known)) }
     {
         let Headed {
             walk,
@@ -371,7 +394,8 @@ pub fn decide<'t>(
     alloc: Global,
     resolved: &'t Resolved<'t>,
 ) -> Result<Option<Known<'t>>, AllocError>
-    ensures { IfOk result (λ r. is_some r ≡ fits_over as_labels (in_labels resolved.now (tree_of resolved.now.module_read))) }
+    ensures decides { IfOk result (λ r. is_some r ≡ fits_over as_labels (in_labels resolved.now (tree_of resolved.now.module_read))) }
+    ensures declared { IfOk result (λ r. IfSome r (Keeps (module_bindings as_labels (in_labels resolved.now (tree_of resolved.now.module_read))))) }
 {
     let walk = Walk::new(alloc, resolved)?;
     match walk.block(resolved.module().block())? {

@@ -3,6 +3,7 @@
 ghost use Rattle.std.specs.Prelude.{◌≡◌, List, IfOk, option_map};
 ghost use Rattle.ob0_values.specs.Values as shape;
 ghost use Rattle.ob0_types.specs.FieldIndex.{IsIndex};
+ghost use Rattle.ob0_types.specs.FieldPlaces.{place_of_field};
 ghost use Rattle.ob0_types.specs.Tables.{fields_shape, type_shape};
 ghost use Rattle.ob0_types.specs.Typing.{shape_of_field};
 
@@ -12,11 +13,18 @@ use std::alloc::{AllocError, Global};
 use std::collections::BTreeMap;
 use std::marker::Model;
 
-/// Fields in order, with the type of the first of each name.
+/// A field that is the first of its name: its place and its type.
+#[derive(Clone, Copy, Debug)]
+struct First {
+    place: usize,
+    of: TypeId,
+}
+
+/// Fields in order, with the first of each name.
 #[derive(Debug, Drop)]
 pub struct FieldTable<'t> {
     fields: Vec<Field<'t>>,
-    first_of: BTreeMap<&'t str, TypeId>,
+    first_of: BTreeMap<&'t str, First>,
 }
 
 impl<'t> Model for FieldTable<'t> {
@@ -32,11 +40,8 @@ impl<'t> Model for FieldTable<'t> {
     ghost invariant = { λ t. IsIndex t.first_of t.fields.items };
 }
 
-/// The type of the first field of each name. The last field goes first, so that the first of a name stays.
-fn first_of<'t>(
-    alloc: Global,
-    fields: &[Field<'t>],
-) -> Result<BTreeMap<&'t str, TypeId>, AllocError>
+/// The first field of each name. The last field goes first, so that the first of a name stays.
+fn first_of<'t>(alloc: Global, fields: &[Field<'t>]) -> Result<BTreeMap<&'t str, First>, AllocError>
     ensures { IfOk result (λ m. IsIndex m fields.now) }
 {
     let mut first = BTreeMap::new(alloc);
@@ -44,7 +49,11 @@ fn first_of<'t>(
     while left > 0 {
         left -= 1;
         let field = &fields[left];
-        first.insert(field.name, field.of)?;
+        let entry = First {
+            place: left,
+            of: field.of,
+        };
+        first.insert(field.name, entry)?;
     }
     Ok(first)
 }
@@ -70,6 +79,19 @@ impl<'t> FieldTable<'t> {
     pub fn find(&self, name: &str) -> Option<TypeId>
         ensures { (shapes : List shape.Shape) → option_map (type_shape shapes) result ≡ shape_of_field (fields_shape shapes self.now) name.now }
     {
-        self.first_of.get(name).copied()
+        match self.first_of.get(name) {
+            None => None,
+            Some(first) => Some(first.of),
+        }
+    }
+
+    /// The place of the first field of this name.
+    pub fn place(&self, name: &str) -> Option<usize>
+        ensures { (shapes : List shape.Shape) → result ≡ place_of_field (fields_shape shapes self.now) name.now }
+    {
+        match self.first_of.get(name) {
+            None => None,
+            Some(first) => Some(first.place),
+        }
     }
 }

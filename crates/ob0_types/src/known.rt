@@ -2,10 +2,11 @@
 
 ghost use Rattle.std.specs.Prelude.{◌≡◌, ◌≤◌, ◌++◌, ◌&&◌, nat_le, List, option_map};
 ghost use Rattle.ob0_values.specs.Values as shape;
+ghost use Rattle.ob0_types.specs.FieldPlaces.{field_selected};
 ghost use Rattle.ob0_types.specs.Tables.{fields_shape, type_shape};
 
 use crate::field_table::FieldTable;
-use crate::types::TypeId;
+use crate::types::{TypeId, scalar_type};
 use ob0_values::scalar::Scalar;
 use std::alloc::{AllocError, Global};
 use std::marker::Model;
@@ -22,6 +23,13 @@ pub const MOST_DEPTH: usize = 100;
 pub struct Field<'t> {
     pub name: &'t str,
     pub of: TypeId,
+}
+
+/// A field of a record: which of the ARRAY and RECORD of the text the record is, and which of its fields, each from 0 on.
+#[derive(Clone, Copy, Debug, PartialEq, Eq)]
+pub struct FieldOf {
+    pub ordinal: usize,
+    pub index: usize,
 }
 
 /// `ARRAY length OF element`, made by the constructor with this ordinal in the text.
@@ -80,10 +88,21 @@ pub enum Object {
     Standard(Standard),
 }
 
+/// What is in sight at an ordinal.
+#[derive(Debug, Drop)]
+enum Sight {
+    Nothing,
+    /// What was declared there last.
+    Last,
+    /// What was declared there before.
+    Earlier(Object),
+}
+
+/// What was declared last at an ordinal, in sight or not.
 #[derive(Debug, Drop)]
 struct Entry {
     object: Object,
-    in_sight: bool,
+    sight: Sight,
 }
 
 /// What was in sight at an ordinal before it was bound to something else.
@@ -98,6 +117,21 @@ pub struct Shadowed {
 pub struct Known<'t> {
     shapes: Vec<Shape<'t>>,
     entries: Vec<Entry>,
+}
+
+impl<'t> RecordShape<'t> {
+    /// The first field of this name.
+    fn field_of(&self, name: &str) -> Option<FieldOf>
+        ensures { (shapes : List shape.Shape) → result ≡ field_selected (shape.record_shape self.now.ordinal (fields_shape shapes self.now.fields)) name.now }
+    {
+        match self.fields.place(name) {
+            None => None,
+            Some(index) => Some(FieldOf {
+                ordinal: self.ordinal,
+                index,
+            }),
+        }
+    }
 }
 
 /// Whether a type of so many scalars and so deep may be.
@@ -120,9 +154,12 @@ impl<'t> Model for Known<'t> {
 impl<'t> Known<'t> {
     ghost use Rattle.std.specs.Prelude.{◌≡◌, ℕ, ◌<◌, ◌++◌, ◌∷◌, [], true, false, Some, length, option_map, option_and_then, slice_get, slice_set, slice_index_or, MatchOption, All, ◌^◌, IfOk, OnOk, IfSome, None};
     ghost use Rattle.ob0_types.specs.declared.known.Object.TheVariants as kind;
-    ghost use Rattle.ob0_types.specs.KnownTables.{AreTables, known_meaning, predeclared, put_at, seen_in, seen_object, shapes_of};
+    ghost use Rattle.ob0_types.specs.declared.known.Sight.TheVariants as sight;
+    ghost use Rattle.ob0_types.specs.KnownTables.{AreTables, declared_in, known_meaning, predeclared, put_at, seen_in, seen_object, shapes_of};
     ghost use Rattle.ob0_types.specs.Tables.{object_in, IsCounted, IsEntry, ObjectIsMade, IsMade, made_shape, no_shape};
-    ghost use Rattle.ob0_types.specs.Typing.{depth, element_type, field_depth, field_scalars, field_type, scalars, within_limits};
+    ghost use Rattle.ob0_types.specs.Bindings.{type_declared};
+    ghost use Rattle.ob0_values.specs.Scalars.{scalar_value};
+    ghost use Rattle.ob0_types.specs.Typing.{constant_of, depth, element_type, field_depth, field_scalars, field_type, scalars, within_limits};
     ghost use Rattle.ob0_values.specs.Values.{array_shape, integer_shape, record_shape};
 
     /// The predeclared names.
@@ -149,11 +186,11 @@ impl<'t> Known<'t> {
     pub fn declare(&mut self, object: Object) -> Result<(), AllocError>
         requires { ObjectIsMade (length self.old.shapes) object }
         ensures shapes { OnOk result (self.new.shapes ≡ self.old.shapes) }
-        ensures entries { OnOk result (self.new.entries ≡ self.old.entries ++ record { object = object; in_sight = true } ∷ []) }
+        ensures entries { OnOk result (self.new.entries ≡ self.old.entries ++ record { object = object; sight = sight.Last } ∷ []) }
     {
         self.entries.push(Entry {
             object,
-            in_sight: true,
+            sight: Sight::Last,
         })?;
         Ok(())
     }
@@ -161,11 +198,11 @@ impl<'t> Known<'t> {
     /// Makes room for the next ordinal, out of sight.
     pub fn reserve(&mut self) -> Result<(), AllocError>
         ensures shapes { OnOk result (self.new.shapes ≡ self.old.shapes) }
-        ensures entries { OnOk result (self.new.entries ≡ self.old.entries ++ record { object = kind.FaultyConstant; in_sight = false } ∷ []) }
+        ensures entries { OnOk result (self.new.entries ≡ self.old.entries ++ record { object = kind.FaultyConstant; sight = sight.Nothing } ∷ []) }
     {
         self.entries.push(Entry {
             object: Object::FaultyConstant,
-            in_sight: false,
+            sight: Sight::Nothing,
         })?;
         Ok(())
     }
@@ -174,12 +211,12 @@ impl<'t> Known<'t> {
     pub fn define(&mut self, ordinal: usize, object: Object)
         requires { ObjectIsMade (length self.old.shapes) object }
         ensures shapes { self.new.shapes ≡ self.old.shapes }
-        ensures entries { self.new.entries ≡ slice_set self.old.entries ordinal (record { object = object; in_sight = true }) }
+        ensures entries { self.new.entries ≡ slice_set self.old.entries ordinal (record { object = object; sight = sight.Last }) }
     {
         if ordinal < self.entries.len() {
             self.entries[ordinal] = Entry {
                 object,
-                in_sight: true,
+                sight: Sight::Last,
             };
         }
     }
@@ -188,6 +225,7 @@ impl<'t> Known<'t> {
     fn reach(&mut self, ordinal: usize) -> Result<(), AllocError>
         ensures shapes { OnOk result (self.new.shapes ≡ self.old.shapes) }
         ensures seen { OnOk result ((k : ℕ) → seen_object self.new k ≡ seen_object self.old k) }
+        ensures declared { OnOk result ((k : ℕ) → declared_in self.new k ≡ declared_in self.old k) }
         ensures room { OnOk result (ordinal < length self.new.entries) }
         ensures longer { OnOk result (length self.old.entries ≤ length self.new.entries) }
     {
@@ -203,20 +241,22 @@ impl<'t> Known<'t> {
         requires room { ordinal < length self.old.entries }
         ensures shapes { self.new.shapes ≡ self.old.shapes }
         ensures seen { (k : ℕ) → seen_object self.new k ≡ put_at ordinal (Some object) (seen_object self.old) k }
+        ensures declared { (k : ℕ) → declared_in self.new k ≡ put_at ordinal (object_in (shapes_of self.old) object) (declared_in self.old) k }
         ensures before { result ≡ seen_object self.old ordinal }
         ensures made { IfSome result (ObjectIsMade (length self.old.shapes)) }
         ensures long { length self.new.entries ≡ length self.old.entries }
     {
         let entry = Entry {
             object,
-            in_sight: true,
+            sight: Sight::Last,
         };
         let before = mem::replace(&mut self.entries[ordinal], entry);
-        let Entry { object, in_sight } = before;
-        if !in_sight {
-            return None;
+        let Entry { object, sight } = before;
+        match sight {
+            Sight::Nothing => None,
+            Sight::Last => Some(object),
+            Sight::Earlier(earlier) => Some(earlier),
         }
-        Some(object)
     }
 
     /// Binds an ordinal to what is declared there, in sight, and gives what was in sight there before.
@@ -224,6 +264,7 @@ impl<'t> Known<'t> {
         requires { ObjectIsMade (length self.old.shapes) object }
         ensures shapes { OnOk result (self.new.shapes ≡ self.old.shapes) }
         ensures seen { OnOk result ((k : ℕ) → seen_object self.new k ≡ put_at ordinal (Some object) (seen_object self.old) k) }
+        ensures declared { OnOk result ((k : ℕ) → declared_in self.new k ≡ put_at ordinal (object_in (shapes_of self.old) object) (declared_in self.old) k) }
         ensures before { IfOk result (λ b. b ≡ seen_object self.old ordinal) }
         ensures made { IfOk result (λ b. IfSome b (ObjectIsMade (length self.old.shapes))) }
         ensures room { OnOk result (ordinal < length self.new.entries) }
@@ -238,9 +279,22 @@ impl<'t> Known<'t> {
         requires { ordinal < length self.old.entries }
         ensures shapes { self.new.shapes ≡ self.old.shapes }
         ensures seen { (k : ℕ) → seen_object self.new k ≡ put_at ordinal None (seen_object self.old) k }
+        ensures declared { (k : ℕ) → declared_in self.new k ≡ declared_in self.old k }
         ensures long { length self.new.entries ≡ length self.old.entries }
     {
-        self.entries[ordinal].in_sight = false;
+        self.entries[ordinal].sight = Sight::Nothing;
+    }
+
+    /// Brings in sight what was declared at an ordinal before.
+    fn show(&mut self, ordinal: usize, object: Object)
+        requires made { ObjectIsMade (length self.old.shapes) object }
+        requires room { ordinal < length self.old.entries }
+        ensures shapes { self.new.shapes ≡ self.old.shapes }
+        ensures seen { (k : ℕ) → seen_object self.new k ≡ put_at ordinal (Some object) (seen_object self.old) k }
+        ensures declared { (k : ℕ) → declared_in self.new k ≡ declared_in self.old k }
+        ensures long { length self.new.entries ≡ length self.old.entries }
+    {
+        self.entries[ordinal].sight = Sight::Earlier(object);
     }
 
     /// Puts back in sight what was in sight at an ordinal before it was bound to something else.
@@ -249,10 +303,11 @@ impl<'t> Known<'t> {
         requires room { ordinal < length self.old.entries }
         ensures shapes { self.new.shapes ≡ self.old.shapes }
         ensures seen { (k : ℕ) → seen_object self.new k ≡ put_at ordinal before (seen_object self.old) k }
+        ensures declared { (k : ℕ) → declared_in self.new k ≡ declared_in self.old k }
         ensures long { length self.new.entries ≡ length self.old.entries }
     {
         match before {
-            Some(object) => self.define(ordinal, object),
+            Some(object) => self.show(ordinal, object),
             None => self.hide(ordinal),
         }
     }
@@ -271,20 +326,48 @@ impl<'t> Known<'t> {
         ensures made { IfSome result (λ o. ObjectIsMade (length self.now.shapes) o.now) }
     {
         let entry = self.entries.get(ordinal)?;
-        if entry.in_sight {
-            Some(&entry.object)
-        } else {
-            None
+        match &entry.sight {
+            Sight::Nothing => None,
+            Sight::Last => Some(&entry.object),
+            Sight::Earlier(earlier) => Some(earlier),
         }
     }
 
-    /// What a declaration is, in sight or not.
+    /// What was declared last at an ordinal, in sight or not.
     pub fn object(&self, ordinal: usize) -> Option<&Object>
-        ensures value { option_map (λ o. o.now) result ≡ option_map (λ e. e.object) (slice_get self.now.entries ordinal) }
+        ensures value { option_and_then (λ o. object_in (shapes_of self.now) o.now) result ≡ declared_in self.now ordinal }
         ensures made { IfSome result (λ o. ObjectIsMade (length self.now.shapes) o.now) }
     {
         let entry = self.entries.get(ordinal)?;
         Some(&entry.object)
+    }
+
+    /// The value of a declaration that is a constant.
+    pub fn constant(&self, ordinal: usize) -> Option<Scalar>
+        ensures { option_map scalar_value result ≡ constant_of (declared_in self.now ordinal) }
+    {
+        match self.object(ordinal)? {
+            Object::Constant(value) => Some(*value),
+            Object::Named(_) => None,
+            Object::FaultyConstant => None,
+            Object::Variable(_) => None,
+            Object::Procedure(_) => None,
+            Object::Standard(_) => None,
+        }
+    }
+
+    /// The type of a declaration: of a type, of a variable or parameter, and of a constant.
+    pub fn declared_type(&self, ordinal: usize) -> Option<TypeId>
+        ensures { option_map (type_shape (shapes_of self.now)) result ≡ type_declared (declared_in self.now ordinal) }
+    {
+        match self.object(ordinal)? {
+            Object::Named(of) => Some(*of),
+            Object::Variable(of) => Some(*of),
+            Object::Constant(value) => Some(scalar_type(*value)),
+            Object::FaultyConstant => None,
+            Object::Procedure(_) => None,
+            Object::Standard(_) => None,
+        }
     }
 
     /// What the shape at a place of the table is.
@@ -323,6 +406,24 @@ impl<'t> Known<'t> {
         match base {
             TypeId::Record(i) => match self.entry(i)? {
                 Shape::Record(record) => record.fields.find(name),
+                Shape::Integer => None,
+                Shape::Boolean => None,
+                Shape::Array(_) => None,
+            },
+            TypeId::Integer => None,
+            TypeId::Boolean => None,
+            TypeId::Array(_) => None,
+            TypeId::Unknown => None,
+        }
+    }
+
+    /// The first field of this name in a record.
+    pub fn field_of(&self, base: TypeId, name: &str) -> Option<FieldOf>
+        ensures { result ≡ field_selected (type_shape (shapes_of self.now) base) name.now }
+    {
+        match base {
+            TypeId::Record(i) => match self.entry(i)? {
+                Shape::Record(record) => record.field_of(name),
                 Shape::Integer => None,
                 Shape::Boolean => None,
                 Shape::Array(_) => None,

@@ -14,7 +14,7 @@ use crate::types::TypeId;
 
 /// A type with its parts. What has a fault is a record without fields.
 #[derive(Clone, Copy)]
-enum Parts<'k, 't> {
+pub enum Parts<'k, 't> {
     Integer,
     Boolean,
     Array(ArrayShape),
@@ -30,7 +30,8 @@ fn is_nothing(entry: &RecordShape) -> bool
 }
 
 impl<'t> Known<'t> {
-    fn parts(&self, of: TypeId) -> Parts<'_, 't>
+    /// A type with its parts.
+    pub fn parts(&self, of: TypeId) -> Parts<'_, 't>
         ensures { parts_shape (shapes_of self.now) result ≡ type_shape (shapes_of self.now) of }
     {
         match of {

@@ -52,11 +52,11 @@ pub(crate) struct Typed<'t> {
 impl<'t> Walk<'t> {
     ghost use Rattle.std.specs.Prelude.{◌≡◌, ℕ, ◌+◌, ◌++◌, ◌∷◌, List, Some, length, option_map, IfOk, IfSome};
     ghost use Rattle.ob0_tree.specs.View.{type_of};
-    ghost use Rattle.ob0_types.specs.Checking.{Agrees, Follows};
+    ghost use Rattle.ob0_types.specs.Checking.{Agrees, Follows, Keeps};
     ghost use Rattle.ob0_types.specs.Environments.{meanings};
     ghost use Rattle.ob0_types.specs.Expressions as meaning;
     ghost use Rattle.ob0_types.specs.InLabels.{in_labels, label_in};
-    ghost use Rattle.ob0_types.specs.KnownTables.{AreTables, before_all, predeclared, seen_object, shapes_of};
+    ghost use Rattle.ob0_types.specs.KnownTables.{AreTables, before_all, declared_in, predeclared, seen_object, shapes_of};
     ghost use Rattle.ob0_types.specs.Tables.{IsMade, ObjectIsMade, object_in, type_shape};
     ghost use Rattle.ob0_types.specs.Typing.{constructors, denoted};
     ghost use Rattle.ob0_types.specs.WellTyped.{Signature, TypeEnvironment};
@@ -82,6 +82,7 @@ impl<'t> Walk<'t> {
     pub(crate) fn bind(self, token: usize, object: Object) -> Result<Walk<'t>, AllocError>
         requires { ObjectIsMade (length self.known.shapes) object }
         ensures agrees { IfOk result (λ w. (env : TypeEnvironment Label) (o : meaning.Object Shape Signature) → object_in (shapes_of self.entry.known) object ≡ Some o → Agrees env self.entry.known → Agrees ((label_in self.entry.resolved token, o) ∷ env) w.known) }
+        ensures keeps { IfOk result (λ w. (all : TypeEnvironment Label) (o : meaning.Object Shape Signature) → object_in (shapes_of self.entry.known) object ≡ Some o → Keeps all self.entry.known → Keeps ((label_in self.entry.resolved token, o) ∷ all) w.known) }
         ensures shapes { IfOk result (λ w. w.known.shapes ≡ self.entry.known.shapes) }
         ensures follows { IfOk result (λ w. Follows self.entry w) }
         ensures resolved { IfOk result (λ w. w.resolved ≡ self.entry.resolved) }
@@ -121,6 +122,7 @@ impl<'t> Walk<'t> {
     /// Puts back what was in sight after so many bindings.
     pub(crate) fn back_to(self, mark: usize) -> Walk<'t>
         ensures seen { (first more : List Shadowed) → self.entry.bound ≡ first ++ more → mark ≡ length first → (result.bound ≡ first) × ((k : ℕ) → seen_object result.known k ≡ before_all more (seen_object self.entry.known) k) }
+        ensures declared { (k : ℕ) → declared_in result.known k ≡ declared_in self.entry.known k }
         ensures shapes { result.known.shapes ≡ self.entry.known.shapes }
         ensures resolved { result.resolved ≡ self.entry.resolved }
         ensures next { result.next ≡ self.entry.next }
@@ -151,6 +153,7 @@ impl<'t> Walk<'t> {
     pub(crate) fn denote(self, t: &WrittenType) -> Result<Option<Typed<'t>>, AllocError>
         ensures value { IfOk result (λ r. (env : TypeEnvironment Label) → Agrees env self.entry.known → option_map (λ d. type_shape (shapes_of d.walk.known) d.of) r ≡ denoted (meanings as_labels env) self.entry.next (in_labels self.entry.resolved (type_of t.now))) }
         ensures agrees { IfOk result (λ r. IfSome r (λ d. (env : TypeEnvironment Label) → Agrees env self.entry.known → Agrees env d.walk.known)) }
+        ensures keeps { IfOk result (λ r. IfSome r (λ d. (all : TypeEnvironment Label) → Keeps all self.entry.known → Keeps all d.walk.known)) }
         ensures made { IfOk result (λ r. IfSome r (λ d. IsMade (length d.walk.known.shapes) d.of)) }
         ensures follows { IfOk result (λ r. IfSome r (λ d. Follows self.entry d.walk)) }
         ensures resolved { IfOk result (λ r. IfSome r (λ d. d.walk.resolved ≡ self.entry.resolved)) }

@@ -12,5 +12,6 @@ loop-bound-preserved c =
           let so_far = c.loop-bound.invariant.seen first more is long in
           let less : length first < length (first ++ so_far.0) = omega (arith, ap length so_far.1, long, c.loop-bound-test.true, c.len.ensures) in
           goes_back_more c.loop-bound.known c.put_back.new.self first so_far.0 c.pop.new.self.items c.in-Some.last (sym so_far.1 ∙ e) less (λ k. c.put_back.ensures.seen k) (λ k. before_all more (seen_object c.self.inside.known) k) so_far.2;
+      declared = λ k. c.put_back.ensures.declared k ∙ c.loop-bound.invariant.declared k;
       shapes = c.put_back.ensures.shapes ∙ c.loop-bound.invariant.shapes;
     }

@@ -1,10 +1,12 @@
-use Rattle.std.proofs.Common.{Some, option_map, sym, ap, ◌∙◌}
+use Rattle.std.proofs.Common.{Some, option_map, sym, ap, ◌∙◌, subst}
 use Rattle.ob0_tree.specs.View.{type_of}
 use Rattle.ob0_types.specs.declared.denoting.Denoted.{Denoted}
 use Rattle.ob0_types.specs.InLabels.{in_labels}
 use Rattle.ob0_types.specs.KnownTables.{known_meaning, shapes_of}
 use Rattle.ob0_types.specs.Tables.{type_shape}
 use Rattle.ob0_types.specs.Typing.{denoted}
+use Rattle.ob0_types.specs.Checking.{Keeps}
+use Rattle.ob0_types.proofs.Kept.{keeps_more}
 use Rattle.ob0_types.proofs.walk.Walk.denote.Goals as goal
 
 pub returns-clause-agrees : goal.returns-clause-agrees
@@ -23,3 +25,8 @@ returns-clause-value c = λ env agrees.
     ∙ c.in_ok-denote.ensures.value
     ∙ ap (λ w. denoted (known_meaning w.known) w.next (in_labels w.resolved (type_of c.args.t.now))) c.self.view_is
     ∙ ap (λ m. denoted m c.args.self.next (in_labels c.args.self.resolved (type_of c.args.t.now))) (sym agrees)
+
+pub returns-clause-keeps : goal.returns-clause-keeps
+returns-clause-keeps c = λ all keeps.
+    keeps_more all c.self.inside.known c.denote.new.known c.in_ok-denote.ensures.shapes.0 c.count-declared.ensures.tables c.in_ok-denote.ensures.entries c.in_ok-denote.ensures.shapes.1
+    (subst (λ w. Keeps all w.known) (sym c.self.view_is) keeps)
