@@ -1,12 +1,12 @@
 -- What is answered at a use.
-use Rattle.std.proofs.Common.{◌≡◌, ◌⊎◌, ◌≢◌, ℕ, suc, ◌+◌, ◌<◌, ◌≤◌, ◌==◌, ◌||◌, Bool, true, false, nat_lt, if◌then◌else◌, Option, Some, None, List, [], ◌∷◌, length, map, refl, sym, ap, ◌∙◌, subst, inl, inr, option_and_then, option_map, slice_get, codes, eqb-true, true≢false}
+use Rattle.std.proofs.Common.{cond, zero, arith, eq-eqb, ◌≡◌, ◌⊎◌, ◌≢◌, ℕ, suc, ◌+◌, ◌<◌, ◌≤◌, ◌==◌, ◌||◌, Bool, true, false, nat_lt, if◌then◌else◌, Option, Some, None, List, [], ◌∷◌, length, map, refl, sym, ap, ◌∙◌, subst, inl, inr, option_and_then, option_map, slice_get, codes, eqb-true, true≢false}
 use Rattle.std.proofs.lemmas.Bool.{le-ltb, lt-ltb}
 use Rattle.std.specs.List.{All, position_from}
 use Rattle.ob0_scan.specs.Scanned.{max_text}
 use Rattle.ob0_text.specs.declared.edits.Edit.{Edit}
 use Rattle.ob0_text.specs.declared.positions.Unit as counting
 use Rattle.ob0_text.specs.declared.refusals.EditRefusal.{EditRefusal}
-use Rattle.ob0_text.specs.declared.refusals.EditRefusal.TheVariants.{Shadowed, TooDeep, TooLong}
+use Rattle.ob0_text.specs.declared.refusals.EditRefusal.TheVariants.{Memory, Shadowed, TooDeep, TooLong}
 use Rattle.ob0_tree.specs.Order.{IsIdentifier}
 use Rattle.ob0_tree.specs.Parsed.{Parsed, named_tree_of, tree_of}
 use Rattle.ob0_tree.specs.Tree.{Tree, module_text, nesting, occurrences}
@@ -23,6 +23,7 @@ use Rattle.ob0_refs.specs.declared.answers.Named as named
 use Rattle.ob0_refs.specs.Listing.{is_name_on}
 use Rattle.ob0_refs.specs.Standing.{name_on}
 use Rattle.ob0_refs.proofs.Placed.{name_found, named_so}
+use Rattle.ob0_types.specs.ConstantValues.{value_of_constant}
 use Rattle.ob0_types.specs.CheckedModules.{IsWellTyped}
 use Rattle.ob0_types.specs.EditLaws.{AreUsesOf, ConstantsStandAlone, IsConstantWritten, IsScalar, IsShown}
 use Rattle.ob0_types.specs.Written.{written_value}
@@ -35,7 +36,7 @@ use Rattle.ob0_inline.specs.declared.uses.Use.{Use}
 use Rattle.ob0_inline.specs.Inlined.{LeavesModule, StandAlone, inlined_at}
 use Rattle.ob0_inline.specs.Uses.{InlinesHere, IsUse, IsUseAt, inlined_here, is_shown, refusal_here, truth_ordinal}
 use Rattle.ob0_inline.specs.Values.{value_factor, value_text}
-use Rattle.ob0_inline.proofs.UsesStand.{AreBound, inlined_by_number, names_from, one_identifier, one_place, stand_alone, uses_are_identifiers, uses_ascend}
+use Rattle.ob0_inline.proofs.UsesStand.{AreBound, inlined_by_number, inside, names_from, one_identifier, one_place, stand_alone, uses_are_identifiers, uses_ascend}
 
 -- a use that a place is on is a use
 
@@ -81,7 +82,7 @@ module _ (r : Resolution) (well : IsWellTyped r) (u : Use) (use_so : IsUse r.mod
   are_bound = (((u.occurrence, there), bound_at r well.resolved u.occurrence (Some u.token) (sym there) ∙ use_so.bound), tt)
 
   written : IsScalar (scalar_value u.value) → IsConstantWritten (named_tree_of r.module_read) u.constant (scalar_value u.value) (value_factor u.value)
-  written scalar = record { value = use_so.worth; scalar = scalar; literal = literal_of u.value }
+  written fits_so = record { value = use_so.worth; scalar = fits_so; literal = literal_of u.value }
     where
       literal_of : (value : Scalar) → written_value (scalar_value value) ≡ Some (value_factor value)
       literal_of (scalar.Number (pos n)) = refl
@@ -90,9 +91,9 @@ module _ (r : Resolution) (well : IsWellTyped r) (u : Use) (use_so : IsUse r.mod
       literal_of (scalar.Truth false) = refl
 
   pub stands : ConstantsStandAlone → IsScalar (scalar_value u.value) → StandAlone r.module_read (u.token ∷ []) u.value
-  stands law scalar =
+  stands law fits_so =
       stand_alone r well.resolved u.constant (value_factor u.value) (u.token ∷ []) are_bound
-      (law (named_tree_of r.module_read) u.constant (scalar_value u.value) (value_factor u.value) (written scalar) well.well_typed)
+      (law (named_tree_of r.module_read) u.constant (scalar_value u.value) (value_factor u.value) (written fits_so) well.well_typed)
 
   or_false : (b : Bool) → (b || false) ≡ b
   or_false true = refl
@@ -128,8 +129,8 @@ module _ (r : Resolution) (well : IsWellTyped r) (u : Use) (use_so : IsUse r.mod
       → map parts edits ≡ edit_at unit text r.module_read.source.tokens (value_text u.value) u.token ∷ []
       → LeavesModule unit text edits (inlined_at r.module_read (u.token ∷ []) u.value)
       → is_shown (named_tree_of r.module_read) u.occurrence u.value ≡ true → InlinesHere unit text r.module_read u edits
-  inlines law scalar unit text edits made leaves shown =
-      let kept = law (named_tree_of r.module_read) u.constant (scalar_value u.value) (value_factor u.value) (only u.occurrence) (written scalar) (uses_so shown) well.well_typed in
+  inlines law fits_so unit text edits made leaves shown =
+      let kept = law (named_tree_of r.module_read) u.constant (scalar_value u.value) (value_factor u.value) (only u.occurrence) (written fits_so) (uses_so shown) well.well_typed in
       record { here = made; leaves = subst (LeavesModule unit text edits) inlined_is leaves; well_typed = kept.0; same_runs = kept.1 }
 
 -- the first refusal
@@ -156,3 +157,91 @@ module _ (m : Parsed) (u : Use) where
       short_here h
       ∙ (ap (λ a. if a then Some TooDeep else if is_shown (named_tree_of m) u.occurrence u.value then None else Some Shadowed) (le-ltb 100 (nesting (inlined_here m u)) d)
       ∙ ap (λ a. if a then None else Some Shadowed) e)
+
+-- what is known of the edits of a use, or of their refusal, by any reading of the module
+pub record Made (r : Resolution) (u : Use) (unit : counting.Unit) (text : List ℕ) (edits : List Edit) : Type 0 where
+  pub edits_are : map parts edits ≡ edit_at unit text r.module_read.source.tokens (value_text u.value) u.token ∷ []
+  pub leaves : StandAlone r.module_read (u.token ∷ []) u.value → LeavesModule unit text edits (inlined_at r.module_read (u.token ∷ []) u.value)
+  pub short : length (with_text_at r.module_read.source (u.token ∷ []) (value_text u.value)) ≤ max_text
+
+pub record Refused (r : Resolution) (u : Use) (refusal : EditRefusal) : Type 0 where
+  pub too_long : refusal ≡ TooLong → max_text < length (with_text_at r.module_read.source (u.token ∷ []) (value_text u.value))
+  pub too_deep : StandAlone r.module_read (u.token ∷ []) u.value → refusal ≡ TooDeep → 100 < nesting (inlined_at r.module_read (u.token ∷ []) u.value)
+  pub deep_and_short : refusal ≡ TooDeep → length (with_text_at r.module_read.source (u.token ∷ []) (value_text u.value)) ≤ max_text
+  pub one_of : (refusal ≡ TooLong) ⊎ ((refusal ≡ TooDeep) ⊎ (refusal ≡ Memory))
+
+module _ (r : Resolution) (well : IsWellTyped r) (u : Use) (use_so : IsUse r.module_read u) (law : ConstantsStandAlone) (scalar_so : IsScalar (scalar_value u.value)) where
+  pub low_here : (unit : counting.Unit) (text : List ℕ) (edits : List Edit) → Made r u unit text edits → nesting (inlined_here r.module_read u) ≤ 100
+  low_here unit text edits h =
+      subst (λ (t : Tree Name module_text). nesting t ≤ 100) (inlined_is r well u use_so) (h.leaves (stands r well u use_so law scalar_so)).module_of.shallow
+
+  pub answer_ok : InliningKeepsModules → (unit : counting.Unit) (text : List ℕ) (edits : List Edit) → Made r u unit text edits → is_shown (named_tree_of r.module_read) u.occurrence u.value ≡ true
+      → (refusal_here r.module_read u ≡ None) × InlinesHere unit text r.module_read u edits
+  answer_ok keeps unit text edits h shown = (
+    shown_here r.module_read u h.short (low_here unit text edits h) true shown,
+    inlines r well u use_so keeps scalar_so unit text edits h.edits_are (h.leaves (stands r well u use_so law scalar_so)) shown,
+  )
+
+  pub answer_shadowed : (unit : counting.Unit) (text : List ℕ) (edits : List Edit) → Made r u unit text edits → is_shown (named_tree_of r.module_read) u.occurrence u.value ≡ false
+      → refusal_here r.module_read u ≡ Some Shadowed
+  answer_shadowed unit text edits h shown = shown_here r.module_read u h.short (low_here unit text edits h) false shown
+
+  pub answer_refused : (refusal : EditRefusal) → Refused r u refusal → (refusal_here r.module_read u ≡ Some refusal) ⊎ (refusal ≡ Memory)
+  answer_refused refusal h =
+      elim h.one_of [
+        | inl e ↦ inl (too_long_here r.module_read u (h.too_long e) ∙ ap Some (sym e))
+        | inr other ↦
+            elim other [
+              | inl e ↦
+                  let deep = subst (λ (t : Tree Name module_text). 100 < nesting t) (inlined_is r well u use_so) (h.too_deep (stands r well u use_so law scalar_so) e) in
+                  inl (too_deep_here r.module_read u (h.deep_and_short e) deep ∙ ap Some (sym e))
+              | inr e ↦ inr e
+            ]
+      ]
+
+-- the occurrence at a token
+pub found_there : (token j k : ℕ) (is : List ℕ) → position_from (λ i. i == token) j is ≡ Some k → (n : ℕ) × (k ≡ j + n) × (slice_get is n ≡ Some token)
+found_there token j k [] e = absurd (cc)
+found_there token j k (i ∷ is) e = by_test (i == token) refl e (found_there token (j + 1) k is)
+  where
+    by_test : (b : Bool) → (i == token) ≡ b → cond b (Some j) (position_from (λ i. i == token) (j + 1) is) ≡ Some k
+        → (position_from (λ i. i == token) (j + 1) is ≡ Some k → (n : ℕ) × (k ≡ j + 1 + n) × (slice_get is n ≡ Some token)) → (n : ℕ) × (k ≡ j + n) × (slice_get (i ∷ is) n ≡ Some token)
+    by_test true q e later = let same : j ≡ k = inside e in (0, omega (arith, same), ap Some (eqb-true i token q))
+    by_test false q e later = let h = later e in (suc h.0, omega (arith, h.1), h.2)
+
+pub not_there : (token j n : ℕ) (is : List ℕ) → position_from (λ i. i == token) j is ≡ None → slice_get is n ≡ Some token → ⊥
+not_there token j n [] e f = cc
+not_there token j n (i ∷ is) e f = by_test (i == token) refl e n f (λ m. not_there token (j + 1) m is)
+  where
+    by_test : (b : Bool) → (i == token) ≡ b → cond b (Some j) (position_from (λ i. i == token) (j + 1) is) ≡ None → (n : ℕ) → slice_get (i ∷ is) n ≡ Some token
+        → ((m : ℕ) → position_from (λ i. i == token) (j + 1) is ≡ None → slice_get is m ≡ Some token → ⊥) → ⊥
+    by_test true q e n f later = cc
+    by_test false q e zero f later = true≢false (sym (eq-eqb i token (inside f)) ∙ q)
+    by_test false q e (suc n) f later = later n e f
+
+-- the use at a name that a place is on
+
+named_token : (found : named.Named) (token ordinal : ℕ) → Some found ≡ Some (record { token = token; ordinal = ordinal }) → found.token ≡ token
+named_token found token ordinal e = ap (λ (o : Option named.Named). (elim o as (λ _. named.Named) [ Some n ↦ n | None ↦ found ]).token) e
+
+pub use_found : (r : Resolution) → IsWellTyped r → (offset : ℕ) (found : named.Named) (k : ℕ) (value : Scalar) → Some found ≡ name_on r.module_read offset
+    → position_from (λ i. i == found.token) 0 r.uses ≡ Some k → option_map scalar_value (Some value) ≡ value_of_constant (named_tree_of r.module_read) found.ordinal
+    → IsUseAt r.module_read offset (record { token = found.token; occurrence = k; constant = found.ordinal; value = value })
+use_found r well offset found k value e at worth =
+    let h = found_there found.token 0 k r.uses at in
+    let same : k ≡ h.0 = omega (arith, h.1) in
+    record {
+      named = sym e;
+      occurs = ap (λ us. slice_get us k) (sym well.resolved.occurring) ∙ (ap (slice_get r.uses) same ∙ h.2);
+      worth = sym worth;
+    }
+
+pub use_is_one : (r : Resolution) → IsWellTyped r → (offset : ℕ) (made u : Use) → IsUseAt r.module_read offset made → Some made ≡ Some u → IsUse r.module_read u
+use_is_one r well offset made u h e =
+    subst (IsUse r.module_read) (ap (λ (o : Option Use). elim o as (λ _. Use) [ Some n ↦ n | None ↦ made ]) e) (use_is r well.resolved offset made h)
+
+pub no_use : (r : Resolution) → IsWellTyped r → (offset : ℕ) (found : named.Named) → Some found ≡ name_on r.module_read offset
+    → position_from (λ i. i == found.token) 0 r.uses ≡ None → (u : Use) → IsUseAt r.module_read offset u → ⊥
+no_use r well offset found e none u h =
+    not_there found.token 0 u.occurrence r.uses none
+    (ap (λ us. slice_get us u.occurrence) well.resolved.occurring ∙ (h.occurs ∙ ap Some (sym (named_token found u.token u.constant (e ∙ h.named)))))

@@ -70,7 +70,7 @@ uses_are_identifiers r is =
     let m = r.module_read in
     subst (AreIdentifiers m.source.tokens) (found_looked_up r is) (looked_up_stand m.source.tokens (identifiers role.Declaring (tree_of m)) (leaves_are_identifiers m is.parsed))
 
-inside : {a b : ℕ} → Some a ≡ Some b → a ≡ b
+pub inside : {a b : ℕ} → Some a ≡ Some b → a ≡ b
 inside {a} e = ap (λ (o : Option ℕ). elim o [ Some n ↦ n | None ↦ a ]) e
 
 pub one_identifier : (ts : List Token) (is : List ℕ) (k i : ℕ) → AreIdentifiers ts is → slice_get is k ≡ Some i → IsIdentifier ts i
@@ -129,8 +129,7 @@ none_elsewhere : (r : Resolution) → IsResolution r → (d : ℕ) (v : Tree Nam
 none_elsewhere r is d v places h [] a = tt
 none_elsewhere r is d v places h (i ∷ xs) a =
     let m = r.module_read in
-    let here = All-head (λ (l : Label). l ≢ declared d) (label_at m.source r.ordinals i) (map (label_at m.source r.ordinals) xs) a in
-    (
+    let here = All-head (λ (l : Label). l ≢ declared d) (label_at m.source r.ordinals i) (map (label_at m.source r.ordinals) xs) a in (
       nothing_at places v i (λ e. here (ap (λ o. as_label as_names o (leaf.text_at m.source i)) (among_bound r is d i places h e).bound)),
       none_elsewhere r is d v places h xs (All-tail (λ (l : Label). l ≢ declared d) (label_at m.source r.ordinals i) (map (label_at m.source r.ordinals) xs) a),
     )

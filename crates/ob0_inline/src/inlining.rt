@@ -47,10 +47,14 @@ fn inline_use<T: TextStore>(
     inlining_keeps_modules();
     is_scalar(found.value);
     let names = module.resolved();
-    let edits = edits_at(alloc, store, names, &[found.token], found.value)?;
-    if is_shown(alloc, names, found.occurrence, found.value)? {
-        Ok(edits)
-    } else {
-        Err(EditRefusal::Shadowed)
+    match edits_at(alloc, store, names, &[found.token], found.value) {
+        Ok(edits) => {
+            if is_shown(alloc, names, found.occurrence, found.value)? {
+                Ok(edits)
+            } else {
+                Err(EditRefusal::Shadowed)
+            }
+        }
+        Err(refusal) => Err(refusal),
     }
 }

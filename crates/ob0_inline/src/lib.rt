@@ -4,6 +4,8 @@
 mod depth;
 mod inlining;
 mod shown;
+#[cfg(test)]
+mod tests;
 mod uses;
 mod writing;
 mod written;
