@@ -4,3 +4,5 @@ pub mod OnOccurrences
 pub mod Alone
 pub mod UsesStand
 pub mod AtUses
+pub mod TakenOut
+pub mod WordsLeft
