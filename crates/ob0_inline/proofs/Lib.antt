@@ -6,3 +6,6 @@ pub mod UsesStand
 pub mod AtUses
 pub mod TakenOut
 pub mod WordsLeft
+pub mod Earlier
+pub mod Late
+pub mod Behind

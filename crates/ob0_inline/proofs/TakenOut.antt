@@ -16,7 +16,7 @@ use Rattle.ob0_tree.specs.declared.tree.Sign.TheVariants as sign
 use Rattle.ob0_tree.specs.Lexeme.{Lexeme, Mark, add_mark, multiply_mark, relation_mark, sign_marks}
 use Rattle.ob0_tree.specs.Lexeme as lexeme
 use Rattle.ob0_tree.specs.Tree.{Sort, Tree, identifiers, addend, adds, compares, designator, expression, factor, field, index, integer, multiplier, multiplies, negation, parenthesised, product, relates, selector, simple, sum, term, block, constant, constants, declares, declares_constant, declares_constants, declares_procedure, declares_type, declares_types, declares_variable, declares_variables, end, formals, further_name, further_section, has_body, is_module, item, items, listed, maybe, module_text, more, names, no_formals, none, one, procedure, section, some_formals, spell, then_name, then_section, type_name, type_names, value_section, variable, variable_section, variables, body}
-use Rattle.ob0_edits.specs.Inlined.{inlined}
+use Rattle.ob0_edits.specs.Inlined.{ReplacesFactors, inlined}
 use Rattle.ob0_scope.specs.Inlining.{block_without, module_without, procedure_without, procedures_without, section_without, without}
 use Rattle.ob0_scope.specs.Names.{Name, as_names}
 use Rattle.ob0_scope.specs.Parts.{constant_names, formal_names, formal_sections, further_names, named_types, names_listed, section_constants, section_names, section_types, section_variables, variable_names, procedure_name, module_block}
@@ -71,7 +71,7 @@ module _ (c : ℕ → Option (Tree Name factor)) (f : ℕ → Name) (g : ℕ →
   constants_count k end = refl
   constants_count k (more (declares_constant x e) cs) = constants_count (suc k) cs
 
-  constant_section_count : (k : ℕ) (cs : Tree ℕ (maybe constants)) → after_names k (constant_names (section_constants (inlined c f g cs))) ≡ after_names k (constant_names (section_constants cs))
+  pub constant_section_count : (k : ℕ) (cs : Tree ℕ (maybe constants)) → after_names k (constant_names (section_constants (inlined c f g cs))) ≡ after_names k (constant_names (section_constants cs))
   constant_section_count k none = refl
   constant_section_count k (one (declares_constants cs)) = constants_count k cs
 
@@ -105,15 +105,15 @@ module _ (c : ℕ → Option (Tree Name factor)) (f : ℕ → Name) (g : ℕ →
       ∙ (ap (λ n. after_names n (formal_names (inlined c f g fs))) (section_count k s)
       ∙ (sections_count (after_names k (section_names s)) fs ∙ sym (after_names-append k (section_names s) (formal_names fs))))
 
-  formals_count : (k : ℕ) (fs : Tree ℕ (maybe formals)) → after_names k (formal_names (formal_sections (inlined c f g fs))) ≡ after_names k (formal_names (formal_sections fs))
+  pub formals_count : (k : ℕ) (fs : Tree ℕ (maybe formals)) → after_names k (formal_names (formal_sections (inlined c f g fs))) ≡ after_names k (formal_names (formal_sections fs))
   formals_count k none = refl
   formals_count k (one no_formals) = refl
   formals_count k (one (some_formals s fs)) = sections_count k (more (then_section s) fs)
 
-  first_type_count : (k : ℕ) (b : Tree ℕ block) → first_type k (inlined c f g b) ≡ first_type k b
+  pub first_type_count : (k : ℕ) (b : Tree ℕ block) → first_type k (inlined c f g b) ≡ first_type k b
   first_type_count k (has_body (declares cs ts vs ps) statements) = constant_section_count k cs
 
-  first_procedure_count : (k : ℕ) (b : Tree ℕ block) → first_procedure k (inlined c f g b) ≡ first_procedure k b
+  pub first_procedure_count : (k : ℕ) (b : Tree ℕ block) → first_procedure k (inlined c f g b) ≡ first_procedure k b
   first_procedure_count k (has_body (declares cs ts vs ps) statements) =
       ap (λ n. after_names (after_names n (named_types (section_types (inlined c f g ts)))) (variable_names (section_variables (inlined c f g vs)))) (constant_section_count k cs)
       ∙ (ap (λ n. after_names n (variable_names (section_variables (inlined c f g vs)))) (type_section_count (after_names k (constant_names (section_constants cs))) ts)
@@ -130,7 +130,7 @@ module _ (c : ℕ → Option (Tree Name factor)) (f : ℕ → Name) (g : ℕ →
     procedures_count k (more p rest) =
         ap (λ n. after_procedures n (inlined c f g rest)) (procedure_count (suc k) p) ∙ procedures_count (after_procedure (suc k) p) rest
 
-    procedure_count : (k : ℕ) (p : Tree ℕ (item procedure)) → after_procedure k (inlined c f g p) ≡ after_procedure k p
+    pub procedure_count : (k : ℕ) (p : Tree ℕ (item procedure)) → after_procedure k (inlined c f g p) ≡ after_procedure k p
     procedure_count k (declares_procedure x fs b closing) =
         ap (λ n. after_block n (inlined c f g b)) (formals_count k fs) ∙ block_count (after_names k (formal_names (formal_sections fs))) b
 
@@ -213,10 +213,10 @@ pub record Taken (d k : ℕ) (labels : List ℕ) (whole left : List (Lexeme ℕ)
   pub whole_is : whole ≡ (before ++ (Mark border ∷ [])) ++ ((lexeme.Name name ∷ Mark (kind.Symbol symbol.Equal) ∷ (right ++ (Mark (kind.Symbol symbol.Semicolon) ∷ []))) ++ after)
   pub left_is : left ≡ (before ++ (Mark border ∷ [])) ++ after
 
-shifted : (zs b m y : List (Lexeme ℕ)) → zs ++ ((b ++ m) ++ y) ≡ ((zs ++ b) ++ m) ++ y
+pub shifted : (zs b m y : List (Lexeme ℕ)) → zs ++ ((b ++ m) ++ y) ≡ ((zs ++ b) ++ m) ++ y
 shifted zs b m y = sym (append_assoc zs (b ++ m) y) ∙ ap (λ l. l ++ y) (sym (append_assoc zs b m))
 
-put_before : (d k : ℕ) (labels : List ℕ) (zs xs ys : List (Lexeme ℕ)) → Taken d k labels xs ys → Taken d k labels (zs ++ xs) (zs ++ ys)
+abbrev pub put_before : (d k : ℕ) (labels : List ℕ) (zs xs ys : List (Lexeme ℕ)) → Taken d k labels xs ys → Taken d k labels (zs ++ xs) (zs ++ ys)
 put_before d k labels zs xs ys t = record {
   place = t.place;
   ordinal_is = t.ordinal_is;
@@ -233,7 +233,7 @@ put_before d k labels zs xs ys t = record {
   left_is = ap (λ l. zs ++ l) t.left_is ∙ shifted zs t.before (Mark t.border ∷ []) t.after;
 }
 
-put_behind : (d k : ℕ) (labels : List ℕ) (xs ys zs : List (Lexeme ℕ)) → Taken d k labels xs ys → Taken d k labels (xs ++ zs) (ys ++ zs)
+abbrev pub put_behind : (d k : ℕ) (labels : List ℕ) (xs ys zs : List (Lexeme ℕ)) → Taken d k labels xs ys → Taken d k labels (xs ++ zs) (ys ++ zs)
 put_behind d k labels xs ys zs t =
     let front = t.before ++ (Mark t.border ∷ []) in
     let whole : List (Lexeme ℕ) = lexeme.Name t.name ∷ Mark (kind.Symbol symbol.Equal) ∷ (t.right ++ (Mark (kind.Symbol symbol.Semicolon) ∷ [])) in
@@ -253,7 +253,7 @@ put_behind d k labels xs ys zs t =
     }
 
 -- the same among more names
-among_others : (d j k : ℕ) (labels others : List ℕ) (xs ys : List (Lexeme ℕ)) (t : Taken d k labels xs ys) (place : ℕ) → d ≡ j + place → slice_get others place ≡ slice_get labels t.place → Taken d j others xs ys
+abbrev pub among_others : (d j k : ℕ) (labels others : List ℕ) (xs ys : List (Lexeme ℕ)) (t : Taken d k labels xs ys) (place : ℕ) → d ≡ j + place → slice_get others place ≡ slice_get labels t.place → Taken d j others xs ys
 among_others d j k labels others xs ys t place e h = record {
   place = place;
   ordinal_is = e;
@@ -269,17 +269,17 @@ among_others d j k labels others xs ys t place e h = record {
   left_is = t.left_is;
 }
 
-get_first : (xs ys : List ℕ) (j n : ℕ) → slice_get xs j ≡ Some n → slice_get (xs ++ ys) j ≡ slice_get xs j
+pub get_first : (xs ys : List ℕ) (j n : ℕ) → slice_get xs j ≡ Some n → slice_get (xs ++ ys) j ≡ slice_get xs j
 get_first [] ys j n e = absurd (cc)
 get_first (x ∷ xs) ys zero n e = refl
 get_first (x ∷ xs) ys (suc j) n e = get_first xs ys j n e
 
-get_later : (xs ys : List ℕ) (j : ℕ) → slice_get (xs ++ ys) (length xs + j) ≡ slice_get ys j
+pub get_later : (xs ys : List ℕ) (j : ℕ) → slice_get (xs ++ ys) (length xs + j) ≡ slice_get ys j
 get_later [] ys j = ap (slice_get ys) (let e : 0 + j ≡ j = omega arith in e)
 get_later (x ∷ xs) ys j = ap (slice_get (x ∷ (xs ++ ys))) (let e : suc (length xs) + j ≡ suc (length xs + j) = omega arith in e) ∙ get_later xs ys j
 
 -- ordinals count these names
-names_counted : {N : Type 0} (k : ℕ) (xs : List N) → after_names k xs ≡ k + length xs
+pub names_counted : {N : Type 0} (k : ℕ) (xs : List N) → after_names k xs ≡ k + length xs
 names_counted k [] = omega arith
 names_counted k (x ∷ xs) = let e = names_counted (suc k) xs in omega (arith, e)
 
@@ -298,7 +298,7 @@ mutual
       let e = procedures_counted (after_procedure (suc k) p) rest in
       omega (arith, e, procedure_counted (suc k) p, length-append (procedure_name p ∷ procedure_declares p) (procedures_declare rest))
 
-  procedure_counted : {N : Type 0} (k : ℕ) (p : Tree N (item procedure)) → after_procedure k p ≡ k + length (procedure_declares p)
+  pub procedure_counted : {N : Type 0} (k : ℕ) (p : Tree N (item procedure)) → after_procedure k p ≡ k + length (procedure_declares p)
   procedure_counted k (declares_procedure x fs b closing) =
       let xs = formal_names (formal_sections fs) in
       omega (arith, block_counted (after_names k xs) b, names_counted k xs, length-append xs (block_declares b))
@@ -309,7 +309,7 @@ low_constants d k end h = refl
 low_constants d k (more c cs) h =
     ap (λ b. if b then cs else more c (gone_constants d (suc k) cs)) (ne_eqb k d (λ e. omega (arith, e, h))) ∙ (λ i. more c (low_constants d (suc k) cs (omega (arith, h)) i))
 
-low_section : {N : Type 0} (d k : ℕ) (cs : Tree N (maybe constants)) → d < k → gone_section d k cs ≡ cs
+pub low_section : {N : Type 0} (d k : ℕ) (cs : Tree N (maybe constants)) → d < k → gone_section d k cs ≡ cs
 low_section d k none h = refl
 low_section d k (one (declares_constants cs)) h = λ i. one (declares_constants (low_constants d k cs h i))
 
@@ -322,7 +322,7 @@ mutual
       let up3 = le-after_names (after_names (after_names k (constant_names (section_constants cs))) (named_types (section_types ts))) (variable_names (section_variables vs)) in
       λ i. has_body (declares (low_section d k cs h i) ts vs (low_procedures d (first_procedure k b) ps (omega (arith, h, up, up2, up3)) i)) statements
 
-  low_procedures : {N : Type 0} (d k : ℕ) (ps : Tree N (items procedure)) → d < k → gone_procedures d k ps ≡ ps
+  pub low_procedures : {N : Type 0} (d k : ℕ) (ps : Tree N (items procedure)) → d < k → gone_procedures d k ps ≡ ps
   low_procedures d k end h = refl
   low_procedures d k (more p rest) h =
       let up = le-after_procedure (suc k) p in
@@ -339,7 +339,7 @@ high_constants d k (more (declares_constant x e) cs) h =
     let up = le-after_names (suc k) (constant_names cs) in
     ap (λ b. if b then cs else more (declares_constant x e) (gone_constants d (suc k) cs)) (ne_eqb k d (λ e. omega (arith, e, h, up))) ∙ (λ i. more (declares_constant x e) (high_constants d (suc k) cs h i))
 
-high_section : {N : Type 0} (d k : ℕ) (cs : Tree N (maybe constants)) → after_names k (constant_names (section_constants cs)) ≤ d → gone_section d k cs ≡ cs
+pub high_section : {N : Type 0} (d k : ℕ) (cs : Tree N (maybe constants)) → after_names k (constant_names (section_constants cs)) ≤ d → gone_section d k cs ≡ cs
 high_section d k none h = refl
 high_section d k (one (declares_constants cs)) h = λ i. one (declares_constants (high_constants d k cs h i))
 
@@ -358,7 +358,7 @@ mutual
       let up = le-after_procedures (after_procedure (suc k) p) rest in
       λ i. more (high_procedure d (suc k) p (omega (arith, h, up)) i) (high_procedures d (after_procedure (suc k) p) rest h i)
 
-  high_procedure : {N : Type 0} (d k : ℕ) (p : Tree N (item procedure)) → after_procedure k p ≤ d → gone_procedure d k p ≡ p
+  pub high_procedure : {N : Type 0} (d k : ℕ) (p : Tree N (item procedure)) → after_procedure k p ≤ d → gone_procedure d k p ≡ p
   high_procedure d k (declares_procedure x fs b closing) h = λ i. declares_procedure x fs (high_block d (after_names k (formal_names (formal_sections fs))) b h i) closing
 
 -- an expression has no `;`
@@ -394,7 +394,7 @@ sign_no_end (Some sign.Plus) = (refl, tt)
 sign_no_end (Some sign.Minus) = (refl, tt)
 
 mutual
-  expression_no_end : (e : Tree ℕ expression) → NoEnd (spell e)
+  pub expression_no_end : (e : Tree ℕ expression) → NoEnd (spell e)
   expression_no_end (compares a none) = no_end_append (spell a) [] (simple_no_end a) tt
   expression_no_end (compares a (one (relates r b))) = no_end_append (spell a) (Mark (relation_mark r) ∷ spell b) (simple_no_end a) (relation_no_end r, simple_no_end b)
 
@@ -426,7 +426,7 @@ mutual
 
 -- where a constant has a value, its declaration is there
 
-gone_here : (d k : ℕ) (c : Tree ℕ (item constant)) (cs : Tree ℕ (items constant)) (b : Bool) → (k == d) ≡ b → gone_constants d k (more c cs) ≡ (if b then cs else more c (gone_constants d (suc k) cs))
+pub gone_here : (d k : ℕ) (c : Tree ℕ (item constant)) (cs : Tree ℕ (items constant)) (b : Bool) → (k == d) ≡ b → gone_constants d k (more c cs) ≡ (if b then cs else more c (gone_constants d (suc k) cs))
 gone_here d k c cs b e = ap (λ v. if v then cs else more c (gone_constants d (suc k) cs)) e
 
 module _ (c : ℕ → Option (Tree Name factor)) (f : ℕ → Name) (g : ℕ → ℕ) (d : ℕ) (w : Value) where
@@ -721,3 +721,29 @@ mutual
 pub module_declared : (m : Tree ℕ module_text) → declaring_only (identifiers role.Declaring m) ≡ block_declares (module_block m)
 module_declared (is_module x b closing) =
     declaring_only-append (identifiers role.Declaring b) ((role.ModuleName, closing) ∷ []) ∙ (append-nil (declaring_only (identifiers role.Declaring b)) ∙ block_declared b)
+
+-- a tree without a declaration has factors for no other names
+module _ {M : Type 0} (c : ℕ → Option (Tree M factor)) (d : ℕ) where
+  replaces_constants : (k : ℕ) (cs : Tree ℕ (items constant)) → ReplacesFactors c cs → ReplacesFactors c (gone_constants d k cs)
+  replaces_constants k end h = tt
+  replaces_constants k (more x cs) h =
+      elim (k == d) as (λ b. ReplacesFactors c (if b then cs else more x (gone_constants d (suc k) cs))) [ true ↦ h.1 | false ↦ (h.0, replaces_constants (suc k) cs h.1) ]
+
+  replaces_section : (k : ℕ) (cs : Tree ℕ (maybe constants)) → ReplacesFactors c cs → ReplacesFactors c (gone_section d k cs)
+  replaces_section k none h = tt
+  replaces_section k (one (declares_constants cs)) h = replaces_constants k cs h
+
+  mutual
+    replaces_block : (k : ℕ) (b : Tree ℕ block) → ReplacesFactors c b → ReplacesFactors c (gone_block d k b)
+    replaces_block k (has_body (declares cs ts vs ps) statements) h =
+        ((replaces_section k cs h.0.0, h.0.1, h.0.2, replaces_procedures (first_procedure k (has_body (declares cs ts vs ps) statements)) ps h.0.3), h.1)
+
+    replaces_procedures : (k : ℕ) (ps : Tree ℕ (items procedure)) → ReplacesFactors c ps → ReplacesFactors c (gone_procedures d k ps)
+    replaces_procedures k end h = tt
+    replaces_procedures k (more p rest) h = (replaces_procedure (suc k) p h.0, replaces_procedures (after_procedure (suc k) p) rest h.1)
+
+    replaces_procedure : (k : ℕ) (p : Tree ℕ (item procedure)) → ReplacesFactors c p → ReplacesFactors c (gone_procedure d k p)
+    replaces_procedure k (declares_procedure x fs b closing) h = (h.0, h.1, replaces_block (after_names k (formal_names (formal_sections fs))) b h.2, h.3)
+
+  pub replaces_module : (m : Tree ℕ module_text) → ReplacesFactors c m → ReplacesFactors c (gone_module d m)
+  replaces_module (is_module x b closing) h = (h.0, replaces_block 7 b h.1, h.2)
