@@ -9,3 +9,4 @@ pub mod WordsLeft
 pub mod Earlier
 pub mod Late
 pub mod Behind
+pub mod EverywhereAt
