@@ -11,4 +11,4 @@ pub mod Made
 pub mod MadeWithout
 pub mod Lengths
 pub mod Ranged
-mod Inlined
+pub mod Inlined

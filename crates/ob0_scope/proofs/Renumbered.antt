@@ -22,7 +22,7 @@ use Rattle.ob0_scope.proofs.Passing.{HasMarks, module_passed}
 use Rattle.ob0_scope.proofs.Tables.{marks_stand}
 
 -- the table of all marks has each at its token
-marks_in_table : (m : Parsed) (w : Writing) (v : Visit) (ordinals : List (Option ℕ)) → IsParsed m → v ≡ visit_module (tree_of m) (started w)
+pub marks_in_table : (m : Parsed) (w : Writing) (v : Visit) (ordinals : List (Option ℕ)) → IsParsed m → v ≡ visit_module (tree_of m) (started w)
     → ordinals ≡ with_marks (replicate (length m.source.tokens) None) v.marks → HasMarks (ordinal_in ordinals) (visit_module (tree_of m) (started w)).marks
 marks_in_table m w v ordinals parsed gone tabled =
     let marks = (visit_module (tree_of m) (started w)).marks in

@@ -12,7 +12,7 @@ ascends_to low [] high h = h
 ascends_to low (x ∷ xs) high h = let later = ascends_to (x + 1) xs high h.1 in omega (arith, h.0, later)
 
 -- what stands below the marks stays
-kept_below : (ms : List Mark) (table : List (Option ℕ)) (low high i : ℕ) → Ascending low (tokens_of ms) high → i < low → ordinal_in (with_marks table ms) i ≡ ordinal_in table i
+pub kept_below : (ms : List Mark) (table : List (Option ℕ)) (low high i : ℕ) → Ascending low (tokens_of ms) high → i < low → ordinal_in (with_marks table ms) i ≡ ordinal_in table i
 kept_below [] table low high i ascend below = refl
 kept_below (m ∷ ms) table low high i ascend below =
     let above : i < m.token + 1 = omega (arith, ascend.0) in

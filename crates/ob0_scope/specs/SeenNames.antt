@@ -1,5 +1,6 @@
 -- What another name would be bound to in the place of an occurrence.
-use Rattle.std.specs.Prelude.{Option, option_and_then, slice_get, ℕ}
+use Rattle.std.specs.Prelude.{List, Option, Some, map, option_and_then, slice_get, ℕ}
+use Rattle.ob0_scope.specs.declared.numbering.Mark.{Mark}
 use Rattle.ob0_tree.specs.Tree.{Tree, module_text, occurrences}
 use Rattle.ob0_scope.specs.Names.{Name, Naming, predeclared_name, same_name}
 use Rattle.ob0_scope.specs.Occurrences.{label_ordinal}
@@ -12,3 +13,11 @@ looking_for y = record { same = λ x. same_name y; written = λ x. x; predeclare
 -- the ordinal of the declaration to which y would be bound in the place of an occurrence; None where nothing would bind it
 abbrev pub sees : Tree Name module_text → ℕ → Name → Option ℕ
 sees m occurrence y = option_and_then label_ordinal (slice_get (occurrences (relabelled (looking_for y) (as_label (looking_for y)) m)) occurrence)
+
+-- the same of each occurrence, in text order
+abbrev pub ordinals_seen : Tree Name module_text → Name → List (Option ℕ)
+ordinals_seen m y = map label_ordinal (occurrences (relabelled (looking_for y) (as_label (looking_for y)) m))
+
+-- the first ordinal, at a token
+abbrev pub first_at : ℕ → Mark
+first_at token = record { token = token; ordinal = Some 0 }

@@ -48,7 +48,7 @@ pub(crate) fn renumber(
 }
 
 /// The ordinals that a table has at these tokens.
-fn ordinals_of(
+pub(crate) fn ordinals_of(
     alloc: Global,
     ordinals: &[Option<usize>],
     tokens: &[usize],

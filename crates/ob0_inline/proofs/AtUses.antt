@@ -1,0 +1,247 @@
+-- What is answered at a use.
+use Rattle.std.proofs.Common.{cond, zero, arith, eq-eqb, ◌≡◌, ◌⊎◌, ◌≢◌, ℕ, suc, ◌+◌, ◌<◌, ◌≤◌, ◌==◌, ◌||◌, Bool, true, false, nat_lt, if◌then◌else◌, Option, Some, None, List, [], ◌∷◌, length, map, refl, sym, ap, ◌∙◌, subst, inl, inr, option_and_then, option_map, slice_get, codes, eqb-true, true≢false}
+use Rattle.std.proofs.lemmas.Bool.{le-ltb, lt-ltb}
+use Rattle.std.specs.List.{All, position_from}
+use Rattle.ob0_scan.specs.Scanned.{max_text}
+use Rattle.ob0_text.specs.declared.edits.Edit.{Edit}
+use Rattle.ob0_text.specs.declared.positions.Unit as counting
+use Rattle.ob0_text.specs.declared.refusals.EditRefusal.{EditRefusal}
+use Rattle.ob0_text.specs.declared.refusals.EditRefusal.TheVariants.{Memory, Shadowed, TooDeep, TooLong}
+use Rattle.ob0_tree.specs.Order.{IsIdentifier}
+use Rattle.ob0_tree.specs.Parsed.{Parsed, named_tree_of, tree_of}
+use Rattle.ob0_tree.specs.Tree.{Tree, module_text, nesting, occurrences}
+use Rattle.ob0_edits.specs.Changed.{is_among}
+use Rattle.ob0_edits.specs.Replaced.{AreNames, edit_at, parts, with_text_at}
+use Rattle.ob0_edits.specs.Written.{truth_text}
+use Rattle.ob0_scope.specs.Inlining.{only}
+use Rattle.ob0_scope.specs.Names.{Name}
+use Rattle.ob0_scope.specs.Occurrences.{binds}
+use Rattle.ob0_scope.specs.Resolution.{IsResolution, Resolution, ordinal_in}
+use Rattle.ob0_scope.specs.Scopes.{same_ordinal}
+use Rattle.ob0_scope.proofs.Bound.{bound_at}
+use Rattle.ob0_refs.specs.declared.answers.Named as named
+use Rattle.ob0_refs.specs.Listing.{is_name_on}
+use Rattle.ob0_refs.specs.Standing.{name_on}
+use Rattle.ob0_refs.proofs.Placed.{name_found, named_so}
+use Rattle.ob0_types.specs.ConstantValues.{value_of_constant}
+use Rattle.ob0_types.specs.CheckedModules.{IsWellTyped}
+use Rattle.ob0_types.specs.EditLaws.{AreUsesOf, ConstantsStandAlone, IsConstantWritten, IsScalar, IsShown}
+use Rattle.ob0_types.specs.Written.{written_value}
+use Rattle.ob0_run.specs.EditLaws.{InliningKeepsModules}
+use Rattle.ob0_values.specs.declared.scalar.Scalar.{Scalar}
+use Rattle.ob0_values.specs.declared.scalar.Scalar.TheVariants as scalar
+use Rattle.ob0_values.specs.Scalars.{scalar_value}
+use Rattle.std.specs.Prelude.{pos, negsuc}
+use Rattle.ob0_inline.specs.declared.uses.Use.{Use}
+use Rattle.ob0_inline.specs.Inlined.{LeavesModule, StandAlone, inlined_at}
+use Rattle.ob0_inline.specs.Uses.{InlinesHere, IsUse, IsUseAt, inlined_here, is_shown, refusal_here, truth_ordinal}
+use Rattle.ob0_inline.specs.Values.{value_factor, value_text}
+use Rattle.ob0_inline.proofs.UsesStand.{AreBound, inlined_by_number, inside, names_from, one_identifier, one_place, stand_alone, uses_are_identifiers, uses_ascend}
+
+-- a use that a place is on is a use
+
+some_named : (token ordinal : ℕ) (found : Option ℕ) (ordinals : List (Option ℕ)) → option_and_then (named_so ordinals) found ≡ Some (record { token = token; ordinal = ordinal }) → ordinal_in ordinals token ≡ Some ordinal
+some_named token ordinal None ordinals e = absurd (cc)
+some_named token ordinal (Some i) ordinals e = go (ordinal_in ordinals i) refl e
+  where
+    named_back : Option named.Named → named.Named
+    named_back None = record { token = 0; ordinal = 0 }
+    named_back (Some n) = n
+
+    go : (o : Option ℕ) → ordinal_in ordinals i ≡ o → option_map {U = named.Named} (λ ordinal. record { token = i; ordinal = ordinal }) o ≡ Some (record { token = token; ordinal = ordinal }) → ordinal_in ordinals token ≡ Some ordinal
+    go None q e = absurd (cc)
+    go (Some k) q e =
+        let same : Some (let n : named.Named = record { token = i; ordinal = k } in n) ≡ Some (record { token = token; ordinal = ordinal }) = e in
+        ap (ordinal_in ordinals) (sym (ap (λ o. (elim o as (λ _. named.Named) [ Some n ↦ n | None ↦ record { token = 0; ordinal = 0 } ]).token) same))
+        ∙ (q ∙ ap (λ o. Some ((elim o as (λ _. named.Named) [ Some n ↦ n | None ↦ record { token = 0; ordinal = 0 } ]).ordinal)) same)
+
+pub use_is : (r : Resolution) → IsResolution r → (offset : ℕ) (u : Use) → IsUseAt r.module_read offset u → IsUse r.module_read u
+use_is r is offset u h =
+    let m = r.module_read in
+    let ordinal : ordinal_in r.ordinals u.token ≡ Some u.constant =
+    some_named u.token u.constant (position_from (is_name_on offset) 0 m.source.tokens) r.ordinals (name_found r offset is ∙ h.named) in
+    let there : slice_get r.uses u.occurrence ≡ Some u.token = ap (λ us. slice_get us u.occurrence) is.occurring ∙ h.occurs in
+    record {
+      occurs = h.occurs;
+      bound = sym (bound_at r is u.occurrence (Some u.token) (sym there)) ∙ ordinal;
+      worth = h.worth;
+    }
+
+module _ (r : Resolution) (well : IsWellTyped r) (u : Use) (use_so : IsUse r.module_read u) where
+  there : slice_get r.uses u.occurrence ≡ Some u.token
+  there = ap (λ us. slice_get us u.occurrence) well.resolved.occurring ∙ use_so.occurs
+
+  pub are_names : AreNames r.module_read.source.tokens 0 (u.token ∷ [])
+  unfolding there
+  are_names =
+      let one = one_identifier r.module_read.source.tokens r.uses u.occurrence u.token (uses_are_identifiers r well.resolved) there in
+      (omega arith, one.0, one.1 _, tt)
+
+  are_bound : AreBound r u.constant (u.token ∷ [])
+  unfolding there
+  are_bound = (((u.occurrence, there), bound_at r well.resolved u.occurrence (Some u.token) (sym there) ∙ use_so.bound), tt)
+
+  written : IsScalar (scalar_value u.value) → IsConstantWritten (named_tree_of r.module_read) u.constant (scalar_value u.value) (value_factor u.value)
+  written fits_so = record { value = use_so.worth; scalar = fits_so; literal = literal_of u.value }
+    where
+      literal_of : (value : Scalar) → written_value (scalar_value value) ≡ Some (value_factor value)
+      literal_of (scalar.Number (pos n)) = refl
+      literal_of (scalar.Number (negsuc n)) = refl
+      literal_of (scalar.Truth true) = refl
+      literal_of (scalar.Truth false) = refl
+
+  pub stands : ConstantsStandAlone → IsScalar (scalar_value u.value) → StandAlone r.module_read (u.token ∷ []) u.value
+  stands law fits_so =
+      stand_alone r well.resolved u.constant (value_factor u.value) (u.token ∷ []) are_bound
+      (law (named_tree_of r.module_read) u.constant (scalar_value u.value) (value_factor u.value) (written fits_so) well.well_typed)
+
+  or_false : (b : Bool) → (b || false) ≡ b
+  or_false true = refl
+  or_false false = refl
+
+  pub inlined_is : inlined_at r.module_read (u.token ∷ []) u.value ≡ inlined_here r.module_read u
+  inlined_is =
+      inlined_by_number r (u.token ∷ []) (only u.occurrence) (value_factor u.value) well.resolved
+      (λ j i e. or_false (i == u.token) ∙ one_place 0 (length r.module_read.source.tokens) r.uses j u.occurrence i u.token (uses_ascend r well.resolved) e there)
+
+  shown_so : is_shown (named_tree_of r.module_read) u.occurrence u.value ≡ true → IsShown (named_tree_of r.module_read) u.occurrence (scalar_value u.value)
+  shown_so e = of_value u.value e
+    where
+      same_true : (o : Option ℕ) (d : ℕ) → same_ordinal o d ≡ true → o ≡ Some d
+      same_true None d e = absurd (true≢false (sym e))
+      same_true (Some j) d e = ap Some (eqb-true j d e)
+
+      of_value : (value : Scalar) → is_shown (named_tree_of r.module_read) u.occurrence value ≡ true → IsShown (named_tree_of r.module_read) u.occurrence (scalar_value value)
+      of_value (scalar.Number n) e = tt
+      of_value (scalar.Truth true) e = same_true _ 2 e
+      of_value (scalar.Truth false) e = same_true _ 3 e
+
+  uses_so : is_shown (named_tree_of r.module_read) u.occurrence u.value ≡ true → AreUsesOf (named_tree_of r.module_read) u.constant (scalar_value u.value) (only u.occurrence)
+  uses_so e =
+      let m = named_tree_of r.module_read in
+      record {
+        bound = λ k h. ap (binds m) (eqb-true k u.occurrence h) ∙ use_so.bound;
+        seen = λ k h. subst (λ n. IsShown m n (scalar_value u.value)) (sym (eqb-true k u.occurrence h)) (shown_so e);
+      }
+
+  -- the edits that leave the inlined module
+  pub inlines : InliningKeepsModules → IsScalar (scalar_value u.value) → (unit : counting.Unit) (text : List ℕ) (edits : List Edit)
+      → map parts edits ≡ edit_at unit text r.module_read.source.tokens (value_text u.value) u.token ∷ []
+      → LeavesModule unit text edits (inlined_at r.module_read (u.token ∷ []) u.value)
+      → is_shown (named_tree_of r.module_read) u.occurrence u.value ≡ true → InlinesHere unit text r.module_read u edits
+  inlines law fits_so unit text edits made leaves shown =
+      let kept = law (named_tree_of r.module_read) u.constant (scalar_value u.value) (value_factor u.value) (only u.occurrence) (written fits_so) (uses_so shown) well.well_typed in
+      record { here = made; leaves = subst (LeavesModule unit text edits) inlined_is leaves; well_typed = kept.0; same_runs = kept.1 }
+
+-- the first refusal
+
+module _ (m : Parsed) (u : Use) where
+  pub too_long_here : max_text < length (with_text_at m.source (u.token ∷ []) (value_text u.value)) → refusal_here m u ≡ Some TooLong
+  too_long_here h =
+      ap (λ a. if a then Some TooLong else if nat_lt 100 (nesting (inlined_here m u)) then Some TooDeep else if is_shown (named_tree_of m) u.occurrence u.value then None else Some Shadowed)
+      (lt-ltb max_text (length (with_text_at m.source (u.token ∷ []) (value_text u.value))) h)
+
+  short_here : length (with_text_at m.source (u.token ∷ []) (value_text u.value)) ≤ max_text
+      → refusal_here m u ≡ (if nat_lt 100 (nesting (inlined_here m u)) then Some TooDeep else if is_shown (named_tree_of m) u.occurrence u.value then None else Some Shadowed)
+  short_here h =
+      ap (λ a. if a then Some TooLong else if nat_lt 100 (nesting (inlined_here m u)) then Some TooDeep else if is_shown (named_tree_of m) u.occurrence u.value then None else Some Shadowed)
+      (le-ltb max_text (length (with_text_at m.source (u.token ∷ []) (value_text u.value))) h)
+
+  pub too_deep_here : length (with_text_at m.source (u.token ∷ []) (value_text u.value)) ≤ max_text → 100 < nesting (inlined_here m u) → refusal_here m u ≡ Some TooDeep
+  too_deep_here h d =
+      short_here h ∙ ap (λ a. if a then Some TooDeep else if is_shown (named_tree_of m) u.occurrence u.value then None else Some Shadowed) (lt-ltb 100 (nesting (inlined_here m u)) d)
+
+  pub shown_here : length (with_text_at m.source (u.token ∷ []) (value_text u.value)) ≤ max_text → nesting (inlined_here m u) ≤ 100 → (shown : Bool)
+      → is_shown (named_tree_of m) u.occurrence u.value ≡ shown → refusal_here m u ≡ (if shown then None else Some Shadowed)
+  shown_here h d shown e =
+      short_here h
+      ∙ (ap (λ a. if a then Some TooDeep else if is_shown (named_tree_of m) u.occurrence u.value then None else Some Shadowed) (le-ltb 100 (nesting (inlined_here m u)) d)
+      ∙ ap (λ a. if a then None else Some Shadowed) e)
+
+-- what is known of the edits of a use, or of their refusal, by any reading of the module
+pub record Made (r : Resolution) (u : Use) (unit : counting.Unit) (text : List ℕ) (edits : List Edit) : Type 0 where
+  pub edits_are : map parts edits ≡ edit_at unit text r.module_read.source.tokens (value_text u.value) u.token ∷ []
+  pub leaves : StandAlone r.module_read (u.token ∷ []) u.value → LeavesModule unit text edits (inlined_at r.module_read (u.token ∷ []) u.value)
+  pub short : length (with_text_at r.module_read.source (u.token ∷ []) (value_text u.value)) ≤ max_text
+
+pub record Refused (r : Resolution) (u : Use) (refusal : EditRefusal) : Type 0 where
+  pub too_long : refusal ≡ TooLong → max_text < length (with_text_at r.module_read.source (u.token ∷ []) (value_text u.value))
+  pub too_deep : StandAlone r.module_read (u.token ∷ []) u.value → refusal ≡ TooDeep → 100 < nesting (inlined_at r.module_read (u.token ∷ []) u.value)
+  pub deep_and_short : refusal ≡ TooDeep → length (with_text_at r.module_read.source (u.token ∷ []) (value_text u.value)) ≤ max_text
+  pub one_of : (refusal ≡ TooLong) ⊎ ((refusal ≡ TooDeep) ⊎ (refusal ≡ Memory))
+
+module _ (r : Resolution) (well : IsWellTyped r) (u : Use) (use_so : IsUse r.module_read u) (law : ConstantsStandAlone) (scalar_so : IsScalar (scalar_value u.value)) where
+  pub low_here : (unit : counting.Unit) (text : List ℕ) (edits : List Edit) → Made r u unit text edits → nesting (inlined_here r.module_read u) ≤ 100
+  low_here unit text edits h =
+      subst (λ (t : Tree Name module_text). nesting t ≤ 100) (inlined_is r well u use_so) (h.leaves (stands r well u use_so law scalar_so)).module_of.shallow
+
+  pub answer_ok : InliningKeepsModules → (unit : counting.Unit) (text : List ℕ) (edits : List Edit) → Made r u unit text edits → is_shown (named_tree_of r.module_read) u.occurrence u.value ≡ true
+      → (refusal_here r.module_read u ≡ None) × InlinesHere unit text r.module_read u edits
+  answer_ok keeps unit text edits h shown = (
+    shown_here r.module_read u h.short (low_here unit text edits h) true shown,
+    inlines r well u use_so keeps scalar_so unit text edits h.edits_are (h.leaves (stands r well u use_so law scalar_so)) shown,
+  )
+
+  pub answer_shadowed : (unit : counting.Unit) (text : List ℕ) (edits : List Edit) → Made r u unit text edits → is_shown (named_tree_of r.module_read) u.occurrence u.value ≡ false
+      → refusal_here r.module_read u ≡ Some Shadowed
+  answer_shadowed unit text edits h shown = shown_here r.module_read u h.short (low_here unit text edits h) false shown
+
+  pub answer_refused : (refusal : EditRefusal) → Refused r u refusal → (refusal_here r.module_read u ≡ Some refusal) ⊎ (refusal ≡ Memory)
+  answer_refused refusal h =
+      elim h.one_of [
+        | inl e ↦ inl (too_long_here r.module_read u (h.too_long e) ∙ ap Some (sym e))
+        | inr other ↦
+            elim other [
+              | inl e ↦
+                  let deep = subst (λ (t : Tree Name module_text). 100 < nesting t) (inlined_is r well u use_so) (h.too_deep (stands r well u use_so law scalar_so) e) in
+                  inl (too_deep_here r.module_read u (h.deep_and_short e) deep ∙ ap Some (sym e))
+              | inr e ↦ inr e
+            ]
+      ]
+
+-- the occurrence at a token
+pub found_there : (token j k : ℕ) (is : List ℕ) → position_from (λ i. i == token) j is ≡ Some k → (n : ℕ) × (k ≡ j + n) × (slice_get is n ≡ Some token)
+found_there token j k [] e = absurd (cc)
+found_there token j k (i ∷ is) e = by_test (i == token) refl e (found_there token (j + 1) k is)
+  where
+    by_test : (b : Bool) → (i == token) ≡ b → cond b (Some j) (position_from (λ i. i == token) (j + 1) is) ≡ Some k
+        → (position_from (λ i. i == token) (j + 1) is ≡ Some k → (n : ℕ) × (k ≡ j + 1 + n) × (slice_get is n ≡ Some token)) → (n : ℕ) × (k ≡ j + n) × (slice_get (i ∷ is) n ≡ Some token)
+    by_test true q e later = let same : j ≡ k = inside e in (0, omega (arith, same), ap Some (eqb-true i token q))
+    by_test false q e later = let h = later e in (suc h.0, omega (arith, h.1), h.2)
+
+pub not_there : (token j n : ℕ) (is : List ℕ) → position_from (λ i. i == token) j is ≡ None → slice_get is n ≡ Some token → ⊥
+not_there token j n [] e f = cc
+not_there token j n (i ∷ is) e f = by_test (i == token) refl e n f (λ m. not_there token (j + 1) m is)
+  where
+    by_test : (b : Bool) → (i == token) ≡ b → cond b (Some j) (position_from (λ i. i == token) (j + 1) is) ≡ None → (n : ℕ) → slice_get (i ∷ is) n ≡ Some token
+        → ((m : ℕ) → position_from (λ i. i == token) (j + 1) is ≡ None → slice_get is m ≡ Some token → ⊥) → ⊥
+    by_test true q e n f later = cc
+    by_test false q e zero f later = true≢false (sym (eq-eqb i token (inside f)) ∙ q)
+    by_test false q e (suc n) f later = later n e f
+
+-- the use at a name that a place is on
+
+named_token : (found : named.Named) (token ordinal : ℕ) → Some found ≡ Some (record { token = token; ordinal = ordinal }) → found.token ≡ token
+named_token found token ordinal e = ap (λ (o : Option named.Named). (elim o as (λ _. named.Named) [ Some n ↦ n | None ↦ found ]).token) e
+
+pub use_found : (r : Resolution) → IsWellTyped r → (offset : ℕ) (found : named.Named) (k : ℕ) (value : Scalar) → Some found ≡ name_on r.module_read offset
+    → position_from (λ i. i == found.token) 0 r.uses ≡ Some k → option_map scalar_value (Some value) ≡ value_of_constant (named_tree_of r.module_read) found.ordinal
+    → IsUseAt r.module_read offset (record { token = found.token; occurrence = k; constant = found.ordinal; value = value })
+use_found r well offset found k value e at worth =
+    let h = found_there found.token 0 k r.uses at in
+    let same : k ≡ h.0 = omega (arith, h.1) in
+    record {
+      named = sym e;
+      occurs = ap (λ us. slice_get us k) (sym well.resolved.occurring) ∙ (ap (slice_get r.uses) same ∙ h.2);
+      worth = sym worth;
+    }
+
+pub use_is_one : (r : Resolution) → IsWellTyped r → (offset : ℕ) (made u : Use) → IsUseAt r.module_read offset made → Some made ≡ Some u → IsUse r.module_read u
+use_is_one r well offset made u h e =
+    subst (IsUse r.module_read) (ap (λ (o : Option Use). elim o as (λ _. Use) [ Some n ↦ n | None ↦ made ]) e) (use_is r well.resolved offset made h)
+
+pub no_use : (r : Resolution) → IsWellTyped r → (offset : ℕ) (found : named.Named) → Some found ≡ name_on r.module_read offset
+    → position_from (λ i. i == found.token) 0 r.uses ≡ None → (u : Use) → IsUseAt r.module_read offset u → ⊥
+no_use r well offset found e none u h =
+    not_there found.token 0 u.occurrence r.uses none
+    (ap (λ us. slice_get us u.occurrence) well.resolved.occurring ∙ (h.occurs ∙ ap Some (sym (named_token found u.token u.constant (e ∙ h.named)))))

@@ -1,0 +1,130 @@
+-- Each use of a constant stands behind its declaration.
+use Rattle.std.proofs.Common.{◌≡◌, ℕ, zero, suc, ◌+◌, ◌<◌, ◌≤◌, ◌==◌, ◌||◌, Bool, true, false, Option, Some, None, List, [], ◌∷◌, ◌++◌, map, length, refl, sym, ap, ◌∙◌, subst, arith, append_assoc, length-append, eqb-true, slice_get, true≢false}
+use Rattle.ob0_scan.specs.declared.lexeme.Symbol.TheVariants as symbol
+use Rattle.ob0_scan.specs.declared.lexeme.TokenKind.{TokenKind}
+use Rattle.ob0_scan.specs.declared.lexeme.TokenKind.TheVariants as kind
+use Rattle.ob0_scan.specs.Scanned.{Word}
+use Rattle.ob0_tree.specs.Lexeme.{Lexeme, Mark}
+use Rattle.ob0_tree.specs.Lexeme as lexeme
+use Rattle.ob0_tree.specs.Parsed.{Parsed, named_tree_of, tree_of}
+use Rattle.ob0_tree.specs.Places as leaf
+use Rattle.ob0_tree.specs.Places.{lexeme_of}
+use Rattle.ob0_tree.specs.Tree.{Sort, Tree, factor, integer, mapped, occurrences, spell}
+use Rattle.ob0_tree.proofs.Leaves.{lexeme_names}
+use Rattle.ob0_edits.specs.Changed.{is_among, words_of}
+use Rattle.ob0_edits.specs.Inlined.{inlined}
+use Rattle.ob0_edits.specs.OfTrees.{placed}
+use Rattle.ob0_scope.specs.Names.{Name, as_names}
+use Rattle.ob0_scope.specs.Parts.{module_block}
+use Rattle.ob0_scope.specs.Resolution.{IsResolution, Resolution, bound_at, ordinal_in, with_ordinal}
+use Rattle.ob0_scope.specs.Scopes.{relabelled}
+use Rattle.ob0_scope.proofs.EditedTrees.{UsesNone, inline-nothing}
+use Rattle.ob0_scope.proofs.Fused.{mapped-mapped, relabelled-mapped}
+use Rattle.ob0_scope.proofs.OccurrenceNames.{length-map}
+use Rattle.ob0_scope.proofs.OccurrencesMapped.{occurrences-mapped}
+use Rattle.ob0_types.specs.ConstantValues.{value_of_constant}
+use Rattle.ob0_values.specs.Values.{Value}
+use Rattle.ob0_inline.proofs.Earlier.{AllLow, IsLow, forget}
+use Rattle.ob0_inline.proofs.Late.{AllIn, Late, late_module, late_move}
+use Rattle.ob0_inline.proofs.OnOccurrences.{agrees_each, same}
+use Rattle.ob0_inline.proofs.TakenOut.{Taken, block_declares, gone_module}
+use Rattle.ob0_inline.proofs.WordsLeft.{cut_words, last_token}
+
+-- with no factor the tree is that under its names
+none_used : (k : ℕ) (xs : List Name) → UsesNone (λ j. false) k xs
+none_used k [] = tt
+none_used k (x ∷ xs) = (refl, none_used (suc k) xs)
+
+pub plain_is : {s : Sort} (f : ℕ → Name) (g : ℕ → ℕ) (t : Tree ℕ s) → inlined (λ i. None) f g t ≡ mapped f g t
+plain_is f g t =
+    same (λ i. None) (λ j. false) (integer 0) f g 0 t (agrees_each (λ i. None) (λ j. false) (integer 0) 0 (occurrences t) (λ j i e. refl))
+    ∙ inline-nothing (λ j. false) (integer 0) 0 (mapped f g t) (none_used 0 (occurrences (mapped f g t)))
+
+as_many : (f : ℕ → Name) (g : ℕ → ℕ) (s : Sort) (t : Tree ℕ s) → length (occurrences (inlined (λ i. None) f g t)) ≡ length (occurrences t)
+as_many f g s t = ap (λ u. length (occurrences u)) (plain_is f g t) ∙ (ap length (occurrences-mapped f g t) ∙ length-map f (occurrences t))
+
+-- what the occurrences are bound to, by the table
+bound_by_table : (r : Resolution) → IsResolution r → occurrences (relabelled as_names forget (named_tree_of r.module_read)) ≡ map (ordinal_in r.ordinals) (occurrences (tree_of r.module_read))
+bound_by_table r is =
+    let m = r.module_read in
+    let first : Option ℕ × Name → Option ℕ = λ p. p.0 in
+    ap occurrences (relabelled-mapped as_names first with_ordinal (named_tree_of m) ∙ (ap (mapped first (λ n. n)) is.binding ∙ mapped-mapped first (bound_at m.source r.ordinals) (leaf.value_at m.source) (tree_of m)))
+    ∙ occurrences-mapped (ordinal_in r.ordinals) (leaf.value_at m.source) (tree_of m)
+
+-- the declaration taken out of a module's tokens, where a constant has a value
+pub late_of : (r : Resolution) → IsResolution r → (d : ℕ) (w : Value) → value_of_constant (named_tree_of r.module_read) d ≡ Some w → spell (tree_of r.module_read) ≡ placed 0 (words_of r.module_read.source)
+    → Late d 7 (block_declares (module_block (tree_of r.module_read))) (placed 0 (words_of r.module_read.source)) (spell (gone_module d (tree_of r.module_read))) (occurrences (tree_of r.module_read))
+    (map (ordinal_in r.ordinals) (occurrences (tree_of r.module_read)))
+late_of r is d w worth spelled =
+    let m = r.module_read in
+    let f = leaf.text_at m.source in
+    let g = leaf.value_at m.source in
+    let t = tree_of m in
+    let labels = block_declares (module_block t) in
+    let plain = plain_is f g t in
+    let h = late_module (λ i. None) f g d w (as_many f g) t (ap (λ u. value_of_constant u d) plain ∙ worth) in
+    let named = subst (λ (l : List (Option ℕ)). Late d 7 labels (spell t) (spell (gone_module d t)) (occurrences t) l) (ap (λ u. occurrences (relabelled as_names forget u)) plain ∙ bound_by_table r is) h in
+    late_move d 7 labels (spell t) (placed 0 (words_of m.source)) (spell (gone_module d t)) (spell (gone_module d t)) (occurrences t) (map (ordinal_in r.ordinals) (occurrences t)) (sym spelled) refl named
+
+-- the names of words from a number on have no lesser numbers
+names_above : (i k : ℕ) (ws : List Word) → is_among i (lexeme_names (placed k ws)) ≡ true → k ≤ i
+names_above i k [] e = absurd (true≢false (sym e))
+names_above i k (w ∷ ws) e = by_kind w.kind e (names_above i (suc k) ws)
+  where
+    by_test : (b : Bool) → (i == k) ≡ b → (b || is_among i (lexeme_names (placed (suc k) ws))) ≡ true → (is_among i (lexeme_names (placed (suc k) ws)) ≡ true → suc k ≤ i) → k ≤ i
+    by_test true q e later = let here = eqb-true i k q in omega (arith, here)
+    by_test false q e later = let more = later e in omega (arith, more)
+
+    by_kind : (x : TokenKind) → is_among i (lexeme_names (lexeme_of k x ∷ placed (suc k) ws)) ≡ true → (is_among i (lexeme_names (placed (suc k) ws)) ≡ true → suc k ≤ i) → k ≤ i
+    by_kind kind.Identifier e later = by_test (i == k) refl e later
+    by_kind (kind.Reserved r) e later = let more = later e in omega (arith, more)
+    by_kind (kind.Integer n) e later = let more = later e in omega (arith, more)
+    by_kind (kind.Symbol s) e later = let more = later e in omega (arith, more)
+
+-- of two lists joined, of which the first ones are as long
+first_same : (a b c d : List (Option ℕ)) → a ++ b ≡ c ++ d → length a ≡ length c → a ≡ c
+first_same [] b [] d e n = refl
+first_same [] b (z ∷ c) d e n = absurd (omega (arith, n))
+first_same (x ∷ a) b [] d e n = absurd (omega (arith, n))
+first_same (x ∷ a) b (z ∷ c) d e n =
+    let head : x ≡ z = ap (λ (l : List (Option ℕ)). elim l [ [] ↦ x | y ∷ ys ↦ y ]) e in
+    let tail : a ++ b ≡ c ++ d = ap (λ (l : List (Option ℕ)). elim l [ [] ↦ a ++ b | y ∷ ys ↦ ys ]) e in
+    λ i. head i ∷ first_same a b c d tail (omega (arith, n)) i
+
+map_joined : (ordinals : List (Option ℕ)) (xs ys : List ℕ) → map (ordinal_in ordinals) (xs ++ ys) ≡ map (ordinal_in ordinals) xs ++ map (ordinal_in ordinals) ys
+map_joined ordinals [] ys = refl
+map_joined ordinals (x ∷ xs) ys = λ i. ordinal_in ordinals x ∷ map_joined ordinals xs ys i
+
+-- one bound to d isn't among those that are bound to what was declared before it
+not_in_front : (ordinals : List (Option ℕ)) (d j i : ℕ) (front behind names : List ℕ) → AllLow d (map (ordinal_in ordinals) front) → AllIn behind names → slice_get (front ++ behind) j ≡ Some i → ordinal_in ordinals i ≡ Some d → is_among i names ≡ true
+not_in_front ordinals d j i [] [] names low among e o = absurd (cc)
+not_in_front ordinals d zero i [] (x ∷ behind) names low among e o = ap (λ n. is_among n names) (sym (ap (λ (z : Option ℕ). elim z [ Some n ↦ n | None ↦ x ]) e)) ∙ among.0
+not_in_front ordinals d (suc j) i [] (x ∷ behind) names low among e o = not_in_front ordinals d j i [] behind names low among.1 e o
+not_in_front ordinals d zero i (x ∷ front) behind names low among e o =
+    let here : x ≡ i = ap (λ (z : Option ℕ). elim z [ Some n ↦ n | None ↦ x ]) e in
+    let less : d < d = subst (IsLow d) (ap (ordinal_in ordinals) here ∙ o) low.0 in
+    absurd (omega (arith, less))
+not_in_front ordinals d (suc j) i (x ∷ front) behind names low among e o = not_in_front ordinals d j i front behind names low.1 among e o
+
+-- behind the last token of a declaration
+names_after : (d k : ℕ) (labels : List ℕ) (left : List (Lexeme ℕ)) (ws : List Word) (t : Taken d k labels (placed 0 ws) left) (i : ℕ) → is_among i (lexeme_names t.after) ≡ true → last_token t < i
+names_after d k labels left ws t i e =
+    let front : List (Lexeme ℕ) = t.before ++ (Mark t.border ∷ []) in
+    let whole : List (Lexeme ℕ) = lexeme.Name t.name ∷ Mark (kind.Symbol symbol.Equal) ∷ (t.right ++ (Mark (kind.Symbol symbol.Semicolon) ∷ [])) in
+    let a = cut_words 0 ws (front ++ whole) t.after (t.whole_is ∙ sym (append_assoc front whole t.after)) in
+    let n : length (front ++ whole) ≡ suc (last_token t) = length-append front whole ∙ (let z = length-append t.right (Mark (kind.Symbol symbol.Semicolon) ∷ []) in omega (arith, z)) in
+    let there = names_above i (0 + length a.first) a.rest (subst (λ (l : List (Lexeme ℕ)). is_among i (lexeme_names l) ≡ true) (sym a.behind_is) e) in
+    let count = a.count in
+    omega (arith, there, count, n)
+
+-- each occurrence that is bound to the constant stands behind its declaration
+pub uses_behind : (r : Resolution) → (d : ℕ) (labels : List ℕ) (left : List (Lexeme ℕ))
+    → (h : Late d 7 labels (placed 0 (words_of r.module_read.source)) left (occurrences (tree_of r.module_read)) (map (ordinal_in r.ordinals) (occurrences (tree_of r.module_read))))
+    → (j i : ℕ) → slice_get (occurrences (tree_of r.module_read)) j ≡ Some i → ordinal_in r.ordinals i ≡ Some d → last_token h.taken < i
+uses_behind r d labels left h j i e o =
+    let joined : map (ordinal_in r.ordinals) h.front ++ map (ordinal_in r.ordinals) h.behind ≡ h.front_bound ++ h.behind_bound =
+    sym (map_joined r.ordinals h.front h.behind) ∙ (ap (map (ordinal_in r.ordinals)) (sym h.occ_is) ∙ h.bound_is) in
+    let firsts : map (ordinal_in r.ordinals) h.front ≡ h.front_bound =
+    first_same (map (ordinal_in r.ordinals) h.front) (map (ordinal_in r.ordinals) h.behind) h.front_bound h.behind_bound joined (length-map (ordinal_in r.ordinals) h.front ∙ sym h.count) in
+    names_after d 7 labels left (words_of r.module_read.source) h.taken i
+    (not_in_front r.ordinals d j i h.front h.behind (lexeme_names h.taken.after) (subst (AllLow d) (sym firsts) h.low) h.among (ap (λ l. slice_get l j) (sym h.occ_is) ∙ e) o)

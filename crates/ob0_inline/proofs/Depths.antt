@@ -1,0 +1,52 @@
+-- A text that has the tokens of a tree is a module exactly where the tree is nested no deeper than a module may be.
+use Rattle.std.proofs.Common.{◌≡◌, ℕ, ◌+◌, ◌≤◌, Bool, true, false, not, nat_le, nat_lt, encode_utf8_all, Option, Some, None, map, List, [], ◌∷◌, ◌++◌, take, drop, length, inl, inr, refl, sym, ap, ◌∙◌, subst, append-nil, arith}
+use Rattle.std.specs.Str.{IsUtf8, chars}
+use Rattle.std.proofs.lemmas.Bool.{leb-true, leb-false, le-ltb, lt-ltb}
+use Rattle.std.proofs.lemmas.List.{take-append-drop}
+use Rattle.std.proofs.lemmas.Simd.{map-map}
+use Rattle.std.proofs.lemmas.Str.{encodes-chars}
+use Rattle.ob0_edits.specs.Changed.{words_of}
+use Rattle.ob0_edits.specs.Words.{word_lexeme}
+use Rattle.ob0_tree.specs.Lexeme.{Lexeme, EndOfText}
+use Rattle.ob0_scan.specs.Scanned.{Scanned, read_in}
+use Rattle.ob0_tree.specs.Module.{text_lexemes}
+use Rattle.ob0_tree.specs.Parsed.{Parsed, IsParsed, named_tree_of}
+use Rattle.ob0_tree.specs.Tree.{Tree, module_text, nesting, spell}
+use Rattle.ob0_parse.specs.RefusedBy.{NoneBegins}
+use Rattle.ob0_parse.proofs.Unique.{same}
+
+-- a module with these tokens has this tree
+pub shallow_where_parsed : (s : Scanned) (t : Tree (List ℕ) module_text) → text_lexemes s ≡ spell t → (m : Parsed) → m.source ≡ s → IsParsed m → nesting t ≤ 100
+shallow_where_parsed s t spelled m source parsed =
+    let there : text_lexemes s ≡ spell (named_tree_of m) = ap text_lexemes (sym source) ∙ parsed.module_of.spelled in
+    let one : named_tree_of m ≡ t = (same (named_tree_of m) t [] [] tt tt (append-nil (spell (named_tree_of m)) ∙ (sym there ∙ (spelled ∙ sym (append-nil (spell t)))))).0 in
+    subst (λ (u : Tree (List ℕ) module_text). nesting u ≤ 100) one parsed.module_of.shallow
+
+-- and where none begins with its tokens up to one of them the tree is deeper
+pub deep_where_refused : (s : Scanned) (t : Tree (List ℕ) module_text) → text_lexemes s ≡ spell t → (i : ℕ) → NoneBegins s i → nesting t ≤ 100 → ⊥
+deep_where_refused s t spelled i none low =
+    let all : List (Lexeme (List ℕ)) = text_lexemes s ++ (EndOfText ∷ []) in
+    none t (drop (i + 1) all) low (ap (λ xs. xs ++ (EndOfText ∷ [])) (sym spelled) ∙ sym (take-append-drop (i + 1) all))
+
+pub shallow_is : (n : ℕ) → n ≤ 100 → true ≡ nat_le n 100
+shallow_is n low = elim (nat_le n 100) as (λ b. nat_le n 100 ≡ b → true ≡ b) [ true ↦ (λ e. refl) | false ↦ (λ e. absurd (omega (arith, leb-false n 100 e, low))) ] refl
+
+pub deep_is : (n : ℕ) → (n ≤ 100 → ⊥) → false ≡ nat_le n 100
+deep_is n high = elim (nat_le n 100) as (λ b. nat_le n 100 ≡ b → false ≡ b) [ true ↦ (λ e. absurd (high (leb-true n 100 e))) | false ↦ (λ e. refl) ] refl
+
+pub not_shallow_is : (n : ℕ) → not (nat_le n 100) ≡ nat_lt 100 n
+not_shallow_is n = elim (nat_le n 100) as (λ b. nat_le n 100 ≡ b → not b ≡ nat_lt 100 n) [
+  | true ↦ (λ e. sym (le-ltb 100 n (leb-true n 100 e)))
+  | false ↦ (λ e. sym (lt-ltb 100 n (omega (arith, leb-false n 100 e))))
+] refl
+
+-- the text that edits leave, where its characters are those of another one
+abbrev held : Option (List ℕ) → List ℕ
+held None = []
+held (Some xs) = xs
+
+pub same_bytes : (a b : List ℕ) (made : Option (List ℕ)) → IsUtf8 a → IsUtf8 b → made ≡ Some (chars a) → made ≡ Some (chars b) → a ≡ b
+same_bytes a b made u v e f = sym (encodes-chars a u) ∙ (ap encode_utf8_all (ap held (sym e ∙ f)) ∙ encodes-chars b v)
+
+pub lexemes_of_words : (s : Scanned) → text_lexemes s ≡ map word_lexeme (words_of s)
+lexemes_of_words s = sym (map-map word_lexeme (read_in s.text) s.tokens)

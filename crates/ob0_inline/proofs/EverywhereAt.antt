@@ -1,0 +1,135 @@
+-- The uses of a constant, and the words that are left where its value stands in the place of all of them and its declaration is gone.
+use Rattle.std.proofs.Common.{◌≡◌, ◌≢◌, ℕ, zero, suc, ◌+◌, ◌<◌, ◌≤◌, ◌==◌, ◌||◌, ◌&&◌, Bool, true, false, cond, Option, Some, None, List, [], ◌∷◌, ◌++◌, map, length, refl, sym, ap, ◌∙◌, subst, arith, slice_get, eqb-true, eq-eqb, true≢false}
+use Rattle.std.specs.List.{All, filter}
+use Rattle.ob0_scan.specs.declared.lexeme.Token.{Token}
+use Rattle.ob0_scan.specs.Scanned.{Word}
+use Rattle.ob0_tree.specs.Order.{AreIdentifiers, Ascending}
+use Rattle.ob0_tree.specs.Parsed.{named_tree_of, tree_of}
+use Rattle.ob0_tree.specs.Tree.{Tree, factor, occurrences, spell}
+use Rattle.ob0_edits.specs.Changed.{at_each, changed, is_among, words_of}
+use Rattle.ob0_edits.specs.OfTrees.{factor_at, number_at, placed, text_at}
+use Rattle.ob0_edits.specs.Removed.{without}
+use Rattle.ob0_edits.specs.Replaced.{AreNames}
+use Rattle.ob0_edits.specs.Words.{word_lexeme}
+use Rattle.ob0_scope.specs.Elsewhere.{names_elsewhere}
+use Rattle.ob0_scope.specs.Inlining.{all_bound_to, inlined_everywhere, module_without}
+use Rattle.ob0_scope.specs.Names.{Name, declared}
+use Rattle.ob0_scope.specs.Occurrences.{binds}
+use Rattle.ob0_scope.specs.Parts.{module_block}
+use Rattle.ob0_scope.specs.Resolution.{IsResolution, Resolution, ordinal_in}
+use Rattle.ob0_scope.specs.Scopes.{numbered, same_ordinal}
+use Rattle.ob0_scope.proofs.Bound.{bound_at}
+use Rattle.ob0_types.specs.ConstantValues.{value_of_constant}
+use Rattle.ob0_values.specs.Values.{Value}
+use Rattle.ob0_inline.proofs.Behind.{late_of, uses_behind}
+use Rattle.ob0_inline.proofs.Late.{Late}
+use Rattle.ob0_inline.proofs.TakenOut.{block_declares, gone_module, gone_module_inlined, replaces_module}
+use Rattle.ob0_inline.proofs.UsesStand.{AreBound, inlined_by_number, names_from, stand_alone, uses_are_identifiers, uses_ascend}
+use Rattle.ob0_inline.proofs.WordsLeft.{first_token, last_token, words_left}
+
+-- the tokens that are bound to d
+abbrev pub bound_tokens : List (Option ℕ) → ℕ → List ℕ → List ℕ
+bound_tokens ordinals d is = filter (λ i. same_ordinal (ordinal_in ordinals i) d) is
+
+same_true : (o : Option ℕ) (d : ℕ) → same_ordinal o d ≡ true → o ≡ Some d
+same_true None d e = absurd (true≢false (sym e))
+same_true (Some j) d e = ap Some (eqb-true j d e)
+
+lowered : (low higher high : ℕ) (xs : List ℕ) → low ≤ higher → Ascending higher xs high → Ascending low xs high
+lowered low higher high [] le a = omega (arith, le, a)
+lowered low higher high (x ∷ xs) le a = (omega (arith, le, a.0), a.1)
+
+bound_ascend : (ordinals : List (Option ℕ)) (d low high : ℕ) (is : List ℕ) → Ascending low is high → Ascending low (bound_tokens ordinals d is) high
+bound_ascend ordinals d low high [] a = a
+bound_ascend ordinals d low high (i ∷ is) a =
+    elim (same_ordinal (ordinal_in ordinals i) d) as (λ b. Ascending low (cond b (i ∷ bound_tokens ordinals d is) (bound_tokens ordinals d is)) high)
+    [ true ↦ (a.0, bound_ascend ordinals d (i + 1) high is a.1) | false ↦ lowered low (i + 1) high (bound_tokens ordinals d is) (omega (arith, a.0)) (bound_ascend ordinals d (i + 1) high is a.1) ]
+
+bound_stand : (ts : List Token) (ordinals : List (Option ℕ)) (d : ℕ) (is : List ℕ) → AreIdentifiers ts is → AreIdentifiers ts (bound_tokens ordinals d is)
+bound_stand ts ordinals d [] h = tt
+bound_stand ts ordinals d (i ∷ is) h =
+    elim (same_ordinal (ordinal_in ordinals i) d) as (λ b. AreIdentifiers ts (cond b (i ∷ bound_tokens ordinals d is) (bound_tokens ordinals d is)))
+    [ true ↦ (h.0, bound_stand ts ordinals d is h.1) | false ↦ bound_stand ts ordinals d is h.1 ]
+
+-- all behind a token
+from_there : (ordinals : List (Option ℕ)) (d low high last : ℕ) (is : List ℕ) → Ascending low (bound_tokens ordinals d is) high → last < high → ((j i : ℕ) → slice_get is j ≡ Some i → ordinal_in ordinals i ≡ Some d → last < i)
+    → Ascending (suc last) (bound_tokens ordinals d is) high
+from_there ordinals d low high last [] a inside h = omega (arith, inside)
+from_there ordinals d low high last (i ∷ is) a inside h =
+    (elim (same_ordinal (ordinal_in ordinals i) d) as (λ b. same_ordinal (ordinal_in ordinals i) d ≡ b → Ascending low (cond b (i ∷ bound_tokens ordinals d is) (bound_tokens ordinals d is)) high
+    → Ascending (suc last) (cond b (i ∷ bound_tokens ordinals d is) (bound_tokens ordinals d is)) high)
+    [ true ↦ (λ e a. let over = h 0 i refl (same_true (ordinal_in ordinals i) d e) in (omega (arith, over), a.1)) | false ↦ (λ e a. from_there ordinals d low high last is a inside (λ j x f. h (suc j) x f)) ]) refl a
+
+are_bound : (r : Resolution) (d : ℕ) (is : List ℕ) → ((j i : ℕ) → slice_get is j ≡ Some i → (k : ℕ) × (slice_get r.uses k ≡ Some i)) → AreBound r d (bound_tokens r.ordinals d is)
+are_bound r d [] h = tt
+are_bound r d (i ∷ is) h =
+    (elim (same_ordinal (ordinal_in r.ordinals i) d) as (λ b. same_ordinal (ordinal_in r.ordinals i) d ≡ b → AreBound r d (cond b (i ∷ bound_tokens r.ordinals d is) (bound_tokens r.ordinals d is))) [
+      | true ↦ (λ e. ((h 0 i refl, same_true (ordinal_in r.ordinals i) d e), are_bound r d is (λ j x f. h (suc j) x f)))
+      | false ↦ (λ e. are_bound r d is (λ j x f. h (suc j) x f))
+    ]) refl
+
+-- a token of the list is among those that are bound to d exactly where it is bound to d
+among_bound : (ordinals : List (Option ℕ)) (d i : ℕ) (is : List ℕ) → is_among i (bound_tokens ordinals d is) ≡ (same_ordinal (ordinal_in ordinals i) d && is_among i is)
+among_bound ordinals d i [] = none (same_ordinal (ordinal_in ordinals i) d)
+  where
+    none : (b : Bool) → false ≡ (b && false)
+    none true = refl
+    none false = refl
+among_bound ordinals d i (x ∷ is) = one (same_ordinal (ordinal_in ordinals x) d) refl (i == x) refl (among_bound ordinals d i is)
+  where
+    one : (b : Bool) → same_ordinal (ordinal_in ordinals x) d ≡ b → (c : Bool) → (i == x) ≡ c → is_among i (bound_tokens ordinals d is) ≡ (same_ordinal (ordinal_in ordinals i) d && is_among i is)
+        → is_among i (cond b (x ∷ bound_tokens ordinals d is) (bound_tokens ordinals d is)) ≡ (same_ordinal (ordinal_in ordinals i) d && (c || is_among i is))
+    one true p true q e =
+        let here : same_ordinal (ordinal_in ordinals i) d ≡ true = ap (λ k. same_ordinal (ordinal_in ordinals k) d) (eqb-true i x q) ∙ p in
+        ap (λ b. b || is_among i (bound_tokens ordinals d is)) q ∙ sym (ap (λ b. b && true) here)
+    one true p false q e = ap (λ b. b || is_among i (bound_tokens ordinals d is)) q ∙ e
+    one false p true q e =
+        let here : same_ordinal (ordinal_in ordinals i) d ≡ false = ap (λ k. same_ordinal (ordinal_in ordinals k) d) (eqb-true i x q) ∙ p in
+        e ∙ ((λ j. here j && is_among i is) ∙ sym (ap (λ b. b && true) here))
+    one false p false q e = e
+
+in_list : (is : List ℕ) (j i : ℕ) → slice_get is j ≡ Some i → is_among i is ≡ true
+in_list [] j i e = absurd (cc)
+in_list (x ∷ is) zero i e = ap (λ b. b || is_among i is) (eq-eqb i x (sym (ap (λ (z : Option ℕ). elim z [ Some n ↦ n | None ↦ x ]) e)))
+in_list (x ∷ is) (suc j) i e = ap (λ b. (i == x) || b) (in_list is j i e) ∙ either (i == x)
+  where
+    either : (b : Bool) → (b || true) ≡ true
+    either true = refl
+    either false = refl
+
+module _ (r : Resolution) (is : IsResolution r) (d : ℕ) (w : Value) (worth : value_of_constant (named_tree_of r.module_read) d ≡ Some w) (spelled : spell (tree_of r.module_read) ≡ placed 0 (words_of r.module_read.source)) where
+  -- the declaration of the constant
+  abbrev pub late_here : Late d 7 (block_declares (module_block (tree_of r.module_read))) (placed 0 (words_of r.module_read.source)) (spell (gone_module d (tree_of r.module_read))) (occurrences (tree_of r.module_read))
+      (map (ordinal_in r.ordinals) (occurrences (tree_of r.module_read)))
+  late_here = late_of r is d w worth spelled
+
+  -- its uses are names behind it, in text order
+  pub uses_are_names : last_token late_here.taken < length r.module_read.source.tokens → AreNames r.module_read.source.tokens (suc (last_token late_here.taken)) (bound_tokens r.ordinals d r.uses)
+  uses_are_names inside =
+      let ts = r.module_read.source.tokens in
+      names_from ts (suc (last_token late_here.taken)) (length ts) (bound_tokens r.ordinals d r.uses)
+      (from_there r.ordinals d 0 (length ts) (last_token late_here.taken) r.uses (bound_ascend r.ordinals d 0 (length ts) r.uses (uses_ascend r is)) inside
+      (λ j i e o. uses_behind r d (block_declares (module_block (tree_of r.module_read))) (spell (gone_module d (tree_of r.module_read))) late_here j i (ap (λ us. slice_get us j) (sym is.occurring) ∙ e) o))
+      (bound_stand ts r.ordinals d r.uses (uses_are_identifiers r is))
+
+  -- the words that are left spell the module with the factor in the place of all uses, without the declaration
+  pub words_everywhere : (v : Tree Name factor) (vs : List Word) → map word_lexeme vs ≡ spell v → All (λ l. l ≢ declared d) (names_elsewhere (numbered (named_tree_of r.module_read)))
+      → AreNames r.module_read.source.tokens (suc (last_token late_here.taken)) (bound_tokens r.ordinals d r.uses)
+      → map word_lexeme (changed (without (first_token late_here.taken) (last_token late_here.taken) (at_each (bound_tokens r.ordinals d r.uses) vs)) 0 (words_of r.module_read.source))
+      ≡ spell (inlined_everywhere (named_tree_of r.module_read) d v)
+  words_everywhere v vs same alone are_names =
+      let m = r.module_read in
+      let places = bound_tokens r.ordinals d r.uses in
+      let c = factor_at places v in
+      let bound = are_bound r d r.uses (λ j i e. (j, e)) in
+      let factors = replaces_module c d (tree_of m) (stand_alone r is d v places bound alone) in
+      let agree : (j i : ℕ) → slice_get r.uses j ≡ Some i → is_among i places ≡ all_bound_to (named_tree_of m) d j =
+      λ j i e. among_bound r.ordinals d i r.uses
+      ∙ (ap (λ b. same_ordinal (ordinal_in r.ordinals i) d && b) (in_list r.uses j i e)
+      ∙ (and_true (same_ordinal (ordinal_in r.ordinals i) d) ∙ ap (λ o. same_ordinal o d) (bound_at r is j (Some i) (sym e)))) in
+      words_left m.source (suc (last_token late_here.taken)) places are_names v vs same d 7 (block_declares (module_block (tree_of m))) (gone_module d (tree_of m)) late_here.taken factors
+      ∙ ap spell (gone_module_inlined c (text_at (words_of m.source)) (number_at (words_of m.source)) d (tree_of m) ∙ ap (module_without d) (inlined_by_number r places (all_bound_to (named_tree_of m) d) v is agree))
+    where
+      and_true : (b : Bool) → (b && true) ≡ b
+      and_true true = refl
+      and_true false = refl

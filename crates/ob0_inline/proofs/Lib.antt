@@ -1,0 +1,12 @@
+pub mod Depths
+pub mod ModuleTexts
+pub mod OnOccurrences
+pub mod Alone
+pub mod UsesStand
+pub mod AtUses
+pub mod TakenOut
+pub mod WordsLeft
+pub mod Earlier
+pub mod Late
+pub mod Behind
+pub mod EverywhereAt

@@ -1,0 +1,749 @@
+-- The declaration of a constant taken out of a tree: what is left, over any names, and which tokens are gone.
+use Rattle.std.proofs.Common.{zero, slice_get, length-append, ◌≡◌, ◌≢◌, ◌⊎◌, inl, inr, ℕ, suc, ◌+◌, ◌<◌, ◌≤◌, ◌==◌, Bool, true, false, if◌then◌else◌, nat_lt, Option, Some, None, List, [], ◌∷◌, ◌++◌, length, refl, sym, ap, ◌∙◌, subst, arith, append_assoc, append-nil, eqb-true, ne_eqb, option_and_then}
+use Rattle.std.proofs.lemmas.Bool.{ltb-true, ltb-false}
+use Rattle.ob0_scan.specs.declared.lexeme.Reserved.TheVariants as reserved
+use Rattle.ob0_scan.specs.declared.lexeme.Symbol.TheVariants as symbol
+use Rattle.ob0_scan.specs.declared.lexeme.TokenKind.{TokenKind}
+use Rattle.ob0_scan.specs.declared.lexeme.TokenKind.TheVariants as kind
+use Rattle.ob0_tree.specs.declared.tree.AddOperator.{AddOperator}
+use Rattle.ob0_tree.specs.declared.tree.AddOperator.TheVariants as add_operator
+use Rattle.ob0_tree.specs.declared.tree.MultiplyOperator.{MultiplyOperator}
+use Rattle.ob0_tree.specs.declared.tree.MultiplyOperator.TheVariants as multiply_operator
+use Rattle.ob0_tree.specs.declared.tree.Relation.{Relation}
+use Rattle.ob0_tree.specs.declared.tree.Relation.TheVariants as relation
+use Rattle.ob0_tree.specs.declared.tree.Sign.{Sign}
+use Rattle.ob0_tree.specs.declared.tree.Sign.TheVariants as sign
+use Rattle.ob0_tree.specs.Lexeme.{Lexeme, Mark, add_mark, multiply_mark, relation_mark, sign_marks}
+use Rattle.ob0_tree.specs.Lexeme as lexeme
+use Rattle.ob0_tree.specs.Tree.{Sort, Tree, identifiers, addend, adds, compares, designator, expression, factor, field, index, integer, multiplier, multiplies, negation, parenthesised, product, relates, selector, simple, sum, term, block, constant, constants, declares, declares_constant, declares_constants, declares_procedure, declares_type, declares_types, declares_variable, declares_variables, end, formals, further_name, further_section, has_body, is_module, item, items, listed, maybe, module_text, more, names, no_formals, none, one, procedure, section, some_formals, spell, then_name, then_section, type_name, type_names, value_section, variable, variable_section, variables, body}
+use Rattle.ob0_edits.specs.Inlined.{ReplacesFactors, inlined}
+use Rattle.ob0_scope.specs.Inlining.{block_without, module_without, procedure_without, procedures_without, section_without, without}
+use Rattle.ob0_scope.specs.Names.{Name, as_names}
+use Rattle.ob0_scope.specs.Parts.{constant_names, formal_names, formal_sections, further_names, named_types, names_listed, section_constants, section_names, section_types, section_variables, variable_names, procedure_name, module_block}
+use Rattle.ob0_tree.specs.declared.tree.Role.{Role}
+use Rattle.ob0_tree.specs.declared.tree.Role.TheVariants as role
+use Rattle.ob0_scope.specs.Resolution.{declaring_only}
+use Rattle.ob0_scope.proofs.Plain.{IsPlain, declares_nothing, declaring_only-append}
+use Rattle.ob0_scope.specs.Scopes.{after_block, after_names, after_procedure, after_procedures, first_procedure, first_type}
+use Rattle.ob0_types.specs.Declarations.{declare_constants}
+use Rattle.ob0_types.specs.WellTyped.{bind_names}
+use Rattle.ob0_types.specs.ConstantValues.{Known, no_constant, predeclared_known, value_among, value_in_block, value_in_procedure, value_in_procedures, value_of_constant}
+use Rattle.ob0_types.specs.Environments.{meanings}
+use Rattle.ob0_types.specs.Expressions.{a_constant}
+use Rattle.ob0_types.specs.Typing.{constant_value}
+use Rattle.ob0_values.specs.Values.{Value}
+use Rattle.ob0_scope.proofs.Ordinals.{after_names-append, le-after_names, le-after_procedure, le-after_procedures}
+
+-- as the module without a declaration, over any names
+abbrev pub gone_constants : {N : Type 0} → ℕ → ℕ → Tree N (items constant) → Tree N (items constant)
+gone_constants d k end = end
+gone_constants d k (more c cs) = if k == d then cs else more c (gone_constants d (suc k) cs)
+
+abbrev pub gone_section : {N : Type 0} → ℕ → ℕ → Tree N (maybe constants) → Tree N (maybe constants)
+gone_section d k none = none
+gone_section d k (one (declares_constants cs)) = one (declares_constants (gone_constants d k cs))
+
+abbrev mutual
+  pub gone_block : {N : Type 0} → ℕ → ℕ → Tree N block → Tree N block
+  gone_block d k (has_body (declares cs ts vs ps) statements) =
+      has_body (declares (gone_section d k cs) ts vs (gone_procedures d (first_procedure k (has_body (declares cs ts vs ps) statements)) ps)) statements
+
+  pub gone_procedures : {N : Type 0} → ℕ → ℕ → Tree N (items procedure) → Tree N (items procedure)
+  gone_procedures d k end = end
+  gone_procedures d k (more p rest) = more (gone_procedure d (suc k) p) (gone_procedures d (after_procedure (suc k) p) rest)
+
+  pub gone_procedure : {N : Type 0} → ℕ → ℕ → Tree N (item procedure) → Tree N (item procedure)
+  gone_procedure d k (declares_procedure x fs b closing) = declares_procedure x fs (gone_block d (after_names k (formal_names (formal_sections fs))) b) closing
+
+abbrev pub gone_module : {N : Type 0} → ℕ → Tree N module_text → Tree N module_text
+gone_module d (is_module x b closing) = is_module x (gone_block d 7 b) closing
+
+-- with factors in the place of names a tree declares as much as before
+module _ (c : ℕ → Option (Tree Name factor)) (f : ℕ → Name) (g : ℕ → ℕ) where
+  further_count : (k : ℕ) (ns : Tree ℕ (items further_name)) → after_names k (further_names (inlined c f g ns)) ≡ after_names k (further_names ns)
+  further_count k end = refl
+  further_count k (more (then_name x) rest) = further_count (suc k) rest
+
+  names_count : (k : ℕ) (ns : Tree ℕ names) → after_names k (names_listed (inlined c f g ns)) ≡ after_names k (names_listed ns)
+  names_count k (listed x rest) = further_count (suc k) rest
+
+  constants_count : (k : ℕ) (cs : Tree ℕ (items constant)) → after_names k (constant_names (inlined c f g cs)) ≡ after_names k (constant_names cs)
+  constants_count k end = refl
+  constants_count k (more (declares_constant x e) cs) = constants_count (suc k) cs
+
+  pub constant_section_count : (k : ℕ) (cs : Tree ℕ (maybe constants)) → after_names k (constant_names (section_constants (inlined c f g cs))) ≡ after_names k (constant_names (section_constants cs))
+  constant_section_count k none = refl
+  constant_section_count k (one (declares_constants cs)) = constants_count k cs
+
+  types_count : (k : ℕ) (ts : Tree ℕ (items type_name)) → after_names k (named_types (inlined c f g ts)) ≡ after_names k (named_types ts)
+  types_count k end = refl
+  types_count k (more (declares_type x t) ts) = types_count (suc k) ts
+
+  type_section_count : (k : ℕ) (ts : Tree ℕ (maybe type_names)) → after_names k (named_types (section_types (inlined c f g ts))) ≡ after_names k (named_types (section_types ts))
+  type_section_count k none = refl
+  type_section_count k (one (declares_types ts)) = types_count k ts
+
+  variables_count : (k : ℕ) (vs : Tree ℕ (items variable)) → after_names k (variable_names (inlined c f g vs)) ≡ after_names k (variable_names vs)
+  variables_count k end = refl
+  variables_count k (more (declares_variable ns t) vs) =
+      after_names-append k (names_listed (inlined c f g ns)) (variable_names (inlined c f g vs))
+      ∙ (ap (λ n. after_names n (variable_names (inlined c f g vs))) (names_count k ns)
+      ∙ (variables_count (after_names k (names_listed ns)) vs ∙ sym (after_names-append k (names_listed ns) (variable_names vs))))
+
+  variable_section_count : (k : ℕ) (vs : Tree ℕ (maybe variables)) → after_names k (variable_names (section_variables (inlined c f g vs))) ≡ after_names k (variable_names (section_variables vs))
+  variable_section_count k none = refl
+  variable_section_count k (one (declares_variables vs)) = variables_count k vs
+
+  section_count : (k : ℕ) (s : Tree ℕ section) → after_names k (section_names (inlined c f g s)) ≡ after_names k (section_names s)
+  section_count k (value_section ns t) = names_count k ns
+  section_count k (variable_section ns t) = names_count k ns
+
+  sections_count : (k : ℕ) (fs : Tree ℕ (items further_section)) → after_names k (formal_names (inlined c f g fs)) ≡ after_names k (formal_names fs)
+  sections_count k end = refl
+  sections_count k (more (then_section s) fs) =
+      after_names-append k (section_names (inlined c f g s)) (formal_names (inlined c f g fs))
+      ∙ (ap (λ n. after_names n (formal_names (inlined c f g fs))) (section_count k s)
+      ∙ (sections_count (after_names k (section_names s)) fs ∙ sym (after_names-append k (section_names s) (formal_names fs))))
+
+  pub formals_count : (k : ℕ) (fs : Tree ℕ (maybe formals)) → after_names k (formal_names (formal_sections (inlined c f g fs))) ≡ after_names k (formal_names (formal_sections fs))
+  formals_count k none = refl
+  formals_count k (one no_formals) = refl
+  formals_count k (one (some_formals s fs)) = sections_count k (more (then_section s) fs)
+
+  pub first_type_count : (k : ℕ) (b : Tree ℕ block) → first_type k (inlined c f g b) ≡ first_type k b
+  first_type_count k (has_body (declares cs ts vs ps) statements) = constant_section_count k cs
+
+  pub first_procedure_count : (k : ℕ) (b : Tree ℕ block) → first_procedure k (inlined c f g b) ≡ first_procedure k b
+  first_procedure_count k (has_body (declares cs ts vs ps) statements) =
+      ap (λ n. after_names (after_names n (named_types (section_types (inlined c f g ts)))) (variable_names (section_variables (inlined c f g vs)))) (constant_section_count k cs)
+      ∙ (ap (λ n. after_names n (variable_names (section_variables (inlined c f g vs)))) (type_section_count (after_names k (constant_names (section_constants cs))) ts)
+      ∙ variable_section_count (after_names (after_names k (constant_names (section_constants cs))) (named_types (section_types ts))) vs)
+
+  mutual
+    block_count : (k : ℕ) (b : Tree ℕ block) → after_block k (inlined c f g b) ≡ after_block k b
+    block_count k (has_body (declares cs ts vs ps) statements) =
+        ap (λ n. after_procedures n (inlined c f g ps)) (first_procedure_count k (has_body (declares cs ts vs ps) statements))
+        ∙ procedures_count (first_procedure k (has_body (declares cs ts vs ps) statements)) ps
+
+    procedures_count : (k : ℕ) (ps : Tree ℕ (items procedure)) → after_procedures k (inlined c f g ps) ≡ after_procedures k ps
+    procedures_count k end = refl
+    procedures_count k (more p rest) =
+        ap (λ n. after_procedures n (inlined c f g rest)) (procedure_count (suc k) p) ∙ procedures_count (after_procedure (suc k) p) rest
+
+    pub procedure_count : (k : ℕ) (p : Tree ℕ (item procedure)) → after_procedure k (inlined c f g p) ≡ after_procedure k p
+    procedure_count k (declares_procedure x fs b closing) =
+        ap (λ n. after_block n (inlined c f g b)) (formals_count k fs) ∙ block_count (after_names k (formal_names (formal_sections fs))) b
+
+  -- taking out and putting factors in the place of names: in either order
+  gone_constants_inlined : (d k : ℕ) (cs : Tree ℕ (items constant)) → inlined c f g (gone_constants d k cs) ≡ without d k (inlined c f g cs)
+  gone_constants_inlined d k end = refl
+  gone_constants_inlined d k (more x cs) =
+      elim (k == d) as (λ b. inlined c f g (if b then cs else more x (gone_constants d (suc k) cs)) ≡ (if b then inlined c f g cs else more (inlined c f g x) (without d (suc k) (inlined c f g cs))))
+      [ true ↦ refl | false ↦ λ i. more (inlined c f g x) (gone_constants_inlined d (suc k) cs i) ]
+
+  gone_section_inlined : (d k : ℕ) (cs : Tree ℕ (maybe constants)) → inlined c f g (gone_section d k cs) ≡ section_without d k (inlined c f g cs)
+  gone_section_inlined d k none = refl
+  gone_section_inlined d k (one (declares_constants cs)) = λ i. one (declares_constants (gone_constants_inlined d k cs i))
+
+  mutual
+    gone_block_inlined : (d k : ℕ) (b : Tree ℕ block) → inlined c f g (gone_block d k b) ≡ block_without d k (inlined c f g b)
+    gone_block_inlined d k (has_body (declares cs ts vs ps) statements) =
+        let b : Tree ℕ block = has_body (declares cs ts vs ps) statements in
+        λ i. has_body
+        (declares (gone_section_inlined d k cs i) (inlined c f g ts) (inlined c f g vs)
+        ((gone_procedures_inlined d (first_procedure k b) ps ∙ ap (λ n. procedures_without d n (inlined c f g ps)) (sym (first_procedure_count k b))) i))
+        (inlined c f g statements)
+
+    gone_procedures_inlined : (d k : ℕ) (ps : Tree ℕ (items procedure)) → inlined c f g (gone_procedures d k ps) ≡ procedures_without d k (inlined c f g ps)
+    gone_procedures_inlined d k end = refl
+    gone_procedures_inlined d k (more p rest) = λ i.
+        more (gone_procedure_inlined d (suc k) p i)
+        ((gone_procedures_inlined d (after_procedure (suc k) p) rest ∙ ap (λ n. procedures_without d n (inlined c f g rest)) (sym (procedure_count (suc k) p))) i)
+
+    gone_procedure_inlined : (d k : ℕ) (p : Tree ℕ (item procedure)) → inlined c f g (gone_procedure d k p) ≡ procedure_without d k (inlined c f g p)
+    gone_procedure_inlined d k (declares_procedure x fs b closing) = λ i.
+        declares_procedure (f x) (inlined c f g fs)
+        ((gone_block_inlined d (after_names k (formal_names (formal_sections fs))) b ∙ ap (λ n. block_without d n (inlined c f g b)) (sym (formals_count k fs))) i)
+        (f closing)
+
+  pub gone_module_inlined : (d : ℕ) (m : Tree ℕ module_text) → inlined c f g (gone_module d m) ≡ module_without d (inlined c f g m)
+  gone_module_inlined d (is_module x b closing) = λ i. is_module (f x) (gone_block_inlined d 7 b i) (f closing)
+
+-- no `;` among these tokens
+abbrev pub is_end : TokenKind → Bool
+is_end (kind.Symbol s) = elim s [ symbol.Semicolon ↦ true | _ ↦ false ]
+is_end kind.Identifier = false
+is_end (kind.Reserved r) = false
+is_end (kind.Integer n) = false
+
+abbrev pub NoEnd : {N : Type 0} → List (Lexeme N) → Type 0
+NoEnd [] = Unit {0}
+NoEnd (Mark k ∷ xs) = (is_end k ≡ false) × NoEnd xs
+NoEnd (lexeme.Name n ∷ xs) = NoEnd xs
+NoEnd (lexeme.Number n ∷ xs) = NoEnd xs
+NoEnd (lexeme.EndOfText ∷ xs) = NoEnd xs
+
+-- the names that a block declares with all that is in it, in text order
+abbrev mutual
+  pub block_declares : {N : Type 0} → Tree N block → List N
+  block_declares (has_body (declares cs ts vs ps) statements) =
+      constant_names (section_constants cs) ++ (named_types (section_types ts) ++ (variable_names (section_variables vs) ++ procedures_declare ps))
+
+  pub procedures_declare : {N : Type 0} → Tree N (items procedure) → List N
+  procedures_declare end = []
+  procedures_declare (more p rest) = (procedure_name p ∷ procedure_declares p) ++ procedures_declare rest
+
+  -- without its own name
+  pub procedure_declares : {N : Type 0} → Tree N (item procedure) → List N
+  procedure_declares (declares_procedure x fs b closing) = formal_names (formal_sections fs) ++ block_declares b
+
+-- A declaration is among the tokens of a whole, from a constant's name to its `;`, and not among those that are left.
+-- The constant has the ordinal d, where the first of these names has k.
+pub record Taken (d k : ℕ) (labels : List ℕ) (whole left : List (Lexeme ℕ)) : Type 0 where
+  pub place : ℕ
+  pub ordinal_is : d ≡ k + place
+  pub before : List (Lexeme ℕ)
+  pub border : TokenKind
+  pub opens : (border ≡ kind.Reserved reserved.Const) ⊎ (border ≡ kind.Symbol symbol.Semicolon)
+  pub name : ℕ
+  pub named_there : slice_get labels place ≡ Some name
+  pub right : List (Lexeme ℕ)
+  pub no_end : NoEnd right
+  pub after : List (Lexeme ℕ)
+  pub whole_is : whole ≡ (before ++ (Mark border ∷ [])) ++ ((lexeme.Name name ∷ Mark (kind.Symbol symbol.Equal) ∷ (right ++ (Mark (kind.Symbol symbol.Semicolon) ∷ []))) ++ after)
+  pub left_is : left ≡ (before ++ (Mark border ∷ [])) ++ after
+
+pub shifted : (zs b m y : List (Lexeme ℕ)) → zs ++ ((b ++ m) ++ y) ≡ ((zs ++ b) ++ m) ++ y
+shifted zs b m y = sym (append_assoc zs (b ++ m) y) ∙ ap (λ l. l ++ y) (sym (append_assoc zs b m))
+
+abbrev pub put_before : (d k : ℕ) (labels : List ℕ) (zs xs ys : List (Lexeme ℕ)) → Taken d k labels xs ys → Taken d k labels (zs ++ xs) (zs ++ ys)
+put_before d k labels zs xs ys t = record {
+  place = t.place;
+  ordinal_is = t.ordinal_is;
+  named_there = t.named_there;
+  before = zs ++ t.before;
+  border = t.border;
+  opens = t.opens;
+  name = t.name;
+  right = t.right;
+  no_end = t.no_end;
+  after = t.after;
+  whole_is = ap (λ l. zs ++ l) t.whole_is
+      ∙ shifted zs t.before (Mark t.border ∷ []) ((lexeme.Name t.name ∷ Mark (kind.Symbol symbol.Equal) ∷ (t.right ++ (Mark (kind.Symbol symbol.Semicolon) ∷ []))) ++ t.after);
+  left_is = ap (λ l. zs ++ l) t.left_is ∙ shifted zs t.before (Mark t.border ∷ []) t.after;
+}
+
+abbrev pub put_behind : (d k : ℕ) (labels : List ℕ) (xs ys zs : List (Lexeme ℕ)) → Taken d k labels xs ys → Taken d k labels (xs ++ zs) (ys ++ zs)
+put_behind d k labels xs ys zs t =
+    let front = t.before ++ (Mark t.border ∷ []) in
+    let whole : List (Lexeme ℕ) = lexeme.Name t.name ∷ Mark (kind.Symbol symbol.Equal) ∷ (t.right ++ (Mark (kind.Symbol symbol.Semicolon) ∷ [])) in
+    record {
+      place = t.place;
+      ordinal_is = t.ordinal_is;
+      named_there = t.named_there;
+      before = t.before;
+      border = t.border;
+      opens = t.opens;
+      name = t.name;
+      right = t.right;
+      no_end = t.no_end;
+      after = t.after ++ zs;
+      whole_is = ap (λ l. l ++ zs) t.whole_is ∙ (append_assoc front (whole ++ t.after) zs ∙ ap (λ l. front ++ l) (append_assoc whole t.after zs));
+      left_is = ap (λ l. l ++ zs) t.left_is ∙ append_assoc front t.after zs;
+    }
+
+-- the same among more names
+abbrev pub among_others : (d j k : ℕ) (labels others : List ℕ) (xs ys : List (Lexeme ℕ)) (t : Taken d k labels xs ys) (place : ℕ) → d ≡ j + place → slice_get others place ≡ slice_get labels t.place → Taken d j others xs ys
+among_others d j k labels others xs ys t place e h = record {
+  place = place;
+  ordinal_is = e;
+  before = t.before;
+  border = t.border;
+  opens = t.opens;
+  name = t.name;
+  named_there = h ∙ t.named_there;
+  right = t.right;
+  no_end = t.no_end;
+  after = t.after;
+  whole_is = t.whole_is;
+  left_is = t.left_is;
+}
+
+pub get_first : (xs ys : List ℕ) (j n : ℕ) → slice_get xs j ≡ Some n → slice_get (xs ++ ys) j ≡ slice_get xs j
+get_first [] ys j n e = absurd (cc)
+get_first (x ∷ xs) ys zero n e = refl
+get_first (x ∷ xs) ys (suc j) n e = get_first xs ys j n e
+
+pub get_later : (xs ys : List ℕ) (j : ℕ) → slice_get (xs ++ ys) (length xs + j) ≡ slice_get ys j
+get_later [] ys j = ap (slice_get ys) (let e : 0 + j ≡ j = omega arith in e)
+get_later (x ∷ xs) ys j = ap (slice_get (x ∷ (xs ++ ys))) (let e : suc (length xs) + j ≡ suc (length xs + j) = omega arith in e) ∙ get_later xs ys j
+
+-- ordinals count these names
+pub names_counted : {N : Type 0} (k : ℕ) (xs : List N) → after_names k xs ≡ k + length xs
+names_counted k [] = omega arith
+names_counted k (x ∷ xs) = let e = names_counted (suc k) xs in omega (arith, e)
+
+mutual
+  block_counted : {N : Type 0} (k : ℕ) (b : Tree N block) → after_block k b ≡ k + length (block_declares b)
+  block_counted k (has_body (declares cs ts vs ps) statements) =
+      let xs = constant_names (section_constants cs) in
+      let ys = named_types (section_types ts) in
+      let zs = variable_names (section_variables vs) in
+      let e = procedures_counted (after_names (after_names (after_names k xs) ys) zs) ps in
+      omega (arith, e, names_counted k xs, names_counted (after_names k xs) ys, names_counted (after_names (after_names k xs) ys) zs, length-append xs (ys ++ (zs ++ procedures_declare ps)), length-append ys (zs ++ procedures_declare ps), length-append zs (procedures_declare ps))
+
+  procedures_counted : {N : Type 0} (k : ℕ) (ps : Tree N (items procedure)) → after_procedures k ps ≡ k + length (procedures_declare ps)
+  procedures_counted k end = omega arith
+  procedures_counted k (more p rest) =
+      let e = procedures_counted (after_procedure (suc k) p) rest in
+      omega (arith, e, procedure_counted (suc k) p, length-append (procedure_name p ∷ procedure_declares p) (procedures_declare rest))
+
+  pub procedure_counted : {N : Type 0} (k : ℕ) (p : Tree N (item procedure)) → after_procedure k p ≡ k + length (procedure_declares p)
+  procedure_counted k (declares_procedure x fs b closing) =
+      let xs = formal_names (formal_sections fs) in
+      omega (arith, block_counted (after_names k xs) b, names_counted k xs, length-append xs (block_declares b))
+
+-- a declaration that isn't there leaves the tree as it is: one before its ordinals, or behind them
+low_constants : {N : Type 0} (d k : ℕ) (cs : Tree N (items constant)) → d < k → gone_constants d k cs ≡ cs
+low_constants d k end h = refl
+low_constants d k (more c cs) h =
+    ap (λ b. if b then cs else more c (gone_constants d (suc k) cs)) (ne_eqb k d (λ e. omega (arith, e, h))) ∙ (λ i. more c (low_constants d (suc k) cs (omega (arith, h)) i))
+
+pub low_section : {N : Type 0} (d k : ℕ) (cs : Tree N (maybe constants)) → d < k → gone_section d k cs ≡ cs
+low_section d k none h = refl
+low_section d k (one (declares_constants cs)) h = λ i. one (declares_constants (low_constants d k cs h i))
+
+mutual
+  low_block : {N : Type 0} (d k : ℕ) (b : Tree N block) → d < k → gone_block d k b ≡ b
+  low_block {N} d k (has_body (declares cs ts vs ps) statements) h =
+      let b : Tree N block = has_body (declares cs ts vs ps) statements in
+      let up = le-after_names k (constant_names (section_constants cs)) in
+      let up2 = le-after_names (after_names k (constant_names (section_constants cs))) (named_types (section_types ts)) in
+      let up3 = le-after_names (after_names (after_names k (constant_names (section_constants cs))) (named_types (section_types ts))) (variable_names (section_variables vs)) in
+      λ i. has_body (declares (low_section d k cs h i) ts vs (low_procedures d (first_procedure k b) ps (omega (arith, h, up, up2, up3)) i)) statements
+
+  pub low_procedures : {N : Type 0} (d k : ℕ) (ps : Tree N (items procedure)) → d < k → gone_procedures d k ps ≡ ps
+  low_procedures d k end h = refl
+  low_procedures d k (more p rest) h =
+      let up = le-after_procedure (suc k) p in
+      λ i. more (low_procedure d (suc k) p (omega (arith, h)) i) (low_procedures d (after_procedure (suc k) p) rest (omega (arith, h, up)) i)
+
+  low_procedure : {N : Type 0} (d k : ℕ) (p : Tree N (item procedure)) → d < k → gone_procedure d k p ≡ p
+  low_procedure d k (declares_procedure x fs b closing) h =
+      let up = le-after_names k (formal_names (formal_sections fs)) in
+      λ i. declares_procedure x fs (low_block d (after_names k (formal_names (formal_sections fs))) b (omega (arith, h, up)) i) closing
+
+high_constants : {N : Type 0} (d k : ℕ) (cs : Tree N (items constant)) → after_names k (constant_names cs) ≤ d → gone_constants d k cs ≡ cs
+high_constants d k end h = refl
+high_constants d k (more (declares_constant x e) cs) h =
+    let up = le-after_names (suc k) (constant_names cs) in
+    ap (λ b. if b then cs else more (declares_constant x e) (gone_constants d (suc k) cs)) (ne_eqb k d (λ e. omega (arith, e, h, up))) ∙ (λ i. more (declares_constant x e) (high_constants d (suc k) cs h i))
+
+pub high_section : {N : Type 0} (d k : ℕ) (cs : Tree N (maybe constants)) → after_names k (constant_names (section_constants cs)) ≤ d → gone_section d k cs ≡ cs
+high_section d k none h = refl
+high_section d k (one (declares_constants cs)) h = λ i. one (declares_constants (high_constants d k cs h i))
+
+mutual
+  high_block : {N : Type 0} (d k : ℕ) (b : Tree N block) → after_block k b ≤ d → gone_block d k b ≡ b
+  high_block {N} d k (has_body (declares cs ts vs ps) statements) h =
+      let b : Tree N block = has_body (declares cs ts vs ps) statements in
+      let up2 = le-after_names (after_names k (constant_names (section_constants cs))) (named_types (section_types ts)) in
+      let up3 = le-after_names (after_names (after_names k (constant_names (section_constants cs))) (named_types (section_types ts))) (variable_names (section_variables vs)) in
+      let up4 = le-after_procedures (first_procedure k b) ps in
+      λ i. has_body (declares (high_section d k cs (omega (arith, h, up2, up3, up4)) i) ts vs (high_procedures d (first_procedure k b) ps h i)) statements
+
+  high_procedures : {N : Type 0} (d k : ℕ) (ps : Tree N (items procedure)) → after_procedures k ps ≤ d → gone_procedures d k ps ≡ ps
+  high_procedures d k end h = refl
+  high_procedures d k (more p rest) h =
+      let up = le-after_procedures (after_procedure (suc k) p) rest in
+      λ i. more (high_procedure d (suc k) p (omega (arith, h, up)) i) (high_procedures d (after_procedure (suc k) p) rest h i)
+
+  pub high_procedure : {N : Type 0} (d k : ℕ) (p : Tree N (item procedure)) → after_procedure k p ≤ d → gone_procedure d k p ≡ p
+  high_procedure d k (declares_procedure x fs b closing) h = λ i. declares_procedure x fs (high_block d (after_names k (formal_names (formal_sections fs))) b h i) closing
+
+-- an expression has no `;`
+no_end_append : {N : Type 0} (xs ys : List (Lexeme N)) → NoEnd xs → NoEnd ys → NoEnd (xs ++ ys)
+no_end_append [] ys p q = q
+no_end_append (Mark k ∷ xs) ys p q = (p.0, no_end_append xs ys p.1 q)
+no_end_append (lexeme.Name n ∷ xs) ys p q = no_end_append xs ys p q
+no_end_append (lexeme.Number n ∷ xs) ys p q = no_end_append xs ys p q
+no_end_append (lexeme.EndOfText ∷ xs) ys p q = no_end_append xs ys p q
+
+relation_no_end : (r : Relation) → is_end (relation_mark r) ≡ false
+relation_no_end relation.Equal = refl
+relation_no_end relation.NotEqual = refl
+relation_no_end relation.Less = refl
+relation_no_end relation.LessEqual = refl
+relation_no_end relation.Greater = refl
+relation_no_end relation.GreaterEqual = refl
+
+add_no_end : (o : AddOperator) → is_end (add_mark o) ≡ false
+add_no_end add_operator.Add = refl
+add_no_end add_operator.Subtract = refl
+add_no_end add_operator.Or = refl
+
+multiply_no_end : (o : MultiplyOperator) → is_end (multiply_mark o) ≡ false
+multiply_no_end multiply_operator.Multiply = refl
+multiply_no_end multiply_operator.Divide = refl
+multiply_no_end multiply_operator.Modulo = refl
+multiply_no_end multiply_operator.And = refl
+
+sign_no_end : (s : Option Sign) → NoEnd {N = ℕ} (sign_marks s)
+sign_no_end None = tt
+sign_no_end (Some sign.Plus) = (refl, tt)
+sign_no_end (Some sign.Minus) = (refl, tt)
+
+mutual
+  pub expression_no_end : (e : Tree ℕ expression) → NoEnd (spell e)
+  expression_no_end (compares a none) = no_end_append (spell a) [] (simple_no_end a) tt
+  expression_no_end (compares a (one (relates r b))) = no_end_append (spell a) (Mark (relation_mark r) ∷ spell b) (simple_no_end a) (relation_no_end r, simple_no_end b)
+
+  simple_no_end : (a : Tree ℕ simple) → NoEnd (spell a)
+  simple_no_end (sum s t rest) = no_end_append (sign_marks s) (spell t ++ spell rest) (sign_no_end s) (no_end_append (spell t) (spell rest) (term_no_end t) (addends_no_end rest))
+
+  addends_no_end : (rest : Tree ℕ (items addend)) → NoEnd (spell rest)
+  addends_no_end end = tt
+  addends_no_end (more (adds o t) rest) = no_end_append (Mark (add_mark o) ∷ spell t) (spell rest) (add_no_end o, term_no_end t) (addends_no_end rest)
+
+  term_no_end : (t : Tree ℕ term) → NoEnd (spell t)
+  term_no_end (product a rest) = no_end_append (spell a) (spell rest) (factor_no_end a) (multipliers_no_end rest)
+
+  multipliers_no_end : (rest : Tree ℕ (items multiplier)) → NoEnd (spell rest)
+  multipliers_no_end end = tt
+  multipliers_no_end (more (multiplies o a) rest) = no_end_append (Mark (multiply_mark o) ∷ spell a) (spell rest) (multiply_no_end o, factor_no_end a) (multipliers_no_end rest)
+
+  factor_no_end : (a : Tree ℕ factor) → NoEnd (spell a)
+  factor_no_end (designator x path) = path_no_end path
+  factor_no_end (integer n) = tt
+  factor_no_end (parenthesised e) = (refl, no_end_append (spell e) (Mark (kind.Symbol symbol.RightParen) ∷ []) (expression_no_end e) (refl, tt))
+  factor_no_end (negation a) = (refl, factor_no_end a)
+
+  path_no_end : (path : Tree ℕ (items selector)) → NoEnd (spell path)
+  path_no_end end = tt
+  path_no_end (more (field x) rest) = (refl, path_no_end rest)
+  path_no_end (more (index e) rest) =
+      (refl, no_end_append (spell e ++ (Mark (kind.Symbol symbol.RightBracket) ∷ [])) (spell rest) (no_end_append (spell e) (Mark (kind.Symbol symbol.RightBracket) ∷ []) (expression_no_end e) (refl, tt)) (path_no_end rest))
+
+-- where a constant has a value, its declaration is there
+
+pub gone_here : (d k : ℕ) (c : Tree ℕ (item constant)) (cs : Tree ℕ (items constant)) (b : Bool) → (k == d) ≡ b → gone_constants d k (more c cs) ≡ (if b then cs else more c (gone_constants d (suc k) cs))
+gone_here d k c cs b e = ap (λ v. if v then cs else more c (gone_constants d (suc k) cs)) e
+
+module _ (c : ℕ → Option (Tree Name factor)) (f : ℕ → Name) (g : ℕ → ℕ) (d : ℕ) (w : Value) where
+  taken_constants : (known : Known) (k : ℕ) (cs : Tree ℕ (items constant)) (front : List (Lexeme ℕ)) (border : TokenKind)
+      → (border ≡ kind.Reserved reserved.Const) ⊎ (border ≡ kind.Symbol symbol.Semicolon) → value_among known d k (inlined c f g cs) ≡ Some w
+      → Taken d k (constant_names cs) (front ++ (Mark border ∷ spell cs)) (front ++ (Mark border ∷ spell (gone_constants d k cs)))
+  unfolding value_among
+  taken_constants known k end front border opens e = absurd (cc)
+  taken_constants known k (more (declares_constant x a) cs) front border opens e =
+      by_value (constant_value (meanings as_names known) (inlined c f g a)) e
+      (λ v h. taken_constants ((f x, a_constant v) ∷ known) (suc k) cs (front ++ (Mark border ∷ lexeme.Name x ∷ Mark (kind.Symbol symbol.Equal) ∷ spell a)) (kind.Symbol symbol.Semicolon) (inr refl) h)
+    where
+      here : (k == d) ≡ true → Taken d k (x ∷ constant_names cs) (front ++ (Mark border ∷ spell (more (declares_constant x a) cs))) (front ++ (Mark border ∷ spell (gone_constants d k (more (declares_constant x a) cs))))
+      here q = record {
+        place = 0;
+        ordinal_is = (let e = eqb-true k d q in omega (arith, e));
+        named_there = refl;
+        before = front;
+        border = border;
+        opens = opens;
+        name = x;
+        right = spell a;
+        no_end = expression_no_end a;
+        after = spell cs;
+        whole_is = sym (append_assoc front (Mark border ∷ []) (spell (more (declares_constant x a) cs)));
+        left_is = ap (λ t. front ++ (Mark border ∷ spell t)) (gone_here d k (declares_constant x a) cs true q) ∙ sym (append_assoc front (Mark border ∷ []) (spell cs));
+      }
+
+      there : (k == d) ≡ false
+          → Taken d (suc k) (constant_names cs) ((front ++ (Mark border ∷ lexeme.Name x ∷ Mark (kind.Symbol symbol.Equal) ∷ spell a)) ++ (Mark (kind.Symbol symbol.Semicolon) ∷ spell cs))
+          ((front ++ (Mark border ∷ lexeme.Name x ∷ Mark (kind.Symbol symbol.Equal) ∷ spell a)) ++ (Mark (kind.Symbol symbol.Semicolon) ∷ spell (gone_constants d (suc k) cs)))
+          → Taken d k (x ∷ constant_names cs) (front ++ (Mark border ∷ spell (more (declares_constant x a) cs))) (front ++ (Mark border ∷ spell (gone_constants d k (more (declares_constant x a) cs))))
+      there q t =
+          let moved = λ (l : List (Lexeme ℕ)). append_assoc front (Mark border ∷ lexeme.Name x ∷ Mark (kind.Symbol symbol.Equal) ∷ spell a) (Mark (kind.Symbol symbol.Semicolon) ∷ l)
+          ∙ ap (λ z. front ++ (Mark border ∷ lexeme.Name x ∷ Mark (kind.Symbol symbol.Equal) ∷ z)) (sym (append_assoc (spell a) (Mark (kind.Symbol symbol.Semicolon) ∷ []) l)) in
+          record {
+            place = suc t.place;
+            ordinal_is = (let e = t.ordinal_is in omega (arith, e));
+            named_there = t.named_there;
+            before = t.before;
+            border = t.border;
+            opens = t.opens;
+            name = t.name;
+            right = t.right;
+            no_end = t.no_end;
+            after = t.after;
+            whole_is = sym (moved (spell cs)) ∙ t.whole_is;
+            left_is = ap (λ z. front ++ (Mark border ∷ spell z)) (gone_here d k (declares_constant x a) cs false q) ∙ (sym (moved (spell (gone_constants d (suc k) cs))) ∙ t.left_is);
+          }
+
+      by_test : (v : Value) (b : Bool) → (k == d) ≡ b → (if b then Some v else value_among ((f x, a_constant v) ∷ known) d (suc k) (inlined c f g cs)) ≡ Some w
+          → (value_among ((f x, a_constant v) ∷ known) d (suc k) (inlined c f g cs) ≡ Some w
+          → Taken d (suc k) (constant_names cs) ((front ++ (Mark border ∷ lexeme.Name x ∷ Mark (kind.Symbol symbol.Equal) ∷ spell a)) ++ (Mark (kind.Symbol symbol.Semicolon) ∷ spell cs))
+          ((front ++ (Mark border ∷ lexeme.Name x ∷ Mark (kind.Symbol symbol.Equal) ∷ spell a)) ++ (Mark (kind.Symbol symbol.Semicolon) ∷ spell (gone_constants d (suc k) cs))))
+          → Taken d k (x ∷ constant_names cs) (front ++ (Mark border ∷ spell (more (declares_constant x a) cs))) (front ++ (Mark border ∷ spell (gone_constants d k (more (declares_constant x a) cs))))
+      by_test v true q e later = here q
+      by_test v false q e later = there q (later e)
+
+      by_value : (o : Option Value) → option_and_then (λ v. if k == d then Some v else value_among ((f x, a_constant v) ∷ known) d (suc k) (inlined c f g cs)) o ≡ Some w
+          → ((v : Value) → value_among ((f x, a_constant v) ∷ known) d (suc k) (inlined c f g cs) ≡ Some w
+          → Taken d (suc k) (constant_names cs) ((front ++ (Mark border ∷ lexeme.Name x ∷ Mark (kind.Symbol symbol.Equal) ∷ spell a)) ++ (Mark (kind.Symbol symbol.Semicolon) ∷ spell cs))
+          ((front ++ (Mark border ∷ lexeme.Name x ∷ Mark (kind.Symbol symbol.Equal) ∷ spell a)) ++ (Mark (kind.Symbol symbol.Semicolon) ∷ spell (gone_constants d (suc k) cs))))
+          → Taken d k (x ∷ constant_names cs) (front ++ (Mark border ∷ spell (more (declares_constant x a) cs))) (front ++ (Mark border ∷ spell (gone_constants d k (more (declares_constant x a) cs))))
+      by_value None e later = absurd (cc)
+      by_value (Some v) e later = by_test v (k == d) refl e (later v)
+
+  taken_section : (known : Known) (k : ℕ) (cs : Tree ℕ (maybe constants)) → value_among known d k (section_constants (inlined c f g cs)) ≡ Some w → Taken d k (constant_names (section_constants cs)) (spell cs) (spell (gone_section d k cs))
+  unfolding value_among
+  taken_section known k none e = absurd (cc)
+  taken_section known k (one (declares_constants cs)) e = taken_constants known k cs [] (kind.Reserved reserved.Const) (inl refl) e
+
+  -- the section of a block, or its procedures; what isn't concerned stays
+  by_section : (cs : Tree ℕ (maybe constants)) (ts : Tree ℕ (maybe type_names)) (vs : Tree ℕ (maybe variables)) (ps : Tree ℕ (items procedure)) (statements : Tree ℕ (maybe body)) (k : ℕ)
+      → d < first_type k (has_body (declares cs ts vs ps) statements) → Taken d k (constant_names (section_constants cs)) (spell cs) (spell (gone_section d k cs))
+      → Taken d k (block_declares (has_body (declares cs ts vs ps) statements)) (spell (has_body (declares cs ts vs ps) statements)) (spell (gone_block d k (has_body (declares cs ts vs ps) statements)))
+  by_section cs ts vs ps statements k h t =
+      let b : Tree ℕ block = has_body (declares cs ts vs ps) statements in
+      let labels = block_declares b in
+      let up2 = le-after_names (after_names k (constant_names (section_constants cs))) (named_types (section_types ts)) in
+      let up3 = le-after_names (after_names (after_names k (constant_names (section_constants cs))) (named_types (section_types ts))) (variable_names (section_variables vs)) in
+      let kept = low_procedures d (first_procedure k b) ps (omega (arith, h, up2, up3)) in
+      let there = among_others d k k (constant_names (section_constants cs)) labels (spell cs) (spell (gone_section d k cs)) t t.place t.ordinal_is
+      (get_first (constant_names (section_constants cs)) (named_types (section_types ts) ++ (variable_names (section_variables vs) ++ procedures_declare ps)) t.place t.name t.named_there) in
+      subst (λ (qs : Tree ℕ (items procedure)). Taken d k labels (spell b) ((spell (gone_section d k cs) ++ (spell ts ++ (spell vs ++ spell qs))) ++ spell statements)) (sym kept)
+      (put_behind d k labels (spell cs ++ (spell ts ++ (spell vs ++ spell ps))) (spell (gone_section d k cs) ++ (spell ts ++ (spell vs ++ spell ps))) (spell statements)
+      (put_behind d k labels (spell cs) (spell (gone_section d k cs)) (spell ts ++ (spell vs ++ spell ps)) there))
+
+  by_procedures : (cs : Tree ℕ (maybe constants)) (ts : Tree ℕ (maybe type_names)) (vs : Tree ℕ (maybe variables)) (ps : Tree ℕ (items procedure)) (statements : Tree ℕ (maybe body)) (k : ℕ)
+      → first_type k (has_body (declares cs ts vs ps) statements) ≤ d
+      → Taken d (first_procedure k (has_body (declares cs ts vs ps) statements)) (procedures_declare ps) (spell ps) (spell (gone_procedures d (first_procedure k (has_body (declares cs ts vs ps) statements)) ps))
+      → Taken d k (block_declares (has_body (declares cs ts vs ps) statements)) (spell (has_body (declares cs ts vs ps) statements)) (spell (gone_block d k (has_body (declares cs ts vs ps) statements)))
+  by_procedures cs ts vs ps statements k h t =
+      let b : Tree ℕ block = has_body (declares cs ts vs ps) statements in
+      let labels = block_declares b in
+      let left = spell (gone_procedures d (first_procedure k b) ps) in
+      let xs = constant_names (section_constants cs) in
+      let ys = named_types (section_types ts) in
+      let zs = variable_names (section_variables vs) in
+      let e1 = names_counted k xs in
+      let e2 = names_counted (after_names k xs) ys in
+      let e3 = names_counted (after_names (after_names k xs) ys) zs in
+      let there = among_others d k (first_procedure k b) (procedures_declare ps) labels (spell ps) left t (length xs + (length ys + (length zs + t.place))) (omega (arith, t.ordinal_is, e1, e2, e3))
+      (get_later xs (ys ++ (zs ++ procedures_declare ps)) (length ys + (length zs + t.place)) ∙ (get_later ys (zs ++ procedures_declare ps) (length zs + t.place) ∙ get_later zs (procedures_declare ps) t.place)) in
+      subst (λ (qs : Tree ℕ (maybe constants)). Taken d k labels (spell b) ((spell qs ++ (spell ts ++ (spell vs ++ left))) ++ spell statements)) (sym (high_section d k cs h))
+      (put_behind d k labels (spell cs ++ (spell ts ++ (spell vs ++ spell ps))) (spell cs ++ (spell ts ++ (spell vs ++ left))) (spell statements)
+      (put_before d k labels (spell cs) (spell ts ++ (spell vs ++ spell ps)) (spell ts ++ (spell vs ++ left))
+      (put_before d k labels (spell ts) (spell vs ++ spell ps) (spell vs ++ left)
+      (put_before d k labels (spell vs) (spell ps) left there))))
+
+  by_procedure : (q : Tree ℕ (item procedure)) (rest : Tree ℕ (items procedure)) (k : ℕ) → d < after_procedure (suc k) q → Taken d (suc k) (procedure_declares q) (spell q) (spell (gone_procedure d (suc k) q))
+      → Taken d k (procedures_declare (more q rest)) (spell (more q rest)) (spell (gone_procedures d k (more q rest)))
+  by_procedure q rest k h t =
+      let labels = procedures_declare (more q rest) in
+      let there = among_others d k (suc k) (procedure_declares q) labels (spell q) (spell (gone_procedure d (suc k) q)) t (suc t.place) (omega (arith, t.ordinal_is))
+      (get_first (procedure_declares q) (procedures_declare rest) t.place t.name t.named_there) in
+      subst (λ (qs : Tree ℕ (items procedure)). Taken d k labels (spell q ++ spell rest) (spell (gone_procedure d (suc k) q) ++ spell qs)) (sym (low_procedures d (after_procedure (suc k) q) rest h))
+      (put_behind d k labels (spell q) (spell (gone_procedure d (suc k) q)) (spell rest) there)
+
+  by_rest : (q : Tree ℕ (item procedure)) (rest : Tree ℕ (items procedure)) (k : ℕ) → after_procedure (suc k) q ≤ d
+      → Taken d (after_procedure (suc k) q) (procedures_declare rest) (spell rest) (spell (gone_procedures d (after_procedure (suc k) q) rest))
+      → Taken d k (procedures_declare (more q rest)) (spell (more q rest)) (spell (gone_procedures d k (more q rest)))
+  by_rest q rest k h t =
+      let labels = procedures_declare (more q rest) in
+      let front = procedure_name q ∷ procedure_declares q in
+      let count = procedure_counted (suc k) q in
+      let there = among_others d k (after_procedure (suc k) q) (procedures_declare rest) labels (spell rest) (spell (gone_procedures d (after_procedure (suc k) q) rest)) t (length front + t.place) (omega (arith, t.ordinal_is, count))
+      (get_later front (procedures_declare rest) t.place) in
+      subst (λ (p : Tree ℕ (item procedure)). Taken d k labels (spell q ++ spell rest) (spell p ++ spell (gone_procedures d (after_procedure (suc k) q) rest))) (sym (high_procedure d (suc k) q h))
+      (put_before d k labels (spell q) (spell rest) (spell (gone_procedures d (after_procedure (suc k) q) rest)) there)
+
+  in_procedure : (x closing : ℕ) (fs : Tree ℕ (maybe formals)) (b : Tree ℕ block) (k : ℕ)
+      → Taken d (after_names k (formal_names (formal_sections fs))) (block_declares b) (spell b) (spell (gone_block d (after_names k (formal_names (formal_sections fs))) b))
+      → Taken d k (procedure_declares (declares_procedure x fs b closing)) (spell (declares_procedure x fs b closing)) (spell (gone_procedure d k (declares_procedure x fs b closing)))
+  in_procedure x closing fs b k t =
+      let xs = formal_names (formal_sections fs) in
+      let labels = xs ++ block_declares b in
+      let left = spell (gone_block d (after_names k xs) b) in
+      let tail : List (Lexeme ℕ) = Mark (kind.Reserved reserved.End) ∷ lexeme.Name closing ∷ (Mark (kind.Symbol symbol.Semicolon) ∷ []) in
+      let count = names_counted k xs in
+      let there = among_others d k (after_names k xs) (block_declares b) labels (spell b) left t (length xs + t.place) (omega (arith, t.ordinal_is, count)) (get_later xs (block_declares b) t.place) in
+      put_before d k labels (Mark (kind.Reserved reserved.Procedure) ∷ lexeme.Name x ∷ []) (spell fs ++ (Mark (kind.Symbol symbol.Semicolon) ∷ (spell b ++ tail))) (spell fs ++ (Mark (kind.Symbol symbol.Semicolon) ∷ (left ++ tail)))
+      (put_before d k labels (spell fs) (Mark (kind.Symbol symbol.Semicolon) ∷ (spell b ++ tail)) (Mark (kind.Symbol symbol.Semicolon) ∷ (left ++ tail))
+      (put_before d k labels (Mark (kind.Symbol symbol.Semicolon) ∷ []) (spell b ++ tail) (left ++ tail)
+      (put_behind d k labels (spell b) left tail there)))
+
+  mutual
+    unfolding value_in_block
+
+    taken_block : (known : Known) (k n : ℕ) → n ≡ k → (b : Tree ℕ block) → value_in_block known d n (inlined c f g b) ≡ Some w → Taken d k (block_declares b) (spell b) (spell (gone_block d k b))
+    taken_block known k n same (has_body (declares cs ts vs ps) statements) e =
+        let b : Tree ℕ block = has_body (declares cs ts vs ps) statements in
+        elim (nat_lt d (first_type n (inlined c f g b))) as (λ x. nat_lt d (first_type n (inlined c f g b)) ≡ x
+        → (if x then value_among known d n (section_constants (inlined c f g cs))
+        else if nat_lt d (first_procedure n (inlined c f g b)) then None
+        else option_and_then (λ inner. value_in_procedures (bind_names (named_types (section_types (inlined c f g ts)) ++ variable_names (section_variables (inlined c f g vs))) no_constant inner) d (first_procedure n (inlined c f g b)) (inlined c f g ps))
+        (declare_constants as_names known (section_constants (inlined c f g cs)))) ≡ Some w → Taken d k (block_declares b) (spell b) (spell (gone_block d k b))) [
+          | true ↦ λ q h.
+              by_section cs ts vs ps statements k (subst (λ m. d < m) (first_type_count c f g n b ∙ ap (λ m. first_type m b) same) (ltb-true d (first_type n (inlined c f g b)) q))
+              (subst (λ m. Taken d m (constant_names (section_constants cs)) (spell cs) (spell (gone_section d m cs))) same (taken_section known n cs h))
+          | false ↦ λ q h.
+              by_procedures cs ts vs ps statements k (subst (λ m. m ≤ d) (first_type_count c f g n b ∙ ap (λ m. first_type m b) same) (ltb-false d (first_type n (inlined c f g b)) q))
+              (elim (nat_lt d (first_procedure n (inlined c f g b))) as (λ y. (if y then None
+              else option_and_then (λ inner. value_in_procedures (bind_names (named_types (section_types (inlined c f g ts)) ++ variable_names (section_variables (inlined c f g vs))) no_constant inner) d (first_procedure n (inlined c f g b)) (inlined c f g ps))
+              (declare_constants as_names known (section_constants (inlined c f g cs)))) ≡ Some w → Taken d (first_procedure k b) (procedures_declare ps) (spell ps) (spell (gone_procedures d (first_procedure k b) ps))) [
+                | true ↦ λ g0. absurd (cc)
+                | false ↦
+                    elim (declare_constants as_names known (section_constants (inlined c f g cs))) as (λ o. option_and_then (λ inner. value_in_procedures (bind_names (named_types (section_types (inlined c f g ts)) ++ variable_names (section_variables (inlined c f g vs))) no_constant inner) d (first_procedure n (inlined c f g b)) (inlined c f g ps)) o ≡ Some w
+                    → Taken d (first_procedure k b) (procedures_declare ps) (spell ps) (spell (gone_procedures d (first_procedure k b) ps))) [
+                      | None ↦ λ g0. absurd (cc)
+                      | Some inner ↦ λ g0.
+                          taken_procedures (bind_names (named_types (section_types (inlined c f g ts)) ++ variable_names (section_variables (inlined c f g vs))) no_constant inner)
+                          (first_procedure k b) (first_procedure n (inlined c f g b)) (first_procedure_count c f g n b ∙ ap (λ m. first_procedure m b) same) ps g0
+                    ]
+              ] h)
+        ] refl e
+
+    taken_procedures : (known : Known) (k n : ℕ) → n ≡ k → (ps : Tree ℕ (items procedure)) → value_in_procedures known d n (inlined c f g ps) ≡ Some w → Taken d k (procedures_declare ps) (spell ps) (spell (gone_procedures d k ps))
+    taken_procedures known k n same end e = absurd (cc)
+    taken_procedures known k n same (more q rest) e =
+        elim (nat_lt d (after_procedure (suc n) (inlined c f g q))) as (λ x. nat_lt d (after_procedure (suc n) (inlined c f g q)) ≡ x
+        → (if x then value_in_procedure ((procedure_name (inlined c f g q), no_constant) ∷ known) d (suc n) (inlined c f g q)
+        else value_in_procedures ((procedure_name (inlined c f g q), no_constant) ∷ known) d (after_procedure (suc n) (inlined c f g q)) (inlined c f g rest)) ≡ Some w
+        → Taken d k (procedures_declare (more q rest)) (spell (more q rest)) (spell (gone_procedures d k (more q rest)))) [
+          | true ↦ λ t h.
+              by_procedure q rest k (subst (λ m. d < m) (procedure_count c f g (suc n) q ∙ ap (λ m. after_procedure (suc m) q) same) (ltb-true d (after_procedure (suc n) (inlined c f g q)) t))
+              (taken_procedure ((procedure_name (inlined c f g q), no_constant) ∷ known) (suc k) (suc n) (ap suc same) q h)
+          | false ↦ λ t h.
+              by_rest q rest k (subst (λ m. m ≤ d) (procedure_count c f g (suc n) q ∙ ap (λ m. after_procedure (suc m) q) same) (ltb-false d (after_procedure (suc n) (inlined c f g q)) t))
+              (taken_procedures ((procedure_name (inlined c f g q), no_constant) ∷ known) (after_procedure (suc k) q) (after_procedure (suc n) (inlined c f g q))
+              (procedure_count c f g (suc n) q ∙ ap (λ m. after_procedure (suc m) q) same) rest h)
+        ] refl e
+
+    taken_procedure : (known : Known) (k n : ℕ) → n ≡ k → (q : Tree ℕ (item procedure)) → value_in_procedure known d n (inlined c f g q) ≡ Some w → Taken d k (procedure_declares q) (spell q) (spell (gone_procedure d k q))
+    taken_procedure known k n same (declares_procedure x fs b closing) e =
+        in_procedure x closing fs b k
+        (elim (nat_lt d (after_names n (formal_names (formal_sections (inlined c f g fs))))) as (λ y. (if y then None
+        else value_in_block (bind_names (formal_names (formal_sections (inlined c f g fs))) no_constant known) d (after_names n (formal_names (formal_sections (inlined c f g fs)))) (inlined c f g b)) ≡ Some w
+        → Taken d (after_names k (formal_names (formal_sections fs))) (block_declares b) (spell b) (spell (gone_block d (after_names k (formal_names (formal_sections fs))) b))) [
+          | true ↦ λ h. absurd (cc)
+          | false ↦ λ h.
+              taken_block (bind_names (formal_names (formal_sections (inlined c f g fs))) no_constant known) (after_names k (formal_names (formal_sections fs))) (after_names n (formal_names (formal_sections (inlined c f g fs))))
+              (formals_count c f g n fs ∙ ap (λ m. after_names m (formal_names (formal_sections fs))) same) b h
+        ] e)
+
+  pub taken_module : (m : Tree ℕ module_text) → value_of_constant (inlined c f g m) d ≡ Some w → Taken d 7 (block_declares (module_block m)) (spell m) (spell (gone_module d m))
+  unfolding value_of_constant
+  taken_module (is_module x b closing) e =
+      let left = spell (gone_block d 7 b) in
+      let tail : List (Lexeme ℕ) = Mark (kind.Reserved reserved.End) ∷ lexeme.Name closing ∷ (Mark (kind.Symbol symbol.Dot) ∷ []) in
+      put_before d 7 (block_declares b) (Mark (kind.Reserved reserved.Module) ∷ lexeme.Name x ∷ Mark (kind.Symbol symbol.Semicolon) ∷ []) (spell b ++ tail) (left ++ tail)
+      (put_behind d 7 (block_declares b) (spell b) left tail
+      (elim (nat_lt d 7) as (λ y. (if y then None else value_in_block predeclared_known d 7 (inlined c f g b)) ≡ Some w → Taken d 7 (block_declares b) (spell b) (spell (gone_block d 7 b)))
+      [ true ↦ λ h. absurd (cc) | false ↦ λ h. taken_block predeclared_known 7 7 refl b h ] e))
+
+-- these names are those of the identifiers that declare
+
+plain_part : {s : Sort} → IsPlain s → (t : Tree ℕ s) (xs : List (Role × ℕ)) → declaring_only (identifiers role.Declaring t ++ xs) ≡ declaring_only xs
+plain_part h t xs = declaring_only-append (identifiers role.Declaring t) xs ∙ ap (λ l. l ++ declaring_only xs) (declares_nothing h t).plain
+
+further_declared : (ns : Tree ℕ (items further_name)) → declaring_only (identifiers role.Declaring ns) ≡ further_names ns
+further_declared end = refl
+further_declared (more (then_name x) rest) = λ i. x ∷ further_declared rest i
+
+names_declared : (ns : Tree ℕ names) → declaring_only (identifiers role.Declaring ns) ≡ names_listed ns
+names_declared (listed x rest) = λ i. x ∷ further_declared rest i
+
+group_declared : {s : Sort} → IsPlain s → (ns : Tree ℕ names) (t : Tree ℕ s) (xs : List (Role × ℕ)) → declaring_only ((identifiers role.Declaring ns ++ identifiers role.Declaring t) ++ xs) ≡ names_listed ns ++ declaring_only xs
+group_declared h ns t xs =
+    declaring_only-append (identifiers role.Declaring ns ++ identifiers role.Declaring t) xs
+    ∙ (ap (λ l. l ++ declaring_only xs) (declaring_only-append (identifiers role.Declaring ns) (identifiers role.Declaring t) ∙ ((λ i. names_declared ns i ++ (declares_nothing h t).plain i) ∙ append-nil (names_listed ns))))
+
+constants_declared : (cs : Tree ℕ (items constant)) → declaring_only (identifiers role.Declaring cs) ≡ constant_names cs
+constants_declared end = refl
+constants_declared (more (declares_constant x e) cs) = λ i. x ∷ (plain_part tt e (identifiers role.Declaring cs) ∙ constants_declared cs) i
+
+types_declared : (ts : Tree ℕ (items type_name)) → declaring_only (identifiers role.Declaring ts) ≡ named_types ts
+types_declared end = refl
+types_declared (more (declares_type x t) ts) = λ i. x ∷ (plain_part tt t (identifiers role.Declaring ts) ∙ types_declared ts) i
+
+variables_declared : (vs : Tree ℕ (items variable)) → declaring_only (identifiers role.Declaring vs) ≡ variable_names vs
+variables_declared end = refl
+variables_declared (more (declares_variable ns t) vs) = group_declared tt ns t (identifiers role.Declaring vs) ∙ ap (λ l. names_listed ns ++ l) (variables_declared vs)
+
+sections_declared : (fs : Tree ℕ (items further_section)) → declaring_only (identifiers role.Declaring fs) ≡ formal_names fs
+sections_declared end = refl
+sections_declared (more (then_section (value_section ns t)) fs) = group_declared tt ns t (identifiers role.Declaring fs) ∙ ap (λ l. names_listed ns ++ l) (sections_declared fs)
+sections_declared (more (then_section (variable_section ns t)) fs) = group_declared tt ns t (identifiers role.Declaring fs) ∙ ap (λ l. names_listed ns ++ l) (sections_declared fs)
+
+formals_declared : (fs : Tree ℕ (maybe formals)) → declaring_only (identifiers role.Declaring fs) ≡ formal_names (formal_sections fs)
+formals_declared none = refl
+formals_declared (one no_formals) = refl
+formals_declared (one (some_formals s fs)) = sections_declared (more (then_section s) fs)
+
+constant_section_declared : (cs : Tree ℕ (maybe constants)) → declaring_only (identifiers role.Declaring cs) ≡ constant_names (section_constants cs)
+constant_section_declared none = refl
+constant_section_declared (one (declares_constants cs)) = constants_declared cs
+
+type_section_declared : (ts : Tree ℕ (maybe type_names)) → declaring_only (identifiers role.Declaring ts) ≡ named_types (section_types ts)
+type_section_declared none = refl
+type_section_declared (one (declares_types ts)) = types_declared ts
+
+variable_section_declared : (vs : Tree ℕ (maybe variables)) → declaring_only (identifiers role.Declaring vs) ≡ variable_names (section_variables vs)
+variable_section_declared none = refl
+variable_section_declared (one (declares_variables vs)) = variables_declared vs
+
+mutual
+  block_declared : (b : Tree ℕ block) → declaring_only (identifiers role.Declaring b) ≡ block_declares b
+  block_declared (has_body (declares cs ts vs ps) statements) =
+      let xs = identifiers role.Declaring cs in
+      let ys = identifiers role.Declaring ts in
+      let zs = identifiers role.Declaring vs in
+      let us = identifiers role.Declaring ps in
+      declaring_only-append (xs ++ (ys ++ (zs ++ us))) (identifiers role.Declaring statements)
+      ∙ ((λ i. declaring_only (xs ++ (ys ++ (zs ++ us))) ++ (declares_nothing tt statements).plain i)
+      ∙ (append-nil (declaring_only (xs ++ (ys ++ (zs ++ us))))
+      ∙ (declaring_only-append xs (ys ++ (zs ++ us))
+      ∙ (λ i. constant_section_declared cs i
+      ++ ((declaring_only-append ys (zs ++ us) ∙ (λ j. type_section_declared ts j ++ ((declaring_only-append zs us ∙ (λ l. variable_section_declared vs l ++ procedures_declared ps l)) j))) i)))))
+
+  procedures_declared : (ps : Tree ℕ (items procedure)) → declaring_only (identifiers role.Declaring ps) ≡ procedures_declare ps
+  procedures_declared end = refl
+  procedures_declared (more p rest) =
+      declaring_only-append (identifiers role.Declaring p) (identifiers role.Declaring rest) ∙ (λ i. procedure_declared p i ++ procedures_declared rest i)
+
+  procedure_declared : (p : Tree ℕ (item procedure)) → declaring_only (identifiers role.Declaring p) ≡ procedure_name p ∷ procedure_declares p
+  procedure_declared (declares_procedure x fs b closing) =
+      let us = identifiers role.Declaring fs in
+      let vs = identifiers role.Declaring b in
+      λ i. x ∷ (declaring_only-append us (vs ++ ((role.ClosingName, closing) ∷ []))
+      ∙ (λ j. formals_declared fs j ++ ((declaring_only-append vs ((role.ClosingName, closing) ∷ []) ∙ (append-nil (declaring_only vs) ∙ block_declared b)) j))) i
+
+pub module_declared : (m : Tree ℕ module_text) → declaring_only (identifiers role.Declaring m) ≡ block_declares (module_block m)
+module_declared (is_module x b closing) =
+    declaring_only-append (identifiers role.Declaring b) ((role.ModuleName, closing) ∷ []) ∙ (append-nil (declaring_only (identifiers role.Declaring b)) ∙ block_declared b)
+
+-- a tree without a declaration has factors for no other names
+module _ {M : Type 0} (c : ℕ → Option (Tree M factor)) (d : ℕ) where
+  replaces_constants : (k : ℕ) (cs : Tree ℕ (items constant)) → ReplacesFactors c cs → ReplacesFactors c (gone_constants d k cs)
+  replaces_constants k end h = tt
+  replaces_constants k (more x cs) h =
+      elim (k == d) as (λ b. ReplacesFactors c (if b then cs else more x (gone_constants d (suc k) cs))) [ true ↦ h.1 | false ↦ (h.0, replaces_constants (suc k) cs h.1) ]
+
+  replaces_section : (k : ℕ) (cs : Tree ℕ (maybe constants)) → ReplacesFactors c cs → ReplacesFactors c (gone_section d k cs)
+  replaces_section k none h = tt
+  replaces_section k (one (declares_constants cs)) h = replaces_constants k cs h
+
+  mutual
+    replaces_block : (k : ℕ) (b : Tree ℕ block) → ReplacesFactors c b → ReplacesFactors c (gone_block d k b)
+    replaces_block k (has_body (declares cs ts vs ps) statements) h =
+        ((replaces_section k cs h.0.0, h.0.1, h.0.2, replaces_procedures (first_procedure k (has_body (declares cs ts vs ps) statements)) ps h.0.3), h.1)
+
+    replaces_procedures : (k : ℕ) (ps : Tree ℕ (items procedure)) → ReplacesFactors c ps → ReplacesFactors c (gone_procedures d k ps)
+    replaces_procedures k end h = tt
+    replaces_procedures k (more p rest) h = (replaces_procedure (suc k) p h.0, replaces_procedures (after_procedure (suc k) p) rest h.1)
+
+    replaces_procedure : (k : ℕ) (p : Tree ℕ (item procedure)) → ReplacesFactors c p → ReplacesFactors c (gone_procedure d k p)
+    replaces_procedure k (declares_procedure x fs b closing) h = (h.0, h.1, replaces_block (after_names k (formal_names (formal_sections fs))) b h.2, h.3)
+
+  pub replaces_module : (m : Tree ℕ module_text) → ReplacesFactors c m → ReplacesFactors c (gone_module d m)
+  replaces_module (is_module x b closing) h = (h.0, replaces_block 7 b h.1, h.2)

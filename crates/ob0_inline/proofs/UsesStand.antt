@@ -1,0 +1,202 @@
+-- Tokens of occurrences that are bound to a constant: they are names in text order, and stand alone as factors.
+use Rattle.std.proofs.Common.{◌≡◌, ◌≢◌, ℕ, zero, suc, ◌+◌, ◌<◌, ◌≤◌, ◌==◌, ◌||◌, Bool, true, false, if◌then◌else◌, Option, Some, None, List, [], ◌∷◌, ◌++◌, map, length, refl, sym, ap, ◌∙◌, subst, arith, slice_get, eqb-true, eq-eqb, true≢false}
+use Rattle.std.specs.List.{All}
+use Rattle.std.proofs.lemmas.List.Elements.{All-head, All-tail}
+use Rattle.ob0_scan.specs.declared.lexeme.Token.{Token}
+use Rattle.ob0_scan.specs.Scanned.{Scanned, read_in}
+use Rattle.ob0_tree.specs.declared.tree.Role.{Role}
+use Rattle.ob0_tree.specs.declared.tree.Role.TheVariants as role
+use Rattle.ob0_tree.specs.Order.{AreIdentifiers, Ascending, IsIdentifier, names_only}
+use Rattle.ob0_tree.specs.Parsed.{named_tree_of, tree_of}
+use Rattle.ob0_tree.specs.Places as leaf
+use Rattle.ob0_tree.specs.Tree.{Tree, factor, identifiers, mapped, occurrences}
+use Rattle.ob0_tree.proofs.Leaves.{leaves_are_identifiers, leaves_ascend}
+use Rattle.ob0_tree.proofs.Occurring.{looked_up_only, looked_up-occurrences}
+use Rattle.ob0_edits.specs.Changed.{is_among, words_of}
+use Rattle.ob0_edits.specs.Inlined.{ReplacesFactors, inlined}
+use Rattle.ob0_edits.specs.OfTrees.{factor_at, number_at, text_at, word_at}
+use Rattle.ob0_edits.specs.Replaced.{AreNames, token_at}
+use Rattle.ob0_edits.specs.Written.{name_word}
+use Rattle.ob0_scope.specs.Elsewhere.{names_elsewhere}
+use Rattle.ob0_scope.specs.Inlining.{Uses, inline_in}
+use Rattle.ob0_scope.specs.Names.{Label, Name, as_names, declared}
+use Rattle.ob0_scope.specs.Occurrences.{binds}
+use Rattle.ob0_scope.specs.Resolution.{IsResolution, Resolution, label_at, ordinal_in}
+use Rattle.ob0_scope.specs.Scopes.{as_label, numbered}
+use Rattle.ob0_scope.proofs.Bound.{bound_at}
+use Rattle.ob0_scope.proofs.SeenInPlaces.{AllTold, Told, occurrence_table, uses_told}
+use Rattle.ob0_inline.proofs.Alone.{NoneFor, NoneOther, alone, elsewhere-mapped}
+use Rattle.ob0_inline.proofs.OnOccurrences.{agrees_each, same}
+
+-- identifiers in text order are names in text order
+pub names_from : (ts : List Token) (low high : ℕ) (is : List ℕ) → Ascending low is high → AreIdentifiers ts is → AreNames ts low is
+names_from ts low high [] a h = tt
+names_from ts low high (i ∷ is) a h =
+    let next : i + 1 ≡ suc i = omega arith in
+    (a.0, h.0.0, h.0.1 _, subst (λ n. AreNames ts n is) next (names_from ts (i + 1) high is a.1 h.1))
+
+lowered : (low higher high : ℕ) (xs : List ℕ) → low ≤ higher → Ascending higher xs high → Ascending low xs high
+lowered low higher high [] le a = omega (arith, le, a)
+lowered low higher high (x ∷ xs) le a = (omega (arith, le, a.0), a.1)
+
+-- of the identifiers of a module those that are looked up
+looked_up_ascend : (low high : ℕ) (xs : List (Role × ℕ)) → Ascending low (names_only xs) high → Ascending low (looked_up_only xs) high
+looked_up_ascend low high [] a = a
+looked_up_ascend low high ((role.LookedUp, i) ∷ xs) a = (a.0, looked_up_ascend (i + 1) high xs a.1)
+looked_up_ascend low high ((role.Declaring, i) ∷ xs) a = lowered low (i + 1) high _ (omega (arith, a.0)) (looked_up_ascend (i + 1) high xs a.1)
+looked_up_ascend low high ((role.ClosingName, i) ∷ xs) a = lowered low (i + 1) high _ (omega (arith, a.0)) (looked_up_ascend (i + 1) high xs a.1)
+looked_up_ascend low high ((role.FieldName, i) ∷ xs) a = lowered low (i + 1) high _ (omega (arith, a.0)) (looked_up_ascend (i + 1) high xs a.1)
+looked_up_ascend low high ((role.ModuleName, i) ∷ xs) a = lowered low (i + 1) high _ (omega (arith, a.0)) (looked_up_ascend (i + 1) high xs a.1)
+
+looked_up_stand : (ts : List Token) (xs : List (Role × ℕ)) → AreIdentifiers ts (names_only xs) → AreIdentifiers ts (looked_up_only xs)
+looked_up_stand ts [] h = tt
+looked_up_stand ts ((role.LookedUp, i) ∷ xs) h = (h.0, looked_up_stand ts xs h.1)
+looked_up_stand ts ((role.Declaring, i) ∷ xs) h = looked_up_stand ts xs h.1
+looked_up_stand ts ((role.ClosingName, i) ∷ xs) h = looked_up_stand ts xs h.1
+looked_up_stand ts ((role.FieldName, i) ∷ xs) h = looked_up_stand ts xs h.1
+looked_up_stand ts ((role.ModuleName, i) ∷ xs) h = looked_up_stand ts xs h.1
+
+found_looked_up : (r : Resolution) → IsResolution r → looked_up_only (identifiers role.Declaring (tree_of r.module_read)) ≡ r.uses
+found_looked_up r is = looked_up-occurrences role.Declaring (λ n xs. refl) (tree_of r.module_read) ∙ sym is.occurring
+
+pub uses_ascend : (r : Resolution) → IsResolution r → Ascending 0 r.uses (length r.module_read.source.tokens)
+uses_ascend r is =
+    let m = r.module_read in
+    subst (λ xs. Ascending 0 xs (length m.source.tokens)) (found_looked_up r is)
+    (looked_up_ascend 0 (length m.source.tokens) (identifiers role.Declaring (tree_of m)) (leaves_ascend m is.parsed))
+
+pub uses_are_identifiers : (r : Resolution) → IsResolution r → AreIdentifiers r.module_read.source.tokens r.uses
+uses_are_identifiers r is =
+    let m = r.module_read in
+    subst (AreIdentifiers m.source.tokens) (found_looked_up r is) (looked_up_stand m.source.tokens (identifiers role.Declaring (tree_of m)) (leaves_are_identifiers m is.parsed))
+
+pub inside : {a b : ℕ} → Some a ≡ Some b → a ≡ b
+inside {a} e = ap (λ (o : Option ℕ). elim o [ Some n ↦ n | None ↦ a ]) e
+
+pub one_identifier : (ts : List Token) (is : List ℕ) (k i : ℕ) → AreIdentifiers ts is → slice_get is k ≡ Some i → IsIdentifier ts i
+one_identifier ts [] k i h e = absurd (cc)
+one_identifier ts (x ∷ is) zero i h e = subst (IsIdentifier ts) (inside e) h.0
+one_identifier ts (x ∷ is) (suc k) i h e = one_identifier ts is k i h.1 e
+
+-- the places are tokens of occurrences that are bound to d
+abbrev pub AreBound : Resolution → ℕ → List ℕ → Type 0
+AreBound r d [] = Unit {0}
+AreBound r d (p ∷ ps) = (((k : ℕ) × (slice_get r.uses k ≡ Some p)) × (ordinal_in r.ordinals p ≡ Some d)) × AreBound r d ps
+
+in_table : (table : List (Option ℕ)) (xs : List (Role × ℕ)) (k i : ℕ) → AllTold table xs → slice_get (looked_up_only xs) k ≡ Some i → ordinal_in table i ≡ Some 0
+in_table table [] k i a e = absurd (cc)
+in_table table ((role.LookedUp, x) ∷ xs) zero i a e = ap (ordinal_in table) (sym (inside e)) ∙ a.0
+in_table table ((role.LookedUp, x) ∷ xs) (suc k) i a e = in_table table xs k i a.1 e
+in_table table ((role.Declaring, x) ∷ xs) k i a e = in_table table xs k i a.1 e
+in_table table ((role.ClosingName, x) ∷ xs) k i a e = in_table table xs k i a.1 e
+in_table table ((role.FieldName, x) ∷ xs) k i a e = in_table table xs k i a.1 e
+in_table table ((role.ModuleName, x) ∷ xs) k i a e = in_table table xs k i a.1 e
+
+-- a token among the places is that of an occurrence, and bound to d
+record AtBound (r : Resolution) (d i : ℕ) : Type 0 where
+  occurs : ordinal_in (occurrence_table r) i ≡ Some 0
+  bound : ordinal_in r.ordinals i ≡ Some d
+
+among_bound : (r : Resolution) → IsResolution r → (d i : ℕ) (places : List ℕ) → AreBound r d places → is_among i places ≡ true → AtBound r d i
+among_bound r is d i [] h e = absurd (true≢false (sym e))
+among_bound r is d i (p ∷ ps) h e = by_test (i == p) refl e (among_bound r is d i ps h.1)
+  where
+    by_test : (b : Bool) → (i == p) ≡ b → (b || is_among i ps) ≡ true → (is_among i ps ≡ true → AtBound r d i) → AtBound r d i
+    by_test true q e later =
+        let k = h.0.0 in
+        let here : i ≡ p = eqb-true i p q in
+        let there : slice_get (looked_up_only (identifiers role.Declaring (tree_of r.module_read))) k.0 ≡ Some p = ap (λ us. slice_get us k.0) (found_looked_up r is) ∙ k.1 in
+        record {
+          occurs = ap (ordinal_in (occurrence_table r)) here ∙ in_table (occurrence_table r) (identifiers role.Declaring (tree_of r.module_read)) k.0 p (uses_told r is) there;
+          bound = ap (ordinal_in r.ordinals) here ∙ h.0.1;
+        }
+    by_test false q e later = later e
+
+nothing_at : (places : List ℕ) (v : Tree Name factor) (i : ℕ) → (is_among i places ≡ true → ⊥) → factor_at places v i ≡ None
+nothing_at places v i h =
+    (elim (is_among i places) as (λ b. is_among i places ≡ b → (if b then Some v else None) ≡ None) [ true ↦ (λ e. absurd (h e)) | false ↦ (λ e. refl) ]) refl
+
+none_other : (r : Resolution) → IsResolution r → (d : ℕ) (v : Tree Name factor) (places : List ℕ) → AreBound r d places → (xs : List (Role × ℕ)) → AllTold (occurrence_table r) xs → NoneOther (factor_at places v) xs
+none_other r is d v places h [] a = tt
+none_other r is d v places h ((role.LookedUp, i) ∷ xs) a = (tt, none_other r is d v places h xs a.1)
+none_other r is d v places h ((role.Declaring, i) ∷ xs) a = (nothing_at places v i (λ e. let z = among_bound r is d i places h e in let w = z.occurs in let u = a.0 in cc), none_other r is d v places h xs a.1)
+none_other r is d v places h ((role.ClosingName, i) ∷ xs) a = (nothing_at places v i (λ e. let z = among_bound r is d i places h e in let w = z.occurs in let u = a.0 in cc), none_other r is d v places h xs a.1)
+none_other r is d v places h ((role.FieldName, i) ∷ xs) a = (nothing_at places v i (λ e. let z = among_bound r is d i places h e in let w = z.occurs in let u = a.0 in cc), none_other r is d v places h xs a.1)
+none_other r is d v places h ((role.ModuleName, i) ∷ xs) a = (nothing_at places v i (λ e. let z = among_bound r is d i places h e in let w = z.occurs in let u = a.0 in cc), none_other r is d v places h xs a.1)
+
+none_elsewhere : (r : Resolution) → IsResolution r → (d : ℕ) (v : Tree Name factor) (places : List ℕ) → AreBound r d places → (xs : List ℕ)
+    → All (λ l. l ≢ declared d) (map (label_at r.module_read.source r.ordinals) xs) → NoneFor (factor_at places v) xs
+none_elsewhere r is d v places h [] a = tt
+none_elsewhere r is d v places h (i ∷ xs) a =
+    let m = r.module_read in
+    let here = All-head (λ (l : Label). l ≢ declared d) (label_at m.source r.ordinals i) (map (label_at m.source r.ordinals) xs) a in (
+      nothing_at places v i (λ e. here (ap (λ o. as_label as_names o (leaf.text_at m.source i)) (among_bound r is d i places h e).bound)),
+      none_elsewhere r is d v places h xs (All-tail (λ (l : Label). l ≢ declared d) (label_at m.source r.ordinals i) (map (label_at m.source r.ordinals) xs) a),
+    )
+
+-- the uses of a constant, of which none stands elsewhere, stand alone as factors
+pub stand_alone : (r : Resolution) → IsResolution r → (d : ℕ) (v : Tree Name factor) (places : List ℕ) → AreBound r d places → All (λ l. l ≢ declared d) (names_elsewhere (numbered (named_tree_of r.module_read)))
+    → ReplacesFactors (factor_at places v) (tree_of r.module_read)
+stand_alone r is d v places h a =
+    let m = r.module_read in
+    let elsewhere : names_elsewhere (numbered (named_tree_of m)) ≡ map (label_at m.source r.ordinals) (names_elsewhere (tree_of m)) =
+    ap names_elsewhere is.numbering ∙ elsewhere-mapped (label_at m.source r.ordinals) (leaf.value_at m.source) (tree_of m) in
+    alone (factor_at places v) role.Declaring (λ i g. g) (tree_of m)
+    (none_other r is d v places h (identifiers role.Declaring (tree_of m)) (uses_told r is))
+    (none_elsewhere r is d v places h (names_elsewhere (tree_of m)) (subst (All (λ l. l ≢ declared d)) elsewhere a))
+
+-- the words of a text and its tokens
+word_text : (text : List ℕ) (ts : List Token) (k : ℕ) → text_at (map (read_in text) ts) k ≡ leaf.text_in text (slice_get ts k)
+word_text text [] k = refl
+word_text text (t ∷ ts) zero = refl
+word_text text (t ∷ ts) (suc k) = word_text text ts k
+
+word_number : (text : List ℕ) (ts : List Token) (k : ℕ) → number_at (map (read_in text) ts) k ≡ leaf.value_in (slice_get ts k)
+word_number text [] k = refl
+word_number text (t ∷ ts) zero = refl
+word_number text (t ∷ ts) (suc k) = word_number text ts k
+
+-- a factor at the tokens of some occurrences is that factor in the place of these occurrences
+pub inlined_by_number : (r : Resolution) (places : List ℕ) (uses : Uses) (v : Tree Name factor) → IsResolution r
+    → ((j i : ℕ) → slice_get r.uses j ≡ Some i → is_among i places ≡ uses j)
+    → inlined (factor_at places v) (text_at (words_of r.module_read.source)) (number_at (words_of r.module_read.source)) (tree_of r.module_read) ≡ inline_in uses v 0 (named_tree_of r.module_read)
+inlined_by_number r places uses v is agree =
+    let m = r.module_read in
+    let c = factor_at places v in
+    (λ i. inlined c (λ k. word_text m.source.text m.source.tokens k i) (λ k. word_number m.source.text m.source.tokens k i) (tree_of m))
+    ∙ same c uses v (leaf.text_at m.source) (leaf.value_at m.source) 0 (tree_of m)
+    (agrees_each c uses v 0 (occurrences (tree_of m)) (λ j i e.
+    let at : slice_get r.uses j ≡ Some i = ap (λ us. slice_get us j) is.occurring ∙ e in
+    let zero_more : j ≡ 0 + j = omega arith in
+    ap (λ (b : Bool). if b then Some v else None) (agree j i at ∙ ap uses zero_more)))
+
+-- tokens of occurrences ascend, so each is that of one occurrence
+pub above : (low high : ℕ) (is : List ℕ) (j i : ℕ) → Ascending low is high → slice_get is j ≡ Some i → low ≤ i
+above low high [] j i a e = absurd (cc)
+above low high (x ∷ is) zero i a e = subst (λ n. low ≤ n) (inside e) a.0
+above low high (x ∷ is) (suc j) i a e = let more = above (x + 1) high is j i a.1 e in omega (arith, more, a.0)
+
+not_equal : (i p : ℕ) → i ≢ p → (i == p) ≡ false
+not_equal i p h = (elim (i == p) as (λ b. (i == p) ≡ b → b ≡ false) [ true ↦ (λ e. absurd (h (eqb-true i p e))) | false ↦ (λ e. refl) ]) refl
+
+next_same : (j k : ℕ) → (j == k) ≡ (suc j == suc k)
+next_same j k =
+    (elim (j == k) as (λ b. (j == k) ≡ b → b ≡ (suc j == suc k)) [
+      | true ↦ (λ e. sym (eq-eqb (suc j) (suc k) (ap suc (eqb-true j k e))))
+      | false ↦ (λ e. sym (not_equal (suc j) (suc k) (λ q. let back : j ≡ k = omega (arith, q) in true≢false (sym (eq-eqb j k back) ∙ e))))
+    ]) refl
+
+pub one_place : (low high : ℕ) (is : List ℕ) (j k i p : ℕ) → Ascending low is high → slice_get is j ≡ Some i → slice_get is k ≡ Some p → (i == p) ≡ (j == k)
+one_place low high [] j k i p a e f = absurd (cc)
+one_place low high (x ∷ is) zero zero i p a e f = eq-eqb i p (inside (sym e ∙ f))
+one_place low high (x ∷ is) zero (suc k) i p a e f =
+    let here : x ≡ i = inside e in
+    let later = above (x + 1) high is k p a.1 f in
+    let apart : i ≢ p = omega (arith, here, later) in
+    not_equal i p apart ∙ sym (not_equal 0 (suc k) (omega arith))
+one_place low high (x ∷ is) (suc j) zero i p a e f =
+    let here : x ≡ p = inside f in
+    let later = above (x + 1) high is j i a.1 e in
+    let apart : i ≢ p = omega (arith, here, later) in
+    not_equal i p apart ∙ sym (not_equal (suc j) 0 (omega arith))
+one_place low high (x ∷ is) (suc j) (suc k) i p a e f = one_place (x + 1) high is j k i p a.1 e f ∙ next_same j k

@@ -1,0 +1,4 @@
+pub mod Values
+pub mod Inlined
+pub mod Declarations
+pub mod Uses

@@ -1,0 +1,79 @@
+-- A use of a constant that a place is on, what its inlining makes of the module, and what refuses it.
+use Rattle.std.specs.Prelude.{◌≡◌, ◌⊎◌, ℕ, Bool, true, false, nat_lt, if◌then◌else◌, List, [], ◌∷◌, Option, Some, None, Result, Ok, Err, Vec, length, map, slice_get}
+use Rattle.std.specs.declared.alloc.Global.{Global}
+use Rattle.ob0_scan.specs.Scanned.{max_text}
+use Rattle.ob0_text.specs.declared.edits.Edit.{Edit}
+use Rattle.ob0_text.specs.declared.positions.Unit as counting
+use Rattle.ob0_text.specs.declared.refusals.EditRefusal.{EditRefusal}
+use Rattle.ob0_text.specs.declared.refusals.EditRefusal.TheVariants.{Memory, NoName, Shadowed, TooDeep, TooLong}
+use Rattle.ob0_tree.specs.Parsed.{Parsed, named_tree_of, tree_of}
+use Rattle.ob0_tree.specs.Tree.{Tree, module_text, nesting, occurrences}
+use Rattle.ob0_edits.specs.Replaced.{edit_at, parts, with_text_at}
+use Rattle.ob0_edits.specs.Written.{truth_text}
+use Rattle.ob0_scope.specs.Inlining.{inlined, only}
+use Rattle.ob0_scope.specs.Names.{Name}
+use Rattle.ob0_scope.specs.Occurrences.{binds}
+use Rattle.ob0_scope.specs.Scopes.{same_ordinal}
+use Rattle.ob0_scope.specs.SeenNames.{sees}
+use Rattle.ob0_values.specs.declared.scalar.Scalar.{Scalar}
+use Rattle.ob0_values.specs.declared.scalar.Scalar.TheVariants as scalar
+use Rattle.ob0_values.specs.Scalars.{scalar_value}
+use Rattle.ob0_refs.specs.Standing.{name_on}
+use Rattle.ob0_types.specs.ConstantValues.{value_of_constant}
+use Rattle.ob0_types.specs.WellTyped.{WellTyped}
+use Rattle.ob0_run.specs.EditLaws.{SameRuns}
+use Rattle.ob0_inline.specs.declared.uses.Use.{Use}
+use Rattle.ob0_inline.specs.Inlined.{LeavesModule}
+use Rattle.ob0_inline.specs.Values.{value_factor, value_text}
+
+-- The place is on this use: its token is that of an occurrence, which is bound to a constant of a CONST section.
+pub record IsUseAt (m : Parsed) (offset : ℕ) (u : Use) : Type 0 where
+  pub named : name_on m offset ≡ Some (record { token = u.token; ordinal = u.constant })
+  pub occurs : slice_get (occurrences (tree_of m)) u.occurrence ≡ Some u.token
+  pub worth : value_of_constant (named_tree_of m) u.constant ≡ Some (scalar_value u.value)
+
+-- An occurrence, its token, and the constant to which it is bound.
+pub record IsUse (m : Parsed) (u : Use) : Type 0 where
+  pub occurs : slice_get (occurrences (tree_of m)) u.occurrence ≡ Some u.token
+  pub bound : binds (named_tree_of m) u.occurrence ≡ Some u.constant
+  pub worth : value_of_constant (named_tree_of m) u.constant ≡ Some (scalar_value u.value)
+
+-- the ordinals of the predeclared TRUE and FALSE
+abbrev pub truth_ordinal : Bool → ℕ
+truth_ordinal true = 2
+truth_ordinal false = 3
+
+-- where TRUE or FALSE would be written in the place of an occurrence, it is the predeclared one
+abbrev pub is_shown : Tree Name module_text → ℕ → Scalar → Bool
+is_shown m occurrence (scalar.Number n) = true
+is_shown m occurrence (scalar.Truth b) = same_ordinal (sees m occurrence (truth_text b)) (truth_ordinal b)
+
+-- the module with the value in the place of the use
+abbrev pub inlined_here : Parsed → Use → Tree Name module_text
+inlined_here m u = inlined (named_tree_of m) (only u.occurrence) (value_factor u.value)
+
+-- the first of the refusals that apply to a use; None where none applies
+abbrev pub refusal_here : Parsed → Use → Option EditRefusal
+refusal_here m u =
+    if nat_lt max_text (length (with_text_at m.source (u.token ∷ []) (value_text u.value))) then Some TooLong
+    else if nat_lt 100 (nesting (inlined_here m u)) then Some TooDeep
+    else if is_shown (named_tree_of m) u.occurrence u.value then None
+    else Some Shadowed
+
+-- These edits write the value in the place of the use and touch no other character. They leave the text of the inlined
+-- module, which is well-typed and has the same runs.
+pub record InlinesHere (unit : counting.Unit) (text : List ℕ) (m : Parsed) (u : Use) (edits : List Edit) : Type 0 where
+  pub here : map parts edits ≡ edit_at unit text m.source.tokens (value_text u.value) u.token ∷ []
+  pub leaves : LeavesModule unit text edits (inlined_here m u)
+  pub well_typed : WellTyped (inlined_here m u)
+  pub same_runs : SameRuns (inlined_here m u) (named_tree_of m)
+
+-- The edits where nothing refuses a use, else the first refusal; want of memory may stand for either.
+abbrev pub AnswersUse : counting.Unit → List ℕ → Parsed → Use → Result (Vec Edit Global) EditRefusal → Type 0
+AnswersUse unit text m u (Ok edits) = (refusal_here m u ≡ None) × InlinesHere unit text m u edits.items
+AnswersUse unit text m u (Err refusal) = (refusal_here m u ≡ Some refusal) ⊎ (refusal ≡ Memory)
+
+-- the answer at a place: that of the use that it is on, and NoName where it is on none
+abbrev pub AnswersHere : counting.Unit → List ℕ → Parsed → ℕ → Result (Vec Edit Global) EditRefusal → Type 0
+AnswersHere unit text m offset answer =
+    ((u : Use) × IsUseAt m offset u × AnswersUse unit text m u answer) ⊎ ((answer ≡ Err NoName) × ((u : Use) → IsUseAt m offset u → ⊥))

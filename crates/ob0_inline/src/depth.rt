@@ -1,0 +1,70 @@
+//! How deep a text is nested once it is edited.
+
+ghost use Rattle.std.specs.Prelude.{◌≡◌, List, IfOk, IfErr, map, nat_le, nat_lt, ℕ};
+ghost use Rattle.ob0_edits.specs.Replaced.{LeavesWords};
+ghost use Rattle.ob0_edits.specs.Words.{word_lexeme};
+ghost use Rattle.ob0_scan.specs.Scanned.{IsScan, Scanned, Word};
+ghost use Rattle.ob0_text.specs.declared.refusals.EditRefusal.TheVariants.{Memory};
+ghost use Rattle.ob0_tree.specs.Module.{text_lexemes};
+ghost use Rattle.ob0_tree.specs.Tree.{Tree, module_text, nesting, spell};
+
+use ob0_parse::parse;
+use ob0_parse::refusal::ParseRefusal;
+use ob0_scan::{ScanRefusal, Tokens, scan};
+use ob0_text::{Edit, EditRefusal, PatchFault, TextStore, patch};
+use std::alloc::Global;
+
+/// Whether the text that these edits make is nested deeper than a module may be.
+pub(crate) fn is_too_deep<T: TextStore>(
+    alloc: Global,
+    store: &T,
+    edits: &[Edit],
+) -> Result<bool, EditRefusal>
+    ensures deep { (ws : List Word) (t : Tree (List ℕ) module_text) → LeavesWords (T.unit_of store.now) (T.content store.now) edits.now ws → map word_lexeme ws ≡ spell t
+        → IfOk result (λ deep. deep ≡ nat_lt 100 (nesting t)) }
+    ensures memory { IfErr result (λ refusal. refusal ≡ Memory) }
+{
+    match patch(alloc, store, edits) {
+        Ok(text) => {
+            let module = is_module(alloc, text.as_str())?;
+            Ok(!module)
+        }
+        Err(fault) => match fault {
+            PatchFault::Overlap => Ok(true),
+            PatchFault::Memory => Err(EditRefusal::Memory),
+        },
+    }
+}
+
+/// Whether a text that has the tokens of a tree is a module: then the tree is nested no deeper than a module may be.
+fn is_module(alloc: Global, text: &str) -> Result<bool, EditRefusal>
+    ensures shallow { (s : Scanned) (t : Tree (List ℕ) module_text) → IsScan s → s.text ≡ text.now → text_lexemes s ≡ spell t
+        → IfOk result (λ shallow. shallow ≡ nat_le (nesting t) 100) }
+    ensures memory { IfErr result (λ refusal. refusal ≡ Memory) }
+{
+    match scan(alloc, text) {
+        Ok(tokens) => is_parsed(alloc, &tokens),
+        Err(refusal) => match refusal {
+            ScanRefusal::Faults(_faults) => Ok(false),
+            ScanRefusal::Memory => Err(EditRefusal::Memory),
+        },
+    }
+}
+
+/// The same of its tokens.
+fn is_parsed(alloc: Global, tokens: &Tokens) -> Result<bool, EditRefusal>
+    ensures shallow { (t : Tree (List ℕ) module_text) → text_lexemes tokens.now ≡ spell t → IfOk result (λ shallow. shallow ≡ nat_le (nesting t) 100) }
+    ensures memory { IfErr result (λ refusal. refusal ≡ Memory) }
+{
+    match parse(alloc, tokens) {
+        Ok(_module) => Ok(true),
+        Err(refusal) => match refusal {
+            ParseRefusal::Syntax {
+                token: _,
+                expected: _,
+            } => Ok(false),
+            ParseRefusal::TooDeep { token: _ } => Ok(false),
+            ParseRefusal::Memory => Err(EditRefusal::Memory),
+        },
+    }
+}

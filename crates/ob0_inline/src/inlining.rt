@@ -1,0 +1,60 @@
+//! The edits that inline a constant, here or everywhere.
+
+ghost use Rattle.std.specs.Prelude.{◌≡◌};
+ghost use Rattle.std.specs.Str.{chars};
+ghost use Rattle.ob0_text.specs.Texts.{offset_of};
+ghost use Rattle.ob0_text.specs.Units.{width_of};
+ghost use Rattle.ob0_inline.specs.Uses.{AnswersHere, AnswersUse, IsUse};
+
+use crate::shown::is_shown;
+use crate::uses::{Use, use_at};
+use crate::writing::edits_at;
+use crate::written::is_scalar;
+use ob0_run::laws::inlining_keeps_modules;
+use ob0_text::{Edit, EditRefusal, Position, TextStore};
+use ob0_types::checked::WellTyped;
+use ob0_types::laws::constants_stand_alone;
+use std::alloc::Global;
+
+/// The edit that writes a constant's value in the place of the use of it that a place is on.
+pub fn inline_here<T: TextStore>(
+    alloc: Global,
+    store: &T,
+    module: &WellTyped,
+    place: Position,
+) -> Result<Vec<Edit>, EditRefusal>
+    requires content { T.content store.now ≡ chars «module».now.module_read.source.text }
+    ensures { AnswersHere (T.unit_of store.now) (T.content store.now) «module».now.module_read (offset_of (width_of (T.unit_of store.now)) (T.content store.now) place) result }
+{
+    match use_at(module, store.offset(place)) {
+        Some(found) => inline_use(alloc, store, module, found),
+        None => Err(EditRefusal::NoName),
+    }
+}
+
+/// The same at a use.
+fn inline_use<T: TextStore>(
+    alloc: Global,
+    store: &T,
+    module: &WellTyped,
+    found: Use,
+) -> Result<Vec<Edit>, EditRefusal>
+    requires content { T.content store.now ≡ chars «module».now.module_read.source.text }
+    requires is_use { IsUse «module».now.module_read found }
+    ensures { AnswersUse (T.unit_of store.now) (T.content store.now) «module».now.module_read found result }
+{
+    constants_stand_alone();
+    inlining_keeps_modules();
+    is_scalar(found.value);
+    let names = module.resolved();
+    match edits_at(alloc, store, names, &[found.token], found.value) {
+        Ok(edits) => {
+            if is_shown(alloc, names, found.occurrence, found.value)? {
+                Ok(edits)
+            } else {
+                Err(EditRefusal::Shadowed)
+            }
+        }
+        Err(refusal) => Err(refusal),
+    }
+}

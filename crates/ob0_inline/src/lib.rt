@@ -1,0 +1,14 @@
+//! Inlining a constant: the edits that write its value in the place of its name.
+#![tactic(auto)]
+
+mod depth;
+mod inlining;
+mod shown;
+#[cfg(test)]
+mod tests;
+mod uses;
+mod writing;
+mod written;
+
+pub use inlining::inline_here;
+pub use uses::Use;

@@ -1,0 +1,66 @@
+//! Where TRUE and FALSE are the predeclared ones.
+
+ghost use Rattle.std.specs.Prelude.{◌≡◌, IfOk, ◌==◌, option_and_then, slice_get};
+ghost use Rattle.ob0_tree.specs.Parsed.{named_tree_of};
+ghost use Rattle.ob0_scope.specs.Scopes.{same_ordinal};
+ghost use Rattle.ob0_scope.specs.SeenNames.{sees};
+ghost use Rattle.ob0_inline.specs.Uses.{is_shown};
+
+use ob0_scope::resolved::Resolved;
+use ob0_scope::seen::seen;
+use ob0_values::scalar::Scalar;
+use std::alloc::{AllocError, Global};
+
+/// The ordinals of the predeclared TRUE and FALSE.
+const TRUE: usize = 2;
+
+const FALSE: usize = 3;
+
+/// Whether the name that would be written for a value in the place of an occurrence is the predeclared one. A number has
+/// none.
+pub(crate) fn is_shown(
+    alloc: Global,
+    names: &Resolved,
+    occurrence: usize,
+    value: Scalar,
+) -> Result<bool, AllocError>
+    ensures { IfOk result (λ shown. shown ≡ is_shown (named_tree_of names.now.module_read) occurrence value) }
+{
+    match value {
+        Scalar::Number(_) => Ok(true),
+        Scalar::Truth(true) => is_seen(alloc, names, occurrence, "TRUE", TRUE),
+        Scalar::Truth(false) => is_seen(alloc, names, occurrence, "FALSE", FALSE),
+    }
+}
+
+/// Whether a name would be bound to this declaration in the place of an occurrence.
+fn is_seen(
+    alloc: Global,
+    names: &Resolved,
+    occurrence: usize,
+    name: &str,
+    ordinal: usize,
+) -> Result<bool, AllocError>
+    ensures { IfOk result (λ is. is ≡ same_ordinal (sees (named_tree_of names.now.module_read) occurrence name.now) ordinal) }
+{
+    let bound = seen(alloc, names, name)?;
+    Ok(is_bound(&bound, occurrence, ordinal))
+}
+
+fn is_bound(bound: &[Option<usize>], occurrence: usize, ordinal: usize) -> bool
+    ensures { result ≡ same_ordinal (option_and_then (λ found. found) (slice_get bound.now occurrence)) ordinal }
+{
+    match bound.get(occurrence) {
+        Some(found) => is_ordinal(*found, ordinal),
+        None => false,
+    }
+}
+
+pub(crate) fn is_ordinal(found: Option<usize>, ordinal: usize) -> bool
+    ensures { result ≡ same_ordinal found ordinal }
+{
+    match found {
+        Some(other) => other == ordinal,
+        None => false,
+    }
+}

@@ -1,0 +1,49 @@
+//! The use of a constant that a place is on.
+
+ghost use Rattle.std.specs.Prelude.{◌≡◌, ◌==◌, MatchOption, Some};
+ghost use Rattle.std.specs.List.{position_from};
+ghost use Rattle.ob0_inline.specs.Uses.{IsUse, IsUseAt};
+
+use ob0_refs::name_at;
+use ob0_scope::resolved::Resolved;
+use ob0_types::checked::WellTyped;
+use ob0_values::scalar::Scalar;
+
+/// A use of a constant: its token, its number among the occurrences of the text, the constant's ordinal, and its value.
+#[derive(Clone, Copy)]
+pub struct Use {
+    pub token: usize,
+    pub occurrence: usize,
+    pub constant: usize,
+    pub value: Scalar,
+}
+
+/// The use that a place is on.
+pub(crate) fn use_at(module: &WellTyped, offset: usize) -> Option<Use>
+    ensures at { MatchOption result ((u : Use) → IsUseAt «module».now.module_read offset u → ⊥) (λ u. IsUseAt «module».now.module_read offset u) }
+    ensures is_use { (u : Use) → result ≡ Some u → IsUse «module».now.module_read u }
+{
+    let names = module.resolved();
+    match name_at(names, offset) {
+        Some(found) => match occurrence_at(names, found.token) {
+            Some(occurrence) => match module.constant(found.ordinal) {
+                Some(value) => Some(Use {
+                    token: found.token,
+                    occurrence,
+                    constant: found.ordinal,
+                    value,
+                }),
+                None => None,
+            },
+            None => None,
+        },
+        None => None,
+    }
+}
+
+/// The number of the occurrence at a token.
+fn occurrence_at(names: &Resolved, token: usize) -> Option<usize>
+    ensures { result ≡ position_from (λ other. other == token) 0 names.now.uses }
+{
+    names.occurrences().iter().position(|other| *other == token)
+}

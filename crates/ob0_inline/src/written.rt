@@ -1,0 +1,60 @@
+//! How a value is written.
+
+ghost use Rattle.std.specs.Prelude.{◌≡◌, IfOk, IsTrue, string_bytes};
+ghost use Rattle.ob0_edits.specs.Replaced.{StandsForName};
+ghost use Rattle.ob0_edits.specs.Written.{number_text, number_words};
+ghost use Rattle.ob0_types.specs.EditLaws.{IsScalar};
+ghost use Rattle.ob0_values.specs.Scalars.{scalar_value};
+ghost use Rattle.ob0_values.specs.Values.{fits};
+ghost use Rattle.ob0_inline.specs.Values.{value_text, value_words};
+
+use ob0_values::scalar::Scalar;
+use std::alloc::{AllocError, Global};
+
+/// The text of a value: a negative number in parentheses, and the least number as a difference, since it has no digits of
+/// its own.
+pub(crate) fn value_text(alloc: Global, value: Scalar) -> Result<String, AllocError>
+    ensures text { IfOk result (λ text. string_bytes text ≡ value_text value) }
+    ensures stands { StandsForName (value_text value) (value_words value) }
+{
+    match value {
+        Scalar::Number(number) => {
+            stands_for_name(number);
+            number_text(alloc, number)
+        }
+        Scalar::Truth(true) => String::from_str(alloc, "TRUE"),
+        Scalar::Truth(false) => String::from_str(alloc, "FALSE"),
+    }
+}
+
+fn number_text(alloc: Global, number: i32) -> Result<String, AllocError>
+    ensures { IfOk result (λ text. string_bytes text ≡ number_text number) }
+{
+    if number == i32::MIN {
+        return String::from_str(alloc, "(-2147483647 - 1)");
+    }
+    if number < 0 {
+        return format!(in alloc; "({number})");
+    }
+    format!(in alloc; "{number}")
+}
+
+/// A number of 32 bits may be written wherever an identifier stands.
+fn stands_for_name(number: i32)
+    ensures { StandsForName (number_text number) (number_words number) }
+{}
+
+/// A value is a number of 32 bits or a truth value.
+pub(crate) fn is_scalar(value: Scalar)
+    ensures { IsScalar (scalar_value value) }
+{
+    if let Scalar::Number(number) = value {
+        fits(number);
+    }
+}
+
+fn fits(number: i32)
+    ensures { IsTrue (fits number) }
+{
+    let _ = number;
+}

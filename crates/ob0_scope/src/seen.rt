@@ -1,0 +1,57 @@
+//! What another name would be bound to at the occurrences of a module.
+
+ghost use Rattle.std.specs.Prelude.{◌≡◌, IfOk, map, length, replicate, None};
+ghost use Rattle.ob0_tree.specs.Parsed.{named_tree_of};
+ghost use Rattle.ob0_scope.specs.Resolution.{IsResolution, ordinal_in};
+ghost use Rattle.ob0_scope.specs.SeenNames.{first_at, ordinals_seen};
+ghost use Rattle.ob0_scope.specs.Visiting.{with_marks};
+
+use crate::numbering::{Mark, number};
+use crate::renamed::ordinals_of;
+use crate::resolved::Resolved;
+use crate::table::table;
+use crate::writing::Writing;
+use std::alloc::{AllocError, Global};
+
+/// For each occurrence of a module, in text order, the ordinal of the declaration to which `name` would be bound in its
+/// place. None where nothing would bind it.
+pub fn seen(alloc: Global, names: &Resolved, name: &str) -> Result<Vec<Option<usize>>, AllocError>
+    ensures { IfOk result (λ found. found.items ≡ ordinals_seen (named_tree_of names.now.module_read) name.now) }
+{
+    let ordinals = ordinals_in_place(alloc, names, name)?;
+    ordinals_of(alloc, &ordinals, names.occurrences())
+}
+
+/// The ordinal of each identifier, by its token, where `name` stands in the place of each occurrence.
+fn ordinals_in_place(
+    alloc: Global,
+    names: &Resolved,
+    name: &str,
+) -> Result<Vec<Option<usize>>, AllocError>
+    ensures { IfOk result (λ ordinals. map (ordinal_in ordinals.items) names.now.uses ≡ ordinals_seen (named_tree_of names.now.module_read) name.now) }
+{
+    let sought = occurring(alloc, names)?;
+    let writing = Writing {
+        tokens: names.tokens(),
+        ordinals: sought.as_slice(),
+        declaration: Some(0),
+        new: name,
+    };
+    let numbering = number(alloc, names.module(), writing)?;
+    let (_declarations, _occurrences, marks) = numbering.into_parts();
+    table(alloc, names.tokens().tokens().len(), &marks)
+}
+
+/// A table that has 0 at each occurrence, and nothing at the other tokens.
+fn occurring(alloc: Global, names: &Resolved) -> Result<Vec<Option<usize>>, AllocError>
+    ensures { IfOk result (λ t. t.items ≡ with_marks (replicate (length names.now.module_read.source.tokens) None) (map first_at names.now.uses)) }
+{
+    let mut marks = Vec::new(alloc);
+    for token in names.occurrences() {
+        marks.push(Mark {
+            token: *token,
+            ordinal: Some(0),
+        })?;
+    }
+    table(alloc, names.tokens().tokens().len(), &marks)
+}
