@@ -1,5 +1,5 @@
 -- A table that holds an environment, with a binding more, and unwound to the depth of a procedure.
-use Rattle.std.proofs.Common.{arith, ◌+◌, ◌-◌, ◌<◌, ◌≤◌, drop, take, reverse, ◌≡◌, ℕ, zero, suc, List, [], ◌∷◌, ◌++◌, length, Option, Some, None, slice_get, slice_set, refl, sym, ap, ◌∙◌, subst}
+use Rattle.std.proofs.Common.{arith, ◌+◌, ◌-◌, ◌<◌, drop, take, reverse, ◌≡◌, ℕ, zero, suc, List, [], ◌∷◌, ◌++◌, length, Option, Some, None, slice_get, slice_set, refl, sym, ap, ◌∙◌, subst}
 use Rattle.std.proofs.lemmas.List.{length-reverse, reverse-append, take-append-drop}
 use Rattle.ob0_scan.specs.Scanned.{Scanned}
 use Rattle.ob0_tree.specs.Places.{text_at}
@@ -10,11 +10,9 @@ use Rattle.ob0_types.specs.Expressions.{Object}
 use Rattle.ob0_values.specs.Values.{Place}
 use Rattle.ob0_run.specs.declared.machine.Bound.{Bound}
 use Rattle.ob0_run.specs.declared.scene.Meant.{Meant}
-use Rattle.ob0_run.specs.declared.scene.Meant.TheVariants as meant
-use Rattle.ob0_run.specs.declared.scene.Routine.{Routine}
-use Rattle.ob0_run.specs.Bindings.{Table, exchanged, found_at, put_at, rewound, with_binding}
-use Rattle.ob0_run.specs.Held.{DepthIs, HeldBinds, HeldUnwinds, Holds, IsBoundAt, IsHeldIn, Reaches, TakenBack, down_to, entry_of, without_newest}
-use Rattle.ob0_run.specs.Runs.{Activation, Code}
+use Rattle.ob0_run.specs.Bindings.{Table, exchanged, put_at, rewound}
+use Rattle.ob0_run.specs.Held.{DepthIs, HeldBinds, HeldUnwinds, Holds, IsBoundAt, Reaches, TakenBack, down_to, entry_of, without_newest}
+use Rattle.ob0_run.specs.Runs.{Code}
 use Rattle.ob0_run.specs.Scenes.{label_with, ordinal_in}
 use Rattle.ob0_run.proofs.Holding.{held_closes, held_length}
 use Rattle.ob0_run.proofs.Rewinding.{put_back, reverse_pushed, take_short, take_whole}

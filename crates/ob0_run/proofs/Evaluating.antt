@@ -1,7 +1,7 @@
 -- Steps of the evaluation of chains: operands from left to right, and selectors.
-use Rattle.std.proofs.Common.{◌≡◌, ℕ, Bool, true, false, ◌+◌, ◌<◌, ◌≤◌, List, [], ◌∷◌, ◌++◌, length, map, get_or, drop, refl, sym, ap, ◌∙◌, subst, arith, append_assoc, append-nil, pos, Ok, Err, Some, None, Option, Result, option_and_then, unwrap_or}
+use Rattle.std.proofs.Common.{◌≡◌, ℕ, ◌+◌, ◌<◌, ◌≤◌, List, [], ◌∷◌, ◌++◌, length, get_or, drop, refl, sym, ap, ◌∙◌, subst, append_assoc, append-nil, pos, Err, Some, None, Option, Result, option_and_then, unwrap_or}
 use Rattle.std.proofs.lemmas.List.{drop_all, drop_more}
-use Rattle.ob0_tree.specs.Tree.{Tree, Item, adds, addend, compares, comparison, designator, end, expression, factor, field, index, integer, item, items, maybe, more, multiplies, multiplier, negation, none, one, parenthesised, product, relates, selector, simple, sum, term}
+use Rattle.ob0_tree.specs.Tree.{Tree, adds, addend, compares, comparison, designator, end, expression, factor, field, index, integer, item, items, maybe, more, multiplies, multiplier, negation, none, one, parenthesised, product, relates, selector, simple, sum, term}
 use Rattle.ob0_tree.specs.declared.tree.Expression.{Expression, out-Expression, roll-out-Expression, back-Expression-compared}
 use Rattle.ob0_tree.specs.declared.tree.Comparison.{Comparison, out-Comparison, roll-out-Comparison}
 use Rattle.ob0_tree.specs.declared.tree.Simple.{Simple, out-Simple, roll-out-Simple}
@@ -14,11 +14,11 @@ use Rattle.ob0_tree.proofs.Viewed.{addend_made, comparison_made, designator_made
 use Rattle.ob0_tree.specs.View.{addend_of, comparison_of, compared_of, expression_of, factor_of, items_of, multiplier_of, selector_of, simple_of, term_of}
 use Rattle.ob0_types.specs.Expressions.{Meanings, designate, place_of, value_of, element_step, evaluate, evaluate_addends, evaluate_factor, evaluate_multipliers, evaluate_simple, evaluate_term, follow}
 use Rattle.ob0_values.specs.Stored.{store_of}
-use Rattle.ob0_values.specs.Values.{Outcome, Place, negated, number, read_place, Step, Store, Value, add, add_is_settled, at_path, ends, gives, multiply, multiply_is_settled, or_stuck, part, relate, signed, ◌>>=◌}
+use Rattle.ob0_values.specs.Values.{Outcome, Place, negated, number, read_place, Step, Store, Value, at_path, ends, gives, or_stuck, part, relate, signed, ◌>>=◌}
 use Rattle.ob0_run.specs.declared.scene.Scene.{Scene}
 use Rattle.ob0_run.specs.declared.scene.Stop.{Stop}
 use Rattle.ob0_run.specs.declared.scene.Stop.TheVariants as stop
-use Rattle.ob0_run.specs.Scenes.{Answers, added_by, end_of, label_in, meaning_in, meant_by, multiplied_by, read_in, step_by}
+use Rattle.ob0_run.specs.Scenes.{Answers, added_by, label_in, meaning_in, meant_by, multiplied_by, read_in, step_by}
 
 -- how a step ends the run, what follows it ends it
 pub fails : {A B C D : Type 0} (view : A → B) (view' : C → D) (e : Stop) (o : Outcome B) (k : B → Outcome D) → Answers view (Err e) o → Answers view' (Err e) (o >>= k)

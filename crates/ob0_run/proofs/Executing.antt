@@ -12,7 +12,7 @@ use Rattle.ob0_tree.proofs.Viewed.{if_parts}
 use Rattle.ob0_tree.specs.View.{call_of, else_in, elsif_of, expression_of, further_argument_of, further_statement_of, if_of, items_of, sequence_listed, statement_of}
 use Rattle.ob0_scope.specs.Names.{Label}
 use Rattle.ob0_types.specs.Expressions.{evaluate}
-use Rattle.ob0_values.specs.Values.{End, Outcome, Stuck, TurnBound, Value, elements, ends, gives, members, number, truth, ◌>>=◌}
+use Rattle.ob0_values.specs.Values.{End, Outcome, TurnBound, Value, elements, ends, gives, members, number, truth, ◌>>=◌}
 use Rattle.ob0_run.specs.declared.machine.Machine.{Machine}
 use Rattle.ob0_run.specs.declared.scene.Ending.{Ending}
 use Rattle.ob0_run.specs.declared.scene.Stop.{Stop}
@@ -29,7 +29,7 @@ use Rattle.ob0_tree.specs.View as view
 use Rattle.ob0_types.specs.Arguments.{arguments_listed, further_arguments}
 use Rattle.ob0_run.specs.declared.scene.Meant.{Meant}
 use Rattle.ob0_run.specs.Callings.{expressions_read, listed_in, listed_or_none, passed_to}
-use Rattle.ob0_run.specs.States.{Runs, items_out}
+use Rattle.ob0_run.specs.States.{Runs}
 
 abbrev pub Post : Type 1
 Post = MutBor Machine → ℕ → Result (Unit {0}) Stop → MutBor Machine → Type 0

@@ -1,9 +1,9 @@
 -- What a label stands for in an environment is what the table that holds it has.
-use Rattle.std.proofs.Common.{arith, ◌+◌, drop, unwrap_or, ◌≡◌, ◌≢◌, ℕ, zero, suc, ◌==◌, Bool, true, false, List, [], ◌∷◌, length, Option, Some, None, option_and_then, slice_get, slice_set, refl, sym, ap, ◌∙◌, subst}
+use Rattle.std.proofs.Common.{arith, ◌+◌, drop, unwrap_or, ◌≡◌, ◌≢◌, ℕ, zero, suc, ◌==◌, true, false, List, [], ◌∷◌, length, Option, Some, None, option_and_then, slice_get, slice_set, refl, sym, ap, ◌∙◌, subst}
 use Rattle.std.proofs.lemmas.Bool.{eqb-false, eqb-true}
 use Rattle.ob0_scan.specs.Scanned.{Scanned}
-use Rattle.ob0_scope.specs.Names.{Label, as_labels, as_written, declared, same_label}
-use Rattle.ob0_types.specs.Environments.{from_binding, meanings, newest}
+use Rattle.ob0_scope.specs.Names.{Label, as_labels, as_written, declared}
+use Rattle.ob0_types.specs.Environments.{from_binding, newest}
 use Rattle.ob0_types.specs.Expressions.{Object}
 use Rattle.ob0_values.specs.Values.{Place}
 use Rattle.ob0_run.specs.declared.machine.Bound.{Bound}

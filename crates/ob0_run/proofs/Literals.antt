@@ -1,13 +1,13 @@
 -- The numbers that a scanned text's tokens write are numbers of 32 bits.
-use Rattle.std.proofs.Common.{◌≡◌, ℕ, zero, suc, ◌+◌, ◌<◌, ◌≤◌, List, [], ◌∷◌, ◌++◌, length, get_or, refl, sym, ap, ◌∙◌, subst, Some, None, Option, slice_get, arith}
+use Rattle.std.proofs.Common.{◌≡◌, ℕ, zero, suc, ◌<◌, ◌≤◌, List, [], ◌∷◌, length, get_or, refl, sym, subst, slice_get, arith}
 use Rattle.ob0_scan.specs.declared.lexeme.Token.{Token}
 use Rattle.ob0_scan.specs.declared.lexeme.TokenKind.{TokenKind}
 use Rattle.ob0_scan.specs.declared.lexeme.TokenKind.TheVariants as token
 use Rattle.ob0_scan.specs.declared.lexeme.LexemeKind.{LexemeKind}
 use Rattle.ob0_scan.specs.declared.lexeme.LexemeKind.TheVariants as lexeme
-use Rattle.ob0_scan.specs.Classes.{Belongs, IsInteger}
-use Rattle.ob0_scan.specs.Lexed.{Lexeme, AreLexemes, IsFirst, joined}
-use Rattle.ob0_scan.specs.Scanned.{IsScan, Scanned, tokens_from, span_from}
+use Rattle.ob0_scan.specs.Classes.{Belongs}
+use Rattle.ob0_scan.specs.Lexed.{Lexeme, AreLexemes}
+use Rattle.ob0_scan.specs.Scanned.{IsScan, Scanned, tokens_from}
 use Rattle.ob0_tree.specs.Places.{value_of, value_in, value_at}
 
 within : (kind : TokenKind) (text : List ℕ) → Belongs (lexeme.Token kind) text → value_of kind ≤ 2147483647

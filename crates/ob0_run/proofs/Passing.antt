@@ -1,8 +1,7 @@
 -- The parameters of procedures, and the arguments of calls.
-use Rattle.std.proofs.Common.{◌≡◌, ℕ, zero, suc, arith, unwrap_or, Bool, true, false, ◌+◌, ◌<◌, ◌≤◌, List, [], ◌∷◌, ◌++◌, length, map, get_or, drop, slice_get, refl, sym, ap, ◌∙◌, subst, append_assoc, append-nil, Ok, Err, Some, None, Option, Result, if◌then◌else◌, option_map}
+use Rattle.std.proofs.Common.{◌≡◌, ℕ, zero, suc, arith, unwrap_or, Bool, true, false, ◌+◌, ◌<◌, ◌≤◌, List, [], ◌∷◌, ◌++◌, length, map, get_or, drop, slice_get, refl, sym, ap, ◌∙◌, subst, append_assoc, append-nil, Err, Some, None, Option, if◌then◌else◌, option_map}
 use Rattle.std.proofs.lemmas.List.{drop_all, drop_more, map-append}
-use Rattle.ob0_scan.specs.Scanned.{Scanned}
-use Rattle.ob0_tree.specs.Tree.{Tree, Item, adds, compares, designator, end, expression, factor, further_name, integer, item, items, listed, mapped, more, multiplies, names, negation, none, one, parenthesised, product, relates, selector, simple, further_section, sum, term, then_name, then_section, value_section, variable_section, written_type}
+use Rattle.ob0_tree.specs.Tree.{Tree, compares, designator, end, expression, integer, items, mapped, more, names, negation, none, one, parenthesised, product, selector, further_section, sum, then_name, then_section, value_section, variable_section, written_type}
 use Rattle.ob0_tree.specs.declared.tree.Names.{Names}
 use Rattle.ob0_tree.specs.declared.tree.Section.{Section}
 use Rattle.ob0_tree.specs.declared.tree.Expression.{Expression}
@@ -10,18 +9,17 @@ use Rattle.ob0_tree.specs.declared.tree.Term.{Term, out-Term}
 use Rattle.ob0_tree.specs.declared.tree.Simple.{Simple, out-Simple}
 use Rattle.ob0_tree.specs.declared.tree.Addend.{Addend}
 use Rattle.ob0_tree.specs.declared.tree.Multiplier.{Multiplier}
-use Rattle.ob0_tree.specs.View.{addend_of, expression_of, factor_of, further_section_of, items_of, multiplier_of, names_of, section_of, simple_of, term_of, type_of}
+use Rattle.ob0_tree.specs.View.{addend_of, factor_of, further_section_of, items_of, multiplier_of, names_of, section_of, simple_of, term_of, type_of}
 use Rattle.ob0_run.proofs.Evaluating.{bind_assoc, bind_gives, fails, simple_parts, term_parts}
 use Rattle.ob0_scope.specs.Parts.{further_names, names_listed, section_names}
-use Rattle.ob0_scope.specs.Names.{Label}
 use Rattle.ob0_types.specs.Expressions.{Meanings, designate, evaluate}
 use Rattle.ob0_types.specs.Typing.{designated}
 use Rattle.ob0_types.specs.WellTyped.{Mode, by_place, by_value, section_mode}
-use Rattle.ob0_values.specs.Values.{Outcome, Place, Store, Stuck, Value, ends, gives, or_stuck, ◌>>=◌}
+use Rattle.ob0_values.specs.Values.{Place, Store, Stuck, ends, gives, or_stuck, ◌>>=◌}
 use Rattle.ob0_run.specs.declared.calling.Argument as code
 use Rattle.ob0_run.specs.declared.calling.Formal.{Formal}
 use Rattle.ob0_run.specs.declared.scene.Stop.{Stop}
-use Rattle.ob0_run.specs.Callings.{alone_in, alone_in_factor, alone_in_simple, alone_in_term, argument_of, expressions_read, modes_listed, parameter_of, parameters_of, taken_by}
+use Rattle.ob0_run.specs.Callings.{alone_in, alone_in_factor, alone_in_simple, alone_in_term, argument_of, modes_listed, parameter_of, parameters_of, taken_by}
 use Rattle.ob0_run.specs.Runs.{Argument, Parameter, evaluate_argument, evaluate_arguments, formal_modes, parameters, place_argument, value_argument}
 use Rattle.ob0_run.specs.Scenes.{Answers, mode_of}
 

@@ -1,6 +1,5 @@
 -- The parameters of a procedure, by the labels of their tokens.
-use Rattle.std.proofs.Common.{◌≡◌, ℕ, List, [], ◌∷◌, ◌++◌, map, Option, refl, sym, ap, ◌∙◌}
-use Rattle.ob0_scan.specs.Scanned.{Scanned}
+use Rattle.std.proofs.Common.{◌≡◌, ℕ, List, [], ◌∷◌, ◌++◌, map, refl, sym, ap, ◌∙◌}
 use Rattle.ob0_tree.specs.Places.{value_at}
 use Rattle.ob0_tree.specs.Tree.{Tree, end, formals, further_name, further_section, items, listed, mapped, maybe, more, names, no_formals, none, one, section, some_formals, then_name, then_section, value_section, variable_section}
 use Rattle.ob0_tree.specs.declared.tree.Procedure.{Procedure, out-Procedure, roll-out-Procedure}

@@ -4,7 +4,7 @@ use Rattle.std.proofs.lemmas.List.{length-map, take-map}
 use denote.MutBor.{MutBor}
 use Rattle.ob0_scan.specs.Scanned.{Scanned}
 use Rattle.ob0_tree.specs.Places.{text_at, value_at}
-use Rattle.ob0_tree.specs.Tree.{Tree, begins, block, body, item, maybe, none, one, procedure}
+use Rattle.ob0_tree.specs.Tree.{Tree, begins, body, item, maybe, none, one, procedure}
 use Rattle.ob0_tree.specs.declared.tree.Block.{Block, out-Block}
 use Rattle.ob0_tree.specs.declared.tree.Procedure.{Procedure, out-Procedure, roll-out-Procedure}
 use Rattle.ob0_tree.specs.View.{block_of, body_of, formals_of, procedure_of}
@@ -22,7 +22,6 @@ use Rattle.std.specs.declared.vec.Vec.{Vec}
 use Rattle.std.specs.declared.alloc.Global.{Global}
 use Rattle.ob0_run.specs.declared.calling.Argument as code
 use Rattle.ob0_run.specs.declared.calls.Interrupted.{Interrupted}
-use Rattle.ob0_run.specs.declared.machine.Bound.{Bound}
 use Rattle.ob0_run.specs.declared.machine.Machine.{Machine}
 use Rattle.ob0_run.specs.declared.scene.Ending.TheVariants as ending
 use Rattle.ob0_run.specs.declared.scene.Meant.{Meant}
@@ -31,12 +30,12 @@ use Rattle.ob0_run.specs.declared.scene.Routine.{Routine}
 use Rattle.ob0_run.specs.declared.scene.Stop.{Stop}
 use Rattle.ob0_run.specs.declared.scene.Stop.TheVariants as stop
 use Rattle.ob0_run.specs.Activations.{Declares, Stands, label_there, surroundings, table_of}
-use Rattle.ob0_run.specs.Bindings.{Table, rewound}
+use Rattle.ob0_run.specs.Bindings.{rewound}
 use Rattle.ob0_run.specs.Callings.{argument_of, arguments_of}
 use Rattle.ob0_run.specs.CallSteps.{Enters, Interrupts, Resumes, activation_frame, entry_at, executed_body, routine_in, text_read}
 use Rattle.ob0_run.specs.Held.{IsHeldIn, down_to, entry_of}
-use Rattle.ob0_run.specs.Machines.{Does, Named, Performs, Steps, executed_all, label_for, meaning_of, named, read_for, state_in}
-use Rattle.ob0_run.specs.Runs.{Activation, Argument, Calls, Code, Frame, Progress, State, activate, bind_parameters, call, declare_block, execute_all, execute_body, give_up, in_frame, parameters, running, statement_meanings, stopped}
+use Rattle.ob0_run.specs.Machines.{Does, Performs, Steps, label_for, meaning_of, named, state_in}
+use Rattle.ob0_run.specs.Runs.{Activation, Argument, Calls, Code, Frame, Progress, State, activate, bind_parameters, call, declare_block, execute_all, execute_body, give_up, in_frame, parameters, running, stopped}
 use Rattle.ob0_run.specs.Scenes.{end_of, label_with, ordinal_in, read_with}
 use Rattle.ob0_run.specs.States.{items_out}
 use Rattle.ob0_run.proofs.Activating.{adds_more}

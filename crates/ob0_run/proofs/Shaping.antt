@@ -9,7 +9,7 @@ use Rattle.ob0_values.specs.declared.value.Value.TheBlock.{hidden-the_row-Value-
 use Rattle.ob0_values.specs.Stored.{members_in, members_of, value_of, values_of}
 use Rattle.ob0_values.specs.Values as values
 use Rattle.ob0_run.specs.declared.shapes.Field.{Field}
-use Rattle.ob0_run.specs.declared.shapes.Shape.{Shape, Record, Row_of-Field, end_of-Field, more_of-Field}
+use Rattle.ob0_run.specs.declared.shapes.Shape.{Record, Row_of-Field, end_of-Field, more_of-Field}
 use Rattle.ob0_run.specs.declared.shapes.Shape.TheBlock.{hidden-the_row-Field-0, items-the_row-Field, items_hidden-the_row-Field-0}
 use Rattle.ob0_run.specs.Shapes.{fields_in, fields_of, repeated_value, shape_of}
 

@@ -16,7 +16,7 @@ use Rattle.ob0_run.specs.declared.shapes.Shape.{Integer, Boolean}
 use Rattle.ob0_values.specs.declared.scalar.Scalar.TheVariants.{Truth}
 use Rattle.ob0_values.specs.declared.value.Value.{Scalar}
 use Rattle.ob0_run.specs.Bindings.{Table, exchanged, put_at, with_binding}
-use Rattle.ob0_run.specs.Held.{DepthIs, Holds, IsBoundAt, IsHeldIn, Reaches, entry_of}
+use Rattle.ob0_run.specs.Held.{DepthIs, Holds, IsHeldIn, Reaches, entry_of}
 use Rattle.ob0_run.specs.Activations.{Stands, table_of}
 use Rattle.ob0_run.specs.Machines.{state_in}
 use Rattle.ob0_run.specs.Outcomes.{AllNothing, first_frame, predeclared_table}

@@ -1,14 +1,14 @@
 -- The run of a module is what the machine does that is ready for it.
-use Rattle.std.proofs.Common.{arith, ◌+◌, ◌<◌, ◌≤◌, ◌≡◌, ◌≢◌, ℕ, ℤ, List, [], ◌∷◌, length, Option, Some, None, Ok, Err, Result, refl, sym, ap, ◌∙◌, subst}
+use Rattle.std.proofs.Common.{arith, ◌+◌, ◌<◌, ◌≤◌, ◌≡◌, ℕ, ℤ, List, [], ◌∷◌, length, Option, Ok, Err, Result, refl, sym, ap, ◌∙◌, subst}
 use denote.MutBor.{MutBor}
 use Rattle.ob0_scan.specs.Scanned.{Scanned}
 use Rattle.ob0_tree.specs.declared.tree.Block.{Block, out-Block}
 use Rattle.ob0_tree.specs.declared.tree.Role.{Role}
 use Rattle.ob0_tree.specs.declared.tree.Role.TheVariants as role
-use Rattle.ob0_tree.specs.Order.{Ascending, leaves, names_only}
+use Rattle.ob0_tree.specs.Order.{Ascending, names_only}
 use Rattle.ob0_tree.specs.Parsed.{Parsed, named_tree_of, tree_of}
 use Rattle.ob0_tree.specs.Places.{text_at, value_at}
-use Rattle.ob0_tree.specs.Tree.{Tree, block, identifiers, mapped, module_text}
+use Rattle.ob0_tree.specs.Tree.{Tree, block, identifiers}
 use Rattle.ob0_tree.specs.View.{block_of, body_of}
 use Rattle.ob0_tree.proofs.Leaves.{leaves_ascend}
 use Rattle.ob0_scope.specs.Names.{Label, as_labels, as_names}
@@ -16,18 +16,16 @@ use Rattle.ob0_scope.specs.Parts.{block_statements}
 use Rattle.ob0_scope.specs.Resolution.{IsResolution, Resolution, label_at}
 use Rattle.ob0_scope.specs.Scopes.{as_label, numbered}
 use Rattle.ob0_types.specs.CheckedModules.{IsWellTyped}
-use Rattle.ob0_values.specs.Stored.{store_of}
 use Rattle.ob0_values.specs.Values as values
 use Rattle.ob0_run.specs.declared.machine.Machine.{Machine}
 use Rattle.ob0_run.specs.declared.running.Outcome.{Outcome}
-use Rattle.ob0_run.specs.declared.scene.Ending.TheVariants as ending
 use Rattle.ob0_run.specs.declared.scene.Stop.{Stop}
 use Rattle.ob0_run.specs.declared.scene.Stop.TheVariants as stop
 use Rattle.ob0_run.specs.Activations.{Declares, Stands, surroundings}
 use Rattle.ob0_run.specs.CallSteps.{Enters, executed_body}
 use Rattle.ob0_run.specs.Machines.{Does, Steps, state_in}
 use Rattle.ob0_run.specs.Outcomes.{HasMeaning, IsEndOf, IsReady, block_run, end_in, first_frame, run_of}
-use Rattle.ob0_run.specs.Runs.{Frame, Progress, Run, State, call, declare_block, execute_body, finished, in_frame, run, run_numbered, run_over, running, stopped}
+use Rattle.ob0_run.specs.Runs.{Frame, Progress, State, call, declare_block, execute_body, finished, in_frame, run, run_numbered, run_over, stopped}
 use Rattle.ob0_run.specs.Scenes.{end_of, label_with, ordinal_in, read_with}
 use Rattle.ob0_run.specs.States.{Runs, items_out}
 use Rattle.ob0_run.proofs.Alike.{AllAlike, alike}

@@ -8,7 +8,6 @@ use Rattle.ob0_values.specs.Values.{Place}
 use Rattle.ob0_run.specs.declared.machine.Bound.{Bound}
 use Rattle.ob0_run.specs.declared.machine.Machine.{Machine}
 use Rattle.ob0_run.specs.declared.scene.Ending.TheVariants as ending
-use Rattle.ob0_run.specs.declared.scene.Ending.{Ending}
 use Rattle.ob0_run.specs.declared.scene.Stop.{Stop}
 use Rattle.ob0_run.specs.declared.scene.Stop.TheVariants as stop
 use Rattle.ob0_run.specs.Bindings.{Table, rewound}

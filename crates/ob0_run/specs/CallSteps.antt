@@ -17,7 +17,7 @@ use Rattle.ob0_run.specs.Activations.{label_there, surroundings, table_of}
 use Rattle.ob0_run.specs.Bindings.{rewound}
 use Rattle.ob0_run.specs.Callings.{arguments_of}
 use Rattle.ob0_run.specs.Held.{IsHeldIn, down_to}
-use Rattle.ob0_run.specs.Machines.{Doing, Steps, executed_all, read_for, state_in}
+use Rattle.ob0_run.specs.Machines.{Doing, Steps, executed_all, state_in}
 use Rattle.ob0_run.specs.Runs.{Activation, Argument, Frame, bind_parameters, call, declare_block, parameters, running}
 use Rattle.ob0_run.specs.Scenes.{ordinal_in, read_with}
 

@@ -1,7 +1,6 @@
 -- How the table of a run stands for an environment.
-use Rattle.std.specs.Prelude.{◌≡◌, ℕ, zero, suc, ◌+◌, drop, List, [], ◌∷◌, length, map, ◌<◌, ◌-◌, reverse, take, Option, Some, None, slice_get, option_and_then}
+use Rattle.std.specs.Prelude.{◌≡◌, ℕ, zero, suc, ◌+◌, drop, List, [], ◌∷◌, length, ◌<◌, ◌-◌, reverse, take, Option, Some, None, slice_get, option_and_then}
 use Rattle.ob0_scan.specs.Scanned.{Scanned}
-use Rattle.ob0_tree.specs.declared.tree.Procedure.{Procedure}
 use Rattle.ob0_tree.specs.View.{procedure_of}
 use Rattle.ob0_scope.specs.Names.{Label, as_labels, as_written, declared}
 use Rattle.ob0_types.specs.Environments.{from_binding, newest}

@@ -1,5 +1,5 @@
 -- What the answer of the interpreter says of a run.
-use Rattle.std.specs.Prelude.{◌≡◌, ◌≢◌, ◌<◌, ℕ, ℤ, List, [], Option, Some, None, Ok, Err, Result, length, slice_get, true, false}
+use Rattle.std.specs.Prelude.{◌≡◌, ◌≢◌, ◌<◌, ℕ, ℤ, List, [], Some, Ok, Err, Result, length, slice_get, true, false}
 use Rattle.ob0_tree.specs.Tree.{Tree, block}
 use Rattle.ob0_scope.specs.Names.{Label, as_labels}
 use Rattle.ob0_scope.specs.Parts.{block_statements}

@@ -1,4 +1,4 @@
-use Rattle.std.proofs.Common.{ℕ, ◌+◌, ◌*◌}
+use Rattle.std.proofs.Common.{◌+◌, ◌*◌}
 use Rattle.ob0_run.proofs.calls.+call+fn-call-enter.Given as goal
 
 abbrev pub decreases-call : goal.decreases-call

@@ -1,6 +1,5 @@
 use Rattle.std.proofs.Common.{rules}
-use Rattle.std.proofs.lemmas.Result.{err_from_is_err_and}
-use Rattle.ob0_run.proofs.WholeRuns.{block_fails, block_runs}
+use Rattle.ob0_run.proofs.WholeRuns.{block_runs}
 use Rattle.ob0_run.proofs.running.run_block.Goals as goal
 
 pub returns : goal.returns

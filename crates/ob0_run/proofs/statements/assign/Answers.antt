@@ -1,4 +1,4 @@
-use Rattle.std.proofs.Common.{◌≡◌, sym, ap, ◌∙◌, subst}
+use Rattle.std.proofs.Common.{◌∙◌, subst}
 use Rattle.ob0_tree.specs.View.{assignment_of}
 use Rattle.ob0_run.specs.Runs.{execute}
 use Rattle.ob0_run.specs.Scenes.{meaning_with, read_with}

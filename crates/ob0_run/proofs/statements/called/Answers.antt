@@ -1,4 +1,4 @@
-use Rattle.std.proofs.Common.{◌≡◌, refl, sym, ap, ◌∙◌, subst, Ok, Err, Some}
+use Rattle.std.proofs.Common.{refl, sym, ◌∙◌, subst, Ok, Err, Some}
 use Rattle.std.proofs.lemmas.Result.{err_from_is_err_and}
 use Rattle.ob0_run.specs.declared.statements.Callee.TheVariants as callee
 use Rattle.ob0_run.specs.Callings.{argument_of, arguments_of, expressions_read, listed_in, mode_taken, passed_to}

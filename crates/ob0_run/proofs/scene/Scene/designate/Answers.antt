@@ -1,4 +1,4 @@
-use Rattle.std.proofs.Common.{◌≡◌, ◌++◌, List, sym, ap, ◌∙◌, subst, Err}
+use Rattle.std.proofs.Common.{◌++◌, List, sym, ap, ◌∙◌, subst, Err}
 use denote.Ref.{Bor}
 use Rattle.std.proofs.lemmas.Result.{err_from_is_err_and}
 use Rattle.ob0_tree.specs.View.{items_of, selector_of}

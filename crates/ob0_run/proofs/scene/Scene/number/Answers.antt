@@ -1,4 +1,4 @@
-use Rattle.std.proofs.Common.{◌≡◌, ◌≤◌, ◌<◌, ◌∙◌, ◌^◌, sym, ap, subst, pos, arith, w32}
+use Rattle.std.proofs.Common.{◌≡◌, ◌≤◌, ◌∙◌, sym, ap, subst, pos, arith, w32}
 use Rattle.std.specs.Prelude.{slice_get}
 use Rattle.std.proofs.lemmas.Int.{to_z_pos}
 use Rattle.ob0_tree.specs.Places.{value_at, value_in, value_of}
