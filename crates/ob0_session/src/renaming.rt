@@ -8,7 +8,7 @@ ghost use Rattle.ob0_rpc.specs.Writing.{Writes};
 ghost use Rattle.ob0_session.specs.Renamed.{AnswersRenaming, FindsNewName, Settles, asked_of, edits_for_client, renaming_of};
 
 use crate::analysis::{Asked, Question, ask};
-use crate::results::{refused, refused_ill_typed, workspace_edit};
+use crate::results::{refused_because, refused_ill_typed, workspace_edit};
 use ob0_rename::rename;
 use ob0_rpc::{Client, Id, Place, result};
 use ob0_text::{Edit, EditRefusal, Position, TextStore};
@@ -86,7 +86,7 @@ pub fn renamed<T: TextStore>(
     match rename_in(alloc, store, place.position, request.new)? {
         Asked::Answered(outcome) => match outcome {
             Ok(edits) => result(alloc, id, edits_for(alloc, request, edits.as_slice())?),
-            Err(refusal) => refused(alloc, id, refusal.text(alloc)?.as_str()),
+            Err(refusal) => refused_because(alloc, id, refusal),
         },
         Asked::IllTyped(_) => refused_ill_typed(alloc, id),
     }

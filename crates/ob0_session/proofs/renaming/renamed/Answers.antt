@@ -35,12 +35,7 @@ returns-in-Answered g c =
     let asked = asked_of c.args.request.now in
     let found = subst (λ (a : Asked (Result (Vec Edit Global) EditRefusal)). FindsNewName unit text asked.at.position asked.new a) c.in-Answered.is c.in_ok-outcome.ensures in
     let why = subst (λ (o : Result (Vec Edit Global) EditRefusal). FindsNewName unit text asked.at.position asked.new (Answered o)) c.in-Err.is found in
-    let is = c.as_str.ensures.value ∙ c.in_ok-text-in-Err.ensures in
-    IfOk-weaker c.refused.result _ _ (λ bytes sent. (
-      edit_refused asked.id (refusal_text c.in-Err.refusal),
-      inr (inl (c.in-Err.refusal, why, refl)),
-      subst (λ (said : List ℕ). Writes (edit_refused asked.id said) bytes.items) is sent,
-    )) c.refused.ensures
+    IfOk-weaker c.refused_because.result _ _ (λ bytes sent. (edit_refused asked.id (refusal_text c.in-Err.refusal), inr (inl (c.in-Err.refusal, why, refl)), sent)) c.refused_because.ensures
 
 pub returns : goal.returns
 returns g c =
