@@ -4,10 +4,9 @@ use Rattle.std.proofs.lemmas.List.{drop_all, drop_more}
 use Rattle.ob0_tree.specs.declared.tree.Selector.{Selector}
 use Rattle.ob0_tree.specs.Tree.{Tree, end, item, items, more, selector}
 use Rattle.ob0_tree.specs.View.{items_of, selector_of}
-use Rattle.ob0_types.specs.declared.known.FieldOf.{FieldOf}
 use Rattle.ob0_types.specs.Expressions.{Meanings}
 use Rattle.ob0_types.specs.WellTyped.{Signature}
-use Rattle.ob0_selectors.specs.Selections.{path_selections, type_behind}
+use Rattle.ob0_selectors.specs.Selections.{Selected, path_selections, type_behind}
 use Rattle.ob0_selectors.specs.Walk.{selected_from}
 use Rattle.ob0_values.specs.Values.{Shape}
 
@@ -21,13 +20,13 @@ path_end m None = refl
 path_end m (Some s) = refl
 
 -- what was found, with what is still selected from the type behind, is what was there at first with all that the path selects
-pub record OnPath (m : Meanings ℕ Shape Signature) (start : List (ℕ × FieldOf)) (base : Option Shape) (xs : List Selector) (done : ℕ) (out : List (ℕ × FieldOf)) (at : Option Shape) : Type 0 where
+pub record OnPath (m : Meanings ℕ Shape Signature) (start : List (Selected ℕ)) (base : Option Shape) (xs : List Selector) (done : ℕ) (out : List (Selected ℕ)) (at : Option Shape) : Type 0 where
   pub so_far : out ++ path_selections m at (items_of selector_of (drop done xs)) ≡ start ++ path_selections m base (items_of selector_of xs)
 
-pub path_begins : (m : Meanings ℕ Shape Signature) (start : List (ℕ × FieldOf)) (base : Option Shape) (xs : List Selector) → OnPath m start base xs 0 start base
+pub path_begins : (m : Meanings ℕ Shape Signature) (start : List (Selected ℕ)) (base : Option Shape) (xs : List Selector) → OnPath m start base xs 0 start base
 path_begins m start base xs = record { so_far = refl }
 
-pub path_goes_on : {m : Meanings ℕ Shape Signature} {start : List (ℕ × FieldOf)} {base : Option Shape} {xs : List Selector} {done : ℕ} {out : List (ℕ × FieldOf)} {at : Option Shape} (x : Selector) (next : List (ℕ × FieldOf)) (behind : Option Shape)
+pub path_goes_on : {m : Meanings ℕ Shape Signature} {start : List (Selected ℕ)} {base : Option Shape} {xs : List Selector} {done : ℕ} {out : List (Selected ℕ)} {at : Option Shape} (x : Selector) (next : List (Selected ℕ)) (behind : Option Shape)
     → OnPath m start base xs done out at → done < length xs → x ≡ get_or xs done x → next ≡ out ++ selected_from m at (selector_of x) → behind ≡ option_and_then (λ s. type_behind m s (selector_of x)) at → OnPath m start base xs (done + 1) next behind
 path_goes_on {m = m} {xs = xs} {done = done} {out = out} {at = at} x next behind w less here found typed =
     let rest : Tree ℕ (items selector) = items_of selector_of (drop (done + 1) xs) in
@@ -40,7 +39,7 @@ path_goes_on {m = m} {xs = xs} {done = done} {out = out} {at = at} x next behind
           ∙ w.so_far;
     }
 
-pub path_ends : {m : Meanings ℕ Shape Signature} {start : List (ℕ × FieldOf)} {base : Option Shape} {xs : List Selector} {done : ℕ} {out : List (ℕ × FieldOf)} {at : Option Shape}
+pub path_ends : {m : Meanings ℕ Shape Signature} {start : List (Selected ℕ)} {base : Option Shape} {xs : List Selector} {done : ℕ} {out : List (Selected ℕ)} {at : Option Shape}
     → OnPath m start base xs done out at → length xs ≤ done → out ≡ start ++ path_selections m base (items_of selector_of xs)
 path_ends {m = m} {xs = xs} {done = done} {out = out} {at = at} w all =
     sym (append-nil out) ∙ ap (λ z. out ++ z) (sym (path_end m at)) ∙ sym (ap (λ ys. out ++ path_selections m at (items_of selector_of ys)) (drop_all done xs all)) ∙ w.so_far

@@ -3,17 +3,16 @@ use Rattle.std.proofs.Common.{◌≡◌, ℕ, ◌≤◌, List, ◌++◌, length,
 use Rattle.std.proofs.lemmas.List.{drop_all}
 use Rattle.ob0_tree.specs.Tree.{Tree, Item, item}
 use Rattle.ob0_tree.specs.View.{items_of}
-use Rattle.ob0_types.specs.declared.known.FieldOf.{FieldOf}
 use Rattle.ob0_types.specs.Expressions.{Meanings}
 use Rattle.ob0_types.specs.WellTyped.{Signature}
-use Rattle.ob0_selectors.specs.Selections.{selections}
+use Rattle.ob0_selectors.specs.Selections.{Selected, selections}
 use Rattle.ob0_values.specs.Values.{Shape}
 
 -- what was found, with the identifiers of the items that are left, is what was there at first with those of all
-pub record Walking {A : Type 0} {i : Item} (f : A → Tree ℕ (item i)) (m : Meanings ℕ Shape Signature) (start : List (ℕ × FieldOf)) (xs : List A) (done : ℕ) (out : List (ℕ × FieldOf)) : Type 0 where
+pub record Walking {A : Type 0} {i : Item} (f : A → Tree ℕ (item i)) (m : Meanings ℕ Shape Signature) (start : List (Selected ℕ)) (xs : List A) (done : ℕ) (out : List (Selected ℕ)) : Type 0 where
   pub so_far : out ++ selections m (items_of f (drop done xs)) ≡ start ++ selections m (items_of f xs)
 
-pub walk_ends : {A : Type 0} {i : Item} {f : A → Tree ℕ (item i)} {m : Meanings ℕ Shape Signature} {start : List (ℕ × FieldOf)} {xs : List A} {done : ℕ} {out : List (ℕ × FieldOf)}
+pub walk_ends : {A : Type 0} {i : Item} {f : A → Tree ℕ (item i)} {m : Meanings ℕ Shape Signature} {start : List (Selected ℕ)} {xs : List A} {done : ℕ} {out : List (Selected ℕ)}
     → Walking f m start xs done out → length xs ≤ done → out ≡ start ++ selections m (items_of f xs)
 walk_ends {f = f} {m = m} {xs = xs} {done = done} {out = out} w all =
     sym (append-nil out) ∙ sym (ap (λ ys. out ++ selections m (items_of f ys)) (drop_all done xs all)) ∙ w.so_far

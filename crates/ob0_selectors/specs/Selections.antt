@@ -1,5 +1,5 @@
 -- Which field of which record each selector selects.
-use Rattle.std.specs.Prelude.{ℕ, List, [], ◌∷◌, ◌++◌, Some, None, Option, if◌then◌else◌, ◌==◌, option_and_then}
+use Rattle.std.specs.Prelude.{ℕ, List, [], ◌∷◌, ◌++◌, Some, None, Option, option_and_then}
 use Rattle.ob0_scope.specs.Resolution.{Resolution, ordinal_in}
 use Rattle.ob0_tree.specs.Parsed.{named_tree_of, tree_of}
 use Rattle.ob0_tree.specs.Places.{text_at}
@@ -17,24 +17,34 @@ abbrev pub type_behind : {N P : Type 0} → Meanings N Shape P → Shape → Tre
 type_behind m s (field x) = field_type s (m.written x)
 type_behind m s (index e) = element_type s integer_shape
 
--- an identifier with the field that it selects
-abbrev pub noted : {N : Type 0} → N → Option FieldOf → List (N × FieldOf)
-noted x None = []
-noted x (Some f) = (x, f) ∷ []
+-- an identifier, the field that it selects, and the field's type
+pub record Selected (N : Type 0) : Type 0 where
+  pub name : N
+  pub selects : FieldOf
+  pub shape : Shape
+
+-- without the type
+abbrev pub name_and_field : {N : Type 0} → Selected N → N × FieldOf
+name_and_field s = (s.name, s.selects)
+
+abbrev pub noted : {N : Type 0} → N → Option FieldOf → Option Shape → List (Selected N)
+noted x None t = []
+noted x (Some f) None = []
+noted x (Some f) (Some t) = record { name = x; selects = f; shape = t } ∷ []
 
 -- what a selector selects of a value of a type
-abbrev pub selected_by : {N P : Type 0} → Meanings N Shape P → Shape → Tree N (item selector) → List (N × FieldOf)
-selected_by m s (field x) = noted x (field_selected s (m.written x))
+abbrev pub selected_by : {N P : Type 0} → Meanings N Shape P → Shape → Tree N (item selector) → List (Selected N)
+selected_by m s (field x) = noted x (field_selected s (m.written x)) (field_type s (m.written x))
 selected_by m s (index e) = []
 
 -- what the selectors of a designator select, of a value of a type and its parts in turn
-abbrev pub path_selections : {N P : Type 0} → Meanings N Shape P → Option Shape → Tree N (items selector) → List (N × FieldOf)
+abbrev pub path_selections : {N P : Type 0} → Meanings N Shape P → Option Shape → Tree N (items selector) → List (Selected N)
 path_selections m None path = []
 path_selections m (Some s) end = []
 path_selections m (Some s) (more a rest) = selected_by m s a ++ path_selections m (type_behind m s a) rest
 
 -- all selections in a tree: those of each designator, before those within its indexes
-abbrev pub selections : {N P : Type 0} {s : Sort} → Meanings N Shape P → Tree N s → List (N × FieldOf)
+abbrev pub selections : {N P : Type 0} {s : Sort} → Meanings N Shape P → Tree N s → List (Selected N)
 selections m none = []
 selections m (one t) = selections m t
 selections m end = []
@@ -94,10 +104,5 @@ abbrev pub token_meaning : (ℕ → Option (Object Shape Signature)) → Resolut
 token_meaning objects r = record { stands_for = λ token. option_and_then objects (ordinal_in r.ordinals token); written = λ token. text_at r.module_read.source token }
 
 -- all selections of a module, by the tokens of their identifiers
-abbrev pub module_selections : Resolution → List (ℕ × FieldOf)
+abbrev pub module_selections : Resolution → List (Selected ℕ)
 module_selections r = selections (token_meaning (declared_object (named_tree_of r.module_read)) r) (tree_of r.module_read)
-
--- what is selected at a token
-abbrev pub selected_at : List (ℕ × FieldOf) → ℕ → Option FieldOf
-selected_at [] token = None
-selected_at (s ∷ found) token = if token == s.0 then Some s.1 else selected_at found token

@@ -1,6 +1,6 @@
 //! The walk over a module that finds what its selectors select.
 
-ghost use Rattle.std.specs.Prelude.{◌≡◌, ◌++◌, IfOk, option_and_then, option_map};
+ghost use Rattle.std.specs.Prelude.{◌≡◌, ◌++◌, IfOk, List, map, option_and_then, option_map};
 ghost use Rattle.ob0_tree.specs.View.{expression_of, simple_of, term_of, factor_of, designator_of, selector_of, assignment_of, call_of, arguments_in, statement_of, if_of, elsifs_in, sequence_in, type_of, record_in, fields_of, section_of, formals_of, constants_of, types_of, variables_of, body_of, procedure_of, block_of};
 ghost use Rattle.ob0_tree.specs.declared.tree.Designator.{out-Designator};
 ghost use Rattle.ob0_scope.specs.Resolution.{ordinal_in};
@@ -9,8 +9,9 @@ ghost use Rattle.ob0_types.specs.KnownTables.{declared_in, shapes_of};
 ghost use Rattle.ob0_types.specs.Selected.{selectors_in};
 ghost use Rattle.ob0_types.specs.Tables.{type_shape};
 ghost use Rattle.ob0_types.specs.Typing.{field_type, object_type};
+ghost use Rattle.ob0_values.specs.Values.{Shape};
 ghost use Rattle.ob0_selectors.specs.Selections.{noted, path_selections, selections, type_behind};
-ghost use Rattle.ob0_selectors.specs.Walk.{meaning_in, selected_from};
+ghost use Rattle.ob0_selectors.specs.Walk.{found_in, meaning_in, selected_from, selection_in};
 
 use ob0_scope::resolved::Resolved;
 use ob0_tree::tree::{
@@ -23,8 +24,36 @@ use ob0_types::names::text_at;
 use ob0_types::types::{TypeId, scalar_type};
 use std::alloc::AllocError;
 
-/// Fields that are selected, each with the token of the selector's identifier.
-pub type Selections = Vec<(usize, FieldOf)>;
+/// A selector that is a name: the token of its identifier, the field that it selects, and the field's type.
+#[derive(Clone, Copy, Debug)]
+pub struct Selection {
+    pub token: usize,
+    pub field: FieldOf,
+    pub of: TypeId,
+}
+
+type Selections = Vec<Selection>;
+
+/// Notes what a name selects, where that is a field with a type.
+fn note(
+    found: &mut Selections,
+    token: usize,
+    field: Option<FieldOf>,
+    of: Option<TypeId>,
+) -> Result<(), AllocError>
+    ensures { IfOk result (λ _. (shapes : List Shape) → map (selection_in shapes) found.new.items ≡ map (selection_in shapes) found.old.items ++ noted token field (option_map (type_shape shapes) of)) }
+{
+    match field {
+        None => Ok(()),
+        Some(field) => match of {
+            None => Ok(()),
+            Some(of) => {
+                found.push(Selection { token, field, of })?;
+                Ok(())
+            }
+        },
+    }
+}
 
 /// A module with the table of its declarations.
 #[derive(Clone, Copy)]
@@ -56,14 +85,13 @@ impl<'a, 't> Selecting<'a, 't> {
         base: TypeId,
         name: usize,
     ) -> Result<Option<TypeId>, AllocError>
-        ensures found { IfOk result (λ _. found.new.items ≡ found.old.items ++ noted name (field_selected (type_shape (shapes_of self.now.known.now) base) ((meaning_in self.now).written name))) }
+        ensures found { IfOk result (λ _. found_in self.now found.new.items ≡ found_in self.now found.old.items ++ noted name (field_selected (type_shape (shapes_of self.now.known.now) base) ((meaning_in self.now).written name)) (field_type (type_shape (shapes_of self.now.known.now) base) ((meaning_in self.now).written name))) }
         ensures behind { IfOk result (λ t. option_map (type_shape (shapes_of self.now.known.now)) t ≡ field_type (type_shape (shapes_of self.now.known.now) base) ((meaning_in self.now).written name)) }
     {
         let text = text_at(self.resolved.tokens(), name);
-        if let Some(selected) = self.known.field_of(base, text) {
-            found.push((name, selected))?;
-        }
-        Ok(self.known.field(base, text))
+        let behind = self.known.field(base, text);
+        note(found, name, self.known.field_of(base, text), behind)?;
+        Ok(behind)
     }
 
     /// The type behind a selector; what it selects is noted.
@@ -73,7 +101,7 @@ impl<'a, 't> Selecting<'a, 't> {
         base: Option<TypeId>,
         s: &Selector,
     ) -> Result<Option<TypeId>, AllocError>
-        ensures found { IfOk result (λ _. found.new.items ≡ found.old.items ++ selected_from (meaning_in self.now) (option_map (type_shape (shapes_of self.now.known.now)) base) (selector_of s.now)) }
+        ensures found { IfOk result (λ _. found_in self.now found.new.items ≡ found_in self.now found.old.items ++ selected_from (meaning_in self.now) (option_map (type_shape (shapes_of self.now.known.now)) base) (selector_of s.now)) }
         ensures behind { IfOk result (λ t. option_map (type_shape (shapes_of self.now.known.now)) t ≡ option_and_then (λ z. type_behind (meaning_in self.now) z (selector_of s.now)) (option_map (type_shape (shapes_of self.now.known.now)) base)) }
     {
         match base {
@@ -87,7 +115,7 @@ impl<'a, 't> Selecting<'a, 't> {
 
     /// What the selectors of a designator select.
     fn path(&self, found: &mut Selections, d: &Designator) -> Result<(), AllocError>
-        ensures { IfOk result (λ _. found.new.items ≡ found.old.items ++ path_selections (meaning_in self.now) (object_type ((meaning_in self.now).stands_for (out-Designator d.now).name)) (selectors_in d.now)) }
+        ensures { IfOk result (λ _. found_in self.now found.new.items ≡ found_in self.now found.old.items ++ path_selections (meaning_in self.now) (object_type ((meaning_in self.now).stands_for (out-Designator d.now).name)) (selectors_in d.now)) }
     {
         let mut at = self.value_type(d.name);
         for s in &d.selectors {
@@ -99,7 +127,7 @@ impl<'a, 't> Selecting<'a, 't> {
     /// What is selected in an expression.
     #[cycle(expressions)]
     fn expression(&self, found: &mut Selections, e: &Expression) -> Result<(), AllocError>
-        ensures { IfOk result (λ _. found.new.items ≡ found.old.items ++ selections (meaning_in self.now) (expression_of e.now)) }
+        ensures { IfOk result (λ _. found_in self.now found.new.items ≡ found_in self.now found.old.items ++ selections (meaning_in self.now) (expression_of e.now)) }
     {
         self.simple(found, &e.left)?;
         if let Some(compared) = &e.compared {
@@ -110,7 +138,7 @@ impl<'a, 't> Selecting<'a, 't> {
 
     #[cycle(expressions)]
     fn simple(&self, found: &mut Selections, s: &Simple) -> Result<(), AllocError>
-        ensures { IfOk result (λ _. found.new.items ≡ found.old.items ++ selections (meaning_in self.now) (simple_of s.now)) }
+        ensures { IfOk result (λ _. found_in self.now found.new.items ≡ found_in self.now found.old.items ++ selections (meaning_in self.now) (simple_of s.now)) }
     {
         self.term(found, &s.first)?;
         for addend in &s.more {
@@ -121,7 +149,7 @@ impl<'a, 't> Selecting<'a, 't> {
 
     #[cycle(expressions)]
     fn term(&self, found: &mut Selections, t: &Term) -> Result<(), AllocError>
-        ensures { IfOk result (λ _. found.new.items ≡ found.old.items ++ selections (meaning_in self.now) (term_of t.now)) }
+        ensures { IfOk result (λ _. found_in self.now found.new.items ≡ found_in self.now found.old.items ++ selections (meaning_in self.now) (term_of t.now)) }
     {
         self.factor(found, &t.first)?;
         for multiplier in &t.more {
@@ -132,7 +160,7 @@ impl<'a, 't> Selecting<'a, 't> {
 
     #[cycle(expressions)]
     fn factor(&self, found: &mut Selections, f: &Factor) -> Result<(), AllocError>
-        ensures { IfOk result (λ _. found.new.items ≡ found.old.items ++ selections (meaning_in self.now) (factor_of f.now)) }
+        ensures { IfOk result (λ _. found_in self.now found.new.items ≡ found_in self.now found.old.items ++ selections (meaning_in self.now) (factor_of f.now)) }
     {
         match f {
             Factor::Designator(d) => self.designator(found, d),
@@ -144,7 +172,7 @@ impl<'a, 't> Selecting<'a, 't> {
 
     #[cycle(expressions)]
     fn designator(&self, found: &mut Selections, d: &Designator) -> Result<(), AllocError>
-        ensures { IfOk result (λ _. found.new.items ≡ found.old.items ++ selections (meaning_in self.now) (designator_of d.now)) }
+        ensures { IfOk result (λ _. found_in self.now found.new.items ≡ found_in self.now found.old.items ++ selections (meaning_in self.now) (designator_of d.now)) }
     {
         self.path(found, d)?;
         for s in &d.selectors {
@@ -155,7 +183,7 @@ impl<'a, 't> Selecting<'a, 't> {
 
     #[cycle(expressions)]
     fn selector(&self, found: &mut Selections, s: &Selector) -> Result<(), AllocError>
-        ensures { IfOk result (λ _. found.new.items ≡ found.old.items ++ selections (meaning_in self.now) (selector_of s.now)) }
+        ensures { IfOk result (λ _. found_in self.now found.new.items ≡ found_in self.now found.old.items ++ selections (meaning_in self.now) (selector_of s.now)) }
     {
         match s {
             Selector::Field(_) => Ok(()),
@@ -164,14 +192,14 @@ impl<'a, 't> Selecting<'a, 't> {
     }
 
     fn assignment(&self, found: &mut Selections, a: &Assignment) -> Result<(), AllocError>
-        ensures { IfOk result (λ _. found.new.items ≡ found.old.items ++ selections (meaning_in self.now) (assignment_of a.now)) }
+        ensures { IfOk result (λ _. found_in self.now found.new.items ≡ found_in self.now found.old.items ++ selections (meaning_in self.now) (assignment_of a.now)) }
     {
         self.designator(found, &a.target)?;
         self.expression(found, &a.value)
     }
 
     fn call(&self, found: &mut Selections, c: &Call) -> Result<(), AllocError>
-        ensures { IfOk result (λ _. found.new.items ≡ found.old.items ++ selections (meaning_in self.now) (call_of c.now)) }
+        ensures { IfOk result (λ _. found_in self.now found.new.items ≡ found_in self.now found.old.items ++ selections (meaning_in self.now) (call_of c.now)) }
     {
         if let Some(given) = &c.arguments {
             self.arguments(found, given)?;
@@ -180,7 +208,7 @@ impl<'a, 't> Selecting<'a, 't> {
     }
 
     fn arguments(&self, found: &mut Selections, given: &Vec<Expression>) -> Result<(), AllocError>
-        ensures { IfOk result (λ _. found.new.items ≡ found.old.items ++ selections (meaning_in self.now) (arguments_in given.now)) }
+        ensures { IfOk result (λ _. found_in self.now found.new.items ≡ found_in self.now found.old.items ++ selections (meaning_in self.now) (arguments_in given.now)) }
     {
         for e in given {
             self.expression(found, e)?;
@@ -194,7 +222,7 @@ impl<'a, 't> Selecting<'a, 't> {
         found: &mut Selections,
         statements: &Vec<Statement>,
     ) -> Result<(), AllocError>
-        ensures { IfOk result (λ _. found.new.items ≡ found.old.items ++ selections (meaning_in self.now) (sequence_in statements.now)) }
+        ensures { IfOk result (λ _. found_in self.now found.new.items ≡ found_in self.now found.old.items ++ selections (meaning_in self.now) (sequence_in statements.now)) }
     {
         for s in statements {
             self.statement(found, s)?;
@@ -204,7 +232,7 @@ impl<'a, 't> Selecting<'a, 't> {
 
     #[cycle(statements)]
     fn statement(&self, found: &mut Selections, s: &Statement) -> Result<(), AllocError>
-        ensures { IfOk result (λ _. found.new.items ≡ found.old.items ++ selections (meaning_in self.now) (statement_of s.now)) }
+        ensures { IfOk result (λ _. found_in self.now found.new.items ≡ found_in self.now found.old.items ++ selections (meaning_in self.now) (statement_of s.now)) }
     {
         match s {
             Statement::Empty => Ok(()),
@@ -224,7 +252,7 @@ impl<'a, 't> Selecting<'a, 't> {
 
     #[cycle(statements)]
     fn branches(&self, found: &mut Selections, i: &If) -> Result<(), AllocError>
-        ensures { IfOk result (λ _. found.new.items ≡ found.old.items ++ selections (meaning_in self.now) (if_of i.now)) }
+        ensures { IfOk result (λ _. found_in self.now found.new.items ≡ found_in self.now found.old.items ++ selections (meaning_in self.now) (if_of i.now)) }
     {
         self.expression(found, &i.condition)?;
         self.sequence(found, &i.then)?;
@@ -237,7 +265,7 @@ impl<'a, 't> Selecting<'a, 't> {
 
     #[cycle(statements)]
     fn elsifs(&self, found: &mut Selections, parts: &Vec<Elsif>) -> Result<(), AllocError>
-        ensures { IfOk result (λ _. found.new.items ≡ found.old.items ++ selections (meaning_in self.now) (elsifs_in parts.now)) }
+        ensures { IfOk result (λ _. found_in self.now found.new.items ≡ found_in self.now found.old.items ++ selections (meaning_in self.now) (elsifs_in parts.now)) }
     {
         for e in parts {
             self.expression(found, &e.condition)?;
@@ -249,7 +277,7 @@ impl<'a, 't> Selecting<'a, 't> {
     /// What is selected in a type as it is written.
     #[cycle(types)]
     fn written_type(&self, found: &mut Selections, t: &WrittenType) -> Result<(), AllocError>
-        ensures { IfOk result (λ _. found.new.items ≡ found.old.items ++ selections (meaning_in self.now) (type_of t.now)) }
+        ensures { IfOk result (λ _. found_in self.now found.new.items ≡ found_in self.now found.old.items ++ selections (meaning_in self.now) (type_of t.now)) }
     {
         match t {
             WrittenType::Named(_) => Ok(()),
@@ -263,7 +291,7 @@ impl<'a, 't> Selecting<'a, 't> {
 
     #[cycle(types)]
     fn record(&self, found: &mut Selections, r: &RecordType) -> Result<(), AllocError>
-        ensures { IfOk result (λ _. found.new.items ≡ found.old.items ++ selections (meaning_in self.now) (record_in r.now)) }
+        ensures { IfOk result (λ _. found_in self.now found.new.items ≡ found_in self.now found.old.items ++ selections (meaning_in self.now) (record_in r.now)) }
     {
         for group in &r.groups {
             self.fields(found, group)?;
@@ -273,7 +301,7 @@ impl<'a, 't> Selecting<'a, 't> {
 
     #[cycle(types)]
     fn fields(&self, found: &mut Selections, f: &Fields) -> Result<(), AllocError>
-        ensures { IfOk result (λ _. found.new.items ≡ found.old.items ++ selections (meaning_in self.now) (fields_of f.now)) }
+        ensures { IfOk result (λ _. found_in self.now found.new.items ≡ found_in self.now found.old.items ++ selections (meaning_in self.now) (fields_of f.now)) }
     {
         match f {
             Fields::Empty => Ok(()),
@@ -282,7 +310,7 @@ impl<'a, 't> Selecting<'a, 't> {
     }
 
     fn section(&self, found: &mut Selections, s: &Section) -> Result<(), AllocError>
-        ensures { IfOk result (λ _. found.new.items ≡ found.old.items ++ selections (meaning_in self.now) (section_of s.now)) }
+        ensures { IfOk result (λ _. found_in self.now found.new.items ≡ found_in self.now found.old.items ++ selections (meaning_in self.now) (section_of s.now)) }
     {
         self.written_type(found, &s.written)
     }
@@ -292,7 +320,7 @@ impl<'a, 't> Selecting<'a, 't> {
         found: &mut Selections,
         sections: &Option<Vec<Section>>,
     ) -> Result<(), AllocError>
-        ensures { IfOk result (λ _. found.new.items ≡ found.old.items ++ selections (meaning_in self.now) (formals_of sections.now)) }
+        ensures { IfOk result (λ _. found_in self.now found.new.items ≡ found_in self.now found.old.items ++ selections (meaning_in self.now) (formals_of sections.now)) }
     {
         let Some(sections) = sections else {
             return Ok(());
@@ -308,7 +336,7 @@ impl<'a, 't> Selecting<'a, 't> {
         found: &mut Selections,
         declared: &Option<Vec<Constant>>,
     ) -> Result<(), AllocError>
-        ensures { IfOk result (λ _. found.new.items ≡ found.old.items ++ selections (meaning_in self.now) (constants_of declared.now)) }
+        ensures { IfOk result (λ _. found_in self.now found.new.items ≡ found_in self.now found.old.items ++ selections (meaning_in self.now) (constants_of declared.now)) }
     {
         let Some(declared) = declared else {
             return Ok(());
@@ -324,7 +352,7 @@ impl<'a, 't> Selecting<'a, 't> {
         found: &mut Selections,
         declared: &Option<Vec<TypeDeclaration>>,
     ) -> Result<(), AllocError>
-        ensures { IfOk result (λ _. found.new.items ≡ found.old.items ++ selections (meaning_in self.now) (types_of declared.now)) }
+        ensures { IfOk result (λ _. found_in self.now found.new.items ≡ found_in self.now found.old.items ++ selections (meaning_in self.now) (types_of declared.now)) }
     {
         let Some(declared) = declared else {
             return Ok(());
@@ -340,7 +368,7 @@ impl<'a, 't> Selecting<'a, 't> {
         found: &mut Selections,
         declared: &Option<Vec<Variables>>,
     ) -> Result<(), AllocError>
-        ensures { IfOk result (λ _. found.new.items ≡ found.old.items ++ selections (meaning_in self.now) (variables_of declared.now)) }
+        ensures { IfOk result (λ _. found_in self.now found.new.items ≡ found_in self.now found.old.items ++ selections (meaning_in self.now) (variables_of declared.now)) }
     {
         let Some(declared) = declared else {
             return Ok(());
@@ -357,7 +385,7 @@ impl<'a, 't> Selecting<'a, 't> {
         found: &mut Selections,
         statements: &Option<Vec<Statement>>,
     ) -> Result<(), AllocError>
-        ensures { IfOk result (λ _. found.new.items ≡ found.old.items ++ selections (meaning_in self.now) (body_of statements.now)) }
+        ensures { IfOk result (λ _. found_in self.now found.new.items ≡ found_in self.now found.old.items ++ selections (meaning_in self.now) (body_of statements.now)) }
     {
         match statements {
             Some(statements) => self.sequence(found, statements),
@@ -367,7 +395,7 @@ impl<'a, 't> Selecting<'a, 't> {
 
     #[cycle(blocks)]
     pub(crate) fn block(&self, found: &mut Selections, b: &Block) -> Result<(), AllocError>
-        ensures { IfOk result (λ _. found.new.items ≡ found.old.items ++ selections (meaning_in self.now) (block_of b.now)) }
+        ensures { IfOk result (λ _. found_in self.now found.new.items ≡ found_in self.now found.old.items ++ selections (meaning_in self.now) (block_of b.now)) }
     {
         self.constants(found, &b.constants)?;
         self.types(found, &b.types)?;
@@ -380,7 +408,7 @@ impl<'a, 't> Selecting<'a, 't> {
 
     #[cycle(blocks)]
     fn procedure(&self, found: &mut Selections, p: &Procedure) -> Result<(), AllocError>
-        ensures { IfOk result (λ _. found.new.items ≡ found.old.items ++ selections (meaning_in self.now) (procedure_of p.now)) }
+        ensures { IfOk result (λ _. found_in self.now found.new.items ≡ found_in self.now found.old.items ++ selections (meaning_in self.now) (procedure_of p.now)) }
     {
         self.formals(found, &p.formals)?;
         self.block(found, &p.block)?;

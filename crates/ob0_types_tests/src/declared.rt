@@ -3,7 +3,7 @@
 use ob0_parse::parse;
 use ob0_scan::scan;
 use ob0_scope::resolve::resolve;
-use ob0_selectors::{selected_at, selections};
+use ob0_selectors::{Selection, selection_at, selections};
 use ob0_types::checked::check;
 use ob0_types::known::{FieldOf, Object};
 use ob0_types::sameness::Parts;
@@ -15,7 +15,8 @@ use std::test::Fail;
 #[test]
 fn constants_by_their_ordinals(rt: HostRuntime) -> Result<(), Fail> {
     let alloc = rt.alloc();
-    let text = "MODULE M; CONST c = 3; on = TRUE; VAR a: ARRAY c OF INTEGER; PROCEDURE P(VAR x: INTEGER); CONST c = c - 5; BEGIN x := c END P; BEGIN P(a[0]) END M.";
+    let text =
+        "MODULE M; CONST c = 3; on = TRUE; VAR a: ARRAY c OF INTEGER; PROCEDURE P(VAR x: INTEGER); CONST c = c - 5; BEGIN x := c END P; BEGIN P(a[0]) END M.";
     let tokens = scan(alloc, text)?;
     let module = parse(alloc, &tokens)?;
     let resolved = resolve(alloc, &module)?;
@@ -33,7 +34,8 @@ fn constants_by_their_ordinals(rt: HostRuntime) -> Result<(), Fail> {
 #[test]
 fn types_by_their_ordinals(rt: HostRuntime) -> Result<(), Fail> {
     let alloc = rt.alloc();
-    let text = "MODULE M; TYPE R = RECORD x, y: BOOLEAN END; VAR a: ARRAY 3 OF INTEGER; PROCEDURE P(VAR r: R; n: INTEGER); BEGIN END P; END M.";
+    let text =
+        "MODULE M; TYPE R = RECORD x, y: BOOLEAN END; VAR a: ARRAY 3 OF INTEGER; PROCEDURE P(VAR r: R; n: INTEGER); BEGIN END P; END M.";
     let tokens = scan(alloc, text)?;
     let module = parse(alloc, &tokens)?;
     let resolved = resolve(alloc, &module)?;
@@ -76,9 +78,17 @@ fn selected(alloc: Global, text: &str) -> Result<String, Fail> {
     let checked = check(alloc, &resolved)?;
     let module = checked.well_typed().ok_or("well-typed")?;
     let mut out = String::new(alloc);
-    for (token, field) in &selections(alloc, &module)? {
-        let FieldOf { ordinal, index } = field;
-        let line = format!(in alloc; "{token}: {ordinal}.{index}; ")?;
+    for selection in &selections(alloc, &module)? {
+        let token = selection.token;
+        let FieldOf { ordinal, index } = selection.field;
+        let of = match selection.of {
+            TypeId::Integer => "INTEGER",
+            TypeId::Boolean => "BOOLEAN",
+            TypeId::Array(_) => "ARRAY",
+            TypeId::Record(_) => "RECORD",
+            TypeId::Unknown => "unknown",
+        };
+        let line = format!(in alloc; "{token}: {ordinal}.{index} {of}; ")?;
         out.push_str(line.as_str())?;
     }
     Ok(out)
@@ -90,7 +100,10 @@ fn fields_of_two_records(rt: HostRuntime) -> Result<(), Fail> {
         rt.alloc(),
         "MODULE M; TYPE R = RECORD a, b: INTEGER END; VAR r: R; s: RECORD a: INTEGER END; a: INTEGER; BEGIN r.a := 1; s.a := 2; a := r.a + s.a; Write(a) END M.",
     )?;
-    assert_eq!(rt; found.as_str(), "34: 0.0; 40: 1.0; 48: 0.0; 52: 1.0; ");
+    assert_eq!(rt;
+        found.as_str(),
+        "34: 0.0 INTEGER; 40: 1.0 INTEGER; 48: 0.0 INTEGER; 52: 1.0 INTEGER; "
+    );
     Ok(())
 }
 
@@ -98,9 +111,9 @@ fn fields_of_two_records(rt: HostRuntime) -> Result<(), Fail> {
 fn fields_within_an_index(rt: HostRuntime) -> Result<(), Fail> {
     let found = selected(
         rt.alloc(),
-        "MODULE M; VAR t: ARRAY 2 OF RECORD f, g: INTEGER END; i: RECORD n: INTEGER END; BEGIN t[i.n].g := 1 END M.",
+        "MODULE M; VAR t: ARRAY 2 OF RECORD f: INTEGER; g: BOOLEAN END; i: RECORD n: INTEGER END; BEGIN t[i.n].g := TRUE END M.",
     )?;
-    assert_eq!(rt; found.as_str(), "33: 1.1; 30: 2.0; ");
+    assert_eq!(rt; found.as_str(), "35: 1.1 BOOLEAN; 32: 2.0 INTEGER; ");
     Ok(())
 }
 
@@ -114,8 +127,21 @@ fn the_field_at_a_token(rt: HostRuntime) -> Result<(), Fail> {
         ordinal: 0,
         index: 0,
     };
-    let found = [(4, other), (7, field)];
-    assert_eq!(rt; selected_at(&found, 7), Some(field));
-    assert_eq!(rt; selected_at(&found, 5), None);
+    let found = [
+        Selection {
+            token: 4,
+            field: other,
+            of: TypeId::Boolean,
+        },
+        Selection {
+            token: 7,
+            field,
+            of: TypeId::Integer,
+        },
+    ];
+    let at = selection_at(&found, 7).ok_or("a selection")?;
+    assert_eq!(rt; at.field, field);
+    assert_eq!(rt; at.of, TypeId::Integer);
+    assert!(rt; selection_at(&found, 5).is_none());
     Ok(())
 }
