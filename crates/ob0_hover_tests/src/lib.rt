@@ -1,0 +1,5 @@
+//! Examples of what is shown of names, from a text.
+#![tactic(auto)]
+
+#[cfg(test)]
+mod tests;
