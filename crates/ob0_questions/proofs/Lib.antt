@@ -1,0 +1,3 @@
+pub mod Selected
+pub mod Walks
+pub mod Written

@@ -1,0 +1,4 @@
+pub mod Fields
+pub mod Questions
+pub mod Walk
+pub mod Writing

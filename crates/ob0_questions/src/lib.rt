@@ -1,0 +1,11 @@
+//! Questions about names and fields at the places of a well-typed module.
+#![tactic(auto)]
+
+mod fields;
+mod hovers;
+mod questions;
+mod writing;
+
+pub use fields::{field_tokens, module_fields};
+pub use hovers::hover;
+pub use questions::{at, definition, references};
