@@ -50,12 +50,17 @@ fn listed(alloc: Global, text: &str) -> Result<String, Fail> {
 
 #[test]
 fn closing_names_show_the_procedure(rt: HostRuntime) -> Result<(), Fail> {
-    for offset in [20, 21, 82, 83, 91] {
+    for (offset, start, end) in [
+        (20, 20, 21),
+        (21, 20, 21),
+        (82, 82, 83),
+        (83, 82, 83),
+        (91, 91, 92),
+    ] {
         let found = shown(rt.alloc(), RECURSIVE, offset)?;
         let (span, text) = found.ok_or("a name")?;
         assert_eq!(rt; text.as_str(), "PROCEDURE F(n: INTEGER)");
-        assert!(rt; span.start <= offset && offset <= span.end);
-        assert_eq!(rt; span.end, span.start + 1);
+        assert_eq!(rt; span, Span { start, end });
     }
     Ok(())
 }
