@@ -16,3 +16,9 @@ pub mod AgreeingModules
 pub mod Exchange
 pub mod WorkedFields
 pub mod ByToken
+pub mod OwnedStatements
+pub mod OwnedTypes
+pub mod DeclaredInOrder
+pub mod Selecting
+pub mod OwnedModules
+pub mod OwnedTokens

@@ -2,3 +2,4 @@ pub mod Fields
 pub mod Renaming
 pub mod FieldLaws
 pub mod Owners
+pub mod Owned
