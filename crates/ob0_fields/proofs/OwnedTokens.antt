@@ -1,16 +1,15 @@
 -- Each identifier of a module is listed with its owner once, in text order; so a table with the fields written into it has them all.
-use Rattle.std.proofs.Common.{◌≡◌, ◌≢◌, ℕ, suc, ◌+◌, ◌<◌, ◌≤◌, List, [], ◌∷◌, ◌++◌, map, length, replicate, set, slice_index_or, Some, None, Option, refl, ap, ◌∙◌, sym, subst, arith, le_refl, get_or-set_other, get_or-set_same}
+use Rattle.std.proofs.Common.{◌≡◌, ◌≢◌, ℕ, suc, ◌+◌, ◌<◌, ◌≤◌, List, [], ◌∷◌, ◌++◌, map, length, replicate, set, Some, None, Option, refl, ap, ◌∙◌, sym, subst, arith, le_refl, get_or-set_other, get_or-set_same}
 use Rattle.std.proofs.Math.ListN.{length-set}
 use Rattle.std.proofs.lemmas.List.{get_or-replicate, length-replicate, map-append}
 use Rattle.ob0_tree.specs.declared.tree.Role.{Role}
 use Rattle.ob0_tree.specs.declared.tree.Role.TheVariants as role
 use Rattle.ob0_tree.specs.Order.{Ascending, leaves, names_only}
 use Rattle.ob0_tree.specs.Parsed.{tree_of}
-use Rattle.ob0_tree.specs.Tree.{Sort, Tree, Item, item, adds, array_type, assigns, begins, branches, calls, compares, declares, declares_constant, declares_constants, declares_procedure, declares_type, declares_types, declares_variable, declares_variables, designator, else_branch, elsif_branch, empty, end, field, has_body, identifiers, index, integer, is_module, listed, mapped, more, multiplies, named_type, negation, no_arguments, no_fields, no_formals, none, occurrences, one, parenthesised, product, record_type, relates, repeat_loop, runs, some_arguments, some_fields, some_formals, sum, then_argument, then_fields, then_name, then_section, then_statement, value_section, variable_section, while_loop, block, names, written_type, fields, further_name, further_fields, section, further_section, formals, type_name, type_names, variable, variables, procedure, module_text, body, items, maybe}
+use Rattle.ob0_tree.specs.Tree.{Sort, Tree, item, adds, array_type, assigns, begins, branches, calls, compares, declares, declares_constant, declares_constants, declares_procedure, declares_type, declares_types, declares_variable, declares_variables, designator, else_branch, elsif_branch, empty, end, field, has_body, identifiers, index, integer, is_module, listed, more, multiplies, named_type, negation, no_arguments, no_fields, no_formals, none, one, parenthesised, product, record_type, relates, repeat_loop, runs, some_arguments, some_fields, some_formals, sum, then_argument, then_fields, then_name, then_section, then_statement, value_section, variable_section, while_loop, block, names, written_type, fields, further_name, further_fields, section, further_section, formals, type_name, type_names, variable, variables, procedure, module_text, items, maybe}
 use Rattle.ob0_tree.proofs.Leaves.{leaves_ascend}
 use Rattle.ob0_scope.specs.Parts.{further_names, names_listed, section_type}
-use Rattle.ob0_scope.specs.Resolution.{Resolution, ordinal_in}
-use Rattle.ob0_types.specs.CheckedModules.{IsWellTyped}
+use Rattle.ob0_scope.specs.Resolution.{ordinal_in}
 use Rattle.ob0_types.specs.Declarations.{after_formals, after_types, after_variables, procedure_constructors}
 use Rattle.ob0_types.specs.Expressions.{Meanings}
 use Rattle.ob0_types.specs.Typing.{constructors, group_constructors, object_type}
@@ -192,8 +191,7 @@ fields_stand : (xs : List (ℕ × Option ℕ)) (table : List (Option ℕ)) (low 
     → HasOwners (ordinal_in (with_fields_at table (fields_among xs))) xs
 fields_stand [] table low high ascend within vacant = tt
 fields_stand ((x, None) ∷ xs) table low high ascend within vacant =
-    let last = ascends_to (x + 1) (tokens xs) high ascend.1 in
-    (
+    let last = ascends_to (x + 1) (tokens xs) high ascend.1 in (
       kept_below xs table (x + 1) high x ascend.1 (omega arith) ∙ vacant x ascend.0 (omega (arith, last)),
       fields_stand xs table (x + 1) high ascend.1 within (λ i l u. vacant i (omega (arith, l, ascend.0)) u),
     )
@@ -201,8 +199,7 @@ fields_stand ((x, Some k) ∷ xs) table low high ascend within vacant =
     let next : List (Option ℕ) = set table x (Some k) in
     let last = ascends_to (x + 1) (tokens xs) high ascend.1 in
     let inside : x < length table = omega (arith, last, within) in
-    let still : high ≤ length next = subst (λ n. high ≤ n) (sym (length-set table x (Some k))) within in
-    (
+    let still : high ≤ length next = subst (λ n. high ≤ n) (sym (length-set table x (Some k))) within in (
       kept_below xs next (x + 1) high x ascend.1 (omega arith) ∙ get_or-set_same table x (Some k) None inside,
       fields_stand xs next (x + 1) high ascend.1 still (λ i l u. let other : i ≢ x = omega (arith, l) in get_or-set_other table x i (Some k) None other ∙ vacant i (omega (arith, l, ascend.0)) u),
     )
