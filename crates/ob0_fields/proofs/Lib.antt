@@ -22,3 +22,9 @@ pub mod DeclaredInOrder
 pub mod Selecting
 pub mod OwnedModules
 pub mod OwnedTokens
+pub mod MarkWalks
+pub mod MarkPaths
+pub mod MarkedFields
+pub mod GroupWalks
+pub mod DeclaredWalks
+pub mod TableMade

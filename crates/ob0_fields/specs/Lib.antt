@@ -3,3 +3,4 @@ pub mod Renaming
 pub mod FieldLaws
 pub mod Owners
 pub mod Owned
+pub mod Walk

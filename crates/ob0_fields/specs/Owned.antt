@@ -2,11 +2,11 @@
 use Rattle.std.specs.Prelude.{◌≡◌, ℕ, suc, ◌+◌, List, [], ◌∷◌, ◌++◌, map, Some, None, Option, option_and_then, option_map, length, replicate, set}
 use Rattle.ob0_tree.specs.declared.tree.Role.{Role}
 use Rattle.ob0_tree.specs.declared.tree.Role.TheVariants as role
-use Rattle.ob0_tree.specs.Tree.{Sort, Tree, Item, item, items, maybe, adds, array_type, assigns, begins, block, branches, calls, compares, declares, declares_procedure, declares_type, declares_types, declares_variable, declares_variables, designator, else_branch, elsif_branch, empty, end, field, fields, formals, further_fields, further_section, has_body, identifiers, index, integer, is_module, module_text, more, multiplies, named_type, negation, no_arguments, no_fields, no_formals, none, one, parenthesised, procedure, product, record_type, relates, repeat_loop, runs, section, some_arguments, some_fields, some_formals, sum, then_argument, then_fields, then_section, then_statement, type_name, type_names, value_section, variable, variable_section, variables, while_loop, written_type}
+use Rattle.ob0_tree.specs.Tree.{Sort, Tree, Item, item, items, selector, maybe, adds, array_type, assigns, begins, block, branches, calls, compares, declares, declares_procedure, declares_type, declares_types, declares_variable, declares_variables, designator, else_branch, elsif_branch, empty, end, field, fields, formals, further_fields, further_section, has_body, identifiers, index, integer, is_module, module_text, more, multiplies, named_type, negation, no_arguments, no_fields, no_formals, none, one, parenthesised, procedure, product, record_type, relates, repeat_loop, runs, section, some_arguments, some_fields, some_formals, sum, then_argument, then_fields, then_section, then_statement, type_name, type_names, value_section, variable, variable_section, variables, while_loop, written_type}
 use Rattle.ob0_tree.specs.Parsed.{named_tree_of, tree_of}
 use Rattle.ob0_tree.specs.Places.{text_at}
 use Rattle.ob0_scope.specs.Names.{Name}
-use Rattle.ob0_scope.specs.Parts.{names_listed, section_type}
+use Rattle.ob0_scope.specs.Parts.{formal_sections, names_listed, section_type, section_types, section_variables}
 use Rattle.ob0_scope.specs.Resolution.{Resolution, ordinal_in}
 use Rattle.ob0_types.specs.Bindings.{declared_object}
 use Rattle.ob0_types.specs.CheckedModules.{IsWellTyped}
@@ -165,3 +165,100 @@ with_fields_at table (f ∷ fs) = with_fields_at (set table f.0 (Some f.1)) fs
 -- In a well-typed module the empty table, one entry a token, with its fields written into it is a table of owners.
 abbrev pub OwnersOfFields : Type 0
 OwnersOfFields = (r : Resolution) → IsWellTyped r → AreOwners r.module_read (with_fields_at (replicate (length r.module_read.source.tokens) None) (fields_among (owned_tokens r)))
+
+-- ---- the fields alone, as a walk finds them
+
+-- an identifier with the record whose field it is
+abbrev pub mark : ℕ → Option ℕ → List (ℕ × ℕ)
+mark x None = []
+mark x (Some k) = (x, k) ∷ []
+
+-- the fields that statements select
+abbrev mutual
+  pub marked : {P : Type 0} {s : Sort} → Meanings ℕ Shape P → Tree ℕ s → List (ℕ × ℕ)
+  marked m none = []
+  marked m (one a) = marked m a
+  marked m end = []
+  marked m (more a b) = marked m a ++ (marked m b)
+  marked m (compares a b) = marked m a ++ (marked m b)
+  marked m (relates a b) = marked m b
+  marked m (sum a b c) = marked m b ++ (marked m c)
+  marked m (adds a b) = marked m b
+  marked m (product a b) = marked m a ++ (marked m b)
+  marked m (multiplies a b) = marked m b
+  marked m (designator a b) = marked_path m (object_type (m.stands_for a)) b
+  marked m (integer a) = []
+  marked m (parenthesised a) = marked m a
+  marked m (negation a) = marked m a
+  marked m (field a) = []
+  marked m (index a) = marked m a
+  marked m empty = []
+  marked m (assigns a b c) = marked_path m (object_type (m.stands_for a)) b ++ (marked m c)
+  marked m (calls a b) = marked m b
+  marked m (branches a b c d) = marked m a ++ (marked m b ++ (marked m c ++ (marked m d)))
+  marked m (while_loop a b) = marked m a ++ (marked m b)
+  marked m (repeat_loop a b) = marked m a ++ (marked m b)
+  marked m no_arguments = []
+  marked m (some_arguments a b) = marked m a ++ (marked m b)
+  marked m (then_argument a) = marked m a
+  marked m (runs a b) = marked m a ++ (marked m b)
+  marked m (then_statement a) = marked m a
+  marked m (elsif_branch a b) = marked m a ++ (marked m b)
+  marked m (else_branch a) = marked m a
+  marked m (begins a) = marked m a
+  marked m t = []
+
+  -- those of a designator's selectors, of a value of a type and its parts in turn
+  pub marked_path : {P : Type 0} → Meanings ℕ Shape P → Option Shape → Tree ℕ (items selector) → List (ℕ × ℕ)
+  marked_path m s end = []
+  marked_path m s (more (field x) rest) = mark x (owner s (m.written x)) ++ marked_path m (option_and_then (λ t. field_type t (m.written x)) s) rest
+  marked_path m s (more (index e) rest) = marked m e ++ marked_path m (option_and_then (λ t. element_type t integer_shape) s) rest
+
+-- the fields that a type's text declares; k is the ordinal of its first ARRAY or RECORD, and r that of the group's record
+abbrev mutual
+  pub marked_type : ℕ → Tree ℕ written_type → List (ℕ × ℕ)
+  marked_type k (named_type x) = []
+  marked_type k (array_type e t) = marked_type (suc k) t
+  marked_type k (record_type g rest) = marked_group k (suc k) g ++ marked_groups k (suc k + group_constructors g) rest
+
+  pub marked_group : ℕ → ℕ → Tree ℕ fields → List (ℕ × ℕ)
+  marked_group r k no_fields = []
+  marked_group r k (some_fields ns t) = map (λ x. (x, r)) (names_listed ns) ++ marked_type k t
+
+  pub marked_groups : ℕ → ℕ → Tree ℕ (items further_fields) → List (ℕ × ℕ)
+  marked_groups r k end = []
+  marked_groups r k (more (then_fields g) rest) = marked_group r k g ++ marked_groups r (k + group_constructors g) rest
+
+-- those of declarations
+abbrev pub marked_types : ℕ → Tree ℕ (items type_name) → List (ℕ × ℕ)
+marked_types k end = []
+marked_types k (more (declares_type x u) ds) = marked_type k u ++ marked_types (k + constructors u) ds
+
+abbrev pub marked_variables : ℕ → Tree ℕ (items variable) → List (ℕ × ℕ)
+marked_variables k end = []
+marked_variables k (more (declares_variable ns u) gs) = marked_type k u ++ marked_variables (k + constructors u) gs
+
+abbrev pub marked_sections : ℕ → Tree ℕ (items further_section) → List (ℕ × ℕ)
+marked_sections k end = []
+marked_sections k (more (then_section f) fs) = marked_type k (section_type f) ++ marked_sections (k + constructors (section_type f)) fs
+
+abbrev mutual
+  pub marked_block : {P : Type 0} → Meanings ℕ Shape P → ℕ → Tree ℕ block → List (ℕ × ℕ)
+  marked_block m k (has_body (declares cs ts vs ps) statements) =
+      (marked_types k (section_types ts) ++ (marked_variables (after_types k (has_body (declares cs ts vs ps) statements)) (section_variables vs)
+      ++ marked_procedures m (after_variables k (has_body (declares cs ts vs ps) statements)) ps))
+      ++ marked m statements
+
+  pub marked_procedures : {P : Type 0} → Meanings ℕ Shape P → ℕ → Tree ℕ (items procedure) → List (ℕ × ℕ)
+  marked_procedures m k end = []
+  marked_procedures m k (more p rest) = marked_procedure m k p ++ marked_procedures m (k + procedure_constructors p) rest
+
+  pub marked_procedure : {P : Type 0} → Meanings ℕ Shape P → ℕ → Tree ℕ (item procedure) → List (ℕ × ℕ)
+  marked_procedure m k (declares_procedure x fs b closing) = marked_sections k (formal_sections fs) ++ marked_block m (after_formals k (declares_procedure x fs b closing)) b
+
+abbrev pub marked_module : {P : Type 0} → Meanings ℕ Shape P → Tree ℕ module_text → List (ℕ × ℕ)
+marked_module m (is_module x b closing) = marked_block m 0 b
+
+-- The walk finds just the fields among a module's identifiers.
+abbrev pub MarkedFields : Type 0
+MarkedFields = (r : Resolution) → fields_among (owned_tokens r) ≡ marked_module (token_objects (declared_object (named_tree_of r.module_read)) r) (tree_of r.module_read)

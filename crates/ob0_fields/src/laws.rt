@@ -1,7 +1,7 @@
 //! The laws. Each function does nothing: its contract is the law.
 
 ghost use Rattle.ob0_fields.specs.FieldLaws.{FreeFieldKeepsModules, RefieldingKeepsFitting, RefieldingKeepsModules};
-ghost use Rattle.ob0_fields.specs.Owned.{OwnersByDeclaration, OwnersOfFields};
+ghost use Rattle.ob0_fields.specs.Owned.{MarkedFields, OwnersByDeclaration, OwnersOfFields};
 ghost use Rattle.ob0_fields.specs.Owners.{RenamedByToken};
 
 /// Fields written anew, those of a record kept apart, keep a module's declarations and statements fitting.
@@ -33,4 +33,9 @@ pub fn owners_by_declaration()
 /// In a well-typed module the empty table with the module's fields written into it is a table of owners.
 pub fn owners_of_fields()
     ensures { OwnersOfFields }
+{}
+
+/// The fields among a module's identifiers are those that records declare and selectors select, in text order.
+pub fn marked_fields()
+    ensures { MarkedFields }
 {}
