@@ -164,7 +164,7 @@ mutual
 
 -- arguments
 
-designated-typed : (stands : Name → Option (Object Shape Signature)) (e : Tree Name expression) (s : Shape) → variable_type (named stands) (designated e) ≡ Some s → type_of (named stands) e ≡ Some s
+pub designated-typed : (stands : Name → Option (Object Shape Signature)) (e : Tree Name expression) (s : Shape) → variable_type (named stands) (designated e) ≡ Some s → type_of (named stands) e ≡ Some s
 unfolding type_of variable_type
 designated-typed stands (compares (sum None (product (designator x path) end) end) none) s h =
     let (t, et, h₁) = variable-typed (named stands) x path s h in

@@ -16,3 +16,15 @@ pub mod AgreeingModules
 pub mod Exchange
 pub mod WorkedFields
 pub mod ByToken
+pub mod OwnedStatements
+pub mod OwnedTypes
+pub mod DeclaredInOrder
+pub mod Selecting
+pub mod OwnedModules
+pub mod OwnedTokens
+pub mod MarkWalks
+pub mod MarkPaths
+pub mod MarkedFields
+pub mod GroupWalks
+pub mod DeclaredWalks
+pub mod TableMade

@@ -2,3 +2,5 @@ pub mod Fields
 pub mod Renaming
 pub mod FieldLaws
 pub mod Owners
+pub mod Owned
+pub mod Walk
