@@ -11,12 +11,12 @@ BUILT = {
     "changes": True,  # changes with a range
     "utf8": True,  # positions in UTF-8 units where the client offers them
     "questions": True,  # definition, references, prepareRename
-    "hover": False,
-    "fields": False,  # questions at fields of records
+    "hover": True,
+    "fields": True,  # hover, definition and references at fields of records
     "run": True,  # `ob0 run`
     "rename": True,  # rename
     "rename command": True,  # `ob0 rename`
-    "rename fields": False,  # rename of a record's field
+    "rename fields": False,  # prepareRename and rename of a record's field
     "inline": False,  # code actions
     "format": True,  # formatting
 }

@@ -172,7 +172,6 @@ def fields():
         same(server.hover(6, 26), ("FIELD x: INTEGER", extent("6:26-6:27")))
         same(server.definition(6, 26), extent("2:40-2:41"))
         same(server.references(2, 56, True), [extent("2:55-2:57"), extent("6:31-6:33")])
-        same(server.result("prepareRename", 6, 31), extent("6:31-6:33"))
     text = """MODULE M;
 TYPE R = RECORD a, b: INTEGER END;
 VAR r: R; s: RECORD a: INTEGER END; a: INTEGER;
@@ -184,6 +183,12 @@ BEGIN r.a := 1; s.a := 2; a := r.a + s.a; Write(a) END M.
         same(server.references(3, 8, True), [extent(it) for it in ("1:16-1:17", "3:8-3:9", "3:33-3:34")])
         same(server.references(3, 18, True), [extent(it) for it in ("2:20-2:21", "3:18-3:19", "3:39-3:40")])
         same(server.references(3, 26, True), [extent(it) for it in ("2:36-2:37", "3:26-3:27", "3:48-3:49")])
+
+
+@test("questions: which fields can be renamed", "rename fields")
+def renamable_fields():
+    with Asked(NAMES) as server:
+        same(server.result("prepareRename", 6, 31), extent("6:31-6:33"))
 
 
 @test("questions: positions in UTF-8 units", "questions", "utf8")

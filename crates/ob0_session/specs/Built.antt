@@ -8,8 +8,9 @@ use Rattle.ob0_rpc.specs.declared.clients.Client.{Client}
 -- the requests that are answered so far; all others are unknown methods
 abbrev pub built : List ℕ → Bool
 built method =
-    bytes_eq method (codes "initialize") || bytes_eq method (codes "shutdown") || bytes_eq method (codes "textDocument/definition") || bytes_eq method (codes "textDocument/references")
-    || bytes_eq method (codes "textDocument/prepareRename") || bytes_eq method (codes "textDocument/rename") || bytes_eq method (codes "textDocument/formatting")
+    bytes_eq method (codes "initialize") || bytes_eq method (codes "shutdown") || bytes_eq method (codes "textDocument/hover") || bytes_eq method (codes "textDocument/definition")
+    || bytes_eq method (codes "textDocument/references") || bytes_eq method (codes "textDocument/prepareRename") || bytes_eq method (codes "textDocument/rename")
+    || bytes_eq method (codes "textDocument/formatting")
 
 -- positions count bytes of UTF-8 where the client offers that
 abbrev pub unit_for : Client → Unit

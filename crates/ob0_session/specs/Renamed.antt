@@ -13,17 +13,24 @@ use Rattle.ob0_text.specs.declared.edits.Edit.{Edit}
 use Rattle.ob0_text.specs.declared.positions.Position.{Position}
 use Rattle.ob0_text.specs.declared.positions.Unit.{Unit}
 use Rattle.ob0_text.specs.declared.refusals.EditRefusal.{EditRefusal}
-use Rattle.ob0_tree.specs.Parsed.{Parsed}
+use Rattle.ob0_scan.specs.Scanned.{IsScanOf}
+use Rattle.ob0_tree.specs.Parsed.{Parsed, IsParsed, named_tree_of}
+use Rattle.ob0_types.specs.WellTyped.{WellTyped}
 use Rattle.ob0_rename.specs.Answers.{AreEdits, IsRefused}
 use Rattle.ob0_rename.specs.Renaming.{Renaming}
 use Rattle.ob0_session.specs.Diagnosed.{IsWellTypedModule, TellsFaults, complaint_in}
 use Rattle.ob0_session.specs.Diagnostics.{utf8}
-use Rattle.ob0_session.specs.Questions.{IsReadAs}
 use Rattle.ob0_session.specs.RunsKept.{RunsAsBefore}
 use Rattle.ob0_session.specs.Shapes.{edit_refused, workspace_edit}
 use Rattle.ob0_session.specs.declared.analysis.Asked.{Asked}
 use Rattle.ob0_session.specs.declared.analysis.Asked.TheVariants.{Answered, IllTyped}
 use Rattle.ob0_session.specs.declared.renaming.RenameRequest.{RenameRequest}
+
+-- the text is read as this module, which is well-typed
+pub record IsReadAs (text : List ℕ) (m : Parsed) : Type 0 where
+  pub scan : IsScanOf text m.source
+  pub parsed : IsParsed m
+  pub well_typed : WellTyped (named_tree_of m)
 
 -- another name for what is named at a place of a text that is read as this module
 abbrev pub renaming_of : Unit → List ℕ → Parsed → Position → List ℕ → Renaming

@@ -1,4 +1,4 @@
-//! Questions about the name at a position.
+//! Questions about the name or field at a position.
 
 ghost use Rattle.std.specs.Prelude.{◌≡◌, IfOk, option_map, map};
 ghost use Rattle.serde_json.specs.Data.{Data, array};
@@ -6,12 +6,15 @@ ghost use Rattle.serde_json.specs.View.{view, items_of, items_view};
 ghost use Rattle.ob0_rpc.specs.Seen.{at_seen, id_data};
 ghost use Rattle.ob0_rpc.specs.Shapes.{result_message};
 ghost use Rattle.ob0_rpc.specs.Writing.{Writes};
-ghost use Rattle.ob0_session.specs.Questions.{AnswersName, can_be_renamed, definition_in, references_in, renamable_in, location_at, location_in, range_at, or_null};
-ghost use Rattle.ob0_session.specs.declared.questions.NameQuestion.TheVariants.{Definition, References, PrepareRename};
+ghost use Rattle.ob0_hover.specs.Parts.{hover_in};
+ghost use Rattle.ob0_questions.specs.Questions.{AreReferencesAt, all_shown_at, definition_at};
+ghost use Rattle.ob0_session.specs.Questions.{AnswersName, can_be_renamed, hover_at, renamable_in, location_at, location_in, range_at, or_null};
+ghost use Rattle.ob0_session.specs.declared.questions.NameQuestion.TheVariants.{Hover, Definition, References, PrepareRename};
 
 use crate::analysis::{Asked, Question, ask};
-use crate::results::{location_value, range_value};
-use ob0_refs::{Of, at, definition, ranges, references};
+use crate::results::{hover_value, location_value, range_value};
+use ob0_questions::{definition, hover, references};
+use ob0_refs::{Of, at, ranges};
 use ob0_rpc::{Id, Place, result};
 use ob0_scan::Span;
 use ob0_text::{Range, TextStore};
@@ -19,12 +22,33 @@ use ob0_types::checked::WellTyped;
 use serde_json::Value;
 use std::alloc::{AllocError, Global};
 
-/// What is asked about a name.
+/// What is asked about a name or a field.
 #[derive(Clone, Copy, Debug, Drop, PartialEq, Eq)]
 pub enum NameQuestion {
+    Hover,
     Definition,
     References { include_declaration: bool },
     PrepareRename,
+}
+
+/// What is shown of what is named at this place of the text?
+#[derive(Drop)]
+struct HoverAt {
+    offset: usize,
+}
+
+impl Question for HoverAt {
+    type Answer = Option<ob0_hover::Hover>;
+
+    ghost answers = { λ q names found. option_map hover_in found ≡ all_shown_at names q.offset };
+
+    fn answer(
+        &self,
+        alloc: Global,
+        module: &WellTyped<'_, '_>,
+    ) -> Result<Option<ob0_hover::Hover>, AllocError> {
+        hover(alloc, module, self.offset)
+    }
 }
 
 /// Where is declared what is named at this place of the text?
@@ -36,14 +60,14 @@ struct DefinitionAt {
 impl Question for DefinitionAt {
     type Answer = Option<Span>;
 
-    ghost answers = { λ q names found. found ≡ definition_in names.module_read q.offset };
+    ghost answers = { λ q names found. found ≡ definition_at names q.offset };
 
     fn answer(
         &self,
-        _alloc: Global,
+        alloc: Global,
         module: &WellTyped<'_, '_>,
     ) -> Result<Option<Span>, AllocError> {
-        Ok(definition(module.resolved(), self.offset))
+        definition(alloc, module, self.offset)
     }
 }
 
@@ -57,15 +81,10 @@ struct ReferencesAt {
 impl Question for ReferencesAt {
     type Answer = Vec<Span>;
 
-    ghost answers = { λ q names found. found.items ≡ references_in names.module_read q.offset q.include_declaration };
+    ghost answers = { λ q names found. AreReferencesAt names q.offset q.include_declaration found.items };
 
     fn answer(&self, alloc: Global, module: &WellTyped<'_, '_>) -> Result<Vec<Span>, AllocError> {
-        references(
-            alloc,
-            module.resolved(),
-            self.offset,
-            self.include_declaration,
-        )
+        references(alloc, module, self.offset, self.include_declaration)
     }
 }
 
@@ -102,7 +121,7 @@ fn renamable(of: Of, span: Span) -> Option<Span>
     }
 }
 
-/// The answer to a question about the name at a position of the text in a store.
+/// The answer to a question about what stands at a position of the text in a store.
 pub fn answered<T: TextStore>(
     alloc: Global,
     id: &Id,
@@ -126,11 +145,23 @@ fn answer_value<T: TextStore>(
     ensures { IfOk result (λ v. AnswersName (T.unit_of store.now) (T.content store.now) (at_seen place.now) question (view v)) }
 {
     match question {
+        NameQuestion::Hover => shown_value(alloc, store, place),
         NameQuestion::Definition => definition_value(alloc, store, place),
         NameQuestion::References {
             include_declaration,
         } => references_value(alloc, store, place, include_declaration),
         NameQuestion::PrepareRename => renamable_value(alloc, store, place),
+    }
+}
+
+fn shown_value<T: TextStore>(alloc: Global, store: &T, place: &Place) -> Result<Value, AllocError>
+    ensures { IfOk result (λ v. AnswersName (T.unit_of store.now) (T.content store.now) (at_seen place.now) Hover (view v)) }
+{
+    let offset = store.offset(place.position);
+    let text = store.to_string(alloc)?;
+    match ask(alloc, text.as_str(), &HoverAt { offset })? {
+        Asked::Answered(found) => shown_or_null(alloc, store, found),
+        Asked::IllTyped(_told) => Ok(Value::Null),
     }
 }
 
@@ -183,6 +214,23 @@ fn renamable_value<T: TextStore>(
     match ask(alloc, text.as_str(), &RenamableAt { offset })? {
         Asked::Answered(found) => range_or_null(alloc, store, found),
         Asked::IllTyped(_) => Ok(Value::Null),
+    }
+}
+
+fn shown_or_null<T: TextStore>(
+    alloc: Global,
+    store: &T,
+    found: Option<ob0_hover::Hover>,
+) -> Result<Value, AllocError>
+    ensures { IfOk result (λ v. view v ≡ or_null (option_map (hover_at (T.unit_of store.now) (T.content store.now)) (option_map hover_in found))) }
+{
+    match found {
+        Some(shown) => hover_value(
+            alloc,
+            shown.text.as_str(),
+            span_value(alloc, store, shown.span)?,
+        ),
+        None => Ok(Value::Null),
     }
 }
 

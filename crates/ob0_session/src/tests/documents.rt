@@ -28,7 +28,7 @@ const DOCUMENTS: [Talk; 7] = [
             "{\"method\":\"textDocument/didOpen\",\"params\":{\"textDocument\":{\"text\":\"a\\r\\n(* 😀 *) $\",\"uri\":\"u\",\"version\":1}}}",
         ],
         goes: &[
-            "{\"id\":1,\"jsonrpc\":\"2.0\",\"result\":{\"capabilities\":{\"definitionProvider\":true,\"documentFormattingProvider\":true,\"positionEncoding\":\"utf-8\",\"referencesProvider\":true,\"renameProvider\":true,\"textDocumentSync\":{\"change\":2,\"openClose\":true}}}}",
+            "{\"id\":1,\"jsonrpc\":\"2.0\",\"result\":{\"capabilities\":{\"definitionProvider\":true,\"documentFormattingProvider\":true,\"hoverProvider\":true,\"positionEncoding\":\"utf-8\",\"referencesProvider\":true,\"renameProvider\":true,\"textDocumentSync\":{\"change\":2,\"openClose\":true}}}}",
             "{\"jsonrpc\":\"2.0\",\"method\":\"textDocument/publishDiagnostics\",\"params\":{\"diagnostics\":[{\"code\":\"BadChar\",\"message\":\"bad character\",\"range\":{\"end\":{\"character\":12,\"line\":1},\"start\":{\"character\":11,\"line\":1}},\"severity\":1}],\"uri\":\"u\",\"version\":1}}",
         ],
         result: Ok(1),

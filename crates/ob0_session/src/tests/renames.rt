@@ -39,7 +39,7 @@ const RENAMES: [Talk; 3] = [
             "{\"id\":3,\"method\":\"textDocument/rename\",\"params\":{\"newName\":\"x\",\"position\":{\"character\":4,\"line\":1},\"textDocument\":{\"uri\":\"u\"}}}",
         ],
         goes: &[
-            "{\"id\":1,\"jsonrpc\":\"2.0\",\"result\":{\"capabilities\":{\"definitionProvider\":true,\"documentFormattingProvider\":true,\"referencesProvider\":true,\"renameProvider\":{\"prepareProvider\":true},\"textDocumentSync\":{\"change\":2,\"openClose\":true}}}}",
+            "{\"id\":1,\"jsonrpc\":\"2.0\",\"result\":{\"capabilities\":{\"definitionProvider\":true,\"documentFormattingProvider\":true,\"hoverProvider\":true,\"referencesProvider\":true,\"renameProvider\":{\"prepareProvider\":true},\"textDocumentSync\":{\"change\":2,\"openClose\":true}}}}",
             "{\"jsonrpc\":\"2.0\",\"method\":\"textDocument/publishDiagnostics\",\"params\":{\"diagnostics\":[],\"uri\":\"u\",\"version\":-7}}",
             "{\"id\":2,\"jsonrpc\":\"2.0\",\"result\":{\"documentChanges\":[{\"edits\":[{\"newText\":\"z\",\"range\":{\"end\":{\"character\":5,\"line\":1},\"start\":{\"character\":4,\"line\":1}}},{\"newText\":\"z\",\"range\":{\"end\":{\"character\":15,\"line\":4},\"start\":{\"character\":14,\"line\":4}}},{\"newText\":\"z\",\"range\":{\"end\":{\"character\":16,\"line\":5},\"start\":{\"character\":15,\"line\":5}}}],\"textDocument\":{\"uri\":\"u\",\"version\":-7}}]}}",
             "{\"id\":3,\"jsonrpc\":\"2.0\",\"result\":{\"documentChanges\":[{\"edits\":[],\"textDocument\":{\"uri\":\"u\",\"version\":-7}}]}}",

@@ -22,6 +22,6 @@ pub fn holds(alloc: Global, talk: &Talk) -> Result<bool, Fail> {
 pub const INITIALIZE: &str = "{\"id\":1,\"method\":\"initialize\",\"params\":{}}";
 
 pub const INITIALIZED: &str =
-    "{\"id\":1,\"jsonrpc\":\"2.0\",\"result\":{\"capabilities\":{\"definitionProvider\":true,\"documentFormattingProvider\":true,\"referencesProvider\":true,\"renameProvider\":true,\"textDocumentSync\":{\"change\":2,\"openClose\":true}}}}";
+    "{\"id\":1,\"jsonrpc\":\"2.0\",\"result\":{\"capabilities\":{\"definitionProvider\":true,\"documentFormattingProvider\":true,\"hoverProvider\":true,\"referencesProvider\":true,\"renameProvider\":true,\"textDocumentSync\":{\"change\":2,\"openClose\":true}}}}";
 
 pub const EXIT: &str = "{\"method\":\"exit\"}";

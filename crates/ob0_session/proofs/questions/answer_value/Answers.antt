@@ -6,6 +6,13 @@ use Rattle.ob0_session.specs.Questions.{AnswersName}
 use Rattle.ob0_session.specs.declared.questions.NameQuestion.{NameQuestion}
 use Rattle.ob0_session.proofs.questions.answer_value.Goals as goal
 
+pub returns-in-Hover : goal.returns-in-Hover
+returns-in-Hover g c =
+    let unit = g.T.TextStore.unit_of c.args.store.now in
+    let text = g.T.TextStore.content c.args.store.now in
+    IfOk-weaker c.shown_value.result _ _ (λ v h.
+    subst (λ (q : NameQuestion). AnswersName unit text (at_seen c.args.place.now) q (view v)) (sym c.in-Hover.is) h) c.shown_value.ensures
+
 pub returns-in-Definition : goal.returns-in-Definition
 returns-in-Definition g c =
     let unit = g.T.TextStore.unit_of c.args.store.now in
