@@ -1,0 +1,4 @@
+mod UriLaws
+mod SameDocument
+mod Keeping
+mod Interleavings
