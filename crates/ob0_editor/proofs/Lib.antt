@@ -1,0 +1,6 @@
+mod EntryLaws
+mod Lists
+mod Shallow
+mod Hearing
+mod Patching
+mod Moving

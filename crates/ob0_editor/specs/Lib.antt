@@ -1,0 +1,6 @@
+pub mod Code
+pub mod Shapes
+pub mod Heard
+pub mod Understood
+pub mod Entries
+pub mod Moves
