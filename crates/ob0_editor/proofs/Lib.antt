@@ -1,6 +1,6 @@
 mod EntryLaws
 mod Lists
 mod Shallow
-mod Hearing
-mod Patching
-mod Moving
+pub mod Hearing
+pub mod Patching
+pub mod Moving

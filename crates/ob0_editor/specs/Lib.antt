@@ -4,3 +4,4 @@ pub mod Heard
 pub mod Understood
 pub mod Entries
 pub mod Moves
+pub mod Beginning

@@ -3,6 +3,7 @@
 
 mod applied;
 mod asks;
+mod beginning;
 mod documents;
 mod editor;
 mod reading;
@@ -11,5 +12,6 @@ mod writing;
 
 pub use applied::{Applied, Applying};
 pub use asks::Ask;
+pub use beginning::initialize;
 pub use editor::Editor;
 pub use reading::Message;

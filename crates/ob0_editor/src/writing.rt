@@ -234,7 +234,7 @@ fn note_value(alloc: Global, method: &str, params: Value) -> Result<Value, Alloc
 }
 
 /// The content of a message, which reads back as that message where it isn't nested too deep for the reader.
-fn content_of(alloc: Global, message: &Value) -> Result<Vec<u8>, AllocError>
+pub fn content_of(alloc: Global, message: &Value) -> Result<Vec<u8>, AllocError>
     ensures { IfOk result (λ content. depth (view message.now) ≤ 127 → Reads content.items (Some (view message.now))) }
 {
     let text = message.to_string(alloc)?;

@@ -1,4 +1,4 @@
-mod UriLaws
-mod SameDocument
+pub mod UriLaws
+pub mod SameDocument
 mod Keeping
-mod Interleavings
+pub mod Interleavings

@@ -76,7 +76,7 @@ pub slice_get_last : {A : Type 0} (xs : List A) (x : A) → slice_get (xs ++ x �
 slice_get_last [] x = refl
 slice_get_last (y ∷ xs) x = slice_get_last xs x
 
-numbered_push : (asked more : List Asked) (k : ℕ) (a : Asked) → numbered asked k ≡ Some a → numbered (asked ++ more) k ≡ Some a
+pub numbered_push : (asked more : List Asked) (k : ℕ) (a : Asked) → numbered asked k ≡ Some a → numbered (asked ++ more) k ≡ Some a
 numbered_push asked more zero a h = h
 numbered_push asked more (suc k) a h = slice_get_push asked more k a h
 
