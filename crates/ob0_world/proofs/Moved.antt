@@ -97,8 +97,10 @@ moved_sound e new (sends f m) (Some c) q q' r s shown extends is sent sound =
 queues_grown : (e new : Editor) (q r : Contents) (s : Standing) (ap_list : List applied.Applied) (md : List made.Made) → Grows e new → Sound e.asked q r s
     → ends_from new q s r ap_list md ≡ record (ends_from e q s r ap_list md) { editor = new }
 queues_grown e new q r s ap_list md (more, is) sound =
-    (λ i. record (ends_from new q s r ap_list md) { to_server = (ap (λ asked. all_heard asked q) is ∙ heard_still e.asked more q sound.heard_all) i;
-      to_editor = (ap (λ asked. all_understood asked r) is ∙ understood_same e.asked more r sound.understood_all) i })
+    (λ i. record (ends_from new q s r ap_list md) {
+      to_server = (ap (λ asked. all_heard asked q) is ∙ heard_still e.asked more q sound.heard_all) i;
+      to_editor = (ap (λ asked. all_understood asked r) is ∙ understood_same e.asked more r sound.understood_all) i;
+    })
 
 pub moved_happens : (e new : Editor) (m : Move) (content : Option (Vec ℕ Global)) (q q' r : Contents) (s : Standing) (ap_list : List applied.Applied) (md : List made.Made) (shown : seen.Seen) → Extends e m → Moves m e content new → IsSent q content shown q'
     → Sound e.asked q r s → Is (moved (ends_from e q s r ap_list md) m) (seen_of shown) (ends_from new q' s r ap_list md)
@@ -112,7 +114,7 @@ moved_happens e new (sends f m) (Some c) q q' r s ap_list md shown extends is se
     let grown : ends_from new q s r ap_list md ≡ record (ends_from e q s r ap_list md) { editor = new } = queues_grown e new q r s ap_list md (moves_grow e new (sends f m) (Some c) extends is) sound in (
       sent.0,
       ap (λ x. ends_from new x s r ap_list md) sent.1 ∙ pushed ∙ ap (λ (w : Ends). record w { to_server = w.to_server ++ m ∷ [] }) grown
-      ∙ ap (λ (x : Editor). record (ends_from e q s r ap_list md) { editor = x; to_server = all_heard e.asked q ++ m ∷ [] }) is.0,
+          ∙ ap (λ (x : Editor). record (ends_from e q s r ap_list md) { editor = x; to_server = all_heard e.asked q ++ m ∷ [] }) is.0,
     )
 
 -- ---- answers

@@ -26,6 +26,7 @@ pub struct World<T: TextStore> {
 }
 
 impl<T: TextStore> Model for World<T> {
+    ghost use Rattle.std.specs.Prelude.{◌≡◌, false};
     ghost use Rattle.std.specs.Coded.{codes};
     ghost use Rattle.ob0_text.specs.OpenDocuments.{documents_code};
     ghost use Rattle.ob0_editor.specs.Entries.{open_documents_code};
