@@ -19,7 +19,7 @@ holds_none : (unit : Unit) → (begins (client_for unit)).held ≡ none_open uni
 holds_none Utf16 = refl
 holds_none Utf8 = refl
 
-state_of : Standing → State → State
+abbrev state_of : Standing → State → State
 state_of (serving s) other = s
 state_of failed other = other
 
