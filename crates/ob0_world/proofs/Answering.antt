@@ -7,12 +7,15 @@ use Rattle.std.specs.Str.{bytes_eq, chars}
 use Rattle.std.specs.FinMap as map_of
 use Rattle.std.proofs.lemmas.Option.{same_Some, none-some}
 use Rattle.std.proofs.lemmas.List.Elements.{All-nil, All-push}
-use Rattle.serde_json.specs.Data.{Data, number, unsigned}
+use Rattle.serde_json.specs.Data.{Data, number, array, object, unsigned, item, no_items, member, no_members}
 use Rattle.serde_json.specs.Find.{as_i64, of_integer}
 use Rattle.serde_json.specs.Read.{read}
 use Rattle.serde_json.specs.View.{items_of}
 use Rattle.ob0_text.specs.declared.edits.Edit.{Edit}
 use Rattle.ob0_text.specs.declared.edits.Indent.{Indent}
+use Rattle.ob0_text.specs.Patches.{patched}
+use Rattle.ob0_text.specs.Units.{width_of}
+use Rattle.ob0_text.specs.declared.positions.Position.{Position}
 use Rattle.ob0_text.specs.declared.positions.Unit.{Unit}
 use Rattle.ob0_text.specs.OpenDocuments.{OpenDocuments, Document, InStep, OutOfStep, DocumentNote, Opened, Changed, Lost, Closed, TextChange, changed_text, text_of, document, document_at, after_note, opened, changed, changed_document, closed, lost}
 use Rattle.ob0_text.specs.RefusalTexts.{refusal_text}
@@ -23,13 +26,16 @@ use Rattle.ob0_rpc.specs.Faults.{error_code, error_text, minus}
 use Rattle.ob0_rpc.specs.Messages.{Reads, meaning, meaning_of, request, notice}
 use Rattle.ob0_rpc.specs.Notes.{note_of}
 use Rattle.ob0_rpc.specs.Shapes.{result_message, error_message}
+use Rattle.ob0_rpc.specs.declared.clients.Client.{Client}
 use Rattle.ob0_rpc.specs.declared.incoming.RpcFault.TheVariants.{UnknownMethod}
 use Rattle.ob0_session.specs.Answers as answers_of
-use Rattle.ob0_session.specs.Answers.{State, Say, Says, Sends, Reaction, reacts, told, hears, requested, asked as asked_in, calls, refuses_fault, of_document, lays_out, published, Answers, AnswersIn, AnswersGoingOn, says}
+use Rattle.ob0_session.specs.Answers.{State, Say, Says, Sends, Reaction, reacts, told, hears, requested, asked as asked_in, calls, refuses_fault, of_document, lays_out, renames, published, Answers, AnswersIn, AnswersGoingOn, says}
 use Rattle.ob0_session.specs.Diagnosed.{Complaint, IsWellTypedModule, Tells, TellsFaults, complaint_of}
 use Rattle.ob0_session.specs.Diagnostics.{Diagnoses, diagnostic_of, utf8}
-use Rattle.ob0_session.specs.Formatted.{AnswersFormatting, LaysOut}
-use Rattle.ob0_session.specs.Shapes.{Diagnostic, diagnostic_value, edit_value, edits_value, edit_refused, publication}
+use Rattle.ob0_session.specs.Formatted.{AnswersFormatting}
+use Rattle.ob0_session.specs.Renamed.{RenameAsked, AnswersRenaming}
+use Rattle.ob0_session.specs.RunsKept.{RunsAsBefore}
+use Rattle.ob0_session.specs.Shapes.{Diagnostic, diagnostic_value, edit_value, edits_value, document_edit, workspace_edit, edit_refused, publication}
 use Rattle.ob0_session.specs.declared.server.Phase.{Phase}
 use Rattle.ob0_session.specs.declared.server.Phase.TheVariants.{Running}
 use Rattle.ob0_editor.specs.Code.{replacement_of, replacements}
@@ -45,7 +51,7 @@ use Rattle.ob0_ends.specs.Asks.{Ask, rename, inline_here, inline_all, format, Ke
 use Rattle.ob0_ends.specs.Ends.{Asked, numbered, ToServer, tells, asks, ToEditor, publishes, answers, Made, after_message}
 use Rattle.ob0_ends.specs.Serving.{MayPublish, taken_back, MayTell, MaySend}
 use Rattle.ob0_ends.proofs.UriLaws.{get_put, uri_itself}
-use Rattle.ob0_world.specs.Queues.{made_of_document, made_for, made_first}
+use Rattle.ob0_world.specs.Queues.{IsRunning, made_of_document, made_for, made_first}
 
 -- ---- contents that are read
 
@@ -157,14 +163,14 @@ noted_at asked held uri o sent at then_noted saying =
 
 -- the server has taken a message, and sent this
 pub record Served (asked : List Asked) (m : ToServer) (before after : State) (sent : List (List ℕ)) : Type 0 where
-  pub running : after.phase ≡ Running
+  pub running : IsRunning after
   pub held : after.held ≡ after_message before.held m
   pub said : List ToEditor
   pub heard : Heard asked sent said
   pub may : MaySend before.held m said (option_to_list (made_first after.held said))
 
 -- the reaction to a note, and what it saying
-note_served : (asked : List Asked) (note : DocumentNote) (before after : State) (sent : List (List ℕ)) → before.phase ≡ Running → HasVersion note → after ≡ (told before (told_as note)).after → Says (told before (told_as note)).say sent
+note_served : (asked : List Asked) (note : DocumentNote) (before after : State) (sent : List (List ℕ)) → IsRunning before → HasVersion note → after ≡ (told before (told_as note)).after → Says (told before (told_as note)).say sent
     → Served asked (tells note) before after sent
 note_served asked (Opened uri version text) before after sent running fits is saying =
     let held : OpenDocuments = opened before.held uri version text in
@@ -209,15 +215,15 @@ edits_read_back (e ∷ edits) = ap (option_map (λ es. replacement_of e ∷ es))
 answered : (asked : List Asked) (k : ℕ) (uri : List ℕ) (ask : Ask) (answer : Data) → IsAsk asked k uri ask → option_map (λ (a : Asked). answers k (edits_for a.ask answer)) (numbered asked k) ≡ Some (answers k (edits_for ask answer))
 answered asked k uri ask answer of = ap (option_map (λ (a : Asked). answers k (edits_for a.ask answer))) of.is ∙ ap (λ x. Some (answers k (edits_for x answer))) of.asks_this
 
--- laid out, a text is still the same module
-keeps_the_run : (unit : Unit) (indent : Indent) (text : List ℕ) (edits : List Edit) → LaysOut unit indent text edits → KeepTheRun unit text (replacements edits)
-keeps_the_run unit indent text edits laid =
+-- edits that leave a text which runs as before
+keeps_the_run : (unit : Unit) (text after : List ℕ) (edits : List Edit) → patched (width_of unit) text edits ≡ Some after → RunsAsBefore (utf8 text) (utf8 after) → KeepTheRun unit text (replacements edits)
+keeps_the_run unit text after edits made runs =
     record {
-      before_fits = laid.before;
-      after = laid.after;
-      makes = edited_as_patched unit text edits ∙ laid.made;
-      after_fits = record { tree = laid.before.tree; text_of = laid.same_module; well_typed = laid.before.well_typed };
-      same = record { before = laid.before.tree; before_of = laid.before.text_of; after = laid.before.tree; after_of = laid.same_module; same = λ input c t. refl };
+      before_fits = runs.old;
+      after = after;
+      makes = edited_as_patched unit text edits ∙ made;
+      after_fits = runs.new;
+      same = record { before = runs.old.tree; before_of = runs.old.text_of; after = runs.new.tree; after_of = runs.new.text_of; same = λ input c t. sym (runs.same input c t) };
     }
 
 -- the answer to an ask
@@ -252,63 +258,109 @@ formatted asked k uri indent read_as unit version text sent of (message, how, se
         record {
           edits = replacements edits;
           heard = heard_one asked sent answer (answers k (replacements edits)) (subst (λ m. Sends m sent) is sends) (answered asked k uri (format indent) answer of ∙ ap (λ es. Some (answers k es)) these);
-          may = inr (keeps_the_run unit read_as text edits laid);
+          may = inr (keeps_the_run unit text laid.after edits laid.made laid.runs);
         }
     go (inr (inl (long, is))) = refused asked k uri (format indent) unit (Some (InStep version text)) (minus 32803) (refusal_text TooLong) sent of (subst (λ m. Sends m sent) is sends)
     go (inr (inr (unfit, is))) = refused asked k uri (format indent) unit (Some (InStep version text)) (minus 32803) (codes "ill-typed") sent of (subst (λ m. Sends m sent) is sends)
 
+-- edits of a versioned document are read back
+renames_read_back : (id : Data) (position : Position) (name uri : List ℕ) (version : ℤ) (edits : List Edit) (client : Client) → client.takes_document_changes ≡ true
+    → edits_for (rename position name) (result_message id (workspace_edit client uri version edits)) ≡ replacements edits
+renames_read_back id position name uri version edits client takes = go client.takes_document_changes takes
+  where
+    go : (b : Bool) → b ≡ true
+        → edits_for (rename position name) (result_message id (cond b (object (member (codes "documentChanges") (array (item (document_edit uri version edits) no_items)) no_members)) (object (member (codes "changes") (object (member uri (edits_value edits) no_members)) no_members))))
+            ≡ replacements edits
+    go true is = ap (λ o. unwrap_or o []) (edits_read_back edits)
+    go false is = absurd (cc)
+
+-- the request as the session takes it
+abbrev rename_asked : Client → ℕ → List ℕ → Position → List ℕ → ℤ → RenameAsked
+rename_asked client k uri position name version =
+    record { id = number (unsigned k); client = client; at = record { uri = uri; position = position }; version = version; new = name }
+
+renamed : (asked : List Asked) (k : ℕ) (uri : List ℕ) (position : Position) (name : List ℕ) (client : Client) (unit : Unit) (version : ℤ) (text : List ℕ) (sent : List (List ℕ)) → client.takes_document_changes ≡ true → IsAsk asked k uri (rename position name)
+    → Says (renames unit (rename_asked client k uri position name version) text) sent → Answered asked k (rename position name) unit (Some (InStep version text)) sent
+renamed asked k uri position name client unit version text sent takes of (message, how, sends) = go how
+  where
+    go : AnswersRenaming unit (rename_asked client k uri position name version) text message → Answered asked k (rename position name) unit (Some (InStep version text)) sent
+    go (inl (edits, found, is)) =
+        let answer : Data = result_message (number (unsigned k)) (workspace_edit client uri version edits) in
+        let these : edits_for (rename position name) answer ≡ replacements edits = renames_read_back (number (unsigned k)) position name uri version edits client takes in
+        record {
+          edits = replacements edits;
+          heard = heard_one asked sent answer (answers k (replacements edits)) (subst (λ m. Sends m sent) is sends) (answered asked k uri (rename position name) answer of ∙ ap (λ es. Some (answers k es)) these);
+          may = inr (keeps_the_run unit text found.after edits found.made found.runs);
+        }
+    go (inr (inl (refusal, why, is))) = refused asked k uri (rename position name) unit (Some (InStep version text)) (minus 32803) (refusal_text refusal) sent of (subst (λ m. Sends m sent) is sends)
+    go (inr (inr (unfit, is))) = refused asked k uri (rename position name) unit (Some (InStep version text)) (minus 32803) (codes "ill-typed") sent of (subst (λ m. Sends m sent) is sends)
+
 -- ---- asks
 
-asks_served : (asked : List Asked) (k : ℕ) (uri : List ℕ) (ask : Ask) (before after : State) (sent : List (List ℕ)) → before.phase ≡ Running → after ≡ before → Answered asked k ask before.held.unit (document_at before.held uri) sent
+asks_served : (asked : List Asked) (k : ℕ) (uri : List ℕ) (ask : Ask) (before after : State) (sent : List (List ℕ)) → IsRunning before → after ≡ before → Answered asked k ask before.held.unit (document_at before.held uri) sent
     → Served asked (asks k uri ask) before after sent
 asks_served asked k uri ask before after sent running same answer =
     subst (λ a. Served asked (asks k uri ask) before a sent) (sym same)
     (record { running = running; held = refl; said = answers k answer.edits ∷ []; heard = answer.heard; may = (answer.edits, answer.may, refl, refl) })
 
+-- an ask about a document, where its answer is known for the text of one that is in step
+about_document : (asked : List Asked) (k : ℕ) (uri : List ℕ) (ask : Ask) (say : ℤ → List ℕ → Say) (before after : State) (sent : List (List ℕ)) → IsRunning before → IsAsk asked k uri ask
+    → ((version : ℤ) (text : List ℕ) → Says (say version text) sent → Answered asked k ask before.held.unit (Some (InStep version text)) sent)
+    → (o : Option Document) → document_at before.held uri ≡ o → after ≡ (of_document before (number (unsigned k)) o say).after → Says (of_document before (number (unsigned k)) o say).say sent → Served asked (asks k uri ask) before after sent
+about_document asked k uri ask say before after sent running of in_step None at same saying =
+    asks_served asked k uri ask before after sent running same (refused asked k uri ask before.held.unit (document_at before.held uri) (minus 32803) (codes "unopened") sent of saying)
+about_document asked k uri ask say before after sent running of in_step (Some OutOfStep) at same saying =
+    asks_served asked k uri ask before after sent running same (refused asked k uri ask before.held.unit (document_at before.held uri) (minus 32803) (codes "out of step") sent of saying)
+about_document asked k uri ask say before after sent running of in_step (Some (InStep version text)) at same saying =
+    asks_served asked k uri ask before after sent running same (subst (λ o. Answered asked k ask before.held.unit o sent) (sym at) (in_step version text saying))
+
+-- a request that isn't built
+not_built : (asked : List Asked) (k : ℕ) (uri : List ℕ) (ask : Ask) (before after : State) (sent : List (List ℕ)) → IsRunning before → IsAsk asked k uri ask → after ≡ before
+    → Sends (error_message (number (unsigned k)) (error_code UnknownMethod) (error_text UnknownMethod)) sent → Served asked (asks k uri ask) before after sent
+not_built asked k uri ask before after sent running of is sends =
+    asks_served asked k uri ask before after sent running is (refused asked k uri ask before.held.unit (document_at before.held uri) (error_code UnknownMethod) (error_text UnknownMethod) sent of sends)
+
 -- a request of the editor, while the session runs
-request_served : (asked : List Asked) (k : ℕ) (uri : List ℕ) (ask : Ask) (params : Data) (before after : State) (sent : List (List ℕ)) → before.phase ≡ Running → IsAsk asked k uri ask → call_of (method_of ask) params ≡ Ok (call_for uri ask)
+request_served : (asked : List Asked) (k : ℕ) (uri : List ℕ) (ask : Ask) (params : Data) (before after : State) (sent : List (List ℕ)) → IsRunning before → IsAsk asked k uri ask → call_of (method_of ask) params ≡ Ok (call_for uri ask)
     → after ≡ (requested before (number (unsigned k)) (method_of ask) params).after → Says (requested before (number (unsigned k)) (method_of ask) params).say sent → Served asked (asks k uri ask) before after sent
 request_served asked k uri (rename position name) params before after sent running of call is saying =
-    asks_served asked k uri (rename position name) before after sent running is (refused asked k uri (rename position name) before.held.unit (document_at before.held uri) (error_code UnknownMethod) (error_text UnknownMethod) sent of saying)
-request_served asked k uri (inline_here position) params before after sent running of call is saying =
-    asks_served asked k uri (inline_here position) before after sent running is (refused asked k uri (inline_here position) before.held.unit (document_at before.held uri) (error_code UnknownMethod) (error_text UnknownMethod) sent of saying)
-request_served asked k uri (inline_all position) params before after sent running of call is saying =
-    asks_served asked k uri (inline_all position) before after sent running is (refused asked k uri (inline_all position) before.held.unit (document_at before.held uri) (error_code UnknownMethod) (error_text UnknownMethod) sent of saying)
+    let id : Data = number (unsigned k) in
+    let say : ℤ → List ℕ → Say = λ version. renames before.held.unit (rename_asked before.client k uri position name version) in
+    let so : requested before id (method_of (rename position name)) params ≡ of_document before id (document_at before.held uri) say = ap (calls before id) call in
+    about_document asked k uri (rename position name) say before after sent running of
+    (λ version text. renamed asked k uri position name before.client before.held.unit version text sent running.1 of) (document_at before.held uri) refl
+    (is ∙ ap (λ (x : Reaction). x.after) so) (subst (λ (x : Reaction). Says x.say sent) so saying)
+request_served asked k uri (inline_here position) params before after sent running of call is saying = not_built asked k uri (inline_here position) before after sent running of is saying
+request_served asked k uri (inline_all position) params before after sent running of call is saying = not_built asked k uri (inline_all position) before after sent running of is saying
 request_served asked k uri (format indent) params before after sent running of call is saying =
     let id : Data = number (unsigned k) in
-    let r : Reaction = of_document before id (document_at before.held uri) (lays_out before.held.unit id (indent_read indent)) in
-    let so : requested before id (method_of (format indent)) params ≡ r = ap (calls before id) call in
-    go (document_at before.held uri) refl (is ∙ ap (λ (x : Reaction). x.after) so) (subst (λ (x : Reaction). Says x.say sent) so saying)
-  where
-    go : (o : Option Document) → document_at before.held uri ≡ o → after ≡ (of_document before (number (unsigned k)) o (lays_out before.held.unit (number (unsigned k)) (indent_read indent))).after
-        → Says (of_document before (number (unsigned k)) o (lays_out before.held.unit (number (unsigned k)) (indent_read indent))).say sent → Served asked (asks k uri (format indent)) before after sent
-    go None at same saying = asks_served asked k uri (format indent) before after sent running same (refused asked k uri (format indent) before.held.unit (document_at before.held uri) (minus 32803) (codes "unopened") sent of saying)
-    go (Some OutOfStep) at same saying = asks_served asked k uri (format indent) before after sent running same (refused asked k uri (format indent) before.held.unit (document_at before.held uri) (minus 32803) (codes "out of step") sent of saying)
-    go (Some (InStep version text)) at same saying =
-        asks_served asked k uri (format indent) before after sent running same
-        (subst (λ o. Answered asked k (format indent) before.held.unit o sent) (sym at) (formatted asked k uri indent (indent_read indent) before.held.unit version text sent of saying))
+    let say : ℤ → List ℕ → Say = λ version. lays_out before.held.unit id (indent_read indent) in
+    let so : requested before id (method_of (format indent)) params ≡ of_document before id (document_at before.held uri) say = ap (calls before id) call in
+    about_document asked k uri (format indent) say before after sent running of
+    (λ version text. formatted asked k uri indent (indent_read indent) before.held.unit version text sent of) (document_at before.held uri) refl
+    (is ∙ ap (λ (x : Reaction). x.after) so) (subst (λ (x : Reaction). Says x.say sent) so saying)
 
 -- ---- messages
 
 -- the answers of a session that runs
-going_on : (before after : State) (content : List ℕ) (sent : List (List ℕ)) → before.phase ≡ Running → Answers before content sent after → AnswersGoingOn before content sent after
-going_on before after content sent running h = subst (λ phase. AnswersIn phase before content sent after) running h
+going_on : (before after : State) (content : List ℕ) (sent : List (List ℕ)) → IsRunning before → Answers before content sent after → AnswersGoingOn before content sent after
+going_on before after content sent running h = subst (λ phase. AnswersIn phase before content sent after) running.0 h
 
 -- what comes of a content with this meaning
 pub reacts_so : (before after : State) (content : List ℕ) (sent : List (List ℕ)) (d : Data) → AnswersGoingOn before content sent after → Reads content (Some d) → (after ≡ (reacts before (meaning_of d)).after) × Says (reacts before (meaning_of d)).say sent
 reacts_so before after content sent d (json, reads, answer) known =
     subst (λ j. (after ≡ (reacts before (meaning j)).after) × Says (reacts before (meaning j)).say sent) (same_json content json d reads known) answer
 
-pub served : (asked : List Asked) (m : ToServer) (before after : State) (content : List ℕ) (sent : List (List ℕ)) → before.phase ≡ Running → heard_as.Says asked m content → Answers before content sent after → Served asked m before after sent
+pub served : (asked : List Asked) (m : ToServer) (before after : State) (content : List ℕ) (sent : List (List ℕ)) → IsRunning before → heard_as.Says asked m content → Answers before content sent after → Served asked m before after sent
 served asked (tells note) before after content sent running is h =
     let answer = reacts_so before after content sent is.json (going_on before after content sent running h) is.reads in
     let so : reacts before (meaning_of is.json) ≡ told before (told_as note) =
-    ap (reacts before) is.means ∙ ap (λ phase. hears phase before is.method is.params) running ∙ ap (told before) is.told in
+    ap (reacts before) is.means ∙ ap (λ phase. hears phase before is.method is.params) running.0 ∙ ap (told before) is.told in
     note_served asked note before after sent running is.fits (answer.0 ∙ ap (λ (x : Reaction). x.after) so) (subst (λ (x : Reaction). Says x.say sent) so answer.1)
 served asked (asks k uri ask) before after content sent running (is, of) h =
     let answer = reacts_so before after content sent is.json (going_on before after content sent running h) is.reads in
     let so : reacts before (meaning_of is.json) ≡ requested before (number (unsigned k)) (method_of ask) is.params =
-    ap (reacts before) is.means ∙ ap (λ phase. asked_in phase before (number (unsigned k)) (method_of ask) is.params) running ∙ begun ask before is.params k in
+    ap (reacts before) is.means ∙ ap (λ phase. asked_in phase before (number (unsigned k)) (method_of ask) is.params) running.0 ∙ begun ask before is.params k in
     request_served asked k uri ask is.params before after sent running of is.calls (answer.0 ∙ ap (λ (x : Reaction). x.after) so) (subst (λ (x : Reaction). Says x.say sent) so answer.1)
   where
     begun : (ask : Ask) (s : State) (params : Data) (k : ℕ) → asked_in Running s (number (unsigned k)) (method_of ask) params ≡ requested s (number (unsigned k)) (method_of ask) params

@@ -10,7 +10,6 @@ use Rattle.ob0_session.specs.Answers.{State}
 use Rattle.ob0_session.specs.Standing.{Standing, serving, failed}
 use Rattle.ob0_session.specs.Steps.{Steps}
 use Rattle.ob0_session.specs.declared.session.Step.{Step}
-use Rattle.ob0_session.specs.declared.server.Phase.TheVariants.{Running}
 use Rattle.ob0_editor.specs.Heard.{heard, Says}
 use Rattle.ob0_editor.specs.Understood.{understood}
 use Rattle.ob0_editor.specs.declared.applied.Applied as applied
@@ -21,7 +20,7 @@ use Rattle.ob0_ends.specs.Happens.{Serves, nothing}
 use Rattle.ob0_ends.specs.Happens as events
 use Rattle.ob0_world.specs.declared.played.Made as made
 use Rattle.ob0_world.specs.Code.{made_of}
-use Rattle.ob0_world.specs.Queues.{Contents, bytes, all_heard, all_understood, IsHeard, IsUnderstood, Sound, Stands, held_by, ends_from, IsAnswered, made_first, made_for, made_sent}
+use Rattle.ob0_world.specs.Queues.{Contents, bytes, all_heard, all_understood, IsHeard, IsUnderstood, Sound, IsRunning, Stands, held_by, ends_from, IsAnswered, made_first, made_for, made_sent}
 use Rattle.ob0_world.proofs.Answering.{Served, Heard, served}
 use Rattle.ob0_world.proofs.Waiting.{said_append, said_first, all_appended}
 
@@ -40,7 +39,7 @@ made_as_sent held asked (c ∷ sent) all =
     ap (option_and_then (made_for held)) first.1 ∙ ap (made_first held) (sym (said_first (understood asked) c sent first.0 first.1))
 
 -- one that serves goes on as what it is
-session_is : (s : Standing) (before : State) → s ≡ serving before → Stands s → before.phase ≡ Running
+session_is : (s : Standing) (before : State) → s ≡ serving before → Stands s → IsRunning before
 session_is s before is stands = subst Stands is stands
 
 pub nothing_served : (e : Editor) (q q' r : Contents) (s : Standing) (ap_list : List applied.Applied) (md : List made.Made) → q ≡ [] → q' ≡ q → Serves (ends_from e q s r ap_list md) (all_heard e.asked q) nothing (ends_from e q' s r ap_list md)

@@ -1,5 +1,5 @@
 -- The contents that wait at the two ends, and what they say.
-use Rattle.std.specs.Prelude.{◌≡◌, ⊤, ℕ, ℤ, List, [], ◌∷◌, ◌++◌, map, All, Bool, Option, Some, None, Vec, option_map, option_and_then, filter_map}
+use Rattle.std.specs.Prelude.{◌≡◌, ⊤, ℕ, ℤ, List, [], ◌∷◌, ◌++◌, map, All, Bool, true, Option, Some, None, Vec, option_map, option_and_then, filter_map}
 use Rattle.std.specs.Option.{option_to_list}
 use Rattle.std.specs.declared.alloc.Global.{Global}
 use Rattle.ob0_text.specs.OpenDocuments.{OpenDocuments, Document, InStep, OutOfStep, document_at, none_open}
@@ -39,9 +39,12 @@ IsUnderstood asked content = (m : ToEditor) × (understood asked content.items �
 
 -- ---- the session
 
--- a session that serves has begun and isn't at its end
+-- A session that has begun with this editor and isn't at its end. It writes a workspace's edits with the versions of their documents.
+abbrev pub IsRunning : State → Type 0
+IsRunning s = (s.phase ≡ Running) × (s.client.takes_document_changes ≡ true)
+
 abbrev pub Stands : Standing → Type 0
-Stands (serving s) = s.phase ≡ Running
+Stands (serving s) = IsRunning s
 Stands failed = ⊤
 
 -- the documents that it holds, of which nothing is said once memory was refused
