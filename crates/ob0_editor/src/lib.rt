@@ -1,0 +1,17 @@
+//! The editor's end: its documents, what it asks and what it holds, the messages that it writes, and how it reads those of a server.
+#![tactic(auto)]
+
+mod applied;
+mod asks;
+mod beginning;
+mod documents;
+mod editor;
+mod reading;
+mod texts;
+mod writing;
+
+pub use applied::{Applied, Applying};
+pub use asks::Ask;
+pub use beginning::initialize;
+pub use editor::Editor;
+pub use reading::Message;

@@ -1,0 +1,4 @@
+pub mod UriLaws
+pub mod SameDocument
+mod Keeping
+pub mod Interleavings

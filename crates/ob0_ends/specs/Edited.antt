@@ -1,0 +1,24 @@
+-- What edits and changes make of a text.
+use Rattle.std.specs.Prelude.{ℕ, List, map, fold, Option, None}
+use Rattle.ob0_text.specs.declared.positions.Range.{Range}
+use Rattle.ob0_text.specs.declared.positions.Unit.{Unit}
+use Rattle.ob0_text.specs.Units.{width_of}
+use Rattle.ob0_text.specs.Patches.{cut_at, patched_by_cuts}
+use Rattle.ob0_text.specs.OpenDocuments.{TextChange, changed_text}
+
+-- a range of a text, and the characters that take its place
+pub record Replacement : Type 0 where
+  pub range : Range
+  pub text : List ℕ
+
+-- the text with all edits made, which is defined where no two of them share a character
+unfoldable pub edited : Unit → List ℕ → List Replacement → Option (List ℕ)
+edited unit text edits = patched_by_cuts text (map (λ e. cut_at (width_of unit) text e.range e.text) edits)
+
+-- the change that gives the whole text
+abbrev pub whole_text : List ℕ → TextChange
+whole_text text = record { range = None; text = text }
+
+-- a text after changes, each made of the result of the one before
+abbrev pub after_changes : Unit → Option (List ℕ) → List TextChange → Option (List ℕ)
+after_changes unit text changes = fold (changed_text unit) text changes

@@ -1,0 +1,370 @@
+-- What a session promises, in the words of the two ends.
+use Rattle.std.proofs.Common.{◌≡◌, ◌∙◌, ℕ, Bool, true, false, cond, List, [], ◌∷◌, ◌++◌, length, refl, sym, ap, subst, inl, inr, arith, ◌<◌}
+use Rattle.std.specs.Prelude.{◌↔◌, IsTrue, ⊤, ℤ, pos, All, Option, Some, None, is_some, map, fold, filter_map, option_map, option_and_then, unwrap_or, string_bytes, codes, Ok, IsUtf8}
+use Rattle.std.specs.List.{cons_option}
+use Rattle.std.specs.Option.{option_to_list}
+use Rattle.std.specs.Str.{bytes_eq, chars}
+use Rattle.std.specs.FinMap as map_of
+use Rattle.std.proofs.lemmas.Option.{same_Some, none-some}
+use Rattle.std.proofs.lemmas.List.Elements.{All-nil, All-push}
+use Rattle.serde_json.specs.Data.{Data, number, array, object, unsigned, item, no_items, member, no_members}
+use Rattle.serde_json.specs.Find.{as_i64, of_integer}
+use Rattle.serde_json.specs.Read.{read}
+use Rattle.serde_json.specs.View.{items_of}
+use Rattle.ob0_text.specs.declared.edits.Edit.{Edit}
+use Rattle.ob0_text.specs.declared.edits.Indent.{Indent}
+use Rattle.ob0_text.specs.Patches.{patched}
+use Rattle.ob0_text.specs.Units.{width_of}
+use Rattle.ob0_text.specs.declared.positions.Position.{Position}
+use Rattle.ob0_text.specs.declared.positions.Unit.{Unit}
+use Rattle.ob0_text.specs.OpenDocuments.{OpenDocuments, Document, InStep, OutOfStep, DocumentNote, Opened, Changed, Lost, Closed, TextChange, changed_text, text_of, document, document_at, after_note, opened, changed, changed_document, closed, lost}
+use Rattle.ob0_text.specs.RefusalTexts.{refusal_text}
+use Rattle.ob0_text.specs.declared.refusals.EditRefusal.TheVariants.{TooLong}
+use Rattle.ob0_text.proofs.EntryLaws.{updated-some, updated-none}
+use Rattle.ob0_rpc.specs.Asks.{call_of}
+use Rattle.ob0_rpc.specs.Faults.{error_code, error_text, minus}
+use Rattle.ob0_rpc.specs.Messages.{Reads, meaning, meaning_of, request, notice}
+use Rattle.ob0_rpc.specs.Notes.{note_of}
+use Rattle.ob0_rpc.specs.Shapes.{result_message, error_message}
+use Rattle.ob0_rpc.specs.declared.clients.Client.{Client}
+use Rattle.ob0_rpc.specs.declared.incoming.RpcFault.TheVariants.{UnknownMethod}
+use Rattle.ob0_session.specs.Answers as answers_of
+use Rattle.ob0_session.specs.Answers.{State, Say, Says, Sends, Reaction, reacts, told, hears, requested, asked as asked_in, calls, refuses_fault, of_document, lays_out, renames, published, Answers, AnswersIn, AnswersGoingOn, says}
+use Rattle.ob0_session.specs.Diagnosed.{Complaint, IsWellTypedModule, Tells, TellsFaults, complaint_of}
+use Rattle.ob0_session.specs.Diagnostics.{Diagnoses, diagnostic_of, utf8}
+use Rattle.ob0_session.specs.Formatted.{AnswersFormatting}
+use Rattle.ob0_session.specs.Renamed.{RenameAsked, AnswersRenaming}
+use Rattle.ob0_session.specs.RunsKept.{RunsAsBefore}
+use Rattle.ob0_session.specs.Shapes.{Diagnostic, diagnostic_value, edit_value, edits_value, document_edit, workspace_edit, edit_refused, publication}
+use Rattle.ob0_session.specs.declared.server.Phase.{Phase}
+use Rattle.ob0_session.specs.declared.server.Phase.TheVariants.{Running}
+use Rattle.ob0_editor.specs.Code.{replacement_of, replacements}
+use Rattle.ob0_editor.specs.Heard as heard_as
+use Rattle.ob0_editor.specs.Heard.{told_as, HasVersion, IsNote, IsRequest, IsAsk, call_for, indent_read}
+use Rattle.ob0_editor.specs.Shapes.{method_of}
+use Rattle.ob0_editor.specs.Understood.{understood, value_understood, edits_in, edits_for, has_none}
+use Rattle.ob0_editor.proofs.Hearing.{understood_as}
+use Rattle.ob0_editor.proofs.Patching.{edited_as_patched}
+use Rattle.ob0_ends.specs.Language.{WellTypedText}
+use Rattle.ob0_ends.specs.Edited.{Replacement}
+use Rattle.ob0_ends.specs.Asks.{Ask, rename, inline_here, inline_all, format, KeepTheRun, MayAnswer, TellsOf}
+use Rattle.ob0_ends.specs.Ends.{Asked, numbered, ToServer, tells, asks, ToEditor, publishes, answers, Made, after_message}
+use Rattle.ob0_ends.specs.Serving.{MayPublish, taken_back, MayTell, MaySend}
+use Rattle.ob0_ends.proofs.UriLaws.{get_put, uri_itself}
+use Rattle.ob0_world.specs.Queues.{IsRunning, made_of_document, made_for, made_first}
+
+-- ---- contents that are read
+
+same_json : (content : List ℕ) (json : Option Data) (d : Data) → Reads content json → Reads content (Some d) → json ≡ Some d
+same_json content (Some e) d one other = sym one.1 ∙ other.1
+same_json content None d one other = sym (one other.0) ∙ other.1
+
+-- what the editor understands of the contents that were sent
+pub record Heard (asked : List Asked) (sent : List (List ℕ)) (said : List ToEditor) : Type 0 where
+  pub each : All (λ content. (m : ToEditor) × (understood asked content ≡ Some m)) sent
+  pub all : filter_map (understood asked) sent ≡ said
+  pub count : length sent ≡ length said
+
+heard_none : (asked : List Asked) (sent : List (List ℕ)) → sent ≡ [] → Heard asked sent []
+heard_none asked sent none =
+    subst (λ s. Heard asked s []) (sym none) (record { each = All-nil (λ content. (m : ToEditor) × (understood asked content ≡ Some m)); all = refl; count = refl })
+
+heard_one : (asked : List Asked) (sent : List (List ℕ)) (message : Data) (m : ToEditor) → Sends message sent → value_understood asked message ≡ Some m → Heard asked sent (m ∷ [])
+heard_one asked sent message m (content, is, writes) means =
+    let said : understood asked content ≡ Some m = understood_as asked content message writes.reads ∙ means in
+    subst (λ s. Heard asked s (m ∷ [])) (sym is)
+    (record {
+      each = All-push (λ c. (m : ToEditor) × (understood asked c ≡ Some m)) [] content (All-nil (λ c. (m : ToEditor) × (understood asked c ≡ Some m))) (m, said);
+      all = ap (λ o. cons_option o []) said;
+      count = refl;
+    })
+
+-- ---- diagnostics
+
+empty_none : (shown : Complaint → Diagnostic) (told : List Complaint) → told ≡ [] → has_none (items_of (map diagnostic_value (map shown told))) ≡ true
+empty_none shown [] none = refl
+empty_none shown (c ∷ cs) none = absurd (cc)
+
+none_empty : (shown : Complaint → Diagnostic) (told : List Complaint) → has_none (items_of (map diagnostic_value (map shown told))) ≡ true → told ≡ []
+none_empty shown [] h = refl
+none_empty shown (c ∷ cs) h = absurd (cc)
+
+some_told : (text : List ℕ) (told : List Complaint) → TellsFaults text told → told ≡ [] → ⊥
+some_told text told (inl lexemes) none = go lexemes.faults lexemes.of_text.some (sym lexemes.all ∙ none)
+  where
+    go : (faults : _) → 0 < length faults → map complaint_of faults ≡ [] → ⊥
+    go [] some none = omega (arith, some)
+    go (f ∷ fs) some none = cc
+some_told text told (inr (inl parser)) none = let other : parser.complaint ∷ [] ≡ [] = sym parser.alone ∙ none in cc
+some_told text told (inr (inr types)) none = go types.faults types.some (sym types.all ∙ none)
+  where
+    go : (faults : _) → 0 < length faults → map complaint_of faults ≡ [] → ⊥
+    go [] some none = omega (arith, some)
+    go (f ∷ fs) some none = cc
+
+empty_of : List Diagnostic → Bool
+empty_of ds = has_none (items_of (map diagnostic_value ds))
+
+tells_right : (unit : Unit) (text : List ℕ) (ds : List Diagnostic) → Diagnoses unit text ds → TellsOf text (has_none (items_of (map diagnostic_value ds)))
+tells_right unit text ds (told, telling, is) =
+    subst (λ ds. TellsOf text (has_none (items_of (map diagnostic_value ds)))) (sym is) (go telling)
+  where
+    go : Tells (utf8 text) told → TellsOf text (has_none (items_of (map diagnostic_value (map (diagnostic_of unit text) told))))
+    go (inl (fits, none)) = (λ empty. fits, λ fits. empty_none (diagnostic_of unit text) told none)
+    go (inr (unfit, faults)) = (λ empty. absurd (some_told (utf8 text) told faults (none_empty (diagnostic_of unit text) told empty)), λ fits. absurd (unfit fits))
+
+-- ---- publications
+
+-- what was sent of a note
+pub record Noted (asked : List Asked) (held : OpenDocuments) (uri : List ℕ) (o : Option Document) (sent : List (List ℕ)) : Type 0 where
+  pub said : List ToEditor
+  pub heard : Heard asked sent said
+  pub may : MayPublish uri o said (option_to_list (made_first held said))
+
+publishes_step : (asked : List Asked) (held : OpenDocuments) (uri : List ℕ) (version : ℤ) (text : List ℕ) (sent : List (List ℕ)) → document_at held uri ≡ Some (InStep version text) → as_i64 (of_integer version) ≡ Some version
+    → Says (published held.unit uri (Some (InStep version text))) sent → Noted asked held uri (Some (InStep version text)) sent
+publishes_step asked held uri version text sent at fits (ds, diagnoses, sends) =
+    let empty : Bool = has_none (items_of (map diagnostic_value ds)) in
+    record {
+      said = publishes uri (Some version) empty ∷ [];
+      heard = heard_one asked sent (publication uri (Some version) ds) (publishes uri (Some version) empty) sends (ap (λ v. Some (publishes uri v empty)) fits);
+      may = (empty, tells_right held.unit text ds diagnoses, refl, ap (λ o. option_to_list (option_and_then (made_of_document uri version empty) o)) at);
+    }
+
+publishes_now : (asked : List Asked) (held : OpenDocuments) (uri : List ℕ) (version : ℤ) (t : Option (List ℕ)) (sent : List (List ℕ)) → document_at held uri ≡ Some (document version t) → as_i64 (of_integer version) ≡ Some version
+    → Says (published held.unit uri (Some (document version t))) sent → Noted asked held uri (Some (document version t)) sent
+publishes_now asked held uri version (Some text) sent at fits saying = publishes_step asked held uri version text sent at fits saying
+publishes_now asked held uri version None sent at fits saying = record { said = []; heard = heard_none asked sent saying; may = (refl, refl) }
+
+-- a document that was changed
+changed_at : (held : OpenDocuments) (uri : List ℕ) (version : ℤ) (how : List TextChange) → document_at (changed held uri version how) uri ≡ option_map (changed_document held.unit version how) (document_at held uri)
+changed_at held uri version how = go (document_at held uri) refl
+  where
+    f : Document → Document
+    f = changed_document held.unit version how
+
+    go : (o : Option Document) → document_at held uri ≡ o → document_at (changed held uri version how) uri ≡ option_map f o
+    go None is = ap (λ m. map_of.get m uri) (updated-none held.by_uri uri f is) ∙ is
+    go (Some d) is =
+        ap (λ m. map_of.get m uri) (updated-some held.by_uri uri f d is) ∙ get_put held.by_uri uri (f d) uri
+        ∙ ap (λ b. cond b (Some (f d)) (document_at held uri)) (uri_itself uri)
+
+opened_at : (held : OpenDocuments) (uri : List ℕ) (version : ℤ) (text : List ℕ) → document_at (opened held uri version text) uri ≡ Some (InStep version text)
+opened_at held uri version text =
+    get_put held.by_uri uri (InStep version text) uri ∙ ap (λ b. cond b (Some (InStep version text)) (document_at held uri)) (uri_itself uri)
+
+-- what is said of the document that is held now
+noted_at : (asked : List Asked) (held : OpenDocuments) (uri : List ℕ) (o : Option Document) (sent : List (List ℕ)) → document_at held uri ≡ o → (Says (published held.unit uri o) sent → Noted asked held uri o sent)
+    → Says (published held.unit uri (document_at held uri)) sent → Noted asked held uri (document_at held uri) sent
+noted_at asked held uri o sent at then_noted saying =
+    subst (λ o. Noted asked held uri o sent) (sym at) (then_noted (subst (λ o. Says (published held.unit uri o) sent) at saying))
+
+-- ---- what may be sent
+
+-- the server has taken a message, and sent this
+pub record Served (asked : List Asked) (m : ToServer) (before after : State) (sent : List (List ℕ)) : Type 0 where
+  pub running : IsRunning after
+  pub held : after.held ≡ after_message before.held m
+  pub said : List ToEditor
+  pub heard : Heard asked sent said
+  pub may : MaySend before.held m said (option_to_list (made_first after.held said))
+
+-- the reaction to a note, and what it saying
+note_served : (asked : List Asked) (note : DocumentNote) (before after : State) (sent : List (List ℕ)) → IsRunning before → HasVersion note → after ≡ (told before (told_as note)).after → Says (told before (told_as note)).say sent
+    → Served asked (tells note) before after sent
+note_served asked (Opened uri version text) before after sent running fits is saying =
+    let held : OpenDocuments = opened before.held uri version text in
+    let noted : Noted asked held uri (document_at held uri) sent =
+    noted_at asked held uri (Some (InStep version text)) sent (opened_at before.held uri version text) (publishes_step asked held uri version text sent (opened_at before.held uri version text) fits) saying in
+    subst (λ a. Served asked (tells (Opened uri version text)) before a sent) (sym is)
+    (record { running = running; held = refl; said = noted.said; heard = noted.heard; may = noted.may })
+note_served asked (Changed uri version how) before after sent running fits is saying =
+    let held : OpenDocuments = changed before.held uri version how in
+    let noted : Noted asked held uri (document_at held uri) sent = go held (document_at before.held uri) (changed_at before.held uri version how) saying in
+    subst (λ a. Served asked (tells (Changed uri version how)) before a sent) (sym is)
+    (record { running = running; held = refl; said = noted.said; heard = noted.heard; may = noted.may })
+  where
+    go : (held : OpenDocuments) (o : Option Document) → document_at held uri ≡ option_map (changed_document before.held.unit version how) o → Says (published held.unit uri (document_at held uri)) sent → Noted asked held uri (document_at held uri) sent
+    go held None at saying = noted_at asked held uri None sent at (λ saying. record { said = []; heard = heard_none asked sent saying; may = (refl, refl) }) saying
+    go held (Some d) at saying =
+        let t : Option (List ℕ) = fold (changed_text before.held.unit) (text_of d) how in
+        noted_at asked held uri (Some (document version t)) sent at (publishes_now asked held uri version t sent at fits) saying
+note_served asked (Lost uri) before after sent running fits is saying =
+    subst (λ a. Served asked (tells (Lost uri)) before a sent) (sym is)
+    (record { running = running; held = refl; said = []; heard = heard_none asked sent saying; may = (refl, refl) })
+note_served asked (Closed uri) before after sent running fits is saying =
+    subst (λ a. Served asked (tells (Closed uri)) before a sent) (sym is) (go (is_some (document_at before.held uri)) refl saying)
+  where
+    go : (b : Bool) → is_some (document_at before.held uri) ≡ b → Says (cond b (says (publication uri None [])) answers_of.nothing) sent → Served asked (tells (Closed uri)) before (told before (told_as (Closed uri))).after sent
+    go true was saying = record {
+      running = running;
+      held = refl;
+      said = publishes uri None true ∷ [];
+      heard = heard_one asked sent (publication uri None []) (publishes uri None true) saying refl;
+      may = (sym (ap (taken_back uri) was), refl);
+    }
+    go false was saying = record { running = running; held = refl; said = []; heard = heard_none asked sent saying; may = (sym (ap (taken_back uri) was), refl) }
+
+-- ---- edits
+
+edits_read_back : (edits : List Edit) → edits_in (items_of (map edit_value edits)) ≡ Some (replacements edits)
+edits_read_back [] = refl
+edits_read_back (e ∷ edits) = ap (option_map (λ es. replacement_of e ∷ es)) (edits_read_back edits)
+
+-- an answer to ask k, where that asks this
+answered : (asked : List Asked) (k : ℕ) (uri : List ℕ) (ask : Ask) (answer : Data) → IsAsk asked k uri ask → option_map (λ (a : Asked). answers k (edits_for a.ask answer)) (numbered asked k) ≡ Some (answers k (edits_for ask answer))
+answered asked k uri ask answer of = ap (option_map (λ (a : Asked). answers k (edits_for a.ask answer))) of.is ∙ ap (λ x. Some (answers k (edits_for x answer))) of.asks_this
+
+-- edits that leave a text which runs as before
+keeps_the_run : (unit : Unit) (text after : List ℕ) (edits : List Edit) → patched (width_of unit) text edits ≡ Some after → RunsAsBefore (utf8 text) (utf8 after) → KeepTheRun unit text (replacements edits)
+keeps_the_run unit text after edits made runs =
+    record {
+      before_fits = runs.old;
+      after = after;
+      makes = edited_as_patched unit text edits ∙ made;
+      after_fits = runs.new;
+      same = record { before = runs.old.tree; before_of = runs.old.text_of; after = runs.new.tree; after_of = runs.new.text_of; same = λ input c t. sym (runs.same input c t) };
+    }
+
+-- the answer to an ask
+record Answered (asked : List Asked) (k : ℕ) (ask : Ask) (unit : Unit) (o : Option Document) (sent : List (List ℕ)) : Type 0 where
+  edits : List Replacement
+  heard : Heard asked sent (answers k edits ∷ [])
+  may : MayAnswer unit o ask edits
+
+-- a refusal has no edits
+refused : (asked : List Asked) (k : ℕ) (uri : List ℕ) (ask : Ask) (unit : Unit) (o : Option Document) (code : ℤ) (why : List ℕ) (sent : List (List ℕ)) → IsAsk asked k uri ask → Sends (error_message (number (unsigned k)) code why) sent
+    → Answered asked k ask unit o sent
+refused asked k uri ask unit o code why sent of sends =
+    record {
+      edits = [];
+      heard = heard_one asked sent (error_message (number (unsigned k)) code why) (answers k []) sends (answered asked k uri ask (error_message (number (unsigned k)) code why) of);
+      may = none o;
+    }
+  where
+    none : (o : Option Document) → MayAnswer unit o ask []
+    none (Some (InStep version text)) = inl refl
+    none (Some OutOfStep) = refl
+    none None = refl
+
+formatted : (asked : List Asked) (k : ℕ) (uri : List ℕ) (indent read_as : Indent) (unit : Unit) (version : ℤ) (text : List ℕ) (sent : List (List ℕ)) → IsAsk asked k uri (format indent)
+    → Says (lays_out unit (number (unsigned k)) read_as text) sent → Answered asked k (format indent) unit (Some (InStep version text)) sent
+formatted asked k uri indent read_as unit version text sent of (message, how, sends) = go how
+  where
+    go : AnswersFormatting unit (number (unsigned k)) read_as text message → Answered asked k (format indent) unit (Some (InStep version text)) sent
+    go (inl (edits, laid, is)) =
+        let answer : Data = result_message (number (unsigned k)) (edits_value edits) in
+        let these : edits_for (format indent) answer ≡ replacements edits = ap (λ o. unwrap_or o []) (edits_read_back edits) in
+        record {
+          edits = replacements edits;
+          heard = heard_one asked sent answer (answers k (replacements edits)) (subst (λ m. Sends m sent) is sends) (answered asked k uri (format indent) answer of ∙ ap (λ es. Some (answers k es)) these);
+          may = inr (keeps_the_run unit text laid.after edits laid.made laid.runs);
+        }
+    go (inr (inl (long, is))) = refused asked k uri (format indent) unit (Some (InStep version text)) (minus 32803) (refusal_text TooLong) sent of (subst (λ m. Sends m sent) is sends)
+    go (inr (inr (unfit, is))) = refused asked k uri (format indent) unit (Some (InStep version text)) (minus 32803) (codes "ill-typed") sent of (subst (λ m. Sends m sent) is sends)
+
+-- edits of a versioned document are read back
+renames_read_back : (id : Data) (position : Position) (name uri : List ℕ) (version : ℤ) (edits : List Edit) (client : Client) → client.takes_document_changes ≡ true
+    → edits_for (rename position name) (result_message id (workspace_edit client uri version edits)) ≡ replacements edits
+renames_read_back id position name uri version edits client takes = go client.takes_document_changes takes
+  where
+    go : (b : Bool) → b ≡ true
+        → edits_for (rename position name) (result_message id (cond b (object (member (codes "documentChanges") (array (item (document_edit uri version edits) no_items)) no_members)) (object (member (codes "changes") (object (member uri (edits_value edits) no_members)) no_members))))
+            ≡ replacements edits
+    go true is = ap (λ o. unwrap_or o []) (edits_read_back edits)
+    go false is = absurd (cc)
+
+-- the request as the session takes it
+abbrev rename_asked : Client → ℕ → List ℕ → Position → List ℕ → ℤ → RenameAsked
+rename_asked client k uri position name version =
+    record { id = number (unsigned k); client = client; at = record { uri = uri; position = position }; version = version; new = name }
+
+renamed : (asked : List Asked) (k : ℕ) (uri : List ℕ) (position : Position) (name : List ℕ) (client : Client) (unit : Unit) (version : ℤ) (text : List ℕ) (sent : List (List ℕ)) → client.takes_document_changes ≡ true → IsAsk asked k uri (rename position name)
+    → Says (renames unit (rename_asked client k uri position name version) text) sent → Answered asked k (rename position name) unit (Some (InStep version text)) sent
+renamed asked k uri position name client unit version text sent takes of (message, how, sends) = go how
+  where
+    go : AnswersRenaming unit (rename_asked client k uri position name version) text message → Answered asked k (rename position name) unit (Some (InStep version text)) sent
+    go (inl (edits, found, is)) =
+        let answer : Data = result_message (number (unsigned k)) (workspace_edit client uri version edits) in
+        let these : edits_for (rename position name) answer ≡ replacements edits = renames_read_back (number (unsigned k)) position name uri version edits client takes in
+        record {
+          edits = replacements edits;
+          heard = heard_one asked sent answer (answers k (replacements edits)) (subst (λ m. Sends m sent) is sends) (answered asked k uri (rename position name) answer of ∙ ap (λ es. Some (answers k es)) these);
+          may = inr (keeps_the_run unit text found.after edits found.made found.runs);
+        }
+    go (inr (inl (refusal, why, is))) = refused asked k uri (rename position name) unit (Some (InStep version text)) (minus 32803) (refusal_text refusal) sent of (subst (λ m. Sends m sent) is sends)
+    go (inr (inr (unfit, is))) = refused asked k uri (rename position name) unit (Some (InStep version text)) (minus 32803) (codes "ill-typed") sent of (subst (λ m. Sends m sent) is sends)
+
+-- ---- asks
+
+asks_served : (asked : List Asked) (k : ℕ) (uri : List ℕ) (ask : Ask) (before after : State) (sent : List (List ℕ)) → IsRunning before → after ≡ before → Answered asked k ask before.held.unit (document_at before.held uri) sent
+    → Served asked (asks k uri ask) before after sent
+asks_served asked k uri ask before after sent running same answer =
+    subst (λ a. Served asked (asks k uri ask) before a sent) (sym same)
+    (record { running = running; held = refl; said = answers k answer.edits ∷ []; heard = answer.heard; may = (answer.edits, answer.may, refl, refl) })
+
+-- an ask about a document, where its answer is known for the text of one that is in step
+about_document : (asked : List Asked) (k : ℕ) (uri : List ℕ) (ask : Ask) (say : ℤ → List ℕ → Say) (before after : State) (sent : List (List ℕ)) → IsRunning before → IsAsk asked k uri ask
+    → ((version : ℤ) (text : List ℕ) → Says (say version text) sent → Answered asked k ask before.held.unit (Some (InStep version text)) sent)
+    → (o : Option Document) → document_at before.held uri ≡ o → after ≡ (of_document before (number (unsigned k)) o say).after → Says (of_document before (number (unsigned k)) o say).say sent → Served asked (asks k uri ask) before after sent
+about_document asked k uri ask say before after sent running of in_step None at same saying =
+    asks_served asked k uri ask before after sent running same (refused asked k uri ask before.held.unit (document_at before.held uri) (minus 32803) (codes "unopened") sent of saying)
+about_document asked k uri ask say before after sent running of in_step (Some OutOfStep) at same saying =
+    asks_served asked k uri ask before after sent running same (refused asked k uri ask before.held.unit (document_at before.held uri) (minus 32803) (codes "out of step") sent of saying)
+about_document asked k uri ask say before after sent running of in_step (Some (InStep version text)) at same saying =
+    asks_served asked k uri ask before after sent running same (subst (λ o. Answered asked k ask before.held.unit o sent) (sym at) (in_step version text saying))
+
+-- a request that isn't built
+not_built : (asked : List Asked) (k : ℕ) (uri : List ℕ) (ask : Ask) (before after : State) (sent : List (List ℕ)) → IsRunning before → IsAsk asked k uri ask → after ≡ before
+    → Sends (error_message (number (unsigned k)) (error_code UnknownMethod) (error_text UnknownMethod)) sent → Served asked (asks k uri ask) before after sent
+not_built asked k uri ask before after sent running of is sends =
+    asks_served asked k uri ask before after sent running is (refused asked k uri ask before.held.unit (document_at before.held uri) (error_code UnknownMethod) (error_text UnknownMethod) sent of sends)
+
+-- a request of the editor, while the session runs
+request_served : (asked : List Asked) (k : ℕ) (uri : List ℕ) (ask : Ask) (params : Data) (before after : State) (sent : List (List ℕ)) → IsRunning before → IsAsk asked k uri ask → call_of (method_of ask) params ≡ Ok (call_for uri ask)
+    → after ≡ (requested before (number (unsigned k)) (method_of ask) params).after → Says (requested before (number (unsigned k)) (method_of ask) params).say sent → Served asked (asks k uri ask) before after sent
+request_served asked k uri (rename position name) params before after sent running of call is saying =
+    let id : Data = number (unsigned k) in
+    let say : ℤ → List ℕ → Say = λ version. renames before.held.unit (rename_asked before.client k uri position name version) in
+    let so : requested before id (method_of (rename position name)) params ≡ of_document before id (document_at before.held uri) say = ap (calls before id) call in
+    about_document asked k uri (rename position name) say before after sent running of
+    (λ version text. renamed asked k uri position name before.client before.held.unit version text sent running.1 of) (document_at before.held uri) refl
+    (is ∙ ap (λ (x : Reaction). x.after) so) (subst (λ (x : Reaction). Says x.say sent) so saying)
+request_served asked k uri (inline_here position) params before after sent running of call is saying = not_built asked k uri (inline_here position) before after sent running of is saying
+request_served asked k uri (inline_all position) params before after sent running of call is saying = not_built asked k uri (inline_all position) before after sent running of is saying
+request_served asked k uri (format indent) params before after sent running of call is saying =
+    let id : Data = number (unsigned k) in
+    let say : ℤ → List ℕ → Say = λ version. lays_out before.held.unit id (indent_read indent) in
+    let so : requested before id (method_of (format indent)) params ≡ of_document before id (document_at before.held uri) say = ap (calls before id) call in
+    about_document asked k uri (format indent) say before after sent running of
+    (λ version text. formatted asked k uri indent (indent_read indent) before.held.unit version text sent of) (document_at before.held uri) refl
+    (is ∙ ap (λ (x : Reaction). x.after) so) (subst (λ (x : Reaction). Says x.say sent) so saying)
+
+-- ---- messages
+
+-- the answers of a session that runs
+going_on : (before after : State) (content : List ℕ) (sent : List (List ℕ)) → IsRunning before → Answers before content sent after → AnswersGoingOn before content sent after
+going_on before after content sent running h = subst (λ phase. AnswersIn phase before content sent after) running.0 h
+
+-- what comes of a content with this meaning
+pub reacts_so : (before after : State) (content : List ℕ) (sent : List (List ℕ)) (d : Data) → AnswersGoingOn before content sent after → Reads content (Some d) → (after ≡ (reacts before (meaning_of d)).after) × Says (reacts before (meaning_of d)).say sent
+reacts_so before after content sent d (json, reads, answer) known =
+    subst (λ j. (after ≡ (reacts before (meaning j)).after) × Says (reacts before (meaning j)).say sent) (same_json content json d reads known) answer
+
+pub served : (asked : List Asked) (m : ToServer) (before after : State) (content : List ℕ) (sent : List (List ℕ)) → IsRunning before → heard_as.Says asked m content → Answers before content sent after → Served asked m before after sent
+served asked (tells note) before after content sent running is h =
+    let answer = reacts_so before after content sent is.json (going_on before after content sent running h) is.reads in
+    let so : reacts before (meaning_of is.json) ≡ told before (told_as note) =
+    ap (reacts before) is.means ∙ ap (λ phase. hears phase before is.method is.params) running.0 ∙ ap (told before) is.told in
+    note_served asked note before after sent running is.fits (answer.0 ∙ ap (λ (x : Reaction). x.after) so) (subst (λ (x : Reaction). Says x.say sent) so answer.1)
+served asked (asks k uri ask) before after content sent running (is, of) h =
+    let answer = reacts_so before after content sent is.json (going_on before after content sent running h) is.reads in
+    let so : reacts before (meaning_of is.json) ≡ requested before (number (unsigned k)) (method_of ask) is.params =
+    ap (reacts before) is.means ∙ ap (λ phase. asked_in phase before (number (unsigned k)) (method_of ask) is.params) running.0 ∙ begun ask before is.params k in
+    request_served asked k uri ask is.params before after sent running of is.calls (answer.0 ∙ ap (λ (x : Reaction). x.after) so) (subst (λ (x : Reaction). Says x.say sent) so answer.1)
+  where
+    begun : (ask : Ask) (s : State) (params : Data) (k : ℕ) → asked_in Running s (number (unsigned k)) (method_of ask) params ≡ requested s (number (unsigned k)) (method_of ask) params
+    begun (rename position name) s params k = refl
+    begun (inline_here position) s params k = refl
+    begun (inline_all position) s params k = refl
+    begun (format indent) s params k = refl

@@ -1,0 +1,36 @@
+-- How a session begins with an editor.
+use Rattle.std.proofs.Common.{◌≡◌, ◌∙◌, ℕ, List, refl, sym, ap, subst, Some}
+use Rattle.ob0_text.specs.OpenDocuments.{none_open}
+use Rattle.ob0_text.specs.declared.positions.Unit.{Unit}
+use Rattle.ob0_text.specs.declared.positions.Unit.TheVariants.{Utf16, Utf8}
+use Rattle.ob0_rpc.specs.Messages.{Reads, meaning_of}
+use Rattle.ob0_session.specs.Answers.{State, start, begins, reacts, Answers}
+use Rattle.ob0_session.specs.Standing.{Standing, serving, failed}
+use Rattle.ob0_session.specs.declared.server.Phase.TheVariants.{Running}
+use Rattle.ob0_editor.specs.Beginning.{initialize_message, client_for}
+use Rattle.ob0_world.specs.Queues.{Contents, bytes, Stands, held_by, IsAnswered}
+use Rattle.ob0_world.proofs.Answering.{reacts_so}
+
+begun : (unit : Unit) → (reacts start (meaning_of (initialize_message unit))).after ≡ begins (client_for unit)
+begun Utf16 = refl
+begun Utf8 = refl
+
+holds_none : (unit : Unit) → (begins (client_for unit)).held ≡ none_open unit
+holds_none Utf16 = refl
+holds_none Utf8 = refl
+
+abbrev state_of : Standing → State → State
+state_of (serving s) other = s
+state_of failed other = other
+
+pub record Begun (unit : Unit) (session : Standing) : Type 0 where
+  pub stands : Stands session
+  pub held : held_by session ≡ none_open unit
+
+pub begins_so : (unit : Unit) (content : List ℕ) (sent : Contents) (session : Standing) → Reads content (Some (initialize_message unit)) → IsAnswered (serving start) content sent session → Begun unit session
+begins_so unit content sent session reads (before, after, was, is, how) =
+    let same : start ≡ before = ap (λ s. state_of s start) was in
+    let from_start : Answers start content (bytes sent) after = subst (λ s. Answers s content (bytes sent) after) (sym same) how in
+    let so : after ≡ begins (client_for unit) = (reacts_so start after content (bytes sent) (initialize_message unit) from_start reads).0 ∙ begun unit in
+    let standing : session ≡ serving (begins (client_for unit)) = is ∙ ap serving so in
+    record { stands = subst Stands (sym standing) (refl, refl); held = ap held_by standing ∙ holds_none unit }

@@ -1,0 +1,7 @@
+mod Answering
+mod Waiting
+mod Moved
+mod Serving
+mod Beginning
+mod Counting
+mod RunLaws

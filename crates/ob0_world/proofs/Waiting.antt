@@ -1,0 +1,98 @@
+-- Contents that wait say the same once more was asked, and what they say as the queues grow and shrink.
+use Rattle.std.proofs.Common.{◌≡◌, ◌∙◌, ℕ, zero, suc, length, Bool, true, false, cond, List, [], ◌∷◌, ◌++◌, Option, Some, None, refl, sym, ap, subst}
+use Rattle.std.specs.Prelude.{All, Vec, is_some, map, filter_map, option_map, option_and_then}
+use Rattle.std.specs.List.{cons_option}
+use Rattle.std.specs.Str.{is_utf8}
+use Rattle.std.specs.declared.alloc.Global.{Global}
+use Rattle.std.proofs.lemmas.Option.{none-some}
+use Rattle.std.proofs.lemmas.List.{map-append}
+use Rattle.std.proofs.lemmas.List.Elements.{All-nil, All-cons, All-push, All-append, All-head, All-tail, All-weaker, filter_map-append}
+use Rattle.serde_json.specs.Data.{Data}
+use Rattle.serde_json.specs.Find.{get}
+use Rattle.serde_json.specs.Read.{read}
+use Rattle.ob0_editor.specs.Heard.{heard, Says, IsAsk, number_of}
+use Rattle.ob0_editor.specs.Understood.{understood, value_understood, answer_understood, answer_to, publication_understood}
+use Rattle.ob0_editor.proofs.Hearing.{says_heard}
+use Rattle.ob0_ends.specs.Ends.{Asked, numbered, ToServer, tells, asks, ToEditor}
+use Rattle.ob0_ends.proofs.SameDocument.{numbered_push}
+use Rattle.ob0_world.specs.Queues.{Contents, bytes, all_heard, all_understood, IsHeard, IsUnderstood}
+use Rattle.std.specs.Prelude.{codes}
+
+-- ---- more asks
+
+module _ (asked more : List Asked) where
+  says_still : (m : ToServer) (content : List ℕ) → Says asked m content → Says (asked ++ more) m content
+  says_still (tells note) content is = is
+  says_still (asks k uri ask) content (is, of) = (is, record { sent = of.sent; is = numbered_push asked more k of.sent of.is; about = of.about; asks_this = of.asks_this })
+
+  still_answers : {X : Type 0} (f : Asked → X) (k : ℕ) (x : X) → option_map f (numbered asked k) ≡ Some x → option_map f (numbered (asked ++ more) k) ≡ Some x
+  still_answers f k x h = go (numbered asked k) refl h
+    where
+      go : (o : Option Asked) → numbered asked k ≡ o → option_map f o ≡ Some x → option_map f (numbered (asked ++ more) k) ≡ Some x
+      go None is h = absurd (none-some x h)
+      go (Some a) is h = ap (option_map f) (numbered_push asked more k a is) ∙ h
+
+  answer_still : (d : Data) (o : Option ℕ) (m : ToEditor) → option_and_then (answer_to asked d) o ≡ Some m → option_and_then (answer_to (asked ++ more) d) o ≡ Some m
+  answer_still d None m h = h
+  answer_still d (Some k) m h = still_answers _ k m h
+
+  value_still : (d : Data) (b : Bool) (m : ToEditor) → cond b (option_and_then publication_understood (get (codes "params") d)) (answer_understood asked d) ≡ Some m
+      → cond b (option_and_then publication_understood (get (codes "params") d)) (answer_understood (asked ++ more) d) ≡ Some m
+  value_still d true m h = h
+  value_still d false m h = answer_still d (option_and_then number_of (get (codes "id") d)) m h
+
+  understood_still : (content : List ℕ) (m : ToEditor) → understood asked content ≡ Some m → understood (asked ++ more) content ≡ Some m
+  unfolding understood
+  understood_still content m h = go (is_utf8 content) (read content) h
+    where
+      go : (b : Bool) (o : Option Data) → cond b (option_and_then (value_understood asked) o) None ≡ Some m → cond b (option_and_then (value_understood (asked ++ more)) o) None ≡ Some m
+      go false o h = h
+      go true None h = h
+      go true (Some d) h = value_still d (is_some (get (codes "method") d)) m h
+
+  pub all_heard_still : (q : Contents) → All (IsHeard asked) q → All (IsHeard (asked ++ more)) q
+  all_heard_still q all = All-weaker (IsHeard asked) (IsHeard (asked ++ more)) (λ c h. (h.0, says_still h.0 c.items h.1)) q all
+
+  pub all_understood_still : (q : Contents) → All (IsUnderstood asked) q → All (IsUnderstood (asked ++ more)) q
+  all_understood_still q all = All-weaker (IsUnderstood asked) (IsUnderstood (asked ++ more)) (λ c h. (h.0, understood_still c.items h.0 h.1)) q all
+
+  pub heard_still : (q : Contents) → All (IsHeard asked) q → all_heard (asked ++ more) q ≡ all_heard asked q
+  heard_still [] all = refl
+  heard_still (c ∷ q) all =
+      let h : IsHeard asked c = All-head (IsHeard asked) c q all in
+      (λ i. cons_option (same i) (heard_still q (All-tail (IsHeard asked) c q all) i))
+    where
+      h : IsHeard asked c
+      h = All-head (IsHeard asked) c q all
+
+      same : heard (asked ++ more) c.items ≡ heard asked c.items
+      same = says_heard (asked ++ more) h.0 c.items (says_still h.0 c.items h.1) ∙ sym (says_heard asked h.0 c.items h.1)
+
+  pub understood_same : (q : Contents) → All (IsUnderstood asked) q → all_understood (asked ++ more) q ≡ all_understood asked q
+  understood_same [] all = refl
+  understood_same (c ∷ q) all = (λ i. cons_option (same i) (understood_same q (All-tail (IsUnderstood asked) c q all) i))
+    where
+      h : IsUnderstood asked c
+      h = All-head (IsUnderstood asked) c q all
+
+      same : understood (asked ++ more) c.items ≡ understood asked c.items
+      same = understood_still c.items h.0 h.1 ∙ sym h.1
+
+-- ---- queues
+
+module _ {M : Type 0} (f : List ℕ → Option M) where
+  pub said_push : (old : Contents) (content : Vec ℕ Global) (m : M) → f content.items ≡ Some m → filter_map f (bytes (old ++ content ∷ [])) ≡ filter_map f (bytes old) ++ m ∷ []
+  said_push old content m is =
+      ap (filter_map f) (map-append (λ v. v.items) old (content ∷ []))
+      ∙ filter_map-append f (bytes old) (content.items ∷ [])
+      ∙ ap (λ o. filter_map f (bytes old) ++ cons_option o []) is
+
+  pub said_append : (xs ys : Contents) → filter_map f (bytes (xs ++ ys)) ≡ filter_map f (bytes xs) ++ filter_map f (bytes ys)
+  said_append xs ys = ap (filter_map f) (map-append (λ v. v.items) xs ys) ∙ filter_map-append f (bytes xs) (bytes ys)
+
+  pub said_first : (content : Vec ℕ Global) (rest : Contents) (m : M) → f content.items ≡ Some m → filter_map f (bytes (content ∷ rest)) ≡ m ∷ filter_map f (bytes rest)
+  said_first content rest m is = ap (λ o. cons_option o (filter_map f (bytes rest))) is
+
+pub all_appended : (P : Vec ℕ Global → Type 0) (old new more : Contents) (b : Bool) → new ≡ cond b (old ++ more) old → All P old → All P more → All P new
+all_appended P old new more true is all these = subst (All P) (sym is) (All-append P old more all these)
+all_appended P old new more false is all these = subst (All P) (sym is) all

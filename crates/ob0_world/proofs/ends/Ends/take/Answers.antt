@@ -1,0 +1,24 @@
+use Rattle.std.proofs.Common.{◌≡◌, ◌∙◌, ap}
+use Rattle.ob0_ends.specs.Ends.{Editor}
+use Rattle.ob0_editor.specs.Code.{replacements}
+use Rattle.ob0_world.proofs.Moved.{taken_sound, same_sound, keep_asks}
+use Rattle.ob0_world.proofs.ends.Ends.take.Goals as goal
+
+pub invariant_of-self-in_err-message : goal.invariant_of-self-in_err-message
+invariant_of-self-in_err-message g c =
+    taken_sound c.self.inside.editor.asked c.self.inside.to_server.items c.self.inside.to_editor.items c.pop_front.new.self.items c.self.inside.session c.in-Some.content c.in-Some.ensures.items c.self.invariant
+
+pub invariant_of-self-in-Published : goal.invariant_of-self-in-Published
+invariant_of-self-in-Published g c =
+    taken_sound c.self.inside.editor.asked c.self.inside.to_server.items c.self.inside.to_editor.items c.pop_front.new.self.items c.self.inside.session c.in-Some.content c.in-Some.ensures.items c.self.invariant
+
+pub invariant_of-self-in_err-edits-in-Answered : goal.invariant_of-self-in_err-edits-in-Answered
+invariant_of-self-in_err-edits-in-Answered g c =
+    same_sound c.self.inside.editor c.keep.new.self c.self.inside.to_server.items c.pop_front.new.self.items c.self.inside.session c.in_err-edits-in-Answered.ensures.err
+    (taken_sound c.self.inside.editor.asked c.self.inside.to_server.items c.self.inside.to_editor.items c.pop_front.new.self.items c.self.inside.session c.in-Some.content c.in-Some.ensures.items c.self.invariant)
+
+pub invariant_of-self-in-Answered : goal.invariant_of-self-in-Answered
+invariant_of-self-in-Answered g c =
+    same_sound c.self.inside.editor c.keep.new.self c.self.inside.to_server.items c.pop_front.new.self.items c.self.inside.session
+    (ap (λ (e : Editor). e.asked) c.in_ok-edits-in-Answered.ensures.kept ∙ keep_asks c.self.inside.editor c.in-Answered.number (replacements c.in-Answered.edits.items))
+    (taken_sound c.self.inside.editor.asked c.self.inside.to_server.items c.self.inside.to_editor.items c.pop_front.new.self.items c.self.inside.session c.in-Some.content c.in-Some.ensures.items c.self.invariant)

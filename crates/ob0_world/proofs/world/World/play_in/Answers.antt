@@ -1,0 +1,32 @@
+use Rattle.std.proofs.Common.{◌∙◌, ◌+◌, map, refl, ap, subst}
+use Rattle.std.proofs.lemmas.List.{take_all}
+use Rattle.ob0_ends.specs.Ends.{start}
+use Rattle.ob0_ends.specs.Happens.{Run}
+use Rattle.ob0_world.specs.Code.{event_of}
+use Rattle.ob0_world.proofs.world.World.play_in.Goals as goal
+use Rattle.ob0_world.proofs.RunLaws.{plays, run_more, come_before, keeps_the_run, is_right}
+
+-- memory was refused before the first event
+pub returns-in-Err-clause-err : goal.returns-in-Err-clause-err
+returns-in-Err-clause-err g c = (0, plays c.args.unit _ _ _ refl c.nothing_played.ensures)
+
+-- memory was refused at an event: what had come before stands
+pub returns-in-Err-step-clause-err : goal.returns-in-Err-step-clause-err
+returns-in-Err-step-clause-err g c =
+    (c.loop-event.event-index, plays c.args.unit _ _ c.into_played.result c.loop-event.invariant.0 (come_before _ _ c.into_played.result c.in-Err-step.ensures.kept c.into_played.ensures))
+
+pub loop-event-preserved : goal.loop-event-preserved
+loop-event-preserved g c =
+    (run_more c.args.unit c.args.events.now c.loop-event.event-index c.event-item.result _ _ _ c.loop-event-test.true c.event-item.is c.loop-event.invariant.0 c.in-Ok-step.ensures.happens, c.in-Ok-step.ensures.counted ∙ ap (λ n. n + 1) c.loop-event.invariant.1, c.in-Ok-step.ensures.goes_on)
+
+pub returns-clause-run : goal.returns-clause-run
+returns-clause-run g c =
+    plays c.args.unit c.args.events.now c.loop-event.world.ends c.into_played-2.result
+    (subst (λ events. Run (start c.args.unit) (map event_of events) c.loop-event.world.ends) (take_all c.loop-event.event-index c.args.events.now c.loop-event-test.false) c.loop-event.invariant.0)
+    c.into_played-2.ensures
+
+pub returns-clause-applied : goal.returns-clause-applied
+returns-clause-applied g c = keeps_the_run c.args.unit _ _ (returns-clause-run g c)
+
+pub returns-clause-made : goal.returns-clause-made
+returns-clause-made g c = is_right c.args.unit _ _ (returns-clause-run g c)

@@ -1,0 +1,107 @@
+-- The contents that wait at the two ends, and what they say.
+use Rattle.std.specs.Prelude.{◌≡◌, ⊤, ℕ, ℤ, List, [], ◌∷◌, ◌++◌, map, All, Bool, true, Option, Some, None, Vec, option_map, option_and_then, filter_map}
+use Rattle.std.specs.Option.{option_to_list}
+use Rattle.std.specs.declared.alloc.Global.{Global}
+use Rattle.ob0_text.specs.OpenDocuments.{OpenDocuments, Document, InStep, OutOfStep, document_at, none_open}
+use Rattle.ob0_text.specs.declared.positions.Unit.TheVariants.{Utf16}
+use Rattle.ob0_session.specs.Answers.{State, Answers}
+use Rattle.ob0_session.specs.Standing.{Standing, serving, failed}
+use Rattle.ob0_session.specs.declared.server.Phase.TheVariants.{Running}
+use Rattle.ob0_editor.specs.Heard.{heard, Says}
+use Rattle.ob0_editor.specs.Understood.{understood}
+use Rattle.ob0_editor.specs.Code.{applied_of}
+use Rattle.ob0_editor.specs.declared.applied.Applied as applied
+use Rattle.ob0_ends.specs.Ends.{Asked, Editor, ToServer, ToEditor, publishes, answers, Made, Ends}
+use Rattle.ob0_ends.specs.Happens.{nothing, sent}
+use Rattle.ob0_world.specs.declared.events.Seen as seen
+use Rattle.ob0_world.specs.declared.played.Made as made
+use Rattle.ob0_world.specs.Code.{made_of, seen_of}
+
+abbrev pub Contents : Type 0
+Contents = List (Vec ℕ Global)
+
+abbrev pub bytes : Contents → List (List ℕ)
+bytes contents = map (λ v. v.items) contents
+
+-- what these contents say to the server, and to the editor, where these asks were sent
+abbrev pub all_heard : List Asked → Contents → List ToServer
+all_heard asked contents = filter_map (heard asked) (bytes contents)
+
+abbrev pub all_understood : List Asked → Contents → List ToEditor
+all_understood asked contents = filter_map (understood asked) (bytes contents)
+
+-- each content says something
+abbrev pub IsHeard : List Asked → Vec ℕ Global → Type 0
+IsHeard asked content = (m : ToServer) × Says asked m content.items
+
+abbrev pub IsUnderstood : List Asked → Vec ℕ Global → Type 0
+IsUnderstood asked content = (m : ToEditor) × (understood asked content.items ≡ Some m)
+
+-- ---- the session
+
+-- A session that has begun with this editor and isn't at its end. It writes a workspace's edits with the versions of their documents.
+abbrev pub IsRunning : State → Type 0
+IsRunning s = (s.phase ≡ Running) × (s.client.takes_document_changes ≡ true)
+
+abbrev pub Stands : Standing → Type 0
+Stands (serving s) = IsRunning s
+Stands failed = ⊤
+
+-- the documents that it holds, of which nothing is said once memory was refused
+abbrev pub held_by : Standing → OpenDocuments
+held_by (serving s) = s.held
+held_by failed = none_open Utf16
+
+-- ---- publications
+
+-- what a publication with a version was made for: the text that is held now
+abbrev pub made_of_document : List ℕ → ℤ → Bool → Document → Option Made
+made_of_document uri version empty (InStep held text) = Some (record { uri = uri; version = version; text = text; empty = empty })
+made_of_document uri version empty OutOfStep = None
+
+abbrev pub made_for : OpenDocuments → ToEditor → Option Made
+made_for held (publishes uri (Some version) empty) = option_and_then (made_of_document uri version empty) (document_at held uri)
+made_for held (publishes uri None empty) = None
+made_for held (answers k edits) = None
+
+-- a server answers with one message at most
+abbrev pub made_first : OpenDocuments → List ToEditor → Option Made
+made_first held [] = None
+made_first held (m ∷ ms) = made_for held m
+
+-- ---- the whole
+
+-- what waits at both ends says something, and the session serves if memory wasn't refused
+pub record Sound (asked : List Asked) (to_server to_editor : Contents) (session : Standing) : Type 0 where
+  pub heard_all : All (IsHeard asked) to_server
+  pub understood_all : All (IsUnderstood asked) to_editor
+  pub stands : Stands session
+
+-- the two ends, from what the code keeps of them
+abbrev pub ends_from : Editor → Contents → Standing → Contents → List applied.Applied → List made.Made → Ends
+ends_from e to_server session to_editor applied made =
+    record {
+      editor = e;
+      to_server = all_heard e.asked to_server;
+      held = held_by session;
+      to_editor = all_understood e.asked to_editor;
+      applied = map applied_of applied;
+      made = map made_of made;
+    }
+
+-- ---- the steps of a server's turn
+
+-- the session has answered a content
+abbrev pub IsAnswered : Standing → List ℕ → Contents → Standing → Type 0
+IsAnswered old content replies new =
+    (before : State) × (after : State) × (old ≡ serving before) × (new ≡ serving after) × Answers before content (bytes replies) after
+
+-- the publication with a version that the first of these contents is
+abbrev pub made_sent : OpenDocuments → List Asked → Contents → Option Made
+made_sent held asked [] = None
+made_sent held asked (content ∷ contents) = option_and_then (made_for held) (understood asked content.items)
+
+-- a content, if there is one, waits behind the others
+abbrev pub IsSent : Contents → Option (Vec ℕ Global) → seen.Seen → Contents → Type 0
+IsSent old None seen new = (seen_of seen ≡ nothing) × (new ≡ old)
+IsSent old (Some content) seen new = (seen_of seen ≡ sent) × (new ≡ old ++ content ∷ [])

@@ -1,0 +1,310 @@
+//! Both ends, and what stands between them.
+ghost use Rattle.std.specs.Prelude.{◌≡◌, IfOk, OnErr, map, option_map, option_and_then, string_bytes};
+ghost use Rattle.std.specs.Str.{chars};
+ghost use Rattle.ob0_text.specs.OpenDocuments.{told_change, document_at};
+ghost use Rattle.ob0_session.specs.Standing.{failed};
+ghost use Rattle.ob0_editor.specs.Code.{ask_of};
+ghost use Rattle.ob0_editor.specs.Moves.{AreFew};
+ghost use Rattle.ob0_editor.specs.Understood.{understood};
+ghost use Rattle.ob0_ends.specs.Ends.{start};
+ghost use Rattle.ob0_ends.specs.Happens as events;
+ghost use Rattle.ob0_ends.specs.Happens.{Happens, open_document, change_document, close_document, ask_about, take_message};
+ghost use Rattle.ob0_world.specs.Code.{event_of, seen_of, made_of};
+ghost use Rattle.ob0_world.specs.Queues.{IsAnswered, IsSent, made_for, made_of_document, made_sent};
+ghost use Rattle.ob0_world.specs.Worlds.{HasCome, SameHistory};
+
+use crate::events::{Event, Seen};
+use crate::played::{Made, Played};
+use ob0_editor::{Applied, Applying, Ask, Editor, Message, initialize};
+use ob0_session::{Session, SessionFault};
+use ob0_text::{Change, Documents, Held, TextStore, Unit};
+use std::alloc::{AllocError, Global};
+use std::collections::VecDeque;
+use std::marker::Model;
+
+/// An editor and a server, and the contents that wait for each.
+#[derive(Drop)]
+pub struct Ends<T: TextStore> {
+    alloc: Global,
+    editor: Editor,
+    to_server: VecDeque<Vec<u8>>,
+    session: Session<T>,
+    to_editor: VecDeque<Vec<u8>>,
+    applied: Vec<Applied>,
+    made: Vec<Made>,
+}
+
+impl<T: TextStore> Model for Ends<T> {
+    ghost use Rattle.std.specs.Coded.{codes};
+    ghost use Rattle.ob0_text.specs.OpenDocuments.{documents_code};
+    ghost use Rattle.ob0_editor.specs.Entries.{open_documents_code};
+    ghost use Rattle.ob0_ends.specs.Ends as ends;
+    ghost use Rattle.ob0_world.specs.Queues.{Sound, ends_from};
+
+    ghost Value = { ends.Ends };
+
+    ghost coded = { Prim.hlevel (codes, documents_code, open_documents_code) };
+
+    ghost view = { λ w. ends_from w.editor w.to_server.items w.session w.to_editor.items w.applied.items w.made.items };
+
+    ghost invariant = { λ w. Sound w.editor.asked w.to_server.items w.to_editor.items w.session };
+}
+
+impl<T: TextStore> Ends<T> {
+    /// An editor with no document and a session that has begun, both of which count positions in this unit.
+    pub fn new(alloc: Global, unit: Unit) -> Result<Ends<T>, AllocError>
+        ensures { IfOk result (λ w. w ≡ start unit) }
+    {
+        let mut session = Session::new(alloc);
+        let content = initialize(alloc, unit)?;
+        let _capabilities = answer(&mut session, content.as_slice())?;
+        Ok(Ends {
+            alloc,
+            editor: Editor::new(alloc, unit),
+            to_server: VecDeque::new(alloc),
+            session,
+            to_editor: VecDeque::new(alloc),
+            applied: Vec::new(alloc),
+            made: Vec::new(alloc),
+        })
+    }
+
+    /// What has come of the events.
+    pub fn into_played(self) -> Played
+        ensures { HasCome self result }
+    {
+        Played {
+            applied: self.applied,
+            made: self.made,
+        }
+    }
+
+    /// What an event does.
+    pub fn make(&mut self, event: &Event) -> Result<Seen, AllocError>
+        requires { AreFew self.old.editor }
+        ensures ok { IfOk result (λ seen. Happens self.old (event_of event.now) (seen_of seen) self.new) }
+        ensures err { OnErr result (SameHistory self.old self.new) }
+    {
+        match event {
+            Event::OpenDoc { uri, text } => self.open(uri.as_str(), text.as_str()),
+            Event::ChangeDoc { uri, changes } => self.change(uri.as_str(), changes.as_slice()),
+            Event::CloseDoc { uri } => self.close(uri.as_str()),
+            Event::Ask { uri, ask } => self.ask(uri.as_str(), ask),
+            Event::Serve => self.serve(),
+            Event::Take => self.take(),
+            Event::Apply { k } => self.apply(*k),
+            Event::Discard { k } => Ok(self.discard(*k)),
+        }
+    }
+
+    fn open(&mut self, uri: &str, text: &str) -> Result<Seen, AllocError>
+        requires { AreFew self.old.editor }
+        ensures ok { IfOk result (λ seen. Happens self.old (open_document uri.now (chars text.now)) (seen_of seen) self.new) }
+        ensures err { OnErr result (SameHistory self.old self.new) }
+    {
+        let content = self.editor.open(uri, text)?;
+        send(&mut self.to_server, content)
+    }
+
+    fn change(&mut self, uri: &str, changes: &[Change]) -> Result<Seen, AllocError>
+        requires { AreFew self.old.editor }
+        ensures ok { IfOk result (λ seen. Happens self.old (change_document uri.now (map told_change changes.now)) (seen_of seen) self.new) }
+        ensures err { OnErr result (SameHistory self.old self.new) }
+    {
+        let content = self.editor.change(uri, changes)?;
+        send(&mut self.to_server, content)
+    }
+
+    fn close(&mut self, uri: &str) -> Result<Seen, AllocError>
+        ensures ok { IfOk result (λ seen. Happens self.old (close_document uri.now) (seen_of seen) self.new) }
+        ensures err { OnErr result (SameHistory self.old self.new) }
+    {
+        let content = self.editor.close(uri)?;
+        send(&mut self.to_server, content)
+    }
+
+    fn ask(&mut self, uri: &str, ask: &Ask) -> Result<Seen, AllocError>
+        requires { AreFew self.old.editor }
+        ensures ok { IfOk result (λ seen. Happens self.old (ask_about uri.now (ask_of ask.now)) (seen_of seen) self.new) }
+        ensures err { OnErr result (SameHistory self.old self.new) }
+    {
+        let content = self.editor.ask(uri, ask)?;
+        send(&mut self.to_server, content)
+    }
+
+    /// The server takes one message, and sends what it answers. What it publishes with a version is made for the text
+    /// that it holds then.
+    fn serve(&mut self) -> Result<Seen, AllocError>
+        ensures ok { IfOk result (λ seen. Happens self.old events.serve (seen_of seen) self.new) }
+        ensures err { OnErr result (SameHistory self.old self.new) }
+    {
+        let Some(content) = self.to_server.pop_front() else {
+            return Ok(Seen::Nothing);
+        };
+        let sent = answer(&mut self.session, content.as_slice())?;
+        let made = first_made(
+            self.alloc,
+            &self.editor,
+            self.session.documents(),
+            sent.as_slice(),
+        )?;
+        let count = sent.len();
+        self.to_editor.append(&mut VecDeque::from_vec(sent))?;
+        if let Some(made) = made {
+            self.made.push(made)?;
+        }
+        Ok(Seen::Served(count))
+    }
+
+    fn take(&mut self) -> Result<Seen, AllocError>
+        ensures ok { IfOk result (λ seen. Happens self.old take_message (seen_of seen) self.new) }
+        ensures err { OnErr result (SameHistory self.old self.new) }
+    {
+        let Some(content) = self.to_editor.pop_front() else {
+            return Ok(Seen::Nothing);
+        };
+        let Some(message) = self.editor.read(content.as_slice())? else {
+            unreachable!()
+        };
+        match message {
+            Message::Published {
+                uri,
+                version: _version,
+                empty,
+            } => Ok(Seen::Published { uri, empty }),
+            Message::Answered { number, edits } => {
+                let edits = self.editor.keep(number, edits)?;
+                Ok(Seen::Answered { k: number, edits })
+            }
+        }
+    }
+
+    fn apply(&mut self, k: u64) -> Result<Seen, AllocError>
+        requires { AreFew self.old.editor }
+        ensures ok { IfOk result (λ seen. Happens self.old (events.apply k) (seen_of seen) self.new) }
+        ensures err { OnErr result (SameHistory self.old self.new) }
+    {
+        match self.editor.apply(k)? {
+            Applying::NotHeld => Ok(Seen::Nothing),
+            Applying::Dropped => Ok(Seen::Dropped { k }),
+            Applying::Made { applied, content } => {
+                self.to_server.push_back(content)?;
+                self.applied.push(applied)?;
+                Ok(Seen::Applied { k })
+            }
+        }
+    }
+
+    fn discard(&mut self, k: u64) -> Seen
+        ensures { Happens self.old (events.discard k) (seen_of result) self.new }
+    {
+        if self.editor.discard(k) {
+            Seen::Dropped { k }
+        } else {
+            Seen::Nothing
+        }
+    }
+}
+
+/// Puts a content, if there is one, behind those that wait.
+fn send(queue: &mut VecDeque<Vec<u8>>, content: Option<Vec<u8>>) -> Result<Seen, AllocError>
+    ensures ok { IfOk result (λ seen. IsSent queue.old.items content seen queue.new.items) }
+    ensures err { OnErr result (queue.new.items ≡ queue.old.items) }
+{
+    match content {
+        Some(content) => {
+            queue.push_back(content)?;
+            Ok(Seen::Sent)
+        }
+        None => Ok(Seen::Nothing),
+    }
+}
+
+/// What the session sends for a content.
+fn answer<T: TextStore>(
+    session: &mut Session<T>,
+    content: &[u8],
+) -> Result<Vec<Vec<u8>>, AllocError>
+    ensures ok { IfOk result (λ sent. IsAnswered session.old content.now sent.items session.new) }
+    ensures err { OnErr result (session.new ≡ failed) }
+{
+    match session.step(content) {
+        Ok(step) => Ok(step.send),
+        Err(fault) => match fault {
+            SessionFault::Memory => Err(AllocError),
+            SessionFault::Failed => Err(AllocError),
+        },
+    }
+}
+
+/// The publication with a version that the first of these contents is.
+fn first_made<T: TextStore>(
+    alloc: Global,
+    editor: &Editor,
+    documents: &Documents<T>,
+    sent: &[Vec<u8>],
+) -> Result<Option<Made>, AllocError>
+    ensures { IfOk result (λ made. option_map made_of made ≡ made_sent documents.now editor.now.asked sent.now) }
+{
+    if sent.is_empty() {
+        return Ok(None);
+    }
+    made_of_content(alloc, editor, documents, sent[0].as_slice())
+}
+
+fn made_of_content<T: TextStore>(
+    alloc: Global,
+    editor: &Editor,
+    documents: &Documents<T>,
+    content: &[u8],
+) -> Result<Option<Made>, AllocError>
+    ensures { IfOk result (λ made. option_map made_of made ≡ option_and_then (made_for documents.now) (understood editor.now.asked content.now)) }
+{
+    let Some(message) = editor.read(content)? else {
+        return Ok(None);
+    };
+    match message {
+        Message::Published {
+            uri,
+            version,
+            empty,
+        } => match version {
+            Some(version) => made_with(alloc, documents, uri, version, empty),
+            None => Ok(None),
+        },
+        Message::Answered {
+            number: _number,
+            edits: _edits,
+        } => Ok(None),
+    }
+}
+
+/// The publication of the text that is held now.
+fn made_with<T: TextStore>(
+    alloc: Global,
+    documents: &Documents<T>,
+    uri: String,
+    version: i64,
+    empty: bool,
+) -> Result<Option<Made>, AllocError>
+    ensures { IfOk result (λ made. option_map made_of made ≡ option_and_then (made_of_document (string_bytes uri) version empty) (document_at documents.now (string_bytes uri))) }
+{
+    match documents.get(uri.as_str()) {
+        Some(held) => match held {
+            Held::InStep {
+                version: _version,
+                text,
+            } => {
+                let text = text.to_string(alloc)?;
+                Ok(Some(Made {
+                    uri,
+                    version,
+                    text,
+                    empty,
+                }))
+            }
+            Held::OutOfStep => Ok(None),
+        },
+        None => Ok(None),
+    }
+}

@@ -1,0 +1,15 @@
+//! An editor and the server, with a queue of messages in each direction. Lists of events are played from the beginning,
+//! and whatever their order, each edit that the editor applies keeps the run of the module.
+#![tactic(auto)]
+
+mod ends;
+mod events;
+mod faults;
+mod played;
+mod world;
+
+pub use events::{Event, Seen};
+pub use faults::{PlayFault, WorldFault};
+pub use ob0_editor::{Applied, Ask};
+pub use played::{Made, Played};
+pub use world::World;

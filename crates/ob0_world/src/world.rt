@@ -1,0 +1,155 @@
+//! The two ends, and whole lists of events.
+ghost use Rattle.std.specs.Prelude.{◌≡◌, ◌<◌, ◌+◌, ◌-◌, ◌^◌, false, length, All, IfOk, OnOk, IfErr, OnErr};
+ghost use Rattle.ob0_text.specs.declared.positions.Unit as units;
+ghost use Rattle.ob0_text.specs.declared.positions.Unit.TheVariants.{Utf16};
+ghost use Rattle.ob0_ends.specs.Ends.{start};
+ghost use Rattle.ob0_ends.specs.Happens.{Happens};
+ghost use Rattle.ob0_ends.specs.Headline.{KeepsTheRun, IsRight};
+ghost use Rattle.ob0_world.specs.Code.{event_of, seen_of, all_applied, all_made};
+ghost use Rattle.ob0_world.specs.Worlds.{new_world, HasCome, Plays, PlaysBefore, Stops, SameHistory};
+ghost use Rattle.ob0_world.specs.declared.faults.WorldFault.TheVariants.{Memory};
+
+use crate::ends::Ends;
+use crate::events::{Event, Seen};
+use crate::faults::{PlayFault, WorldFault};
+use crate::played::Played;
+use ob0_text::{TextStore, Unit};
+use std::alloc::{AllocError, Global};
+use std::marker::Model;
+
+/// An editor, the server and a queue in each direction.
+#[derive(Drop)]
+pub struct World<T: TextStore> {
+    ends: Ends<T>,
+    steps: u64,
+    has_ended: bool,
+}
+
+impl<T: TextStore> Model for World<T> {
+    ghost use Rattle.std.specs.Prelude.{◌≡◌, false};
+    ghost use Rattle.std.specs.Coded.{codes};
+    ghost use Rattle.ob0_text.specs.OpenDocuments.{documents_code};
+    ghost use Rattle.ob0_editor.specs.Entries.{open_documents_code};
+    ghost use Rattle.ob0_world.specs.Worlds as worlds;
+    ghost use Rattle.ob0_world.specs.Worlds.{Within};
+
+    ghost Value = { worlds.World };
+
+    ghost coded = { Prim.hlevel (codes, documents_code, open_documents_code) };
+
+    ghost view = { λ w. record { ends = w.ends; steps = w.steps; ended = w.has_ended } };
+
+    ghost invariant = { λ w. w.has_ended ≡ false → Within w.steps w.ends.editor };
+}
+
+impl<T: TextStore> World<T> {
+    /// Both ends count positions in UTF-16 units.
+    pub fn new(alloc: Global) -> Result<World<T>, WorldFault>
+        ensures start { IfOk result (λ w. w ≡ new_world Utf16) }
+        ensures err { IfErr result (λ fault. fault ≡ Memory) }
+    {
+        World::new_in(alloc, Unit::Utf16)
+    }
+
+    /// Both ends count positions in this unit.
+    pub fn new_in(alloc: Global, unit: Unit) -> Result<World<T>, WorldFault>
+        ensures start { IfOk result (λ w. w ≡ new_world unit) }
+        ensures err { IfErr result (λ fault. fault ≡ Memory) }
+    {
+        match Ends::new(alloc, unit) {
+            Ok(ends) => Ok(World {
+                ends,
+                steps: 0,
+                has_ended: false,
+            }),
+            Err(AllocError) => Err(WorldFault::Memory),
+        }
+    }
+
+    /// How many steps were answered Ok.
+    pub fn steps(&self) -> u64
+        ensures { result ≡ self.now.steps }
+    {
+        self.steps
+    }
+
+    /// Makes one event happen.
+    pub fn step(&mut self, event: &Event) -> Result<Seen, WorldFault>
+        requires few { self.old.steps < 2 ^ 63 - 1 }
+        ensures happens { IfOk result (λ seen. Happens self.old.ends (event_of event.now) (seen_of seen) self.new.ends) }
+        ensures counted { OnOk result (self.new.steps ≡ self.old.steps + 1) }
+        ensures goes_on { OnOk result (self.new.ended ≡ false) }
+        ensures stops { IfErr result (λ fault. Stops self.old.ended fault self.new.ended) }
+        ensures kept { OnErr result (SameHistory self.old.ends self.new.ends) }
+    {
+        if self.has_ended {
+            return Err(WorldFault::Ended);
+        }
+        match self.ends.make(event) {
+            Ok(seen) => {
+                self.steps += 1;
+                Ok(seen)
+            }
+            Err(AllocError) => {
+                self.has_ended = true;
+                Err(WorldFault::Memory)
+            }
+        }
+    }
+
+    fn into_played(self) -> Played
+        ensures { HasCome self.ends result }
+    {
+        self.ends.into_played()
+    }
+
+    /// Plays a list of events from the beginning, with positions in UTF-16 units.
+    pub fn play(alloc: Global, events: &[Event]) -> Result<Played, PlayFault>
+        requires few { length events.now < 2 ^ 63 - 1 }
+        ensures run { IfOk result (λ played. Plays Utf16 events.now played) }
+        ensures applied { IfOk result (λ played. All KeepsTheRun (all_applied played)) }
+        ensures made { IfOk result (λ played. All IsRight (all_made played)) }
+        ensures err { IfErr result (λ fault. PlaysBefore Utf16 events.now fault.played) }
+    {
+        World::<T>::play_in(alloc, Unit::Utf16, events)
+    }
+
+    /// Plays a list of events from the beginning, with positions in this unit.
+    ///
+    /// In every interleaving of the editor and the server, each edit that the editor applies to a well-typed document
+    /// leaves a well-typed module with the same run, and an open document's latest diagnostics are empty exactly when
+    /// the text they were made for is a well-typed module.
+    pub fn play_in(alloc: Global, unit: Unit, events: &[Event]) -> Result<Played, PlayFault>
+        requires few { length events.now < 2 ^ 63 - 1 }
+        ensures run { IfOk result (λ played. Plays unit events.now played) }
+        ensures applied { IfOk result (λ played. All KeepsTheRun (all_applied played)) }
+        ensures made { IfOk result (λ played. All IsRight (all_made played)) }
+        ensures err { IfErr result (λ fault. PlaysBefore unit events.now fault.played) }
+    {
+        let mut world: World<T> = match World::new_in(alloc, unit) {
+            Ok(world) => world,
+            Err(_fault) => return Err(PlayFault {
+                played: nothing_played(alloc, unit),
+            }),
+        };
+        for event in events {
+            match world.step(event) {
+                Ok(_seen) => {}
+                Err(_fault) => return Err(PlayFault {
+                    played: world.into_played(),
+                }),
+            }
+        }
+        Ok(world.into_played())
+    }
+}
+
+fn nothing_played(alloc: Global, unit: Unit) -> Played
+    ensures { HasCome (start unit) result }
+{
+    let _unit = unit;
+    Played {
+        applied: Vec::new(alloc),
+        made: Vec::new(alloc),
+    }
+}
