@@ -270,7 +270,7 @@ renames_read_back id position name uri version edits client takes = go client.ta
   where
     go : (b : Bool) → b ≡ true
         → edits_for (rename position name) (result_message id (cond b (object (member (codes "documentChanges") (array (item (document_edit uri version edits) no_items)) no_members)) (object (member (codes "changes") (object (member uri (edits_value edits) no_members)) no_members))))
-            ≡ replacements edits
+        ≡ replacements edits
     go true is = ap (λ o. unwrap_or o []) (edits_read_back edits)
     go false is = absurd (cc)
 

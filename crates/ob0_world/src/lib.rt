@@ -6,6 +6,8 @@ mod ends;
 mod events;
 mod faults;
 mod played;
+#[cfg(test)]
+mod tests;
 mod world;
 
 pub use events::{Event, Seen};
