@@ -106,8 +106,8 @@ def questions():
                 line, character = found.position(at)
                 params = {"position": place(line, character), "textDocument": {"uri": uri}}
                 name = found.declared_at(at)
-                if not name and re.match(r"[A-Za-z]", text[at : at + 1] or text[at - 1 : at]):
-                    continue  # (a field or the module's name)
+                if not name and re.search(r"[A-Za-z0-9]", text[max(at - 1, 0) : at + 1]):
+                    continue  # (in or behind a field, the module's name or a reserved word)
                 spans = [extent("{}:{}-{}:{}".format(*map(str, (*found.position(a), *found.position(b))))) for a, b in found.places(name[1])] if name else []
                 context = {"context": {"includeDeclaration": True}}
                 got = server.ask("textDocument/references", {**params, **context})["result"]

@@ -193,7 +193,7 @@ fn changes_nothing_for_the_name_that_is_there(rt: HostRuntime) -> Result<(), Fai
 fn module_of(alloc: Global, bytes: usize) -> Result<String, Fail> {
     let module = "MODULE M; VAR x: INTEGER; BEGIN x := 1 END M.(*";
     let mut text = String::from_str(alloc, module)?;
-    for _ in module.len()..bytes - 2 {
+    for _ in 0..bytes.saturating_sub(49) {
         text.push('-')?;
     }
     text.push_str("*)")?;
@@ -239,6 +239,7 @@ fn counts_positions_in_the_unit_of_the_store(rt: HostRuntime) -> Result<(), Fail
         Err(refusal) => return Err(Fail::from(refusal)),
     }
     let ranges = edited(alloc, text, place(0, 23), "y")?;
+    assert_eq!(rt; ranges.len(), 2);
     assert_eq!(rt; ranges[0], range(0, 23, 24));
     Ok(())
 }
