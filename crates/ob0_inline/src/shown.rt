@@ -77,7 +77,8 @@ pub(crate) fn any_hidden(
 ) -> Result<bool, AllocError>
     ensures { IfOk result (λ hidden. hidden ≡ any_hidden (named_tree_of names.now.module_read) constant) }
 {
-    match constant.value {
+    let value = constant.value;
+    match value {
         Scalar::Number(_) => Ok(false),
         Scalar::Truth(true) => is_hidden(alloc, names, constant.ordinal, "TRUE", TRUE),
         Scalar::Truth(false) => is_hidden(alloc, names, constant.ordinal, "FALSE", FALSE),
