@@ -10,28 +10,10 @@ import tempfile
 
 import harness
 from features import BUILT
-from harness import Failed, Skipped, TOP, extent, same, test
+from harness import Failed, Skipped, TOP, extent, install, same, test
 
 EDITORS = os.path.join(TOP, "tests", "editors")
 ENDED = {"code": 0, "signal": 0}
-
-
-def install(packages, of):
-    """Installs Debian's packages."""
-    if not shutil.which("apt-get"):
-        raise Failed(f"{of} is missing, and apt-get too, which would install it: install {of} by hand")
-    words = [] if os.geteuid() == 0 else ["sudo", "-n"]
-    print(f"{of} is missing: installing {' '.join(packages)} with apt-get", flush=True)
-    environment = {**os.environ, "DEBIAN_FRONTEND": "noninteractive"}
-    how = {"stdin": subprocess.DEVNULL, "stdout": subprocess.PIPE, "stderr": subprocess.STDOUT, "env": environment}
-    for step in (["update"], ["install", "-y", "--no-install-recommends", *packages]):
-        try:
-            ran = subprocess.run([*words, "apt-get", *step], timeout=900, check=False, **how)
-        except (OSError, subprocess.TimeoutExpired) as why:
-            raise Failed(f"{of} is missing, and apt-get {step[0]} ended early: {why}") from None
-    if ran.returncode:
-        said = ran.stdout.decode(errors="replace")[-600:]
-        raise Failed(f"{of} is missing, and apt-get could not install {' '.join(packages)}:\n{said}")
 
 
 def wanted():
