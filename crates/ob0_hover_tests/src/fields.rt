@@ -130,7 +130,8 @@ fn fields_are_shown_where_they_are_declared(rt: HostRuntime) -> Result<(), Fail>
 }
 
 /// Records within arrays, records and parameters, and a type that is declared anew.
-const PARTS: &str = "MODULE M; TYPE A = ARRAY 2 OF RECORD x: BOOLEAN END; PROCEDURE P(VAR p, q: RECORD x: A; y, z: RECORD x: INTEGER END END); TYPE A = INTEGER; VAR v: RECORD x: A END; BEGIN p.y.x := v.x END P; END M.";
+const PARTS: &str =
+    "MODULE M; TYPE A = ARRAY 2 OF RECORD x: BOOLEAN END; PROCEDURE P(VAR p, q: RECORD x: A; y, z: RECORD x: INTEGER END END); TYPE A = INTEGER; VAR v: RECORD x: A END; BEGIN p.y.x := v.x END P; END M.";
 
 #[test]
 fn declared_fields_of_parts_are_shown_with_their_types(rt: HostRuntime) -> Result<(), Fail> {
@@ -142,7 +143,7 @@ fn declared_fields_of_parts_are_shown_with_their_types(rt: HostRuntime) -> Resul
     assert_eq!(rt; found.as_str(), "FIELD z: RECORD with 1 fields");
     let (_, found) = shown(rt.alloc(), PARTS, 102)?.ok_or("a field of a field")?;
     assert_eq!(rt; found.as_str(), "FIELD x: INTEGER");
-    let (_, found) = shown(rt.alloc(), PARTS, 152)?.ok_or("a field of a variable")?;
+    let (_, found) = shown(rt.alloc(), PARTS, 154)?.ok_or("a field of a variable")?;
     assert_eq!(rt; found.as_str(), "FIELD x: INTEGER");
     Ok(())
 }

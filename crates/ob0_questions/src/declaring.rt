@@ -24,10 +24,10 @@ use ob0_types::types::TypeId;
 use std::alloc::{AllocError, Global};
 
 /// The identifiers that declare the fields of a module, in text order: each with its field and this field's type.
-pub(crate) fn declared_by(
+pub(crate) fn declared_by<'a, 't>(
     alloc: Global,
-    known: &Known<'_>,
-    resolved: &Resolved<'_>,
+    known: &'a Known<'t>,
+    resolved: &'a Resolved<'t>,
 ) -> Result<Vec<Selection>, AllocError>
     ensures { IfOk result (λ found. map (selection_in (shapes_of known.now)) found.items ≡ typed_fields (token_meaning (declared_in known.now) resolved.now) None (tree_of resolved.now.module_read)) }
 {
@@ -85,8 +85,7 @@ impl<'a, 't> Declaring<'a, 't> {
     fn field(&self, of: Option<TypeId>, name: usize) -> Option<TypeId>
         ensures { type_in self.now result ≡ type_named (meaning_in self.now) (type_in self.now of) name }
     {
-        self.known
-            .field(of?, text_at(self.resolved.tokens(), name))
+        self.known.field(of?, text_at(self.resolved.tokens(), name))
     }
 
     /// Notes the field that a name declares in a record.
