@@ -117,7 +117,7 @@ def opened(text, times):
     empty = frames([initialize(), SHUTDOWN, EXIT])
     given = frames([initialize(), *(did_open(text, version=at) for at in range(times)), SHUTDOWN, EXIT])
     found, nothing = best(3, lambda: Timed([BINARY, "serve"], given)), best(3, lambda: Timed([BINARY, "serve"], empty))
-    return max(found.processor - nothing.processor, 1e-9) / times, found.memory
+    return max(found.processor - nothing.processor, 1e-4) / times, found.memory
 
 
 def growth(what, sizes, make, each):
@@ -130,7 +130,7 @@ def growth(what, sizes, make, each):
         speed = f"{len(text) / seconds / 1e6:7.2f} MB/s"
         said(f"{what} {size:,}: {len(text):,} bytes", f"{seconds * 1000:9.2f} ms  {speed}  {megabytes(memory)}")
     (small, first), (large, last) = rows[0], rows[-1]
-    said(f"{what}: time grew by {last / first:.1f} where the text grew by {large / small:.1f}", f"ratio {last / first / (large / small):.2f}")
+    said(f"{what.rstrip(',')}: time grew by {last / first:.1f} where the text grew by {large / small:.1f}", f"ratio {last / first / (large / small):.2f}")
 
 
 @measure("serve: what an open costs, from 10 KB to 1 MiB")
@@ -252,7 +252,7 @@ def asked(text, method, params, expected, count, **capabilities):
     found = best(3, lambda: Timed([BINARY, "serve"], talk([question])))
     if found.status or found.out.count(expected) != count:
         said("NOTE: another answer was expected", f"status {found.status}, {found.out.count(expected)} and not {count} of {expected.decode()}")
-    return max(found.processor - without.processor, 1e-9), found.memory
+    return max(found.processor - without.processor, 1e-4), found.memory
 
 
 USES = (("on many lines", False), ("on one line", True))
@@ -309,7 +309,7 @@ def laid_out():
         found = best(3, lambda: Timed([BINARY, "serve"], talk([request])))
         if b'"newText"' not in found.out:
             said("NOTE: no edit was answered", found.out[-200:].decode(errors="replace"))
-        return max(found.processor - without.processor, 1e-9), found.memory
+        return max(found.processor - without.processor, 1e-4), found.memory
 
     def wide(size):
         """A module on one line with so many blanks between its words that its layout isn't longer than it is."""
