@@ -31,16 +31,16 @@ pub fn field_identifiers(
 pub fn field_tokens(
     alloc: Global,
     module: &WellTyped<'_, '_>,
-    record: usize,
+    owner: usize,
     name: &str,
 ) -> Result<Vec<usize>, AllocError>
-    ensures value { IfOk result (λ tokens. tokens.items ≡ field_tokens module.now record name.now) }
+    ensures value { IfOk result (λ tokens. tokens.items ≡ field_tokens module.now owner name.now) }
     ensures ascend { IfOk result (λ tokens. Ascending 0 tokens.items (length module.now.module_read.source.tokens)) }
     ensures stand { IfOk result (λ tokens. AreIdentifiers module.now.module_read.source.tokens tokens.items) }
 {
     let names = module.resolved();
     let found = field_identifiers(alloc, module)?;
-    let tokens = tokens_among(alloc, names.tokens(), &found, record, name)?;
+    let tokens = tokens_among(alloc, names.tokens(), &found, owner, name)?;
     Ok(tokens)
 }
 
@@ -48,13 +48,13 @@ pub fn field_tokens(
 pub fn declaring_field(
     alloc: Global,
     names: &Resolved<'_>,
-    record: usize,
+    owner: usize,
     name: &str,
 ) -> Result<Option<usize>, AllocError>
-    ensures { IfOk result (λ token. token ≡ declaring_field names.now.module_read record name.now) }
+    ensures { IfOk result (λ token. token ≡ declaring_field names.now.module_read owner name.now) }
 {
     let declared = declared_fields(alloc, names)?;
-    Ok(first_among(names.tokens(), &declared, record, name))
+    Ok(first_among(names.tokens(), &declared, owner, name))
 }
 
 /// The fields that a module declares, each with the ordinal of its record.
@@ -72,14 +72,14 @@ fn tokens_among(
     alloc: Global,
     tokens: &Tokens,
     fields: &[(usize, usize)],
-    record: usize,
+    owner: usize,
     name: &str,
 ) -> Result<Vec<usize>, AllocError>
-    ensures { IfOk result (λ found. found.items ≡ tokens_among tokens.now record name.now fields.now) }
+    ensures { IfOk result (λ found. found.items ≡ tokens_among tokens.now owner name.now fields.now) }
 {
     let mut found = Vec::new(alloc);
     for field in fields {
-        if is_field(tokens, *field, record, name) {
+        if is_field(tokens, *field, owner, name) {
             found.push(field.0)?;
         }
     }
@@ -90,21 +90,21 @@ fn tokens_among(
 fn first_among(
     tokens: &Tokens,
     fields: &[(usize, usize)],
-    record: usize,
+    owner: usize,
     name: &str,
 ) -> Option<usize>
-    ensures { result ≡ first (tokens_among tokens.now record name.now fields.now) }
+    ensures { result ≡ first (tokens_among tokens.now owner name.now fields.now) }
 {
     for field in fields {
-        if is_field(tokens, *field, record, name) {
+        if is_field(tokens, *field, owner, name) {
             return Some(field.0);
         }
     }
     None
 }
 
-fn is_field(tokens: &Tokens, field: (usize, usize), record: usize, name: &str) -> bool
-    ensures { result ≡ is_field tokens.now record name.now field }
+fn is_field(tokens: &Tokens, field: (usize, usize), owner: usize, name: &str) -> bool
+    ensures { result ≡ is_field tokens.now owner name.now field }
 {
-    field.1 == record && text_at(tokens, field.0) == name
+    field.1 == owner && text_at(tokens, field.0) == name
 }

@@ -95,31 +95,31 @@ pub(crate) fn rename_field<T: TextStore>(
 fn other_field(
     alloc: Global,
     names: &Resolved<'_>,
-    record: usize,
+    owner: usize,
     old: &str,
     new: &str,
 ) -> Result<Option<usize>, AllocError>
-    ensures { IfOk result (λ token. token ≡ (if same_name new.now old.now then None else declaring_field names.now.module_read record new.now)) }
+    ensures { IfOk result (λ token. token ≡ (if same_name new.now old.now then None else declaring_field names.now.module_read owner new.now)) }
 {
     if new == old {
         return Ok(None);
     }
-    declaring_field(alloc, names, record, new)
+    declaring_field(alloc, names, owner, new)
 }
 
 /// The tokens of a field, in text order; none where it has the new name.
 fn field_tokens_renamed(
     alloc: Global,
     well_typed: &WellTyped<'_, '_>,
-    record: usize,
+    owner: usize,
     old: &str,
     new: &str,
 ) -> Result<Vec<usize>, AllocError>
-    ensures value { IfOk result (λ found. found.items ≡ field_tokens_renamed well_typed.now record old.now new.now) }
+    ensures value { IfOk result (λ found. found.items ≡ field_tokens_renamed well_typed.now owner old.now new.now) }
     ensures names { IfOk result (λ found. AreNames well_typed.now.module_read.source.tokens 0 found.items) }
 {
     if new == old {
         return Ok(Vec::new(alloc));
     }
-    field_tokens(alloc, well_typed, record, old)
+    field_tokens(alloc, well_typed, owner, old)
 }
