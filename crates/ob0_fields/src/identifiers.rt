@@ -22,7 +22,7 @@ pub fn field_identifiers(
     ensures ascend { IfOk result (λ found. Ascending 0 (map (λ x. x.0) found.items) (length module.now.module_read.source.tokens)) }
     ensures stand { IfOk result (λ found. AreIdentifiers module.now.module_read.source.tokens (map (λ x. x.0) found.items)) }
 {
-    let names = module.resolved();
+    let _names = module.resolved();
     let found = found_fields(alloc, module)?;
     Ok(found)
 }
