@@ -16,30 +16,30 @@ use std::alloc::{AllocError, Global};
 /// ordinal of its record among the ARRAY and RECORD of the text.
 pub fn field_identifiers(
     alloc: Global,
-    module: &WellTyped<'_, '_>,
+    well_typed: &WellTyped<'_, '_>,
 ) -> Result<Vec<(usize, usize)>, AllocError>
-    ensures value { IfOk result (λ found. found.items ≡ field_identifiers module.now) }
-    ensures ascend { IfOk result (λ found. Ascending 0 (map (λ x. x.0) found.items) (length module.now.module_read.source.tokens)) }
-    ensures stand { IfOk result (λ found. AreIdentifiers module.now.module_read.source.tokens (map (λ x. x.0) found.items)) }
+    ensures value { IfOk result (λ found. found.items ≡ field_identifiers well_typed.now) }
+    ensures ascend { IfOk result (λ found. Ascending 0 (map (λ x. x.0) found.items) (length well_typed.now.module_read.source.tokens)) }
+    ensures stand { IfOk result (λ found. AreIdentifiers well_typed.now.module_read.source.tokens (map (λ x. x.0) found.items)) }
 {
-    let _names = module.resolved();
-    let found = found_fields(alloc, module)?;
+    let _names = well_typed.resolved();
+    let found = found_fields(alloc, well_typed)?;
     Ok(found)
 }
 
 /// The tokens of the field of this name of a record: the one that declares it and all that select it, in text order.
 pub fn field_tokens(
     alloc: Global,
-    module: &WellTyped<'_, '_>,
+    well_typed: &WellTyped<'_, '_>,
     owner: usize,
     name: &str,
 ) -> Result<Vec<usize>, AllocError>
-    ensures value { IfOk result (λ tokens. tokens.items ≡ field_tokens module.now owner name.now) }
-    ensures ascend { IfOk result (λ tokens. Ascending 0 tokens.items (length module.now.module_read.source.tokens)) }
-    ensures stand { IfOk result (λ tokens. AreIdentifiers module.now.module_read.source.tokens tokens.items) }
+    ensures value { IfOk result (λ tokens. tokens.items ≡ field_tokens well_typed.now owner name.now) }
+    ensures ascend { IfOk result (λ tokens. Ascending 0 tokens.items (length well_typed.now.module_read.source.tokens)) }
+    ensures stand { IfOk result (λ tokens. AreIdentifiers well_typed.now.module_read.source.tokens tokens.items) }
 {
-    let names = module.resolved();
-    let found = field_identifiers(alloc, module)?;
+    let names = well_typed.resolved();
+    let found = field_identifiers(alloc, well_typed)?;
     let tokens = tokens_among(alloc, names.tokens(), &found, owner, name)?;
     Ok(tokens)
 }

@@ -13,7 +13,7 @@ returns-clause-value c =
 
 pub returns-clause-ascend : goal.returns-clause-ascend
 returns-clause-ascend c =
-    let r = c.args.module.now in
+    let r = c.args.well_typed.now in
     let source = c.tokens-names.ensures ∙ ap (λ (r : Resolution). r.module_read.source) c.resolved-names.ensures.value in
     let value = c.in_ok-tokens.ensures ∙ (λ i. tokens_among (source i) c.args.owner c.args.name.now ((c.deref.ensures.value ∙ c.in_ok-found.ensures.value) i)) in
     let n : ℕ = length r.module_read.source.tokens in
@@ -21,7 +21,7 @@ returns-clause-ascend c =
 
 pub returns-clause-stand : goal.returns-clause-stand
 returns-clause-stand c =
-    let r = c.args.module.now in
+    let r = c.args.well_typed.now in
     let source = c.tokens-names.ensures ∙ ap (λ (r : Resolution). r.module_read.source) c.resolved-names.ensures.value in
     let value = c.in_ok-tokens.ensures ∙ (λ i. tokens_among (source i) c.args.owner c.args.name.now ((c.deref.ensures.value ∙ c.in_ok-found.ensures.value) i)) in
     let ts = r.module_read.source.tokens in
