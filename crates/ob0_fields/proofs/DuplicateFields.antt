@@ -70,36 +70,42 @@ module _ (text : ℕ → Name) (value : ℕ → ℕ) where
     names-hit o [] = sym (and-false (o == r))
     names-hit o (x ∷ xs) = ap (λ b. hit (x, o) || b) (names-hit o xs) ∙ and-or (o == r) (another (text x)) (list_any another (map text xs))
 
+    abbrev GroupHit : ℕ → ℕ → Tree ℕ fields → Type 0
+    GroupHit o k g = list_any hit (marked_group o k g) ≡ (((o == r) && list_any another (group_fields (mapped text value g))) || list_any in_record (records_in_group k (mapped text value g)))
+
+    abbrev GroupsHit : ℕ → ℕ → Tree ℕ (items further_fields) → Type 0
+    GroupsHit o k gs = list_any hit (marked_groups o k gs) ≡ (((o == r) && list_any another (groups_fields (mapped text value gs))) || list_any in_record (records_in_groups k (mapped text value gs)))
+
+    -- what the first group declares and what stands in it, and so of the others
+    two-hit : (o k : ℕ) (g : Tree ℕ fields) (rest : Tree ℕ (items further_fields)) → GroupHit o k g → GroupsHit o (k + group_constructors g) rest
+        → list_any hit (marked_group o k g ++ marked_groups o (k + group_constructors g) rest)
+        ≡ (((o == r) && list_any another (group_fields (mapped text value g) ++ groups_fields (mapped text value rest)))
+        || list_any in_record (records_in_group k (mapped text value g) ++ records_in_groups (k + group_constructors (mapped text value g)) (mapped text value rest)))
+    two-hit o k g rest e h =
+        let g' = mapped text value g in
+        let rest' = mapped text value rest in
+        let n : ℕ = k + group_constructors g in
+        any-append hit (marked_group o k g) (marked_groups o n rest)
+        ∙ ((λ i. e i || h i)
+        ∙ (shuffled (o == r) (list_any another (group_fields g')) (list_any in_record (records_in_group k g')) (list_any another (groups_fields rest')) (list_any in_record (records_in_groups n rest'))
+        ∙ ((λ i. ((o == r) && sym (any-append another (group_fields g') (groups_fields rest')) i) || sym (any-append in_record (records_in_group k g') (records_in_groups n rest')) i)
+        ∙ ap (λ c. ((o == r) && list_any another (group_fields g' ++ groups_fields rest')) || list_any in_record (records_in_group k g' ++ records_in_groups (k + c) rest')) (sym (counted_group text value g)))))
+
     mutual
       type-hit : (k : ℕ) (t : Tree ℕ written_type) → list_any hit (marked_type k t) ≡ list_any in_record (records_in_type k (mapped text value t))
       type-hit k (named_type x) = refl
       type-hit k (array_type e t) = type-hit (suc k) t
-      type-hit k (record_type g rest) = two-hit k (suc k) g rest
+      type-hit k (record_type g rest) = two-hit k (suc k) g rest (group-hit k (suc k) g) (groups-hit k (suc k + group_constructors g) rest)
 
-      -- what the first group declares and what stands in it, and so of the others
-      two-hit : (o k : ℕ) (g : Tree ℕ fields) (rest : Tree ℕ (items further_fields))
-          → list_any hit (marked_group o k g ++ marked_groups o (k + group_constructors g) rest)
-          ≡ (((o == r) && list_any another (group_fields (mapped text value g) ++ groups_fields (mapped text value rest)))
-          || list_any in_record (records_in_group k (mapped text value g) ++ records_in_groups (k + group_constructors (mapped text value g)) (mapped text value rest)))
-      two-hit o k g rest =
-          let g' = mapped text value g in
-          let rest' = mapped text value rest in
-          let n : ℕ = k + group_constructors g in
-          any-append hit (marked_group o k g) (marked_groups o n rest)
-          ∙ ((λ i. group-hit o k g i || groups-hit o n rest i)
-          ∙ (shuffled (o == r) (list_any another (group_fields g')) (list_any in_record (records_in_group k g')) (list_any another (groups_fields rest')) (list_any in_record (records_in_groups n rest'))
-          ∙ ((λ i. ((o == r) && sym (any-append another (group_fields g') (groups_fields rest')) i) || sym (any-append in_record (records_in_group k g') (records_in_groups n rest')) i)
-          ∙ ap (λ c. ((o == r) && list_any another (group_fields g' ++ groups_fields rest')) || list_any in_record (records_in_group k g' ++ records_in_groups (k + c) rest')) (sym (counted_group text value g)))))
-
-      group-hit : (o k : ℕ) (g : Tree ℕ fields) → list_any hit (marked_group o k g) ≡ (((o == r) && list_any another (group_fields (mapped text value g))) || list_any in_record (records_in_group k (mapped text value g)))
+      group-hit : (o k : ℕ) (g : Tree ℕ fields) → GroupHit o k g
       group-hit o k no_fields = nothing-here (o == r)
       group-hit o k (some_fields ns t) =
           any-append hit (map (λ x. (x, o)) (names_listed ns)) (marked_type k t)
           ∙ (λ i. (names-hit o (names_listed ns) ∙ ap (λ xs. (o == r) && list_any another xs) (sym (names-written ns))) i || type-hit k t i)
 
-      groups-hit : (o k : ℕ) (gs : Tree ℕ (items further_fields)) → list_any hit (marked_groups o k gs) ≡ (((o == r) && list_any another (groups_fields (mapped text value gs))) || list_any in_record (records_in_groups k (mapped text value gs)))
+      groups-hit : (o k : ℕ) (gs : Tree ℕ (items further_fields)) → GroupsHit o k gs
       groups-hit o k end = nothing-here (o == r)
-      groups-hit o k (more (then_fields g) rest) = two-hit o k g rest
+      groups-hit o k (more (then_fields g) rest) = two-hit o k g rest (group-hit o k g) (groups-hit o (k + group_constructors g) rest)
 
     types-hit : (k : ℕ) (ds : Tree ℕ (items type_name)) → list_any hit (marked_types k ds) ≡ list_any in_record (records_in_types k (mapped text value ds))
     types-hit k end = refl

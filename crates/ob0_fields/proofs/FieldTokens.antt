@@ -89,7 +89,7 @@ looked (x ∷ xs) table i h =
 
 below : (xs : List (ℕ × ℕ)) (low high : ℕ) → Ascending low (firsts xs) high → AllBelow xs high
 below [] low high h = tt
-below (x ∷ xs) low high h = (high_enough (firsts xs) (x.0 + 1) high h.1, below xs (x.0 + 1) high h.1)
+below (x ∷ xs) low high h = (omega (arith, high_enough (firsts xs) (x.0 + 1) high h.1), below xs (x.0 + 1) high h.1)
   where
     high_enough : (ys : List ℕ) (at high : ℕ) → Ascending at ys high → at ≤ high
     high_enough [] at high h = h

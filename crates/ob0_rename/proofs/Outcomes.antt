@@ -1,6 +1,7 @@
 -- What is answered for a declaration: by what stands against the new name, or by the edits.
 use Rattle.std.proofs.Common.{◌≡◌, ◌⊎◌, ℕ, ◌≤◌, ◌<◌, Bool, true, false, if◌then◌else◌, Option, Some, None, Result, Ok, Err, Vec, List, [], ◌∷◌, length, map, slice_get, option_map, option_and_then, inl, inr, refl, sym, ap, ◌∙◌, subst, arith}
-use Rattle.std.specs.Prelude.{IfErr, IfOk, IsErrOf}
+use Rattle.std.proofs.lemmas.Bool.{ltb-false, ltb-true}
+use Rattle.std.specs.Prelude.{IfErr, IfOk, IsErrOf, nat_lt}
 use Rattle.std.specs.declared.alloc.Global.{Global}
 use Rattle.ob0_scan.specs.Classes.{IsIdentifier}
 use Rattle.ob0_scan.specs.Scanned.{IsScan, Scanned, Word, max_text}
@@ -27,12 +28,14 @@ use Rattle.ob0_edits.specs.Changed.{at_each, changed, words_of}
 use Rattle.ob0_edits.specs.OfTrees.{RenamedWordsSpell}
 use Rattle.ob0_edits.specs.Replaced.{AreNames, LeavesWords, StandsForName, edit_at, parts, with_text_at}
 use Rattle.ob0_edits.specs.Written.{name_word}
-use Rattle.ob0_refs.specs.Standing.{tokens_bound}
+use Rattle.ob0_refs.specs.Standing.{name_on, tokens_bound}
+use Rattle.ob0_refs.specs.declared.answers.Named as named
+use Rattle.ob0_fields.specs.Identifiers.{field_identifiers}
 use Rattle.ob0_refs.proofs.Written.{renamed_there}
 use Rattle.ob0_run.specs.EditLaws.{SameRuns}
 use Rattle.ob0_tree.specs.Module.{ModuleOf}
 use Rattle.ob0_rename.specs.Answers.{Answers, AnswersFor, IsRefused, IsRefusedTo, OnlyMemory, TakesOwnName, Writes}
-use Rattle.ob0_rename.specs.Renaming.{Means, MeansField, Renaming, declaration, declaring_token, field_of, is_declared_as, meant, module_of, nothing, predeclared, token_range, tokens_renamed}
+use Rattle.ob0_rename.specs.Renaming.{Means, MeansField, Renaming, by_ordinal, by_token, declaration, field_on, meant_at, meant_by, declaring_token, field_of, is_declared_as, meant, module_of, nothing, predeclared, token_range, tokens_renamed}
 use Rattle.ob0_rename.proofs.Owned.{other_stands}
 use Rattle.ob0_rename.proofs.Rewritten.{of_renamed}
 use Rattle.ob0_rename.proofs.Told.{occurrence_stands}
@@ -169,3 +172,26 @@ own_nothing a result is =
 pub own_predeclared : (a : Renaming) (result : Result (Vec Edit Global) EditRefusal) → meant a ≡ predeclared → TakesOwnName a result
 own_predeclared a result is =
     own_nowhere a result (λ d means. let both : predeclared ≡ declaration d = sym is ∙ means in absurd (cc)) (λ k f means. let both : predeclared ≡ field_of k f = sym is ∙ means in absurd (cc))
+
+-- ---- what stands at the place
+
+pub meant_named : (r : Resolution) (offset : ℕ) (n : named.Named) → name_on r.module_read offset ≡ Some n → meant_at r offset ≡ by_ordinal n.ordinal
+meant_named r offset n is = ap (λ o. meant_by r.module_read.source o (field_on r.module_read.source offset (field_identifiers r))) is
+
+pub meant_unnamed : (r : Resolution) (offset : ℕ) (found : Option (ℕ × ℕ)) → name_on r.module_read offset ≡ None → field_on r.module_read.source offset (field_identifiers r) ≡ found
+    → meant_at r offset ≡ by_token r.module_read.source found
+meant_unnamed r offset found is there = (λ i. meant_by r.module_read.source (is i) (there i))
+
+pub is_predeclared : (ordinal : ℕ) → ordinal < 7 → by_ordinal ordinal ≡ predeclared
+is_predeclared ordinal low = one (nat_lt ordinal 7) refl
+  where
+    one : (b : Bool) → nat_lt ordinal 7 ≡ b → (if b then predeclared else declaration ordinal) ≡ predeclared
+    one true e = refl
+    one false e = absurd (omega (arith, low, ltb-false ordinal 7 e))
+
+pub is_declaration : (ordinal : ℕ) → 7 ≤ ordinal → by_ordinal ordinal ≡ declaration ordinal
+is_declaration ordinal high = one (nat_lt ordinal 7) refl
+  where
+    one : (b : Bool) → nat_lt ordinal 7 ≡ b → (if b then predeclared else declaration ordinal) ≡ declaration ordinal
+    one true e = absurd (omega (arith, high, ltb-true ordinal 7 e))
+    one false e = refl

@@ -8,13 +8,13 @@ use Rattle.ob0_fields.proofs.identifiers.field_tokens.Goals as goal
 
 pub returns-clause-value : goal.returns-clause-value
 returns-clause-value c =
-    let source = c.tokens-names.ensures ∙ ap (λ (r : Resolution). r.module_read.source) c.resolved-names.ensures.value in
+    let source = c.tokens.ensures ∙ ap (λ (r : Resolution). r.module_read.source) c.resolved-names.ensures.value in
     c.in_ok-tokens.ensures ∙ (λ i. tokens_among (source i) c.args.owner c.args.name.now ((c.deref.ensures.value ∙ c.in_ok-found.ensures.value) i))
 
 pub returns-clause-ascend : goal.returns-clause-ascend
 returns-clause-ascend c =
     let r = c.args.well_typed.now in
-    let source = c.tokens-names.ensures ∙ ap (λ (r : Resolution). r.module_read.source) c.resolved-names.ensures.value in
+    let source = c.tokens.ensures ∙ ap (λ (r : Resolution). r.module_read.source) c.resolved-names.ensures.value in
     let value = c.in_ok-tokens.ensures ∙ (λ i. tokens_among (source i) c.args.owner c.args.name.now ((c.deref.ensures.value ∙ c.in_ok-found.ensures.value) i)) in
     let n : ℕ = length r.module_read.source.tokens in
     subst (λ (xs : List ℕ). Ascending 0 xs n) (sym value) (kept_ascend r.module_read.source c.args.owner c.args.name.now (field_identifiers r) 0 n (fields_ascend r c.resolved-names.ensures.well_typed.resolved.parsed))
@@ -22,7 +22,7 @@ returns-clause-ascend c =
 pub returns-clause-stand : goal.returns-clause-stand
 returns-clause-stand c =
     let r = c.args.well_typed.now in
-    let source = c.tokens-names.ensures ∙ ap (λ (r : Resolution). r.module_read.source) c.resolved-names.ensures.value in
+    let source = c.tokens.ensures ∙ ap (λ (r : Resolution). r.module_read.source) c.resolved-names.ensures.value in
     let value = c.in_ok-tokens.ensures ∙ (λ i. tokens_among (source i) c.args.owner c.args.name.now ((c.deref.ensures.value ∙ c.in_ok-found.ensures.value) i)) in
     let ts = r.module_read.source.tokens in
     subst (λ (xs : List ℕ). AreIdentifiers ts xs) (sym value) (kept_stand r.module_read.source c.args.owner c.args.name.now ts (field_identifiers r) (fields_stand r c.resolved-names.ensures.well_typed.resolved.parsed))
