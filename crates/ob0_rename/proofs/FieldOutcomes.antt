@@ -38,17 +38,18 @@ among-any k (p ∷ ps) = ap (λ b. (k == p) || b) (among-any k ps)
 -- each token of a field is written as the field
 written-so : (source : Scanned) (k : ℕ) (f : Name) (i : ℕ) (xs : List (ℕ × ℕ)) → list_any (λ token. i == token) (tokens_among source k f xs) ≡ true → place.text_at source i ≡ f
 written-so source k f i [] e = absurd (cc)
-written-so source k f i (x ∷ xs) e = one (x.1 == k) (same_name (place.text_at source x.0) f) refl e
+written-so source k f i (x ∷ xs) e = one (x.1 == k) (same_name (place.text_at source x.0) f) refl (written-so source k f i xs) e
   where
-    here : (b : Bool) → (i == x.0) ≡ b → same_name (place.text_at source x.0) f ≡ true → (b || list_any (λ token. i == token) (tokens_among source k f xs)) ≡ true → place.text_at source i ≡ f
-    here true at same e = ap (place.text_at source) (eqb-true i x.0 at) ∙ (bytes_eq-Decides (place.text_at source x.0) f).0 same
-    here false at same e = written-so source k f i xs e
+    here : (b : Bool) → (i == x.0) ≡ b → same_name (place.text_at source x.0) f ≡ true → (list_any (λ token. i == token) (tokens_among source k f xs) ≡ true → place.text_at source i ≡ f)
+        → (b || list_any (λ token. i == token) (tokens_among source k f xs)) ≡ true → place.text_at source i ≡ f
+    here true at same later e = ap (place.text_at source) (eqb-true i x.0 at) ∙ (bytes_eq-Decides (place.text_at source x.0) f).0 same
+    here false at same later e = later e
 
-    one : (b c : Bool) → same_name (place.text_at source x.0) f ≡ c
+    one : (b c : Bool) → same_name (place.text_at source x.0) f ≡ c → (list_any (λ token. i == token) (tokens_among source k f xs) ≡ true → place.text_at source i ≡ f)
         → list_any (λ token. i == token) (if b && c then x.0 ∷ tokens_among source k f xs else tokens_among source k f xs) ≡ true → place.text_at source i ≡ f
-    one true true same e = here (i == x.0) refl same e
-    one true false same e = written-so source k f i xs e
-    one false c same e = written-so source k f i xs e
+    one true true same later e = here (i == x.0) refl same later e
+    one true false same later e = later e
+    one false c same later e = later e
 
 pub field_there : (r : Resolution) (k : ℕ) (f new : Name) → IsWellTyped r → RenamedAtTokens
     → mapped (renamed_at (words_of r.module_read.source) (field_tokens_renamed r k f new) new) (number_at (words_of r.module_read.source)) (tree_of r.module_read) ≡ field_renamed (named_tree_of r.module_read) k f new
