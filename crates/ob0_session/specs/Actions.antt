@@ -24,7 +24,10 @@ use Rattle.ob0_session.specs.Diagnostics.{utf8}
 use Rattle.ob0_session.specs.Renamed.{IsReadAs}
 use Rattle.ob0_session.specs.RunsKept.{RunsAsBefore}
 use Rattle.ob0_session.specs.Shapes.{action_value, workspace_edit}
+use Rattle.ob0_session.specs.declared.analysis.Asked.{Asked}
+use Rattle.ob0_session.specs.declared.analysis.Asked.TheVariants.{Answered, IllTyped}
 use Rattle.ob0_session.specs.declared.actions.ActionsRequest.{ActionsRequest}
+use Rattle.ob0_session.specs.declared.actions.Inlinings.{Inlinings}
 use Rattle.ob0_session.specs.declared.actions.Inlining.{Inlining}
 use Rattle.ob0_session.specs.declared.actions.Inlining.TheVariants.{Here, Everywhere}
 
@@ -69,7 +72,7 @@ AnswersInlining Everywhere unit text m offset answer = AnswersEverywhere unit te
 -- the edits that inline, or none where they are refused; want of memory is no refusal
 abbrev pub Inlines : Inlining → Unit → List ℕ → Parsed → ℕ → Option (Vec Edit Global) → Type 0
 Inlines how unit text m offset (Some edits) = AnswersInlining how unit text m offset (Ok edits)
-Inlines how unit text m offset None = (refusal : EditRefusal) × (refusal ≡ Memory → ⊥) × AnswersInlining how unit text m offset (Err refusal)
+Inlines how unit text m offset None = (refusal : EditRefusal) × ¬ (refusal ≡ Memory) × AnswersInlining how unit text m offset (Err refusal)
 
 -- These edits inline. Made at once they leave a text whose module runs as before.
 pub record InlinesIn (how : Inlining) (unit : Unit) (text : List ℕ) (offset : ℕ) (edits : Vec Edit Global) : Type 0 where
@@ -91,6 +94,11 @@ abbrev pub Offers : Inlining → Unit → List ℕ → ℕ → Option (Vec Edit 
 Offers how unit text offset (Some edits) = InlinesIn how unit text offset edits
 Offers how unit text offset None = IsNotInlinedIn how unit text offset
 
+-- what is offered at a place of a text, if it is a well-typed module
+abbrev pub FindsInlinings : Unit → List ℕ → ℕ → Asked Inlinings → Type 0
+FindsInlinings unit text offset (Answered found) = Offers Here unit text offset found.here × Offers Everywhere unit text offset found.everywhere
+FindsInlinings unit text offset (IllTyped told) = ¬ IsWellTypedModule (utf8 text)
+
 -- ---- the message
 
 abbrev pub title : Inlining → List ℕ
@@ -106,10 +114,14 @@ action_values asked how None = []
 abbrev pub actions_value : ActionsAsked → Option (Vec Edit Global) → Option (Vec Edit Global) → Data
 actions_value asked here everywhere = array (items_of (action_values asked Here here ++ action_values asked Everywhere everywhere))
 
--- this message answers the request, where positions are counted in the unit and the document has the text
-abbrev pub AnswersActions : Unit → ActionsAsked → List ℕ → Data → Type 0
-AnswersActions unit asked text message =
+-- These actions are offered, as a list; none to a client that wants none, and none of a text that is no well-typed module.
+abbrev pub ListsActions : Unit → ActionsAsked → List ℕ → Data → Type 0
+ListsActions unit asked text value =
     ((here : Option (Vec Edit Global)) × (everywhere : Option (Vec Edit Global)) × (wants_inlining asked ≡ true)
         × Offers Here unit text (place_of unit text asked.range) here × Offers Everywhere unit text (place_of unit text asked.range) everywhere
-        × (message ≡ result_message asked.id (actions_value asked here everywhere)))
-    ⊎ (((wants_inlining asked ≡ false) ⊎ (IsWellTypedModule (utf8 text) → ⊥)) × (message ≡ result_message asked.id (array no_items)))
+        × (value ≡ actions_value asked here everywhere))
+    ⊎ (((wants_inlining asked ≡ false) ⊎ ¬ IsWellTypedModule (utf8 text)) × (value ≡ array no_items))
+
+-- this message answers the request, where positions are counted in the unit and the document has the text
+abbrev pub AnswersActions : Unit → ActionsAsked → List ℕ → Data → Type 0
+AnswersActions unit asked text message = (value : Data) × ListsActions unit asked text value × (message ≡ result_message asked.id value)
