@@ -74,6 +74,11 @@ abbrev pub Inlines : Inlining → Unit → List ℕ → Parsed → ℕ → Optio
 Inlines how unit text m offset (Some edits) = AnswersInlining how unit text m offset (Ok edits)
 Inlines how unit text m offset None = (refusal : EditRefusal) × ¬ (refusal ≡ Memory) × AnswersInlining how unit text m offset (Err refusal)
 
+-- what is offered of an inliner's answer
+abbrev pub IsOffered : Result (Vec Edit Global) EditRefusal → Option (Vec Edit Global) → Type 0
+IsOffered answer (Some edits) = answer ≡ Ok edits
+IsOffered answer None = (refusal : EditRefusal) × ¬ (refusal ≡ Memory) × (answer ≡ Err refusal)
+
 -- These edits inline. Made at once they leave a text whose module runs as before.
 pub record InlinesIn (how : Inlining) (unit : Unit) (text : List ℕ) (offset : ℕ) (edits : Vec Edit Global) : Type 0 where
   pub module_read : Parsed
@@ -105,9 +110,12 @@ abbrev pub title : Inlining → List ℕ
 title Here = codes "Inline here"
 title Everywhere = codes "Inline everywhere"
 
--- the action with the edits in the form that the client takes; none without edits
+-- the action, with the edits in the form that the client takes
+abbrev pub action_of : ActionsAsked → Inlining → List Edit → Data
+action_of asked how edits = action_value (workspace_edit asked.client asked.uri asked.version edits) (title how)
+
 abbrev pub action_values : ActionsAsked → Inlining → Option (Vec Edit Global) → List Data
-action_values asked how (Some edits) = action_value (workspace_edit asked.client asked.uri asked.version edits.items) (title how) ∷ []
+action_values asked how (Some edits) = action_of asked how edits.items ∷ []
 action_values asked how None = []
 
 -- inlining here stands before inlining everywhere
