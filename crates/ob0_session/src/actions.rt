@@ -128,11 +128,11 @@ pub fn acted<T: TextStore>(
 ) -> Result<Vec<u8>, AllocError>
     ensures { IfOk result (λ bytes. (message : Data) × AnswersActions (T.unit_of store.now) (actions_asked request.now) (T.content store.now) message × Writes message bytes.items) }
 {
-    let value = actions(alloc, store, request)?;
+    let value = actions_in(alloc, store, request)?;
     result(alloc, request.id, value)
 }
 
-fn actions<T: TextStore>(
+fn actions_in<T: TextStore>(
     alloc: Global,
     store: &T,
     request: &ActionsRequest<'_>,
