@@ -126,8 +126,8 @@ actions_value asked here everywhere = array (items_of (action_values asked Here 
 abbrev pub ListsActions : Unit → ActionsAsked → List ℕ → Data → Type 0
 ListsActions unit asked text value =
     ((here : Option (Vec Edit Global)) × (everywhere : Option (Vec Edit Global)) × (wants_inlining asked ≡ true)
-        × Offers Here unit text (place_of unit text asked.range) here × Offers Everywhere unit text (place_of unit text asked.range) everywhere
-        × (value ≡ actions_value asked here everywhere))
+    × Offers Here unit text (place_of unit text asked.range) here × Offers Everywhere unit text (place_of unit text asked.range) everywhere
+    × (value ≡ actions_value asked here everywhere))
     ⊎ (((wants_inlining asked ≡ false) ⊎ ¬ IsWellTypedModule (utf8 text)) × (value ≡ array no_items))
 
 -- this message answers the request, where positions are counted in the unit and the document has the text

@@ -192,7 +192,13 @@ fn listed(
 {
     let mut list = Vec::new(alloc);
     list_action(alloc, &mut list, request, Inlining::Here, found.here)?;
-    list_action(alloc, &mut list, request, Inlining::Everywhere, found.everywhere)?;
+    list_action(
+        alloc,
+        &mut list,
+        request,
+        Inlining::Everywhere,
+        found.everywhere,
+    )?;
     Ok(Value::Array(list))
 }
 
