@@ -53,11 +53,11 @@ kept how unit text offset edits names t h leaves well same inlines =
 
 inlines_in : (how : Inlining) (unit : Unit) (text : List ℕ) (offset : ℕ) (edits : Vec Edit Global) (names : Resolution) → IsModuleIn (utf8 text) names
     → Inlines how unit text names.module_read offset (Some edits) → InlinesIn how unit text offset edits
-inlines_in Here unit text offset edits names h (inl (u, at, free, made)) =
-    kept Here unit text offset edits names (inlined_here names.module_read u) h made.leaves made.well_typed made.same_runs (inl (u, at, free, made))
+inlines_in Here unit text offset edits names h (inl (u, at, answer)) =
+    kept Here unit text offset edits names (inlined_here names.module_read u) h answer.1.leaves answer.1.well_typed answer.1.same_runs (inl (u, at, answer))
 inlines_in Here unit text offset edits names h (inr (is, none)) = cc
-inlines_in Everywhere unit text offset edits names h (inl (c, at, free, made)) =
-    kept Everywhere unit text offset edits names (inlined_all names.module_read c) h made.leaves made.well_typed made.same_runs (inl (c, at, free, made))
+inlines_in Everywhere unit text offset edits names h (inl (c, at, answer)) =
+    kept Everywhere unit text offset edits names (inlined_all names.module_read c) h answer.1.leaves answer.1.well_typed answer.1.same_runs (inl (c, at, answer))
 inlines_in Everywhere unit text offset edits names h (inr (inl (is, none))) = cc
 inlines_in Everywhere unit text offset edits names h (inr (inr is)) = cc
 
