@@ -15,8 +15,8 @@ returns-in-Answered g c =
     let text : List ℕ = g.T.TextStore.content c.args.store.now in
     let asked = actions_asked c.args.request.now in
     let offset = place_of unit text asked.range in
-    let found = subst (λ (a : Asked Inlinings). FindsInlinings unit text offset a) c.in-Answered.is c.in_ok-inlinings_in.ensures in
-    IfOk-weaker c.listed.result _ _ (λ v is. inl (c.in-Answered.found.here, c.in-Answered.found.everywhere, sym c.wants_inlining.ensures ∙ c.if-wants_inlining.true, found.0, found.1, is)) c.listed.ensures
+    let found = subst (λ (a : Asked Inlinings). FindsInlinings unit text offset a) c.in-Answered.is c.in_ok-found.ensures in
+    IfOk-weaker c.listed.result _ _ (λ v is. inl (c.in-Answered.found.here, c.in-Answered.found.everywhere, sym c.wants_inlining.ensures ∙ c.if-not-wants_inlining.false, found.0, found.1, is)) c.listed.ensures
 
 pub returns : goal.returns
 returns g c =
@@ -24,5 +24,5 @@ returns g c =
     let text : List ℕ = g.T.TextStore.content c.args.store.now in
     let asked = actions_asked c.args.request.now in
     let offset = place_of unit text asked.range in
-    let unfit = subst (λ (a : Asked Inlinings). FindsInlinings unit text offset a) c.in-IllTyped.is c.in_ok-inlinings_in.ensures in
-    inr (inr unfit, view-Array _ ∙ ap (λ (vs : List Value). array (items_view vs)) c.new.ensures.items)
+    let unfit = subst (λ (a : Asked Inlinings). FindsInlinings unit text offset a) c.in-IllTyped.is c.in_ok-found.ensures in
+    inr (inr unfit, view-Array _ ∙ ap (λ (vs : List Value). array (items_view vs)) c.new-in-IllTyped.ensures.items)
