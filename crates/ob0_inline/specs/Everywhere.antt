@@ -1,6 +1,6 @@
 -- A constant that a place names, what inlining it everywhere makes of the module, and what refuses it.
-use Rattle.std.specs.Prelude.{◌≡◌, ◌⊎◌, ℕ, Bool, not, nat_lt, ◌&&◌, if◌then◌else◌, List, [], ◌∷◌, Option, Some, None, Result, Ok, Err, Vec, drop, length, map}
-use Rattle.std.specs.List.{filter, list_any, position_from, range_with_len, zip}
+use Rattle.std.specs.Prelude.{◌≡◌, ◌≢◌, ◌⊎◌, ℕ, Bool, not, nat_lt, ◌&&◌, if◌then◌else◌, List, [], ◌∷◌, Option, Some, None, Result, Ok, Err, Vec, drop, length, map}
+use Rattle.std.specs.List.{All, filter, list_any, position_from, range_with_len, zip}
 use Rattle.std.specs.declared.alloc.Global.{Global}
 use Rattle.ob0_scan.specs.Scanned.{max_text}
 use Rattle.ob0_text.specs.declared.edits.Edit.{Edit}
@@ -14,11 +14,12 @@ use Rattle.ob0_tree.specs.Tree.{Tree, identifiers, module_text, nesting, occurre
 use Rattle.ob0_edits.specs.Ranges.{range_of}
 use Rattle.ob0_edits.specs.Removed.{span_over, without_text}
 use Rattle.ob0_edits.specs.Replaced.{edit_at, parts}
+use Rattle.ob0_scope.specs.Elsewhere.{names_elsewhere}
 use Rattle.ob0_scope.specs.Inlining.{inlined_everywhere}
 use Rattle.ob0_scope.specs.Names.{Name, declared, same_label}
 use Rattle.ob0_scope.specs.Occurrences.{bindings, binds}
 use Rattle.ob0_scope.specs.Resolution.{declaring_only, token_declaring}
-use Rattle.ob0_scope.specs.Scopes.{same_ordinal}
+use Rattle.ob0_scope.specs.Scopes.{numbered, same_ordinal}
 use Rattle.ob0_values.specs.Scalars.{scalar_value}
 use Rattle.ob0_refs.specs.declared.answers.Named as named
 use Rattle.ob0_refs.specs.Standing.{name_on}
@@ -50,6 +51,10 @@ NoConstantAt m offset = (n : named.Named) → name_on m offset ≡ Some n → va
 -- the tokens of the occurrences that are bound to d, in text order
 abbrev pub uses_of : Parsed → ℕ → List ℕ
 uses_of m d = map (λ u. u.0) (filter (λ u. same_label u.1 (declared d)) (zip (occurrences (tree_of m)) (bindings (named_tree_of m))))
+
+-- none of the names of d stands elsewhere than alone as a factor
+abbrev pub StandsAlone : Parsed → ℕ → Type 0
+StandsAlone m d = All (λ l. l ≢ declared d) (names_elsewhere (numbered (named_tree_of m)))
 
 -- the module with the value in the place of all uses, without the declaration
 abbrev pub inlined_all : Parsed → Constant → Tree Name module_text
