@@ -7,6 +7,8 @@ mod beginning;
 mod documents;
 mod editor;
 mod reading;
+#[cfg(test)]
+mod tests;
 mod texts;
 mod writing;
 
