@@ -1,6 +1,8 @@
 //! Code actions on request.
 
 use crate::tests::talks::{Talk, holds};
+use crate::{Session, SessionFault};
+use ob0_text::Whole;
 use std::test::Fail;
 
 const INLININGS: [Talk; 6] = [
@@ -153,6 +155,37 @@ fn code_actions_on_request(rt: HostRuntime) -> Result<(), Fail> {
     for talk in &INLININGS {
         let as_wanted = holds(rt.alloc(), talk)?;
         assert!(rt; as_wanted, "{}", talk.name);
+    }
+    Ok(())
+}
+
+const INITIALIZE: &str =
+    "{\"id\":1,\"method\":\"initialize\",\"params\":{\"capabilities\":{\"textDocument\":{\"codeAction\":{\"codeActionLiteralSupport\":{}}}}}}";
+
+const OPEN: &str =
+    "{\"method\":\"textDocument/didOpen\",\"params\":{\"textDocument\":{\"text\":\"MODULE M;\\nCONST c = -2147483647 - 1;\\nVAR x: INTEGER;\\nBEGIN x := 0 + c; Write(x) END M.\\n\",\"uri\":\"file:///m\",\"version\":1}}}";
+
+const ASK: &str =
+    "{\"id\":5,\"method\":\"textDocument/codeAction\",\"params\":{\"context\":{},\"range\":{\"end\":{\"character\":15,\"line\":3},\"start\":{\"character\":15,\"line\":3}},\"textDocument\":{\"uri\":\"file:///m\"}}}";
+
+const BOTH: &str =
+    "{\"id\":5,\"jsonrpc\":\"2.0\",\"result\":[{\"edit\":{\"changes\":{\"file:///m\":[{\"newText\":\"(-2147483647 - 1)\",\"range\":{\"end\":{\"character\":16,\"line\":3},\"start\":{\"character\":15,\"line\":3}}}]}},\"kind\":\"refactor.inline\",\"title\":\"Inline here\"},{\"edit\":{\"changes\":{\"file:///m\":[{\"newText\":\"\",\"range\":{\"end\":{\"character\":26,\"line\":1},\"start\":{\"character\":6,\"line\":1}}},{\"newText\":\"(-2147483647 - 1)\",\"range\":{\"end\":{\"character\":16,\"line\":3},\"start\":{\"character\":15,\"line\":3}}}]}},\"kind\":\"refactor.inline\",\"title\":\"Inline everywhere\"}]}";
+
+// To be run with each allocation refused in turn: want of memory is no refusal, so no action is left out for it.
+#[test]
+fn want_of_memory_leaves_out_no_action(rt: HostRuntime) -> Result<(), Fail> {
+    let mut session: Session<Whole> = Session::new(rt.alloc());
+    for content in [INITIALIZE, OPEN] {
+        if session.step(content.as_bytes()).is_err() {
+            return Ok(());
+        }
+    }
+    match session.step(ASK.as_bytes()) {
+        Ok(step) => {
+            assert_eq!(rt; step.send.len(), 1);
+            assert_eq!(rt; step.send[0].as_slice(), BOTH.as_bytes());
+        }
+        Err(fault) => assert_eq!(rt; fault, SessionFault::Memory),
     }
     Ok(())
 }
