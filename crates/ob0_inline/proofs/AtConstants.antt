@@ -1,5 +1,5 @@
 -- What is answered at a name of a constant.
-use Rattle.std.proofs.Common.{zero, arith, cond, ◌≡◌, ◌⊎◌, ℕ, ℤ, suc, ◌+◌, ◌-◌, ◌<◌, ◌≤◌, ◌==◌, ◌&&◌, ◌||◌, not, Bool, true, false, nat_lt, if◌then◌else◌, Option, Some, None, List, [], ◌∷◌, length, map, refl, sym, ap, ◌∙◌, subst, inl, inr, IsSomeAnd, MatchOption, option_and_then, slice_get, eq-eqb, true≢false}
+use Rattle.std.proofs.Common.{zero, arith, ◌≡◌, ◌⊎◌, ℕ, ℤ, suc, ◌+◌, ◌-◌, ◌<◌, ◌≤◌, ◌&&◌, ◌||◌, not, Bool, true, false, nat_lt, if◌then◌else◌, Option, Some, None, List, [], ◌∷◌, length, map, refl, sym, ap, ◌∙◌, inl, inr, IsSomeAnd, MatchOption, option_and_then, slice_get, eq-eqb, true≢false}
 use Rattle.std.proofs.lemmas.Bool.{le-ltb, lt-ltb}
 use Rattle.std.specs.List.{list_any, range_with_len}
 use Rattle.ob0_scan.specs.Scanned.{max_text}

@@ -1,18 +1,15 @@
 -- What is answered at a use.
-use Rattle.std.proofs.Common.{cond, zero, arith, eq-eqb, ◌≡◌, ◌⊎◌, ◌≢◌, ℕ, suc, ◌+◌, ◌<◌, ◌≤◌, ◌==◌, ◌||◌, Bool, true, false, nat_lt, if◌then◌else◌, Option, Some, None, List, [], ◌∷◌, length, map, refl, sym, ap, ◌∙◌, subst, inl, inr, option_and_then, option_map, slice_get, codes, eqb-true, true≢false}
+use Rattle.std.proofs.Common.{cond, zero, arith, eq-eqb, ◌≡◌, ◌⊎◌, ℕ, suc, ◌+◌, ◌<◌, ◌≤◌, ◌==◌, ◌||◌, Bool, true, false, nat_lt, if◌then◌else◌, Option, Some, None, List, [], ◌∷◌, length, map, refl, sym, ap, ◌∙◌, subst, inl, inr, option_and_then, option_map, slice_get, eqb-true, true≢false}
 use Rattle.std.proofs.lemmas.Bool.{le-ltb, lt-ltb}
-use Rattle.std.specs.List.{All, position_from}
+use Rattle.std.specs.List.{position_from}
 use Rattle.ob0_scan.specs.Scanned.{max_text}
 use Rattle.ob0_text.specs.declared.edits.Edit.{Edit}
 use Rattle.ob0_text.specs.declared.positions.Unit as counting
 use Rattle.ob0_text.specs.declared.refusals.EditRefusal.{EditRefusal}
 use Rattle.ob0_text.specs.declared.refusals.EditRefusal.TheVariants.{Memory, Shadowed, TooDeep, TooLong}
-use Rattle.ob0_tree.specs.Order.{IsIdentifier}
-use Rattle.ob0_tree.specs.Parsed.{Parsed, named_tree_of, tree_of}
-use Rattle.ob0_tree.specs.Tree.{Tree, module_text, nesting, occurrences}
-use Rattle.ob0_edits.specs.Changed.{is_among}
+use Rattle.ob0_tree.specs.Parsed.{Parsed, named_tree_of}
+use Rattle.ob0_tree.specs.Tree.{Tree, module_text, nesting}
 use Rattle.ob0_edits.specs.Replaced.{AreNames, edit_at, parts, with_text_at}
-use Rattle.ob0_edits.specs.Written.{truth_text}
 use Rattle.ob0_scope.specs.Inlining.{only}
 use Rattle.ob0_scope.specs.Names.{Name}
 use Rattle.ob0_scope.specs.Occurrences.{binds}
@@ -34,9 +31,9 @@ use Rattle.ob0_values.specs.Scalars.{scalar_value}
 use Rattle.std.specs.Prelude.{pos, negsuc}
 use Rattle.ob0_inline.specs.declared.uses.Use.{Use}
 use Rattle.ob0_inline.specs.Inlined.{LeavesModule, StandAlone, inlined_at}
-use Rattle.ob0_inline.specs.Uses.{InlinesHere, IsUse, IsUseAt, inlined_here, is_shown, refusal_here, truth_ordinal}
+use Rattle.ob0_inline.specs.Uses.{InlinesHere, IsUse, IsUseAt, inlined_here, is_shown, refusal_here}
 use Rattle.ob0_inline.specs.Values.{value_factor, value_text}
-use Rattle.ob0_inline.proofs.UsesStand.{AreBound, inlined_by_number, inside, names_from, one_identifier, one_place, stand_alone, uses_are_identifiers, uses_ascend}
+use Rattle.ob0_inline.proofs.UsesStand.{AreBound, inlined_by_number, inside, one_identifier, one_place, stand_alone, uses_are_identifiers, uses_ascend}
 
 -- what is written for a value, and whether it is seen
 

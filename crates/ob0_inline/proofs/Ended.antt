@@ -1,5 +1,5 @@
 -- Where the declaration of a constant begins and ends, and that its uses stand behind it.
-use Rattle.std.proofs.Common.{◌≡◌, ℕ, zero, suc, ◌+◌, ◌-◌, ◌<◌, ◌≤◌, ◌==◌, Bool, true, false, cond, if◌then◌else◌, nat_lt, Option, Some, None, List, [], ◌∷◌, ◌++◌, drop, map, length, refl, sym, ap, ◌∙◌, subst, arith, slice_get, append_assoc}
+use Rattle.std.proofs.Common.{◌≡◌, ℕ, suc, ◌+◌, ◌-◌, Bool, true, false, cond, if◌then◌else◌, Option, Some, None, List, [], ◌∷◌, ◌++◌, drop, map, length, refl, sym, ap, ◌∙◌, subst, arith, slice_get, append_assoc}
 use Rattle.std.proofs.lemmas.Bool.{le-ltb}
 use Rattle.std.specs.List.{filter, position_from, zip}
 use Rattle.ob0_scan.specs.declared.lexeme.Symbol.TheVariants as symbol
@@ -28,14 +28,12 @@ use Rattle.ob0_scope.proofs.Bound.{bindings_by_table}
 use Rattle.ob0_scope.proofs.OccurrenceNames.{length-map}
 use Rattle.ob0_scope.proofs.Peeling.{heads}
 use Rattle.ob0_types.specs.ConstantValues.{value_of_constant}
-use Rattle.ob0_values.specs.declared.scalar.Scalar.{Scalar}
 use Rattle.ob0_values.specs.Scalars.{scalar_value}
 use Rattle.ob0_values.specs.Values.{Value}
 use Rattle.ob0_inline.specs.declared.constants.Constant.{Constant}
 use Rattle.ob0_inline.specs.Declarations.{is_semicolon}
 use Rattle.ob0_inline.specs.Everywhere.{IsConstant, StandsAlone, inlined_all, uses_of}
 use Rattle.ob0_inline.specs.Values.{value_factor, value_words}
-use Rattle.ob0_inline.proofs.Behind.{late_of}
 use Rattle.ob0_inline.proofs.EverywhereAt.{bound_tokens, late_here, uses_are_names, words_everywhere}
 use Rattle.ob0_inline.proofs.ModuleTexts.{spelled_by_words, value_spelled}
 use Rattle.ob0_inline.proofs.TakenOut.{NoEnd, Taken, block_declares, gone_module, module_declared}

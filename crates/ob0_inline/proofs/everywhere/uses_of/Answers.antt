@@ -1,4 +1,4 @@
-use Rattle.std.proofs.Common.{arith, length, ap, sym, ◌∙◌, ◌≡◌, ◌≤◌, ◌++◌, append-nil}
+use Rattle.std.proofs.Common.{arith, length, ap, sym, ◌∙◌, ◌≤◌, ◌++◌, append-nil}
 use Rattle.std.proofs.lemmas.List.{drop_all}
 use Rattle.ob0_inline.proofs.Ended.{uses_by_table}
 use Rattle.ob0_inline.proofs.EverywhereAt.{bound_tokens}

@@ -1,4 +1,4 @@
-use Rattle.std.proofs.Common.{arith, length, ap, sym, ◌∙◌, ◌≡◌, ◌<◌}
+use Rattle.std.proofs.Common.{arith, length, ap, sym, ◌∙◌, ◌<◌}
 use Rattle.ob0_inline.proofs.AtConstants.{passes_further}
 use Rattle.ob0_inline.proofs.shown.any_elsewhere.Invariants.{elsewhere}
 use Rattle.ob0_inline.proofs.shown.any_elsewhere.Goals as goal

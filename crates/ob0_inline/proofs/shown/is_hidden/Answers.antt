@@ -1,4 +1,4 @@
-use Rattle.std.proofs.Common.{List, Option, ℕ, ◌&&◌, not, length, option_and_then, slice_get, ap, sym, ◌∙◌}
+use Rattle.std.proofs.Common.{◌&&◌, not, length, option_and_then, slice_get, ◌∙◌}
 use Rattle.std.specs.List.{list_any, range_with_len}
 use Rattle.ob0_tree.specs.Parsed.{named_tree_of}
 use Rattle.ob0_scope.specs.Occurrences.{binds}
