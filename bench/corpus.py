@@ -4,7 +4,10 @@
   bench/corpus.py SIZE [--line] [--seed N]    a module of SIZE bytes, --line: all on one line
   bench/corpus.py --block N                   N declarations in one block, each used
   bench/corpus.py --nest N                    N procedures inside one another, each using its outer one's variable
-  bench/corpus.py --uses N [--line]           one variable that is used N times"""
+  bench/corpus.py --many N WAY                N variables: in `one` declaration, or `each` in its own; half of them are used
+  bench/corpus.py --uses N [--line]           one variable that is used N times
+  bench/corpus.py --fields N [--line]         one field of a record that is used N times
+  bench/corpus.py --constants N [--line]      one constant that is used N times"""
 import random
 import sys
 
@@ -178,10 +181,31 @@ def nest(count):
     return "\n".join([*lines, "BEGIN p1(1) END Nest.", ""])
 
 
+def many(count, way):
+    """So many variables, in one declaration or each in its own; every second one is used."""
+    names = [f"v{at}" for at in range(count)]
+    declared = ",".join(names) + ":INTEGER;" if way == "one" else "".join(f"{it}:INTEGER;" for it in names)
+    return f"MODULE M;VAR {declared}BEGIN {';'.join(f'{it}:=1' for it in names[::2])} END M."
+
+
+def lines_of(head, used, on_line):
+    """A module of some lines, or of one: a head, statements, the end."""
+    return (" " if on_line else "\n").join([head, "BEGIN", *(it + ";" for it in used[:-1]), used[-1] + " END Uses."])
+
+
 def uses(count, on_line=False):
     """One variable that is used so often."""
-    used = [f"x:={at % 10}" for at in range(count - 1)]
-    return (" " if on_line else "\n").join(["MODULE Uses; VAR x: INTEGER;", "BEGIN", *(it + ";" for it in used), "x:=1 END Uses."])
+    return lines_of("MODULE Uses; VAR x: INTEGER;", [f"x:={at % 10}" for at in range(count)], on_line)
+
+
+def fields(count, on_line=False):
+    """One field of a record that is used so often."""
+    return lines_of("MODULE Uses; VAR r:RECORD x:INTEGER END;", [f"r.x:={at % 10}" for at in range(count)], on_line)
+
+
+def constants(count, on_line=False):
+    """One constant that is used so often."""
+    return lines_of("MODULE Uses; CONST c=7; VAR x: INTEGER;", ["x:=c"] * count, on_line)
 
 
 def main(words):
@@ -191,8 +215,14 @@ def main(words):
         text = block(number("--block", 0))
     elif "--nest" in words:
         text = nest(number("--nest", 0))
+    elif "--many" in words:
+        text = many(number("--many", 0), words[-1])
     elif "--uses" in words:
         text = uses(number("--uses", 0), on_line)
+    elif "--fields" in words:
+        text = fields(number("--fields", 0), on_line)
+    elif "--constants" in words:
+        text = constants(number("--constants", 0), on_line)
     else:
         text = module(int(words[0]), number("--seed", 0), on_line)
     sys.stdout.write(text)

@@ -211,3 +211,22 @@ print(total)
 """,
     ),
 }
+
+
+def calls(count):
+    """A program of Oberon-0 that makes so many calls (a multiple of 100,000), one after the other, and writes how many."""
+    return f"""MODULE Many;
+VAR i, j, made: INTEGER;
+PROCEDURE Count(n: INTEGER; VAR made: INTEGER);
+VAR before: INTEGER; room: ARRAY 8 OF INTEGER;
+BEGIN before := made; room[n MOD 8] := 1; made := before + room[n MOD 8] END Count;
+BEGIN
+  i := 0;
+  WHILE i < {count // 100000} DO
+    j := 0;
+    WHILE j < 100000 DO Count(j, made); j := j + 1 END;
+    i := i + 1
+  END;
+  Write(made); WriteLn
+END Many.
+"""

@@ -18,7 +18,7 @@ sys.path[:0] = [HERE, os.path.join(os.path.dirname(HERE), "tests")]
 
 import corpus  # noqa: E402
 from features import BUILT  # noqa: E402
-from harness import BINARY, EXIT, SHUTDOWN, did_change, did_open, extent, frame, frames, initialize  # noqa: E402
+from harness import BINARY, EXIT, SHUTDOWN, Failed, did_change, did_open, extent, frame, frames, initialize, install, place, request  # noqa: E402
 
 MIB = 1 << 20
 MEASURES = []
@@ -117,7 +117,7 @@ def opened(text, times):
     empty = frames([initialize(), SHUTDOWN, EXIT])
     given = frames([initialize(), *(did_open(text, version=at) for at in range(times)), SHUTDOWN, EXIT])
     found, nothing = best(3, lambda: Timed([BINARY, "serve"], given)), best(3, lambda: Timed([BINARY, "serve"], empty))
-    return max(found.processor - nothing.processor, 1e-9) / times, found.memory
+    return max(found.processor - nothing.processor, 1e-4) / times, found.memory
 
 
 def growth(what, sizes, make, each):
@@ -130,7 +130,7 @@ def growth(what, sizes, make, each):
         speed = f"{len(text) / seconds / 1e6:7.2f} MB/s"
         said(f"{what} {size:,}: {len(text):,} bytes", f"{seconds * 1000:9.2f} ms  {speed}  {megabytes(memory)}")
     (small, first), (large, last) = rows[0], rows[-1]
-    said(f"{what}: time grew by {last / first:.1f} where the text grew by {large / small:.1f}", f"ratio {last / first / (large / small):.2f}")
+    said(f"{what.rstrip(',')}: time grew by {last / first:.1f} where the text grew by {large / small:.1f}", f"ratio {last / first / (large / small):.2f}")
 
 
 @measure("serve: what an open costs, from 10 KB to 1 MiB")
@@ -143,7 +143,14 @@ def growing():
 
 @measure("serve: from a keystroke to the diagnostics, on 1 MiB")
 def keystroke():
-    text = corpus.module(MIB - 1000)
+    said("the change is sent as", "a range" if BUILT["changes"] else "a whole text")
+    for name, on_line in (("on many lines", False), ("on one line", True)):
+        taken = keystrokes(corpus.module(MIB - 1000, on_line=on_line))
+        said(f"{name}: milliseconds, least, middle, most", ", ".join(f"{1000 * taken[at]:.1f}" for at in (0, len(taken) // 2, -1)))
+
+
+def keystrokes(text):
+    """The seconds from each of 20 changes of a letter until its diagnostics are there, in order of size."""
     with subprocess.Popen([BINARY, "serve"], stdin=subprocess.PIPE, stdout=subprocess.PIPE, bufsize=0) as process:
         held = b""
 
@@ -177,17 +184,15 @@ def keystroke():
             send(message)
         process.stdin.close()
         process.wait()
-    taken.sort()
-    said("the change is sent as", "a range" if BUILT["changes"] else "a whole text")
-    said("milliseconds: least, middle, most", ", ".join(f"{1000 * taken[at]:.1f}" for at in (0, len(taken) // 2, -1)))
+    return sorted(taken)
 
 
-def on_file(words, text, given=b""):
-    """A run of the program on a file with this text."""
+def on_file(words, text, given=b"", times=3):
+    """A run of the program on a file with this text: the quickest of so many."""
     with tempfile.TemporaryDirectory() as room:
         with open(os.path.join(room, "m.mod"), "w", encoding="utf-8") as file:
             file.write(text)
-        return best(3, lambda: Timed([BINARY, words[0], "m.mod", *words[1:]], given, cwd=room))
+        return best(times, lambda: Timed([BINARY, words[0], "m.mod", *words[1:]], given, cwd=room))
 
 
 @measure("parse: a module that ends too early, beside one with a bad character at its end", "check")
@@ -223,29 +228,74 @@ def checked():
 
     growth("module of", [10000, 100000, MIB], corpus.module, each)
     growth("one block, declarations", [500, 5000, 25000], corpus.block, each)
-    growth("procedures inside one another", [10, 50, 99], corpus.nest, each)
+    growth("procedures inside one another", [10, 50, 100], corpus.nest, each)
 
 
 @measure("check: 50,000 declarations in one block", "check")
 def large_block():
-    names = ",".join(f"v{at}" for at in range(50000))
-    body = ";".join(f"v{at}:=v{at - 1}" for at in range(1, 50000, 3))
-    found = on_file(["check"], f"MODULE M;VAR {names}:INTEGER;BEGIN {body} END M.")
-    said("50,000 names and 33,333 uses", f"{found.processor * 1000:.0f} ms  {megabytes(found.memory)}  status {found.status}")
+    def each(text, count):
+        found = on_file(["check"], text)
+        if found.status:
+            said("NOTE: the module isn't well-typed", f"{count}: {found.out[:200].decode(errors='replace')}")
+        return found.processor, found.memory
+
+    growth("names in one declaration", [5000, 50000], lambda count: corpus.many(count, "one"), each)
+    growth("declarations of a name each", [5000, 50000], lambda count: corpus.many(count, "each"), each)
+
+
+def asked(text, method, params, expected, count, **capabilities):
+    """What a request costs through `serve` beside the opening alone: time on a processor, and the peak memory. The answer
+    must hold the expected bytes so often."""
+    question = request(5, f"textDocument/{method}", {"textDocument": {"uri": "file:///m"}, **params})
+    talk = lambda more: frames([initialize(**capabilities), did_open(text), *more, SHUTDOWN, EXIT])
+    without = best(3, lambda: Timed([BINARY, "serve"], talk([])))
+    found = best(3, lambda: Timed([BINARY, "serve"], talk([question])))
+    if found.status or found.out.count(expected) != count:
+        said("NOTE: another answer was expected", f"status {found.status}, {found.out.count(expected)} and not {count} of {expected.decode()}")
+    return max(found.processor - without.processor, 1e-4), found.memory
+
+
+USES = (("on many lines", False), ("on one line", True))
 
 
 @measure("questions: references of one name, 10,000 and 100,000", "questions")
 def referred():
-    def each(text, _):
-        ask = {"context": {"includeDeclaration": True}, "position": {"character": 18, "line": 0}, "textDocument": {"uri": "file:///m"}}
-        request = {"id": 5, "jsonrpc": "2.0", "method": "textDocument/references", "params": ask}
-        talk = lambda more: frames([initialize(), did_open(text), *more, SHUTDOWN, EXIT])
-        without = best(3, lambda: Timed([BINARY, "serve"], talk([])))
-        found = best(3, lambda: Timed([BINARY, "serve"], talk([request])))
-        return max(found.processor - without.processor, 1e-9), found.memory
-
-    for name, on_line in (("on many lines", False), ("on one line", True)):
+    ask = {"context": {"includeDeclaration": True}, "position": place(0, 18)}
+    each = lambda text, size: asked(text, "references", ask, b'"uri":"file:///m"}', size + 1)
+    for name, on_line in USES:
         growth(f"references {name},", [10000, 100000], lambda size, on_line=on_line: corpus.uses(size, on_line), each)
+
+
+@measure("rename: a name with 10,000 and 100,000 uses", "rename")
+def renamed():
+    each = lambda text, size: asked(text, "rename", {"newName": "y", "position": place(0, 18)}, b'"newText":"y"', size + 1)
+    for name, on_line in USES:
+        growth(f"rename {name},", [10000, 100000], lambda size, on_line=on_line: corpus.uses(size, on_line), each)
+
+
+@measure("rename: a field with 10,000 and 100,000 uses", "rename fields")
+def field_renamed():
+    each = lambda text, size: asked(text, "rename", {"newName": "y", "position": place(0, 26)}, b'"newText":"y"', size + 1)
+    for name, on_line in USES:
+        growth(f"rename of a field {name},", [10000, 100000], lambda size, on_line=on_line: corpus.fields(size, on_line), each)
+
+
+@measure("inline: a constant with 10,000 and 100,000 uses", "inline")
+def inlined():
+    """At the declaration Inline everywhere is offered, at a use both actions are: the last one, at the text's end."""
+    literals = {"textDocument": {"codeAction": {"codeActionLiteralSupport": {}}}}
+
+    def at(text, where):
+        line = text.count("\n", 0, where)
+        it = place(line, where - (text.rfind("\n", 0, where) + 1))
+        return {"context": {}, "range": {"end": it, "start": it}}
+
+    everywhere = lambda text, size: asked(text, "codeAction", at(text, text.index("c=")), b'"newText":"7"', size, **literals)
+    both = lambda text, size: asked(text, "codeAction", at(text, text.rindex("c")), b'"newText":"7"', size + 1, **literals)
+    for name, on_line in USES:
+        make = lambda size, on_line=on_line: corpus.constants(size, on_line)
+        growth(f"inline everywhere, {name},", [10000, 100000], make, everywhere)
+        growth(f"inline here and everywhere, {name},", [10000, 100000], make, both)
 
 
 @measure("format: what a layout costs, from 100 KB to 1 MiB", "format")
@@ -259,7 +309,7 @@ def laid_out():
         found = best(3, lambda: Timed([BINARY, "serve"], talk([request])))
         if b'"newText"' not in found.out:
             said("NOTE: no edit was answered", found.out[-200:].decode(errors="replace"))
-        return max(found.processor - without.processor, 1e-9), found.memory
+        return max(found.processor - without.processor, 1e-4), found.memory
 
     def wide(size):
         """A module on one line with so many blanks between its words that its layout isn't longer than it is."""
@@ -269,16 +319,28 @@ def laid_out():
     growth("layout of a module on one line of", [100000, MIB], wide, each)
 
 
+def lacks(command):
+    """Why a command can't be had, or None: a missing one is installed where that can be done."""
+    if shutil.which(command):
+        return None
+    try:
+        install([command], command)
+    except Failed as why:
+        return str(why).partition("\n")[0]
+    return None if shutil.which(command) else f"{command} is missing"
+
+
 @measure("run: loops, arrays and calls, against Lua and Python", "run")
 def ran():
     import programs
 
+    missing = {command: lacks(command) for command in ("lua5.4", "python3")}
     for name, (text, lua, python) in programs.PROGRAMS.items():
         found = on_file(["run"], text)
         said(f"{name}: ob0", f"{found.processor:.3f} s  {megabytes(found.memory)}  status {found.status}")
         for command, other in (("lua5.4", lua), ("python3", python)):
-            if not shutil.which(command):
-                said(f"{name}: {command}", "missing: install it (on Debian: apt-get install " + command + ")")
+            if missing[command]:
+                said(f"{name}: {command}", f"skipped: {missing[command]}")
                 continue
             with tempfile.TemporaryDirectory() as room:
                 file = os.path.join(room, "program")
@@ -287,6 +349,19 @@ def ran():
                 beside = best(3, lambda: Timed([command, file], b""))
             agrees = "the same output" if beside.out.split() == found.out.split() else "ANOTHER OUTPUT"
             said(f"{name}: {command}", f"{beside.processor:.3f} s  ob0 takes {found.processor / beside.processor:.1f} times that; {agrees}")
+
+
+@measure("run: memory over 100,000 and 10,000,000 calls", "run")
+def flat():
+    import programs
+
+    few, many = (on_file(["run"], programs.calls(count), times=1) for count in (100000, 10000000))
+    for count, found, wanted in ((100000, few, b" 100000\n"), (10000000, many, b" 10000000\n")):
+        said(f"{count:,} calls", f"{found.processor:.3f} s  {megabytes(found.memory)}")
+        if found.status or found.out != wanted:
+            said("NOTE: another output was expected", f"status {found.status}, {found.out[:100]!r}")
+    said("peak memory of the second, by the first", f"ratio {many.memory / few.memory:.3f}")
+    said("time of the second, by the first and by their calls", f"ratio {many.processor / few.processor / 100:.2f}")
 
 
 def main(words):

@@ -16,8 +16,8 @@ BUILT = {
     "run": True,  # `ob0 run`
     "rename": True,  # rename
     "rename command": True,  # `ob0 rename`
-    "rename fields": False,  # prepareRename and rename of a record's field
-    "inline": False,  # code actions
+    "rename fields": True,  # prepareRename and rename of a record's field
+    "inline": True,  # code actions
     "format": True,  # formatting
 }
 

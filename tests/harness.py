@@ -4,6 +4,7 @@ import fcntl
 import json
 import os
 import select
+import shutil
 import subprocess
 import sys
 import tempfile
@@ -288,6 +289,27 @@ class Server:
             raise Failed("the server did not end") from None
 
 
+# Packages
+
+
+def install(packages, of):
+    """Installs Debian's packages."""
+    if not shutil.which("apt-get"):
+        raise Failed(f"{of} is missing, and apt-get too, which would install it: install {of} by hand")
+    words = [] if os.geteuid() == 0 else ["sudo", "-n"]
+    print(f"{of} is missing: installing {' '.join(packages)} with apt-get", flush=True)
+    environment = {**os.environ, "DEBIAN_FRONTEND": "noninteractive"}
+    how = {"stdin": subprocess.DEVNULL, "stdout": subprocess.PIPE, "stderr": subprocess.STDOUT, "env": environment}
+    for step in (["update"], ["install", "-y", "--no-install-recommends", *packages]):
+        try:
+            ran = subprocess.run([*words, "apt-get", *step], timeout=900, check=False, **how)
+        except (OSError, subprocess.TimeoutExpired) as why:
+            raise Failed(f"{of} is missing, and apt-get {step[0]} ended early: {why}") from None
+    if ran.returncode:
+        said = ran.stdout.decode(errors="replace")[-600:]
+        raise Failed(f"{of} is missing, and apt-get could not install {' '.join(packages)}:\n{said}")
+
+
 # Texts and files
 
 
@@ -331,12 +353,12 @@ MESSAGES = {
 }
 
 
-def on_file(command, text, *more, given=b"", name="m.mod"):
+def on_file(command, text, *more, given=b"", name="m.mod", small_stack=False):
     """Runs a command on a file with this text (or these bytes)."""
     with tempfile.TemporaryDirectory() as room:
         with open(os.path.join(room, name), "wb") as file:
             file.write(text if isinstance(text, bytes) else text.encode())
-        return run([command, name, *more], given, cwd=room)
+        return run([command, name, *more], given, small_stack, cwd=room)
 
 
 def ends(found, out, status, err=""):

@@ -91,3 +91,47 @@ def mixed(seed, depth):
             left -= 1
         walk.append((before, after))
     return module(leaf(walk, kind))
+
+
+# statements that hold one statement, which is run once: before, after (b is a BOOLEAN)
+ENTERED = [
+    ("IF, its statements", "IF b = b THEN ", " END"),
+    ("IF, an ELSIF's statements", "IF FALSE THEN ELSIF b = b THEN ", " END"),
+    ("IF, an ELSE", "IF b # b THEN ELSE ", " END"),
+    ("WHILE, its statements", "b := TRUE; WHILE b DO ", "; b := FALSE END"),
+    ("REPEAT, its statements", "REPEAT ", " UNTIL b = b"),
+]
+
+
+def around(statement, depth, choose):
+    """A statement inside so many others; `choose` gives the next one."""
+    found = [choose() for _ in range(depth)]
+    return "".join(it[1] for it in found) + statement + "".join(it[2] for it in reversed(found))
+
+
+def recursive(calls, choose):
+    """A module whose run has so many calls open, each made inside 100 nested constructs, and all it writes. A call copies
+    a value of a type of 100 arrays and records inside one another."""
+    types = ["t0 = ARRAY 1 OF INTEGER"] + [f"t{at} = {'RECORD f: t%d END' if at % 2 else 'ARRAY 1 OF t%d'}" % (at - 1) for at in range(1, 100)]
+    local = "b: BOOLEAN"
+    # (a procedure counts for nesting, and so does the IF round its call)
+    body = around("Write(n); IF n > 1 THEN P(n - 1, v, m) END; m := m + 1", 98, choose)
+    first = around(f"P({calls}, v, m)", 100, choose)
+    text = (
+        f"MODULE M; TYPE {'; '.join(types)}; VAR v: t99; m: INTEGER; {local};\n"
+        f"PROCEDURE P(n: INTEGER; v: t99; VAR m: INTEGER); VAR {local}; BEGIN {body} END P;\n"
+        f"BEGIN {first}; Write(m) END M.\n"
+    )
+    return text, "".join(f" {at}" for at in range(calls, 0, -1)) + f" {calls}"
+
+
+def inward(calls, choose):
+    """The same by procedures inside one another, each of which calls the one within it: the last one, as deep as a
+    construct may be, has those of all others round it."""
+    names = [f"p{at}" for at in range(1, calls + 1)]
+    text = "MODULE M; VAR m: INTEGER;\n"
+    text += "".join(f"PROCEDURE {name}(n{at}: INTEGER); VAR b: BOOLEAN;\n" for at, name in enumerate(names, 1))
+    for at in range(calls, 0, -1):
+        inner = f"p{at + 1}(n{at} - 1)" if at < calls else "m := m + n1 + n" + str(calls)
+        text += f"BEGIN {around(inner, 100 - at, choose)} END p{at};\n"
+    return text + f"BEGIN p1({calls}); Write(m) END M.\n", f" {calls + 1}"

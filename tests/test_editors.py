@@ -10,28 +10,11 @@ import tempfile
 
 import harness
 from features import BUILT
-from harness import Failed, Skipped, TOP, extent, same, test
+from harness import Failed, Skipped, TOP, ends, extent, install, on_file, same, test
+from test_edits import CALLS, LEAST, RECORDS, edited
 
 EDITORS = os.path.join(TOP, "tests", "editors")
 ENDED = {"code": 0, "signal": 0}
-
-
-def install(packages, of):
-    """Installs Debian's packages."""
-    if not shutil.which("apt-get"):
-        raise Failed(f"{of} is missing, and apt-get too, which would install it: install {of} by hand")
-    words = [] if os.geteuid() == 0 else ["sudo", "-n"]
-    print(f"{of} is missing: installing {' '.join(packages)} with apt-get", flush=True)
-    environment = {**os.environ, "DEBIAN_FRONTEND": "noninteractive"}
-    how = {"stdin": subprocess.DEVNULL, "stdout": subprocess.PIPE, "stderr": subprocess.STDOUT, "env": environment}
-    for step in (["update"], ["install", "-y", "--no-install-recommends", *packages]):
-        try:
-            ran = subprocess.run([*words, "apt-get", *step], timeout=900, check=False, **how)
-        except (OSError, subprocess.TimeoutExpired) as why:
-            raise Failed(f"{of} is missing, and apt-get {step[0]} ended early: {why}") from None
-    if ran.returncode:
-        said = ran.stdout.decode(errors="replace")[-600:]
-        raise Failed(f"{of} is missing, and apt-get could not install {' '.join(packages)}:\n{said}")
 
 
 def wanted():
@@ -58,13 +41,15 @@ def emacs():
     return "emacs"
 
 
-def play(command, script, steps, text):
-    """What an editor found in these steps on a file with this text: pairs of a step and what was found."""
+def play(command, script, steps, text, given):
+    """What an editor found in these steps on a file with this text, with what else is given to it: pairs of a step and
+    what was found."""
     with tempfile.TemporaryDirectory() as room:
         file, report = os.path.join(room, "m.mod"), os.path.join(room, "report")
         with open(file, "w", encoding="utf-8", newline="") as it:
             it.write(text)
         own = {"OB0": os.path.abspath(harness.BINARY), "OB0_FILE": file, "OB0_REPORT": report, "OB0_STEPS": steps, "HOME": room}
+        own["OB0_GIVEN"] = json.dumps(given)
         how = {"stdin": subprocess.DEVNULL, "stdout": subprocess.PIPE, "stderr": subprocess.STDOUT, "cwd": room}
         try:
             ran = subprocess.run(
@@ -81,12 +66,12 @@ def play(command, script, steps, text):
     return [(it["step"], it["found"]) for it in found]
 
 
-def in_neovim(steps, text):
-    return play([neovim(), "--headless", "--clean", "-n", "-S"], "neovim.lua", steps, text)
+def in_neovim(steps, text, **given):
+    return play([neovim(), "--headless", "--clean", "-n", "-S"], "neovim.lua", steps, text, given)
 
 
-def in_emacs(steps, text):
-    return play([emacs(), "--batch", "-l"], "emacs.el", steps, text)
+def in_emacs(steps, text, **given):
+    return play([emacs(), "--batch", "-l"], "emacs.el", steps, text, given)
 
 
 GOOD = "MODULE M; BEGIN WriteLn END M.\n"
@@ -170,14 +155,12 @@ def as_emacs_shows():
 
 @test("Neovim: the diagnostics of a faulty module, and none of the mended one", "types")
 def neovim_types():
-    os.environ["OB0_MENDED"] = MENDED
-    same(in_neovim("mending", FAULTY), [("opened", as_neovim_shows()), ("mended", []), ("ended", ENDED)])
+    same(in_neovim("mending", FAULTY, mended=MENDED), [("opened", as_neovim_shows()), ("mended", []), ("ended", ENDED)])
 
 
 @test("Emacs: the diagnostics of a faulty module, and none of the mended one", "types")
 def emacs_types():
-    os.environ["OB0_MENDED"] = MENDED
-    same(in_emacs("mending", FAULTY), [("opened", as_emacs_shows()), ("mended", []), ("ended", 0)])
+    same(in_emacs("mending", FAULTY, mended=MENDED), [("opened", as_emacs_shows()), ("mended", []), ("ended", 0)])
 
 
 @test("Emacs: a bad character comes and goes, and the server ends cleanly")
@@ -186,40 +169,99 @@ def emacs_scanning():
     same(in_emacs("scanning", GOOD), [("opened", []), ("typed", bad), ("mended", []), ("ended", 0)])
 
 
-CALLS = """MODULE M;
-PROCEDURE F(n: INTEGER);
-BEGIN IF n > 0 THEN Write(n); F(n - 1) END END F;
-BEGIN F(2) END M.
-"""
 PLACES = ["1:10-1:11", "2:30-2:31", "2:47-2:48", "3:6-3:7"]
 HOVER = {"contents": {"kind": "plaintext", "value": "PROCEDURE F(n: INTEGER)"}, "range": extent("3:6-3:7")}
 DEFINITION = {"range": extent("1:10-1:11"), "uri": "file:///m.mod"}
 REFERENCES = [{"range": extent(it), "uri": "file:///m.mod"} for it in PLACES]
+ANSWERED = [("opened", []), ("hover", HOVER), ("definition", DEFINITION), ("references", REFERENCES)]
 
 
-@test("Neovim: hover, go to definition and references", "questions", "hover")
+@test("Neovim: hover, definition and references, as the server answers them", "questions", "hover")
 def neovim_questions():
-    found = in_neovim("questions", CALLS)
-    wanted_steps = [("opened", []), ("hover", HOVER), ("definition", DEFINITION), ("references", REFERENCES)]
-    same(found, [*wanted_steps, ("jumped", [2, 10]), ("ended", ENDED)])
+    same(in_neovim("questions", CALLS), [*ANSWERED, ("ended", ENDED)])
 
 
-@test("Emacs: hover, go to definition and references", "questions", "hover")
+@test("Emacs: hover, definition and references, as the server answers them", "questions", "hover")
 def emacs_questions():
-    found = in_emacs("questions", CALLS)
-    wanted_steps = [("opened", []), ("hover", HOVER), ("definition", DEFINITION), ("references", REFERENCES)]
-    same(found, [*wanted_steps, ("places", [[2, 10], [3, 30], [3, 47], [4, 6]]), ("jumped", [1, 10]), ("ended", 0)])
+    same(in_emacs("questions", CALLS), [*ANSWERED, ("ended", 0)])
 
 
-RENAMED = CALLS.replace("F", "G").replace("IG", "IF")
+# places to look at, each with what is shown, the places that are listed, and where its name is declared
+CALLS_SEEN = [
+    ([3, 6], "PROCEDURE F(n: INTEGER)", [[1, 10], [2, 30], [2, 47], [3, 6]], [1, 10]),
+    ([2, 47], "PROCEDURE F(n: INTEGER)", [[1, 10], [2, 30], [2, 47], [3, 6]], [1, 10]),
+    ([2, 32], "VAR n: INTEGER", [[1, 12], [2, 9], [2, 26], [2, 32]], [1, 12]),
+]
+RECORDS_SEEN = [
+    ([3, 8], "FIELD a: INTEGER", [[1, 16], [3, 8], [3, 33]], [1, 16]),
+    ([3, 39], "FIELD a: INTEGER", [[2, 20], [3, 18], [3, 39]], [2, 20]),
+]
+
+
+def looked(seen):
+    found = [("opened", [])]
+    for _, shown, listed, declared in seen:
+        found += [("shown", shown), ("listed", listed), ("jumped", declared)]
+    return found
+
+
+@test("Neovim: what its own hover, list of references and go to definition show", "questions", "hover", "fields")
+def neovim_looking():
+    for text, seen in ((CALLS, CALLS_SEEN), (RECORDS, RECORDS_SEEN)):
+        same(in_neovim("looking", text, places=[it[0] for it in seen]), [*looked(seen), ("ended", ENDED)])
+
+
+@test("Emacs: what its own hover, list of references and go to definition show", "questions", "hover", "fields")
+def emacs_looking():
+    for text, seen in ((CALLS, CALLS_SEEN), (RECORDS, RECORDS_SEEN)):
+        same(in_emacs("looking", text, places=[it[0] for it in seen]), [*looked(seen), ("ended", 0)])
+
+
+def renamed(text, places, new):
+    return [("opened", []), ("renamed", []), ("text", edited(text, places, new))]
 
 
 @test("Neovim: a rename is applied", "rename")
 def neovim_rename():
-    wanted_steps = [("opened", []), ("renamed", []), ("text", RENAMED.rstrip("\n").split("\n")), ("ended", ENDED)]
-    same(in_neovim("rename", CALLS), wanted_steps)
+    same(in_neovim("rename", CALLS, place=[2, 47], name="G"), [*renamed(CALLS, PLACES, "G"), ("ended", ENDED)])
 
 
 @test("Emacs: a rename is applied", "rename")
 def emacs_rename():
-    same(in_emacs("rename", CALLS), [("opened", []), ("renamed", []), ("text", RENAMED), ("ended", 0)])
+    same(in_emacs("rename", CALLS, place=[2, 47], name="G"), [*renamed(CALLS, PLACES, "G"), ("ended", 0)])
+
+
+FIELDS = ["1:16-1:17", "3:8-3:9", "3:33-3:34"]
+
+
+@test("Neovim: a rename of a record's field is applied, and keeps the run", "rename fields", "run")
+def neovim_rename_field():
+    for place in ([3, 8], [1, 16]):
+        found = in_neovim("rename", RECORDS, place=place, name="r")
+        same(found, [*renamed(RECORDS, FIELDS, "r"), ("ended", ENDED)], f"at {place}")
+        ends(on_file("run", dict(found)["text"]), " 3", 0)
+
+
+@test("Emacs: a rename of a record's field is applied, and keeps the run", "rename fields", "run")
+def emacs_rename_field():
+    found = in_emacs("rename", RECORDS, place=[3, 8], name="r")
+    same(found, [*renamed(RECORDS, FIELDS, "r"), ("ended", 0)])
+    ends(on_file("run", dict(found)["text"]), " 3", 0)
+
+
+# a text, a place in it, the action that is chosen, what is offered, the text after it
+ACTED = [
+    (LEAST, [3, 15], "Inline here", 2, LEAST.replace("+ c", "+ (-2147483647 - 1)")),
+    (LEAST, [3, 15], "Inline everywhere", 2, LEAST.replace("+ c", "+ (-2147483647 - 1)").replace("c = -2147483647 - 1;", "")),
+    (LEAST, [1, 6], "Inline everywhere", 1, LEAST.replace("+ c", "+ (-2147483647 - 1)").replace("c = -2147483647 - 1;", "")),
+]
+
+
+@test("Neovim: both ways to inline a constant are offered and applied, and keep the run", "inline", "run")
+def neovim_inline():
+    for text, place, title, count, wanted_text in ACTED:
+        found = in_neovim("acting", text, place=place, title=title)
+        offered = ["Inline here", "Inline everywhere"][2 - count :]
+        steps = [("opened", []), ("acted", []), ("offered", offered), ("text", wanted_text), ("ended", ENDED)]
+        same(found, steps, f"{title} at {place}")
+        ends(on_file("run", dict(found)["text"]), on_file("run", text).out, 0)

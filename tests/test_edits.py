@@ -1,7 +1,7 @@
 """Rename, inlining and formatting, through `serve` and through the commands."""
 import json
 
-from harness import Server, did_open, ends, extent, frames, initialize, on_file, place, request, run, same, serve, test
+from harness import Server, did_change, did_open, ends, extent, frames, initialize, marked, on_file, place, request, run, same, serve, test
 
 URI = "file:///m"
 NESTED = """MODULE M;
@@ -59,6 +59,46 @@ FIELD_RENAMES = [
     (RECORDS, 3, 8, "c", ["1:16-1:17", "3:8-3:9", "3:33-3:34"]),
     (RECORDS, 3, 8, "r", ["1:16-1:17", "3:8-3:9", "3:33-3:34"]),
     (RECORDS, 3, 8, "b", "Duplicate 1:19-1:20"),
+    (RECORDS, 1, 17, "INTEGER", ["1:16-1:17", "3:8-3:9", "3:33-3:34"]),
+    (RECORDS, 3, 39, "b", ["2:20-2:21", "3:18-3:19", "3:39-3:40"]),
+    (RECORDS, 1, 19, "a", "Duplicate 1:16-1:17"),
+    (RECORDS, 1, 19, "c", ["1:19-1:20"]),
+    (RECORDS, 3, 8, "a", []),
+    (RECORDS, 3, 8, "END", "BadName"),
+    (RECORDS, 3, 8, "1a", "BadName"),
+    (RECORDS, 3, 8, "", "BadName"),
+]
+
+# texts whose marked places are all those of one field, and new names that it may have
+FIELDS_MARKED = [
+    (
+        """MODULE M;
+TYPE P = RECORD ⟦x⟧, y: INTEGER; on: BOOLEAN END; Q = P;
+VAR a: ARRAY 2 OF RECORD p: P; x: INTEGER END; q: Q; x: INTEGER;
+PROCEDURE W(VAR r: P; x: INTEGER);
+BEGIN r.⟦x⟧ := x; r.on := ~r.on; a[r.⟦x⟧].p.⟦x⟧ := r.⟦x⟧; a[a[0].x].x := q.⟦x⟧ END W;
+BEGIN W(q, 1); W(a[1].p, 0); x := a[0].p.⟦x⟧ + a[1].x; Write(x); Write(q.⟦x⟧); Write(a[a[1].p.⟦x⟧].x) END M.
+""",
+        ["z", "p", "a", "P", "M", "W", "Write", "INTEGER"],
+    ),
+    (
+        """MODULE M;
+TYPE P = RECORD x, y: INTEGER; on: BOOLEAN END; Q = P;
+VAR a: ARRAY 2 OF RECORD p: P; ⟦x⟧: INTEGER END; q: Q; x: INTEGER;
+PROCEDURE W(VAR r: P; x: INTEGER);
+BEGIN r.x := x; a[r.x].p.x := r.x; a[a[0].⟦x⟧].⟦x⟧ := q.x END W;
+BEGIN W(q, 1); a[1].⟦x⟧ := a[0].p.x + 1; Write(a[1].⟦x⟧) END M.
+""",
+        ["z", "y", "on", "a"],
+    ),
+    (
+        """MODULE M;
+VAR r: RECORD r: RECORD ⟦r⟧: INTEGER END; s: INTEGER END;
+PROCEDURE P(s: INTEGER); VAR r: RECORD r: INTEGER END; BEGIN r.r := s; Write(r.r) END P;
+BEGIN r.r.⟦r⟧ := 7; r.s := r.r.⟦r⟧ + 1; P(r.r.⟦r⟧); Write(r.s) END M.
+""",
+        ["s", "P", "TRUE"],
+    ),
 ]
 
 
@@ -70,6 +110,25 @@ def edited(text, places, new):
         line, start, end = at["start"]["line"], at["start"]["character"], at["end"]["character"]
         lines[line] = lines[line][:start] + new + lines[line][end:]
     return "\n".join(lines)
+
+
+def unmarked(text):
+    """A text without its marks, and the places that were marked."""
+    plain, diagnostics = marked(text, *["Undeclared"] * text.count("⟦"))
+    spell = lambda it: f"{it['line']}:{it['character']}"
+    return plain, [f"{spell(it['range']['start'])}-{spell(it['range']['end'])}" for it in diagnostics]
+
+
+def patched(text, edits):
+    """A text with the edits of an answer, which stand in text order."""
+    starts = [0]
+    for at, it in enumerate(text):
+        if it == "\n" or it == "\r" and text[at + 1 : at + 2] != "\n":
+            starts.append(at + 1)
+    for edit in reversed(edits):
+        start, end = (starts[it["line"]] + it["character"] for it in (edit["range"]["start"], edit["range"]["end"]))
+        text = text[:start] + edit["newText"] + text[end:]
+    return text
 
 
 def where(line, character, **more):
@@ -111,6 +170,55 @@ def renamed():
 def field_renamed():
     through_serve(FIELD_RENAMES)
     through_command(FIELD_RENAMES)
+
+
+@test("rename: a field at each of its places, and the run is kept", "rename fields", "rename command", "run")
+def field_places():
+    for text, names in FIELDS_MARKED:
+        plain, places = unmarked(text)
+        out = on_file("run", plain).out
+        for it in places:
+            for end in ("start", "end"):
+                at = extent(it)[end]
+                through_serve([(plain, at["line"], at["character"], names[0], places)])
+        at = extent(places[0])["start"]
+        through_serve([(plain, at["line"], at["character"], new, places) for new in names])
+        through_command([(plain, at["line"], at["character"], new, places) for new in names])
+        for new in names:
+            ends(on_file("run", edited(plain, places, new)), out, 0)
+
+
+@test("rename: a field, byte by byte", "rename fields")
+def field_bytes():
+    asked = [request(3, "textDocument/rename", where(3, 8, newName="b")), request(4, "textDocument/rename", where(1, 19, newName="c"))]
+    found = serve(frames([initialize(), did_open(RECORDS, URI), *asked])).contents()[2:]
+    same(found[0], '{"error":{"code":-32803,"message":"Duplicate 1:19-1:20"},"id":3,"jsonrpc":"2.0"}')
+    same(
+        found[1],
+        '{"id":4,"jsonrpc":"2.0","result":{"changes":{"file:///m":[{"newText":"c","range":{"end":{"character":20,"line":1},'
+        '"start":{"character":19,"line":1}}}]}}}',
+    )
+
+
+@test("rename: a field, with the version and in both units", "rename fields")
+def field_units():
+    text = "MODULE M; VAR r: RECORD a: INTEGER END; BEGIN (* 😀é *) r.a := 1; Write(r.a) END M."
+    support = {"workspace": {"workspaceEdit": {"documentChanges": True}}}
+    for encodings, places in ((["utf-16"], ["0:24-0:25", "0:58-0:59", "0:74-0:75"]), (["utf-8"], ["0:24-0:25", "0:61-0:62", "0:77-0:78"])):
+        with Server(capabilities={**support, "general": {"positionEncodings": encodings}}) as server:
+            server.tell(did_open(text, URI, 7))
+            edits = [{"newText": "b", "range": extent(it)} for it in places]
+            for it in places:
+                at = extent(it)["start"]
+                found = server.ask("textDocument/rename", where(at["line"], at["character"], newName="b"))["result"]
+                same(found, {"documentChanges": [{"edits": edits, "textDocument": {"uri": URI, "version": 7}}]})
+
+
+@test("rename: a field, up to the longest text", "rename fields", "rename command")
+def field_longest():
+    text = "MODULE M; VAR r: RECORD x: INTEGER END; END M.".ljust(1048576)
+    ends(on_file("rename", text, "0", "24", "y"), text.replace("x", "y"), 0)
+    ends(on_file("rename", text, "0", "24", "xy"), "", 1, "refused: TooLong\n")
 
 
 @test("rename: a refusal and an edit, byte by byte", "rename")
@@ -178,22 +286,26 @@ BEGIN x := 0 + c; Write(x) END M.
 """
 
 
-def actions(text, line, character, context=None, capabilities=None):
+def acting(line, character, context=None, end=None):
+    """The params of a code action at a place, or at a range from there."""
+    at = {"end": end or place(line, character), "start": place(line, character)}
+    return {"context": {} if context is None else context, "range": at, "textDocument": {"uri": URI}}
+
+
+def actions(text, line, character, context=None, capabilities=None, end=None):
     """The titles of what is offered, each with its edits."""
     with Server(capabilities=LITERALS if capabilities is None else capabilities) as server:
         server.tell(did_open(text, URI))
-        at = {"end": place(line, character), "start": place(line, character)}
-        params = {"context": context or {}, "range": at, "textDocument": {"uri": URI}}
-        found = server.ask("textDocument/codeAction", params)
+        found = server.ask("textDocument/codeAction", acting(line, character, context, end))
         if "error" in found:
             return found["error"]
+        same([it["kind"] for it in found["result"]], ["refactor.inline"] * len(found["result"]), "the kinds")
         return {it["title"]: [(e["range"], e["newText"]) for e in it["edit"]["changes"][URI]] for it in found["result"]}
 
 
 @test("inline: a constant's edit, byte by byte", "inline")
 def inline_bytes():
-    at = {"end": place(1, 6), "start": place(1, 6)}
-    asked = request(4, "textDocument/codeAction", {"context": {}, "range": at, "textDocument": {"uri": URI}})
+    asked = request(4, "textDocument/codeAction", acting(1, 6))
     found = serve(frames([initialize(**LITERALS), did_open(LEAST, URI), asked])).contents()[2]
     same(
         found,
@@ -232,6 +344,117 @@ def inline_values():
     same([*actions(comment, 0, comment.index("c)"))], ["Inline here"], "a comment in the declaration")
     deep = "MODULE M; CONST c = -1; VAR x: INTEGER; BEGIN x := " + "(" * 100 + "c" + ")" * 100 + " END M."
     same(actions(deep, 0, deep.index("c)")), {}, "nested too deep")
+
+
+@test("inline: both actions at a use as document changes, byte by byte", "inline")
+def inline_changes():
+    support = {**LITERALS, "workspace": {"workspaceEdit": {"documentChanges": True}}}
+    asked = request(4, "textDocument/codeAction", acting(3, 15))
+    found = serve(frames([initialize(**support), did_open(LEAST, URI, 7), asked])).contents()[2]
+    use = '{"newText":"(-2147483647 - 1)","range":{"end":{"character":16,"line":3},"start":{"character":15,"line":3}}}'
+    gone = '{"newText":"","range":{"end":{"character":26,"line":1},"start":{"character":6,"line":1}}}'
+    action = lambda edits, title: (
+        f'{{"edit":{{"documentChanges":[{{"edits":[{edits}],"textDocument":{{"uri":"file:///m","version":7}}}}]}},'
+        f'"kind":"refactor.inline","title":"{title}"}}'
+    )
+    same(found, f'{{"id":4,"jsonrpc":"2.0","result":[{action(use, "Inline here")},{action(gone + "," + use, "Inline everywhere")}]}}')
+
+
+@test("inline: positions in both units", "inline", "utf8")
+def inline_units():
+    text = "MODULE M; CONST (* é *) c = 5; BEGIN (* 😀 *) Write(c) END M."
+    for encodings, gone, use in ((["utf-16"], "0:24-0:30", "0:52-0:53"), (["utf-8"], "0:25-0:31", "0:55-0:56")):
+        support = {**LITERALS, "general": {"positionEncodings": encodings}}
+        both = {"Inline here": [(extent(use), "5")], "Inline everywhere": [(extent(gone), ""), (extent(use), "5")]}
+        for end in ("start", "end"):
+            same(actions(text, 0, extent(use)[end]["character"], capabilities=support), both, f"{encodings}, at the {end} of the use")
+        same(actions(text, 0, extent(gone)["start"]["character"], capabilities=support), {"Inline everywhere": both["Inline everywhere"]})
+
+
+@test("inline: a range works at its start, and a swapped one at the lesser position", "inline")
+def inline_ranges():
+    both = actions(LEAST, 3, 15)
+    same([*both], ["Inline here", "Inline everywhere"])
+    same(actions(LEAST, 3, 15, end=place(3, 30)), both, "a range")
+    same(actions(LEAST, 3, 30, end=place(3, 15)), both, "a swapped range")
+    same(actions(LEAST, 3, 12, end=place(3, 16)), {}, "a range that begins before the name")
+
+
+# a text whose marked places are the uses of one constant: what is written there, and the actions that aren't offered
+INLINED = [
+    ("MODULE M; CONST c = -5; VAR a: INTEGER; BEGIN a := a - ⟦c⟧; Write(⟦c⟧ DIV 3); Write(a) END M.", "(-5)", []),
+    ("MODULE M; CONST k = 2; c = k * 3; d = ⟦c⟧ - k; VAR a: ARRAY ⟦c⟧ OF INTEGER; BEGIN a[⟦c⟧ - 1] := d; Write(a[5]) END M.", "6", []),
+    ("MODULE M; CONST t = 1 = 1; u = ~⟦t⟧; BEGIN IF ⟦t⟧ & ~u THEN Write(1) ELSE Write(0) END END M.", "TRUE", []),
+    ("MODULE M; CONST TRUE = 1 = 1; BEGIN IF ⟦TRUE⟧ THEN Write(1) ELSE Write(0) END END M.", None, ["Inline here", "Inline everywhere"]),
+    ("MODULE M; CONST TRUE = 1 = 1; t = TRUE; BEGIN IF ⟦t⟧ THEN Write(1) END END M.", None, ["Inline here", "Inline everywhere"]),
+    ("MODULE M; CONST TRUE = 1 = 2; BEGIN IF ⟦TRUE⟧ THEN Write(1) ELSE Write(0) END END M.", "FALSE", []),
+    ("MODULE M; CONST c (* five *) = 5; BEGIN Write(⟦c⟧); Write(⟦c⟧ * 2) END M.", "5", ["Inline everywhere"]),
+    ("MODULE M; CONST c = (* five *) 5; BEGIN Write(⟦c⟧) END M.", "5", ["Inline everywhere"]),
+    ("MODULE M; CONST c = 5 (* five *) ; BEGIN Write(⟦c⟧) END M.", "5", ["Inline everywhere"]),
+    ("MODULE M; CONST (* five *) c = 5; (* so *) BEGIN Write(⟦c⟧) END M.", "5", []),
+    ("MODULE M; CONST c = 5; PROCEDURE P(c: INTEGER); BEGIN Write(c) END P; PROCEDURE Q; CONST d = ⟦c⟧; c = 7; BEGIN Write(c); Write(d) END Q; BEGIN P(⟦c⟧); Q END M.", "5", []),
+    ("MODULE M; CONST c = 2147483647; BEGIN REPEAT UNTIL ⟦c⟧ = 2147483647; Write(-⟦c⟧) END M.", "2147483647", []),
+]
+
+
+@test("inline: here and everywhere, and both keep the run", "inline", "run")
+def inline_runs():
+    for text, written, refused in INLINED:
+        plain, uses = unmarked(text)
+        out = on_file("run", plain).out
+        for it in uses:
+            at = extent(it)
+            with Server(capabilities=LITERALS) as server:
+                server.tell(did_open(plain, URI))
+                params = acting(at["end"]["line"], at["end"]["character"])
+                found = {it["title"]: it["edit"]["changes"][URI] for it in server.ask("textDocument/codeAction", params)["result"]}
+            same([*found], [it for it in ("Inline here", "Inline everywhere") if it not in refused], f"what is offered at {it} of {plain}")
+            for title, edits in found.items():
+                wanted = [it] if title == "Inline here" else uses
+                same([it["range"] for it in edits if it["newText"]], [extent(it) for it in wanted], f"{title} at {it} of {plain}")
+                same({it["newText"] for it in edits}, {written} if title == "Inline here" else {written, ""}, plain)
+                ends(on_file("run", patched(plain, edits)), out, 0)
+
+
+@test("inline: a constant that is never used is taken out", "inline")
+def inline_unused():
+    text = "MODULE M; CONST c = 5; d = 6; BEGIN Write(d) END M."
+    same(actions(text, 0, 16), {"Inline everywhere": [(extent("0:16-0:22"), "")]})
+
+
+@test("inline: places where nothing is offered", "inline")
+def inline_nowhere():
+    text = "MODULE M; TYPE R = RECORD c: INTEGER END; VAR x: R; PROCEDURE P; BEGIN IF TRUE THEN x.c := 1 END END P; BEGIN P; Write(x.c) END M."
+    for what in ("M", "R", "c", "INTEGER", "x", "P", "TRUE", "1", "Write", "IF", "; VAR"):
+        same(actions(text, 0, text.index(what)), {}, f"at {what}")
+    same(actions("MODULE M", 0, 7), {}, "a text that isn't well-typed")
+    same(actions(LEAST, 99, 0), {}, "behind the text")
+
+
+@test("inline: up to the longest text", "inline")
+def inline_longest():
+    text = "MODULE M; CONST c = 10; d = c + c; END M."
+    whole = lambda size: actions(text.ljust(size), 0, text.index("c +"))
+    same([*whole(1048576 - 1)], ["Inline here", "Inline everywhere"])
+    same([*whole(1048576)], ["Inline everywhere"], "where the text would be too long by one use")
+
+
+@test("inline: what is refused before anything is looked at", "inline")
+def inline_refused():
+    bad = {"code": -32602, "message": "bad params"}
+    for support in (LITERALS, {}):
+        with Server(capabilities=support) as server:
+            ask = lambda params: server.ask("textDocument/codeAction", params).get("error")
+            same(ask(acting(0, 0)), {"code": -32803, "message": "unopened"})
+            server.tell(did_open(LEAST, URI))
+            for lacking in ("context", "range", "textDocument"):
+                same(ask({key: it for key, it in acting(0, 0).items() if key != lacking}), bad, f"without {lacking}")
+            for context in (1, [], {"only": 1}, {"only": {}}, {"only": [[]]}):
+                same(ask(acting(0, 0, context)), bad, f"context {context}")
+            same(ask({**acting(0, 0), "range": place(0, 0)}), bad, "a range that is none")
+            same(ask(acting(0, 0, {"only": None})), None, "an `only` that is null")
+            server.send(did_change([{"range": {}, "text": ""}], URI))
+            same(ask(acting(0, 0)), {"code": -32803, "message": "out of step"})
 
 
 # tabSize, insertSpaces, the text, the formatted one
@@ -273,14 +496,7 @@ def formatted(text, size, spaces):
         server.tell(did_open(text, URI))
         options = {"insertSpaces": spaces, "tabSize": size}
         found = server.ask("textDocument/formatting", {"options": options, "textDocument": {"uri": URI}})["result"]
-    lines, starts = text, [0]
-    for at, it in enumerate(text):
-        if it == "\n" or it == "\r" and text[at + 1 : at + 2] != "\n":
-            starts.append(at + 1)
-    for edit in reversed(found):
-        start, end = (starts[it["line"]] + it["character"] for it in (edit["range"]["start"], edit["range"]["end"]))
-        lines = lines[:start] + edit["newText"] + lines[end:]
-    return found, lines
+    return found, patched(text, found)
 
 
 @test("format: worked texts, and once more changes nothing", "format")

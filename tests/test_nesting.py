@@ -1,10 +1,11 @@
 """The deepest texts through the built program under a stack of 8 MiB: no mix of constructs runs it out."""
 import json
 import os
+import random
 
 import nesting
 from features import BUILT
-from harness import did_open, frames, holds, initialize, place, same, serve, test, SHUTDOWN, EXIT
+from harness import did_open, ends, frames, holds, initialize, on_file, place, same, serve, test, SHUTDOWN, EXIT
 
 MIXES = int(os.environ.get("OB0_MIXES", "400"))
 
@@ -59,3 +60,39 @@ def far():
             same([it["code"] for it in found], ["TooDeep"], text[:60])
         else:
             holds(found == [], text[:60])
+
+
+def chosen():
+    """Ways to choose among the statements that hold another: each alone, and mixes."""
+    found = {it[0]: lambda it=it: it for it in nesting.ENTERED}
+    for seed in range(MIXES // 40):
+        chance = random.Random(f"calls {seed}")
+        found[f"mix {seed}"] = lambda chance=chance: chance.choice(nesting.ENTERED)
+    return found
+
+
+@test("nesting: 64 open calls, each inside 100 nested constructs, run under a stack of 8 MiB", "run")
+def calls():
+    for name, choose in chosen().items():
+        text, out = nesting.recursive(64, choose)
+        ends(on_file("run", text, small_stack=True), out, 0)
+        same(len(out.split()), 65, f"the numbers that are written: {name}")
+        text, out = nesting.recursive(65, choose)
+        ends(on_file("run", text, small_stack=True), out.rsplit(" ", 2)[0], 1, "fault: CallBound\n")
+
+
+@test("nesting: 64 open calls of procedures inside one another, run under a stack of 8 MiB", "run")
+def inward():
+    for choose in chosen().values():
+        text, out = nesting.inward(64, choose)
+        ends(on_file("run", text, small_stack=True), out, 0)
+
+
+@test("nesting: calls inside 100 nested constructs are taken, inside 101 they are not", "run")
+def calls_within():
+    choose = lambda: nesting.ENTERED[0]
+    for text, _ in (nesting.recursive(64, choose), nesting.inward(64, choose)):
+        ends(on_file("check", text), "", 0)
+        deeper = text.replace("BEGIN ", "BEGIN IF TRUE THEN ", 1).replace(" END P;", " END END P;").replace(" END p64;", " END END p64;")
+        found = on_file("check", deeper)
+        same((found.status, found.out.split(b": ")[1:2]), (1, [b"TooDeep"]), deeper)

@@ -185,10 +185,65 @@ BEGIN r.a := 1; s.a := 2; a := r.a + s.a; Write(a) END M.
         same(server.references(3, 26, True), [extent(it) for it in ("2:36-2:37", "3:26-3:27", "3:48-3:49")])
 
 
+@test("questions: hover where a field is declared", "fields", "hover")
+def declared_fields():
+    wanted = {
+        "2:40-2:41": "FIELD x: INTEGER",
+        "2:43-2:44": "FIELD y: INTEGER",
+        "2:55-2:57": "FIELD on: BOOLEAN",
+    }
+    with Asked(NAMES) as server:
+        for span, text in wanted.items():
+            at = extent(span)
+            for end in ("start", "end"):
+                same(server.hover(at[end]["line"], at[end]["character"]), (text, at), f"at {span}")
+    text = """MODULE M;
+TYPE A = ARRAY 2 OF RECORD a: ARRAY 3 OF BOOLEAN; r: RECORD END END;
+VAR v: RECORD a: A; b, c: RECORD a, d: INTEGER END END;
+PROCEDURE P(VAR p: RECORD x: A END); TYPE A = INTEGER; VAR w: RECORD a: A END;
+BEGIN w.a := 1; v.b.a := w.a END P;
+END M.
+"""
+    wanted = {
+        "1:27-1:28": "FIELD a: ARRAY 3 OF BOOLEAN",
+        "1:50-1:51": "FIELD r: RECORD with 0 fields",
+        "2:14-2:15": "FIELD a: ARRAY 2 OF RECORD with 2 fields",
+        "2:20-2:21": "FIELD b: RECORD with 2 fields",
+        "2:23-2:24": "FIELD c: RECORD with 2 fields",
+        "2:33-2:34": "FIELD a: INTEGER",
+        "2:36-2:37": "FIELD d: INTEGER",
+        "3:26-3:27": "FIELD x: ARRAY 2 OF RECORD with 2 fields",
+        "3:69-3:70": "FIELD a: INTEGER",
+        "4:8-4:9": "FIELD a: INTEGER",
+        "4:18-4:19": "FIELD b: RECORD with 2 fields",
+    }
+    with Asked(text) as server:
+        for span, shown in wanted.items():
+            at = extent(span)
+            for end in ("start", "end"):
+                same(server.hover(at[end]["line"], at[end]["character"]), (shown, at), f"at {span}")
+        for line, character in ((1, 20), (1, 29), (2, 8), (2, 26), (2, 55)):
+            same(server.hover(line, character), None, f"at {line}:{character}")
+
+
 @test("questions: which fields can be renamed", "rename fields")
 def renamable_fields():
     with Asked(NAMES) as server:
         same(server.result("prepareRename", 6, 31), extent("6:31-6:33"))
+        same(server.result("prepareRename", 6, 33), extent("6:31-6:33"))
+        same(server.result("prepareRename", 2, 55), extent("2:55-2:57"))
+        same(server.result("prepareRename", 2, 41), extent("2:40-2:41"))
+
+
+@test("questions: prepareRename at a field, byte by byte", "rename fields")
+def renamable_bytes():
+    text = "MODULE M; VAR r: RECORD a: INTEGER END; BEGIN (* 😀 *) r.a := 1 END M."
+    asked = [request(3, "textDocument/prepareRename", where(0, 24)), request(4, "textDocument/prepareRename", where(0, 57))]
+    found = serve(frames([initialize(), did_open(text), *asked])).contents()[2:]
+    same(found[0], '{"id":3,"jsonrpc":"2.0","result":{"end":{"character":25,"line":0},"start":{"character":24,"line":0}}}')
+    same(found[1], '{"id":4,"jsonrpc":"2.0","result":{"end":{"character":58,"line":0},"start":{"character":57,"line":0}}}')
+    with Asked(text, general={"positionEncodings": ["utf-8"]}) as server:
+        same(server.result("prepareRename", 0, 59), extent("0:59-0:60"))
 
 
 @test("questions: positions in UTF-8 units", "questions", "utf8")

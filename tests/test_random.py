@@ -8,6 +8,7 @@ import sys
 
 import reference
 import reference_edits
+import reference_questions
 import wild
 from features import BUILT
 from harness import MESSAGES, TOP, Server, did_open, extent, on_file, place, same, test, told
@@ -16,6 +17,7 @@ sys.path.insert(0, os.path.join(TOP, "bench"))
 
 import corpus  # noqa: E402
 
+URI = "file:///m"
 COUNT, SEED = int(os.environ.get("OB0_RANDOM", "300")), int(os.environ.get("OB0_SEED", "0"))
 LEXEME = re.compile(r"\(\*.*?\*\)|[A-Za-z][A-Za-z0-9]*|[0-9]+|:=|<=|>=|\S", re.S)
 OPERATORS = ["+", "-", "*", "DIV", "MOD", "&", "OR", "=", "#", "<", "<=", ">", ">="]
@@ -94,30 +96,26 @@ def characters():
             same(server.tell(did_open(text)), wanted(text), f"seed {seed}, of the text {text!r}")
 
 
-@test("random: definition and references at each place", "questions")
+@test("random: hover, definition and references at each place", "questions", "hover", "fields")
 def questions():
-    uri = "file:///m"
     with Server() as server:
         for seed in range(SEED, SEED + max(1, COUNT // 30)):
             text = corpus.module(900, seed)
             found, chance = reference.Text(text), random.Random(seed)
             server.tell(did_open(text))
-            for at in [chance.randrange(len(text)) for _ in range(60)]:
-                line, character = found.position(at)
-                params = {"position": place(line, character), "textDocument": {"uri": uri}}
-                name = found.declared_at(at)
-                if not name and re.search(r"[A-Za-z0-9]", text[max(at - 1, 0) : at + 1]):
-                    continue  # (in or behind a field, the module's name or a reserved word)
-                spans = [extent("{}:{}-{}:{}".format(*map(str, (*found.position(a), *found.position(b))))) for a, b in found.places(name[1])] if name else []
-                context = {"context": {"includeDeclaration": True}}
-                got = server.ask("textDocument/references", {**params, **context})["result"]
-                same([it["range"] for it in got], spans, f"seed {seed}, references at {line}:{character}")
-                known = name and not hasattr(name[1], "predeclared")
-                got = server.ask("textDocument/definition", params)["result"]
-                if known:
-                    same(got["range"]["start"], place(*found.position(name[1].token.start)), f"seed {seed}, definition at {line}:{character}")
-                else:
-                    same(got, None, f"seed {seed}, definition at {line}:{character}")
+            spread_ = lambda it: extent("{}:{}-{}:{}".format(*found.position(it[0]), *found.position(it[1])))
+            fields_ = [it[0].start for it in found.checker.fields]
+            for at in [*(chance.randrange(len(text)) for _ in range(60)), *chance.sample(fields_, min(10, len(fields_)))]:
+                span, shown, declared, places = reference_questions.asked(found, at) or (None, None, None, [])
+                params = {"position": place(*found.position(at)), "textDocument": {"uri": URI}}
+                result = lambda what, **more: server.ask(f"textDocument/{what}", {**params, **more})["result"]
+                where = f"seed {seed}, at {found.position(at)}"
+                for include in (True, False):
+                    got = result("references", context={"includeDeclaration": include})
+                    same([it["range"] for it in got], [spread_(it) for it in places if include or it != declared], f"{where}: references")
+                same(result("definition"), declared and {"range": spread_(declared), "uri": URI}, f"{where}: definition")
+                contents = {"kind": "plaintext", "value": shown}
+                same(result("hover"), span and {"contents": contents, "range": spread_(span)}, f"{where}: hover")
 
 
 def program(seed):
@@ -147,9 +145,6 @@ def runs():
         same((got.out.decode(), got.err.decode(), got.status), result, f"seed {seed}, input {given}, {calls} calls, {turns} turns, of\n{text}\n")
         ends[found.end] = ends.get(found.end, 0) + 1
     print(f"    {ends}")
-
-
-URI = "file:///m"
 
 
 def spread(found, edits):

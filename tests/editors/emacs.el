@@ -1,6 +1,6 @@
 ;;; Drives the server from Emacs by eglot, in batch mode.  -*- lexical-binding: t -*-
 ;; Variables: OB0 (the program), OB0_FILE (the file to edit), OB0_REPORT (where the findings go, a line of JSON each),
-;; OB0_STEPS (the name of a list of steps below).
+;; OB0_STEPS (the name of a list of steps below); what a list of steps needs besides is in OB0_GIVEN, as JSON.
 (require 'package)
 (package-initialize)
 (require 'eglot)
@@ -17,6 +17,8 @@
       create-lockfiles nil
       auto-save-default nil)
 
+(defvar ob0-given (json-parse-string (or (getenv "OB0_GIVEN") "{}") :object-type 'alist :array-type 'list)
+  "What the steps need besides the text.")
 (defvar ob0-published 0 "How many publications came.")
 (defvar ob0-said nil "The diagnostics of the last one.")
 (defvar ob0-exit nil "The status that the server ended with.")
@@ -71,24 +73,43 @@
 
 (defun ob0-mending ()
   "A faulty text is replaced by a mended one."
-  (ob0-tell "mended" (ob0-after (lambda () (erase-buffer) (insert (getenv "OB0_MENDED"))))))
+  (ob0-tell "mended" (ob0-after (lambda () (erase-buffer) (insert (alist-get 'mended ob0-given))))))
 
 (defun ob0-questions ()
-  "Hover, definition and references, by the protocol and by Emacs's own commands."
+  "Hover, definition and references, as the server answers them."
   (ob0-goto 3 7)
   (ob0-tell "hover" (ob0-ask :textDocument/hover))
   (ob0-goto 2 47)
   (ob0-tell "definition" (ob0-ask :textDocument/definition))
-  (ob0-tell "references" (ob0-ask :textDocument/references :context '(:includeDeclaration t)))
-  (ob0-tell "places" (vconcat (mapcar (lambda (it) (let ((at (xref-item-location it))) (vector (xref-file-location-line at) (xref-file-location-column at))))
-                                      (xref-backend-references 'eglot "LSP identifier at point."))))
-  (xref-find-definitions "LSP identifier at point.")
-  (ob0-tell "jumped" (vector (1- (line-number-at-pos)) (current-column))))
+  (ob0-tell "references" (ob0-ask :textDocument/references :context '(:includeDeclaration t))))
+
+(defun ob0-hovered ()
+  "What Emacs would show of the name at point."
+  (let ((found nil))
+    (eglot-hover-eldoc-function (lambda (text &rest _) (setq found (or text ""))))
+    (ob0-await "what is shown" (lambda () found))
+    (substring-no-properties found)))
+
+(defun ob0-listed ()
+  "The places that Emacs lists for the name at point."
+  (vconcat (mapcar (lambda (it)
+                     (let ((at (xref-item-location it)))
+                       (vector (1- (xref-file-location-line at)) (xref-file-location-column at))))
+                   (xref-backend-references 'eglot "LSP identifier at point."))))
+
+(defun ob0-looking ()
+  "Questions as Emacs asks them, at each of the places that are given."
+  (dolist (place (alist-get 'places ob0-given))
+    (apply #'ob0-goto place)
+    (ob0-tell "shown" (ob0-hovered))
+    (ob0-tell "listed" (ob0-listed))
+    (xref-find-definitions "LSP identifier at point.")
+    (ob0-tell "jumped" (vector (1- (line-number-at-pos)) (current-column)))))
 
 (defun ob0-rename ()
   "A rename as Emacs asks for it and applies it."
-  (ob0-goto 2 47)
-  (ob0-tell "renamed" (ob0-after (lambda () (eglot-rename "G"))))
+  (apply #'ob0-goto (alist-get 'place ob0-given))
+  (ob0-tell "renamed" (ob0-after (lambda () (eglot-rename (alist-get 'name ob0-given)))))
   (ob0-tell "text" (buffer-substring-no-properties (point-min) (point-max))))
 
 (defun ob0-end (server)

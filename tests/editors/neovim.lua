@@ -1,8 +1,9 @@
 -- Drives the server from Neovim, without a screen: what an editor sees while somebody types.
 -- Variables: OB0 (the program), OB0_FILE (the file to edit), OB0_REPORT (where the findings go, a line of JSON each),
--- OB0_STEPS (the name of a list of steps below).
+-- OB0_STEPS (the name of a list of steps below); what a list of steps needs besides is in OB0_GIVEN, as JSON.
 local program, file = vim.env.OB0, vim.env.OB0_FILE
 local report = assert(io.open(vim.env.OB0_REPORT, "w"))
+local given = vim.fn.json_decode(vim.env.OB0_GIVEN or "{}")
 local published, exited = 0, nil
 
 local function tell(step, found)
@@ -65,10 +66,54 @@ local function after(change)
 end
 
 local function keys(typed)
-  local given = vim.api.nvim_replace_termcodes(typed, true, false, true)
+  local codes = vim.api.nvim_replace_termcodes(typed, true, false, true)
   return function()
-    vim.api.nvim_feedkeys(given, "ntx", false)
+    vim.api.nvim_feedkeys(codes, "ntx", false)
   end
+end
+
+-- Goes to a place, a line and a character that are counted from 0.
+local function go(place)
+  vim.api.nvim_win_set_cursor(0, { place[1] + 1, place[2] })
+end
+
+local function here()
+  local at = vim.api.nvim_win_get_cursor(0)
+  return { at[1] - 1, at[2] }
+end
+
+-- What the editor shows in a window over the text.
+local function shown()
+  local found = nil
+  await("a window over the text", function()
+    for _, window in ipairs(vim.api.nvim_list_wins()) do
+      if vim.api.nvim_win_get_config(window).relative ~= "" then
+        found = window
+      end
+    end
+    return found
+  end)
+  local lines = vim.api.nvim_buf_get_lines(vim.api.nvim_win_get_buf(found), 0, -1, true)
+  vim.api.nvim_win_close(found, true)
+  return vim.trim(table.concat(lines, "\n"))
+end
+
+-- The places that the editor lists.
+local function listed()
+  await("a list of places", function()
+    return #vim.fn.getqflist() > 0
+  end)
+  local found = {}
+  for _, it in ipairs(vim.fn.getqflist()) do
+    table.insert(found, { it.lnum - 1, it.col - 1 })
+  end
+  vim.fn.setqflist({}, "r")
+  vim.cmd("cclose")
+  return found
+end
+
+local function text()
+  return table.concat(vim.api.nvim_buf_get_lines(0, 0, -1, true), "\n") .. "\n"
 end
 
 -- The answer to a request at a place, as the server gave it.
@@ -104,33 +149,67 @@ end
 function steps.mending()
   tell("opened", diagnosed(0))
   tell("mended", after(function()
-    vim.api.nvim_buf_set_lines(0, 0, -1, true, vim.split(vim.trim(vim.env.OB0_MENDED), "\n"))
+    vim.api.nvim_buf_set_lines(0, 0, -1, true, vim.split(vim.trim(given.mended), "\n"))
   end))
 end
 
--- Questions as the editor asks them.
+-- Questions, and the answers as the server gave them.
 function steps.questions(client)
   tell("opened", diagnosed(0))
   tell("hover", asked(client, "textDocument/hover", 3, 7))
   tell("definition", asked(client, "textDocument/definition", 2, 47))
   tell("references", asked(client, "textDocument/references", 2, 47, { context = { includeDeclaration = true } }))
-  vim.api.nvim_win_set_cursor(0, { 3, 47 })
-  vim.lsp.buf.definition()
-  await("the jump to the definition", function()
-    local at = vim.api.nvim_win_get_cursor(0)
-    return at[1] == 2 and at[2] == 10
-  end)
-  tell("jumped", vim.api.nvim_win_get_cursor(0))
+end
+
+-- Questions as the editor asks them, at each of the places that are given: what it shows of a name, the places that it
+-- lists, and where it jumps to.
+function steps.looking()
+  tell("opened", diagnosed(0))
+  for _, place in ipairs(given.places) do
+    go(place)
+    vim.lsp.buf.hover()
+    tell("shown", shown())
+    go(place)
+    vim.lsp.buf.references()
+    tell("listed", listed())
+    go(place)
+    vim.lsp.buf.definition()
+    await("the jump to the definition", function()
+      return not vim.deep_equal(here(), place)
+    end)
+    tell("jumped", here())
+  end
 end
 
 -- A rename as the editor asks for it and applies it.
 function steps.rename()
   tell("opened", diagnosed(0))
-  vim.api.nvim_win_set_cursor(0, { 3, 47 })
+  go(given.place)
   tell("renamed", after(function()
-    vim.lsp.buf.rename("G")
+    vim.lsp.buf.rename(given.name)
   end))
-  tell("text", vim.api.nvim_buf_get_lines(0, 0, -1, true))
+  tell("text", text())
+end
+
+-- A code action as the editor asks for it, offers it in its list, and applies it.
+function steps.acting()
+  tell("opened", diagnosed(0))
+  go(given.place)
+  local offered = {}
+  vim.ui.select = function(items, options, choose)
+    for at, it in ipairs(items) do
+      local title = options.format_item(it)
+      table.insert(offered, title)
+      if title == given.title then
+        choose(it, at)
+      end
+    end
+  end
+  tell("acted", after(function()
+    vim.lsp.buf.code_action()
+  end))
+  tell("offered", offered)
+  tell("text", text())
 end
 
 local function run()

@@ -28,3 +28,6 @@ pub mod MarkedFields
 pub mod GroupWalks
 pub mod DeclaredWalks
 pub mod TableMade
+pub mod DeclaringWalks
+pub mod FieldTokens
+pub mod DuplicateFields

@@ -17,7 +17,7 @@ use Rattle.ob0_values.specs.Values.{Shape}
 use Rattle.ob0_fields.specs.Owned.{HasOwners, OwnersOfFields, fields_among, owned, owned_block, owned_formals, owned_group, owned_groups, owned_module, owned_procedure, owned_procedures, owned_section, owned_sections, owned_tokens, owned_type, owned_type_section, owned_types, owned_variable_section, owned_variables, passed, unowned, unowned_among, with_fields_at}
 use Rattle.ob0_fields.proofs.OwnedModules.{owners_by_declaration-holds}
 
-abbrev tokens : List (ℕ × Option ℕ) → List ℕ
+abbrev pub tokens : List (ℕ × Option ℕ) → List ℕ
 tokens xs = map (λ x. x.0) xs
 
 unowned-tokens : (xs : List (Role × ℕ)) → tokens (unowned_among xs) ≡ names_only xs
@@ -169,7 +169,7 @@ mutual
       (both-tokens (owned_block m (after_formals k p) b) last (identifiers role.Declaring b) ((role.ClosingName, closing) ∷ []) (block-tokens m (after_formals k p) b) refl)))
       (procedures-tokens m (k + procedure_constructors p) rest)
 
-module-tokens : {P : Type 0} (m : Meanings ℕ Shape P) (t : Tree ℕ module_text) → tokens (owned_module m t) ≡ leaves t
+pub module-tokens : {P : Type 0} (m : Meanings ℕ Shape P) (t : Tree ℕ module_text) → tokens (owned_module m t) ≡ leaves t
 module-tokens m (is_module x b closing) =
     ap (λ z. x ∷ z) (both-tokens (owned_block m 0 b) ((closing, None) ∷ []) (identifiers role.Declaring b) ((role.ModuleName, closing) ∷ []) (block-tokens m 0 b) refl)
 

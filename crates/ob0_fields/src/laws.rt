@@ -1,6 +1,7 @@
 //! The laws. Each function does nothing: its contract is the law.
 
 ghost use Rattle.ob0_fields.specs.FieldLaws.{FreeFieldKeepsModules, RefieldingKeepsFitting, RefieldingKeepsModules};
+ghost use Rattle.ob0_fields.specs.Identifiers.{DuplicateByToken, RenamedAtTokens};
 ghost use Rattle.ob0_fields.specs.Owned.{MarkedFields, OwnersByDeclaration, OwnersOfFields};
 ghost use Rattle.ob0_fields.specs.Owners.{RenamedByToken};
 
@@ -38,4 +39,14 @@ pub fn owners_of_fields()
 /// The fields among a module's identifiers are those that records declare and selectors select, in text order.
 pub fn marked_fields()
     ensures { MarkedFields }
+{}
+
+/// In a well-typed module a field has another name where that stands at the tokens of the field, and nothing else changed.
+pub fn renamed_at_tokens()
+    ensures { RenamedAtTokens }
+{}
+
+/// Another field of a record has a name where that is another name, and a token declares a field of it.
+pub fn duplicate_by_token()
+    ensures { DuplicateByToken }
 {}

@@ -2,8 +2,11 @@
 #![tactic(auto)]
 
 mod declared;
+mod declaring;
+mod identifiers;
 pub mod laws;
 mod owners;
 mod owning;
 
+pub use identifiers::{declaring_field, field_identifiers, field_tokens};
 pub use owners::field_owners;

@@ -26,7 +26,7 @@ pub fn field_owners(
 }
 
 /// The fields of a module, in text order.
-fn found_fields(alloc: Global, module: &WellTyped<'_, '_>) -> Result<Fields, AllocError>
+pub(crate) fn found_fields(alloc: Global, module: &WellTyped<'_, '_>) -> Result<Fields, AllocError>
     ensures { IfOk result (λ found. found.items ≡ marked_module (token_objects (declared_object (named_tree_of module.now.module_read)) module.now) (tree_of module.now.module_read)) }
 {
     let walk = Owning {

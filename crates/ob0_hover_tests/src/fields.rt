@@ -101,7 +101,6 @@ fn fields_are_shown_where_they_are_selected(rt: HostRuntime) -> Result<(), Fail>
     assert_eq!(rt; text.as_str(), "FIELD a: INTEGER");
     let (_, text) = shown(rt.alloc(), FIELDS, 99)?.ok_or("a variable")?;
     assert_eq!(rt; text.as_str(), "VAR r: RECORD with 2 fields");
-    assert!(rt; shown(rt.alloc(), FIELDS, 26)?.is_none());
     Ok(())
 }
 
@@ -113,5 +112,38 @@ fn fields_of_parts_are_shown_with_their_types(rt: HostRuntime) -> Result<(), Fai
     assert_eq!(rt; found.as_str(), "FIELD p: ARRAY 2 OF RECORD with 2 fields");
     let (_, found) = shown(rt.alloc(), text, 82)?.ok_or("a field")?;
     assert_eq!(rt; found.as_str(), "FIELD s: BOOLEAN");
+    Ok(())
+}
+
+#[test]
+fn fields_are_shown_where_they_are_declared(rt: HostRuntime) -> Result<(), Fail> {
+    for offset in [26, 27] {
+        let (span, text) = shown(rt.alloc(), FIELDS, offset)?.ok_or("a field")?;
+        assert_eq!(rt; span, Span { start: 26, end: 27 });
+        assert_eq!(rt; text.as_str(), "FIELD a: INTEGER");
+    }
+    let (span, text) = shown(rt.alloc(), FIELDS, 29)?.ok_or("a field")?;
+    assert_eq!(rt; span, Span { start: 29, end: 30 });
+    assert_eq!(rt; text.as_str(), "FIELD b: INTEGER");
+    assert!(rt; shown(rt.alloc(), FIELDS, 20)?.is_none());
+    Ok(())
+}
+
+/// Records within arrays, records and parameters, and a type that is declared anew.
+const PARTS: &str =
+    "MODULE M; TYPE A = ARRAY 2 OF RECORD x: BOOLEAN END; PROCEDURE P(VAR p, q: RECORD x: A; y, z: RECORD x: INTEGER END END); TYPE A = INTEGER; VAR v: RECORD x: A END; BEGIN p.y.x := v.x END P; END M.";
+
+#[test]
+fn declared_fields_of_parts_are_shown_with_their_types(rt: HostRuntime) -> Result<(), Fail> {
+    let (_, found) = shown(rt.alloc(), PARTS, 37)?.ok_or("a field of an element")?;
+    assert_eq!(rt; found.as_str(), "FIELD x: BOOLEAN");
+    let (_, found) = shown(rt.alloc(), PARTS, 83)?.ok_or("a field of a parameter")?;
+    assert_eq!(rt; found.as_str(), "FIELD x: ARRAY 2 OF RECORD with 1 fields");
+    let (_, found) = shown(rt.alloc(), PARTS, 92)?.ok_or("a field of its group")?;
+    assert_eq!(rt; found.as_str(), "FIELD z: RECORD with 1 fields");
+    let (_, found) = shown(rt.alloc(), PARTS, 102)?.ok_or("a field of a field")?;
+    assert_eq!(rt; found.as_str(), "FIELD x: INTEGER");
+    let (_, found) = shown(rt.alloc(), PARTS, 154)?.ok_or("a field of a variable")?;
+    assert_eq!(rt; found.as_str(), "FIELD x: INTEGER");
     Ok(())
 }

@@ -1,18 +1,15 @@
 -- What is answered at a use.
-use Rattle.std.proofs.Common.{cond, zero, arith, eq-eqb, ◌≡◌, ◌⊎◌, ◌≢◌, ℕ, suc, ◌+◌, ◌<◌, ◌≤◌, ◌==◌, ◌||◌, Bool, true, false, nat_lt, if◌then◌else◌, Option, Some, None, List, [], ◌∷◌, length, map, refl, sym, ap, ◌∙◌, subst, inl, inr, option_and_then, option_map, slice_get, codes, eqb-true, true≢false}
+use Rattle.std.proofs.Common.{cond, zero, arith, eq-eqb, ◌≡◌, ◌⊎◌, ℕ, suc, ◌+◌, ◌<◌, ◌≤◌, ◌==◌, ◌||◌, Bool, true, false, nat_lt, if◌then◌else◌, Option, Some, None, List, [], ◌∷◌, length, map, refl, sym, ap, ◌∙◌, subst, inl, inr, option_and_then, option_map, slice_get, eqb-true, true≢false}
 use Rattle.std.proofs.lemmas.Bool.{le-ltb, lt-ltb}
-use Rattle.std.specs.List.{All, position_from}
+use Rattle.std.specs.List.{position_from}
 use Rattle.ob0_scan.specs.Scanned.{max_text}
 use Rattle.ob0_text.specs.declared.edits.Edit.{Edit}
 use Rattle.ob0_text.specs.declared.positions.Unit as counting
 use Rattle.ob0_text.specs.declared.refusals.EditRefusal.{EditRefusal}
 use Rattle.ob0_text.specs.declared.refusals.EditRefusal.TheVariants.{Memory, Shadowed, TooDeep, TooLong}
-use Rattle.ob0_tree.specs.Order.{IsIdentifier}
-use Rattle.ob0_tree.specs.Parsed.{Parsed, named_tree_of, tree_of}
-use Rattle.ob0_tree.specs.Tree.{Tree, module_text, nesting, occurrences}
-use Rattle.ob0_edits.specs.Changed.{is_among}
+use Rattle.ob0_tree.specs.Parsed.{Parsed, named_tree_of}
+use Rattle.ob0_tree.specs.Tree.{Tree, module_text, nesting}
 use Rattle.ob0_edits.specs.Replaced.{AreNames, edit_at, parts, with_text_at}
-use Rattle.ob0_edits.specs.Written.{truth_text}
 use Rattle.ob0_scope.specs.Inlining.{only}
 use Rattle.ob0_scope.specs.Names.{Name}
 use Rattle.ob0_scope.specs.Occurrences.{binds}
@@ -34,9 +31,26 @@ use Rattle.ob0_values.specs.Scalars.{scalar_value}
 use Rattle.std.specs.Prelude.{pos, negsuc}
 use Rattle.ob0_inline.specs.declared.uses.Use.{Use}
 use Rattle.ob0_inline.specs.Inlined.{LeavesModule, StandAlone, inlined_at}
-use Rattle.ob0_inline.specs.Uses.{InlinesHere, IsUse, IsUseAt, inlined_here, is_shown, refusal_here, truth_ordinal}
+use Rattle.ob0_inline.specs.Uses.{InlinesHere, IsUse, IsUseAt, inlined_here, is_shown, refusal_here}
 use Rattle.ob0_inline.specs.Values.{value_factor, value_text}
-use Rattle.ob0_inline.proofs.UsesStand.{AreBound, inlined_by_number, inside, names_from, one_identifier, one_place, stand_alone, uses_are_identifiers, uses_ascend}
+use Rattle.ob0_inline.proofs.UsesStand.{AreBound, inlined_by_number, inside, one_identifier, one_place, stand_alone, uses_are_identifiers, uses_ascend}
+
+-- what is written for a value, and whether it is seen
+
+pub literal_of : (value : Scalar) → written_value (scalar_value value) ≡ Some (value_factor value)
+literal_of (scalar.Number (pos n)) = refl
+literal_of (scalar.Number (negsuc n)) = refl
+literal_of (scalar.Truth true) = refl
+literal_of (scalar.Truth false) = refl
+
+same_true : (o : Option ℕ) (d : ℕ) → same_ordinal o d ≡ true → o ≡ Some d
+same_true None d e = absurd (true≢false (sym e))
+same_true (Some j) d e = ap Some (eqb-true j d e)
+
+pub shown_is : (m : Tree Name module_text) (k : ℕ) (value : Scalar) → is_shown m k value ≡ true → IsShown m k (scalar_value value)
+shown_is m k (scalar.Number n) e = tt
+shown_is m k (scalar.Truth true) e = same_true _ 2 e
+shown_is m k (scalar.Truth false) e = same_true _ 3 e
 
 -- a use that a place is on is a use
 
@@ -83,12 +97,6 @@ module _ (r : Resolution) (well : IsWellTyped r) (u : Use) (use_so : IsUse r.mod
 
   written : IsScalar (scalar_value u.value) → IsConstantWritten (named_tree_of r.module_read) u.constant (scalar_value u.value) (value_factor u.value)
   written fits_so = record { value = use_so.worth; scalar = fits_so; literal = literal_of u.value }
-    where
-      literal_of : (value : Scalar) → written_value (scalar_value value) ≡ Some (value_factor value)
-      literal_of (scalar.Number (pos n)) = refl
-      literal_of (scalar.Number (negsuc n)) = refl
-      literal_of (scalar.Truth true) = refl
-      literal_of (scalar.Truth false) = refl
 
   pub stands : ConstantsStandAlone → IsScalar (scalar_value u.value) → StandAlone r.module_read (u.token ∷ []) u.value
   stands law fits_so =
@@ -105,16 +113,7 @@ module _ (r : Resolution) (well : IsWellTyped r) (u : Use) (use_so : IsUse r.mod
       (λ j i e. or_false (i == u.token) ∙ one_place 0 (length r.module_read.source.tokens) r.uses j u.occurrence i u.token (uses_ascend r well.resolved) e there)
 
   shown_so : is_shown (named_tree_of r.module_read) u.occurrence u.value ≡ true → IsShown (named_tree_of r.module_read) u.occurrence (scalar_value u.value)
-  shown_so e = of_value u.value e
-    where
-      same_true : (o : Option ℕ) (d : ℕ) → same_ordinal o d ≡ true → o ≡ Some d
-      same_true None d e = absurd (true≢false (sym e))
-      same_true (Some j) d e = ap Some (eqb-true j d e)
-
-      of_value : (value : Scalar) → is_shown (named_tree_of r.module_read) u.occurrence value ≡ true → IsShown (named_tree_of r.module_read) u.occurrence (scalar_value value)
-      of_value (scalar.Number n) e = tt
-      of_value (scalar.Truth true) e = same_true _ 2 e
-      of_value (scalar.Truth false) e = same_true _ 3 e
+  shown_so e = shown_is (named_tree_of r.module_read) u.occurrence u.value e
 
   uses_so : is_shown (named_tree_of r.module_read) u.occurrence u.value ≡ true → AreUsesOf (named_tree_of r.module_read) u.constant (scalar_value u.value) (only u.occurrence)
   uses_so e =

@@ -6,10 +6,10 @@ use Rattle.ob0_scan.specs.declared.lexeme.TokenKind.TheVariants as kind
 use Rattle.ob0_scan.specs.Scanned.{Word}
 use Rattle.ob0_tree.specs.Lexeme.{Lexeme, Mark}
 use Rattle.ob0_tree.specs.Lexeme as lexeme
-use Rattle.ob0_tree.specs.Parsed.{Parsed, named_tree_of, tree_of}
+use Rattle.ob0_tree.specs.Parsed.{named_tree_of, tree_of}
 use Rattle.ob0_tree.specs.Places as leaf
 use Rattle.ob0_tree.specs.Places.{lexeme_of}
-use Rattle.ob0_tree.specs.Tree.{Sort, Tree, factor, integer, mapped, occurrences, spell}
+use Rattle.ob0_tree.specs.Tree.{Sort, Tree, integer, mapped, occurrences, spell}
 use Rattle.ob0_tree.proofs.Leaves.{lexeme_names}
 use Rattle.ob0_edits.specs.Changed.{is_among, words_of}
 use Rattle.ob0_edits.specs.Inlined.{inlined}

@@ -1,5 +1,5 @@
 -- The uses of a constant, and the words that are left where its value stands in the place of all of them and its declaration is gone.
-use Rattle.std.proofs.Common.{◌≡◌, ◌≢◌, ℕ, zero, suc, ◌+◌, ◌<◌, ◌≤◌, ◌==◌, ◌||◌, ◌&&◌, Bool, true, false, cond, Option, Some, None, List, [], ◌∷◌, ◌++◌, map, length, refl, sym, ap, ◌∙◌, subst, arith, slice_get, eqb-true, eq-eqb, true≢false}
+use Rattle.std.proofs.Common.{◌≡◌, ◌≢◌, ℕ, zero, suc, ◌+◌, ◌<◌, ◌≤◌, ◌==◌, ◌||◌, ◌&&◌, Bool, true, false, cond, Option, Some, None, List, [], ◌∷◌, map, length, refl, sym, ap, ◌∙◌, arith, slice_get, eqb-true, eq-eqb, true≢false}
 use Rattle.std.specs.List.{All, filter}
 use Rattle.ob0_scan.specs.declared.lexeme.Token.{Token}
 use Rattle.ob0_scan.specs.Scanned.{Word}
@@ -14,7 +14,6 @@ use Rattle.ob0_edits.specs.Words.{word_lexeme}
 use Rattle.ob0_scope.specs.Elsewhere.{names_elsewhere}
 use Rattle.ob0_scope.specs.Inlining.{all_bound_to, inlined_everywhere, module_without}
 use Rattle.ob0_scope.specs.Names.{Name, declared}
-use Rattle.ob0_scope.specs.Occurrences.{binds}
 use Rattle.ob0_scope.specs.Parts.{module_block}
 use Rattle.ob0_scope.specs.Resolution.{IsResolution, Resolution, ordinal_in}
 use Rattle.ob0_scope.specs.Scopes.{numbered, same_ordinal}

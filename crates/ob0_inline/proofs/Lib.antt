@@ -10,3 +10,5 @@ pub mod Earlier
 pub mod Late
 pub mod Behind
 pub mod EverywhereAt
+pub mod Ended
+pub mod AtConstants

@@ -1,6 +1,5 @@
 -- The words that stand in a text once a value is written in the place of identifiers are those of the inlined module.
-use Rattle.std.proofs.Common.{◌≡◌, ℕ, suc, ◌+◌, ◌≤◌, ◌<◌, true, false, nat_lt, List, [], ◌∷◌, ◌++◌, map, refl, sym, ap, ◌∙◌, arith}
-use Rattle.std.proofs.lemmas.Bool.{ltb-true, ltb-false}
+use Rattle.std.proofs.Common.{◌≡◌, ℕ, suc, ◌+◌, ◌≤◌, List, [], ◌∷◌, ◌++◌, map, refl, ap, ◌∙◌, arith}
 use Rattle.std.proofs.lemmas.List.{append_cancel_right}
 use Rattle.ob0_scan.specs.declared.lexeme.Token.{Token}
 use Rattle.ob0_scan.specs.Scanned.{Word, read_in}
@@ -9,7 +8,7 @@ use Rattle.ob0_text.specs.declared.positions.Unit as counting
 use Rattle.ob0_tree.specs.Lexeme.{EndOfText}
 use Rattle.ob0_tree.specs.Parsed.{Parsed, IsParsed, tree_of}
 use Rattle.ob0_tree.specs.Places.{lexeme_of, lexemes_from}
-use Rattle.ob0_tree.specs.Tree.{nesting, spell}
+use Rattle.ob0_tree.specs.Tree.{Tree, module_text, nesting, spell}
 use Rattle.ob0_edits.specs.Changed.{words_of, changed, at_each}
 use Rattle.ob0_edits.specs.OfTrees.{placed}
 use Rattle.ob0_edits.specs.Replaced.{AreNames, LeavesWords}
@@ -30,10 +29,10 @@ lexemes_placed text i (t ∷ ts) =
     λ j. lexeme_of i t.kind ∷ rest j
 
 -- the tree over the tokens' numbers is spelled by the words with their numbers
-spelled_by_words : (m : Parsed) → IsParsed m → spell (tree_of m) ≡ placed 0 (words_of m.source)
+pub spelled_by_words : (m : Parsed) → IsParsed m → spell (tree_of m) ≡ placed 0 (words_of m.source)
 spelled_by_words m parsed = append_cancel_right (spell (tree_of m)) (placed 0 (words_of m.source)) (EndOfText ∷ []) (parsed.places ∙ lexemes_placed m.source.text 0 m.source.tokens)
 
-value_spelled : (value : Scalar) → map word_lexeme (value_words value) ≡ spell (value_factor value)
+pub value_spelled : (value : Scalar) → map word_lexeme (value_words value) ≡ spell (value_factor value)
 value_spelled (scalar.Number n) = number_spelled n
 value_spelled (scalar.Truth b) = truth_spelled b
 
@@ -42,10 +41,10 @@ pub inlined_spelled : (m : Parsed) → IsParsed m → (places : List ℕ) → Ar
 inlined_spelled m parsed places names value alone =
     inlined_words_spell m.source _ (tree_of m) places (value_factor value) (value_words value) names (spelled_by_words m parsed) alone (value_spelled value)
 
--- where the inlined module isn't too deep, edits that leave its words leave its text
-pub leaves_module : (unit : counting.Unit) (text : List ℕ) (edits : List Edit) (ws : List Word) (m : Parsed) (places : List ℕ) (value : Scalar)
-    → LeavesWords unit text edits ws → map word_lexeme ws ≡ spell (inlined_at m places value) → nesting (inlined_at m places value) ≤ 100 → LeavesModule unit text edits (inlined_at m places value)
-leaves_module unit text edits ws m places value leaves spelled low = record {
+-- where the tree that they spell isn't too deep, edits that leave these words leave its text
+pub leaves_module : (unit : counting.Unit) (text : List ℕ) (edits : List Edit) (ws : List Word) (t : Tree (List ℕ) module_text)
+    → LeavesWords unit text edits ws → map word_lexeme ws ≡ spell t → nesting t ≤ 100 → LeavesModule unit text edits t
+leaves_module unit text edits ws t leaves spelled low = record {
   after = leaves.after;
   scan = leaves.scan;
   made = leaves.made;

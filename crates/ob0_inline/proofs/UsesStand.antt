@@ -1,30 +1,27 @@
 -- Tokens of occurrences that are bound to a constant: they are names in text order, and stand alone as factors.
-use Rattle.std.proofs.Common.{◌≡◌, ◌≢◌, ℕ, zero, suc, ◌+◌, ◌<◌, ◌≤◌, ◌==◌, ◌||◌, Bool, true, false, if◌then◌else◌, Option, Some, None, List, [], ◌∷◌, ◌++◌, map, length, refl, sym, ap, ◌∙◌, subst, arith, slice_get, eqb-true, eq-eqb, true≢false}
+use Rattle.std.proofs.Common.{◌≡◌, ◌≢◌, ℕ, zero, suc, ◌+◌, ◌≤◌, ◌==◌, ◌||◌, Bool, true, false, if◌then◌else◌, Option, Some, None, List, [], ◌∷◌, map, length, refl, sym, ap, ◌∙◌, subst, arith, slice_get, eqb-true, eq-eqb, true≢false}
 use Rattle.std.specs.List.{All}
 use Rattle.std.proofs.lemmas.List.Elements.{All-head, All-tail}
 use Rattle.ob0_scan.specs.declared.lexeme.Token.{Token}
-use Rattle.ob0_scan.specs.Scanned.{Scanned, read_in}
+use Rattle.ob0_scan.specs.Scanned.{read_in}
 use Rattle.ob0_tree.specs.declared.tree.Role.{Role}
 use Rattle.ob0_tree.specs.declared.tree.Role.TheVariants as role
 use Rattle.ob0_tree.specs.Order.{AreIdentifiers, Ascending, IsIdentifier, names_only}
 use Rattle.ob0_tree.specs.Parsed.{named_tree_of, tree_of}
 use Rattle.ob0_tree.specs.Places as leaf
-use Rattle.ob0_tree.specs.Tree.{Tree, factor, identifiers, mapped, occurrences}
+use Rattle.ob0_tree.specs.Tree.{Tree, factor, identifiers, occurrences}
 use Rattle.ob0_tree.proofs.Leaves.{leaves_are_identifiers, leaves_ascend}
 use Rattle.ob0_tree.proofs.Occurring.{looked_up_only, looked_up-occurrences}
 use Rattle.ob0_edits.specs.Changed.{is_among, words_of}
 use Rattle.ob0_edits.specs.Inlined.{ReplacesFactors, inlined}
-use Rattle.ob0_edits.specs.OfTrees.{factor_at, number_at, text_at, word_at}
-use Rattle.ob0_edits.specs.Replaced.{AreNames, token_at}
-use Rattle.ob0_edits.specs.Written.{name_word}
+use Rattle.ob0_edits.specs.OfTrees.{factor_at, number_at, text_at}
+use Rattle.ob0_edits.specs.Replaced.{AreNames}
 use Rattle.ob0_scope.specs.Elsewhere.{names_elsewhere}
 use Rattle.ob0_scope.specs.Inlining.{Uses, inline_in}
 use Rattle.ob0_scope.specs.Names.{Label, Name, as_names, declared}
-use Rattle.ob0_scope.specs.Occurrences.{binds}
 use Rattle.ob0_scope.specs.Resolution.{IsResolution, Resolution, label_at, ordinal_in}
 use Rattle.ob0_scope.specs.Scopes.{as_label, numbered}
-use Rattle.ob0_scope.proofs.Bound.{bound_at}
-use Rattle.ob0_scope.proofs.SeenInPlaces.{AllTold, Told, occurrence_table, uses_told}
+use Rattle.ob0_scope.proofs.SeenInPlaces.{AllTold, occurrence_table, uses_told}
 use Rattle.ob0_inline.proofs.Alone.{NoneFor, NoneOther, alone, elsewhere-mapped}
 use Rattle.ob0_inline.proofs.OnOccurrences.{agrees_each, same}
 

@@ -1,12 +1,11 @@
 -- The words that are left where a declaration is taken out, and a factor put at identifiers, are spelled by the tree without the declaration.
-use Rattle.std.proofs.Common.{◌≡◌, ◌≢◌, ◌⊎◌, inl, inr, ℕ, zero, suc, ◌+◌, ◌<◌, ◌≤◌, ◌==◌, Bool, true, false, ◌&&◌, ◌||◌, if◌then◌else◌, nat_le, Option, Some, None, List, [], ◌∷◌, ◌++◌, map, length, refl, sym, ap, ap₂, ◌∙◌, subst, arith, append_assoc, append-nil, length-append, eqb-true}
+use Rattle.std.proofs.Common.{◌≡◌, inl, inr, ℕ, zero, suc, ◌+◌, ◌<◌, ◌≤◌, ◌==◌, Bool, true, false, ◌&&◌, ◌||◌, if◌then◌else◌, nat_le, Option, Some, None, List, [], ◌∷◌, ◌++◌, map, length, refl, sym, ap, ap₂, ◌∙◌, arith, append_assoc, append-nil, length-append, eqb-true}
 use Rattle.std.proofs.lemmas.Bool.{lt-leb, le-leb}
 use Rattle.std.proofs.lemmas.Grind.{flat_map-append}
 use Rattle.std.proofs.lemmas.List.{map-append}
 use Rattle.ob0_scope.proofs.OccurrenceNames.{length-map}
 use Rattle.std.proofs.Math.Seq.{get_or-append_seam}
 use Rattle.std.specs.List.{flat_map}
-use Rattle.ob0_scan.specs.declared.lexeme.Reserved.TheVariants as reserved
 use Rattle.ob0_scan.specs.declared.lexeme.Symbol.TheVariants as symbol
 use Rattle.ob0_scan.specs.declared.lexeme.Token.{Token}
 use Rattle.ob0_scan.specs.declared.lexeme.TokenKind.{TokenKind}
@@ -23,10 +22,9 @@ use Rattle.ob0_edits.specs.Removed.{IsDeclaration, without}
 use Rattle.ob0_edits.specs.Replaced as place
 use Rattle.ob0_edits.specs.Replaced.{AreNames}
 use Rattle.ob0_edits.specs.Words.{word_lexeme}
-use Rattle.ob0_edits.specs.Written.{name_word}
 use Rattle.ob0_edits.proofs.Inlined.{spell_inlined}
 use Rattle.ob0_scope.proofs.Peeling.{heads}
-use Rattle.ob0_inline.proofs.TakenOut.{NoEnd, Taken}
+use Rattle.ob0_inline.proofs.TakenOut.{Taken}
 
 -- words cut where their tokens are
 pub record Cut (k : ℕ) (ws : List Word) (front behind : List (Lexeme ℕ)) : Type 0 where

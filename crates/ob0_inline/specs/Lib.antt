@@ -2,3 +2,4 @@ pub mod Values
 pub mod Inlined
 pub mod Declarations
 pub mod Uses
+pub mod Everywhere

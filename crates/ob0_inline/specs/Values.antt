@@ -1,5 +1,5 @@
 -- How a value is written: its text, the words of that text, and the factor that they spell.
-use Rattle.std.specs.Prelude.{ℕ, List, []}
+use Rattle.std.specs.Prelude.{ℕ, List}
 use Rattle.ob0_scan.specs.Scanned.{Word}
 use Rattle.ob0_tree.specs.Tree.{Tree, factor}
 use Rattle.ob0_values.specs.declared.scalar.Scalar.{Scalar}

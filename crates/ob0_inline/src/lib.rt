@@ -1,7 +1,9 @@
 //! Inlining a constant: the edits that write its value in the place of its name.
 #![tactic(auto)]
 
+mod constants;
 mod depth;
+mod everywhere;
 mod inlining;
 mod shown;
 #[cfg(test)]
@@ -10,5 +12,7 @@ mod uses;
 mod writing;
 mod written;
 
+pub use constants::Constant;
+pub use everywhere::inline_all;
 pub use inlining::inline_here;
 pub use uses::Use;

@@ -1,11 +1,15 @@
 //! Where TRUE and FALSE are the predeclared ones.
 
-ghost use Rattle.std.specs.Prelude.{◌≡◌, IfOk, ◌==◌, option_and_then, slice_get};
+ghost use Rattle.std.specs.Prelude.{◌≡◌, IfOk, ◌==◌, ◌&&◌, not, length, option_and_then, slice_get};
+ghost use Rattle.std.specs.List.{list_any, range_with_len};
 ghost use Rattle.ob0_tree.specs.Parsed.{named_tree_of};
+ghost use Rattle.ob0_scope.specs.Occurrences.{bindings, binds};
 ghost use Rattle.ob0_scope.specs.Scopes.{same_ordinal};
 ghost use Rattle.ob0_scope.specs.SeenNames.{sees};
+ghost use Rattle.ob0_inline.specs.Everywhere.{any_hidden};
 ghost use Rattle.ob0_inline.specs.Uses.{is_shown};
 
+use crate::constants::Constant;
 use ob0_scope::resolved::Resolved;
 use ob0_scope::seen::seen;
 use ob0_values::scalar::Scalar;
@@ -63,4 +67,59 @@ pub(crate) fn is_ordinal(found: Option<usize>, ordinal: usize) -> bool
         Some(other) => other == ordinal,
         None => false,
     }
+}
+
+/// Whether the name that would be written for a constant isn't the predeclared one at one of its uses. A number has none.
+pub(crate) fn any_hidden(
+    alloc: Global,
+    names: &Resolved,
+    constant: Constant,
+) -> Result<bool, AllocError>
+    ensures { IfOk result (λ hidden. hidden ≡ any_hidden (named_tree_of names.now.module_read) constant) }
+{
+    let value = constant.value;
+    match value {
+        Scalar::Number(_) => Ok(false),
+        Scalar::Truth(true) => is_hidden(alloc, names, constant.ordinal, "TRUE", TRUE),
+        Scalar::Truth(false) => is_hidden(alloc, names, constant.ordinal, "FALSE", FALSE),
+    }
+}
+
+/// Whether a name would be bound to another declaration than this in the place of a use of a constant.
+fn is_hidden(
+    alloc: Global,
+    names: &Resolved,
+    constant: usize,
+    name: &str,
+    ordinal: usize,
+) -> Result<bool, AllocError>
+    ensures { IfOk result (λ hidden. hidden ≡ list_any (λ k. same_ordinal (binds (named_tree_of names.now.module_read) k) constant && not (same_ordinal (sees (named_tree_of names.now.module_read) k name.now) ordinal))
+        (range_with_len 0 (length (bindings (named_tree_of names.now.module_read))))) }
+{
+    let _module = names.module();
+    let bound = seen(alloc, names, name)?;
+    Ok(any_elsewhere(names, &bound, constant, ordinal))
+}
+
+fn any_elsewhere(names: &Resolved, bound: &[Option<usize>], constant: usize, ordinal: usize) -> bool
+    ensures { result ≡ list_any (λ k. same_ordinal (binds (named_tree_of names.now.module_read) k) constant && not (same_ordinal (option_and_then (λ found. found) (slice_get bound.now k)) ordinal)) (range_with_len 0 (length names.now.uses)) }
+{
+    for occurrence in 0..names.occurrences().len() {
+        if is_elsewhere(names, bound, occurrence, constant, ordinal) {
+            return true;
+        }
+    }
+    false
+}
+
+fn is_elsewhere(
+    names: &Resolved,
+    bound: &[Option<usize>],
+    occurrence: usize,
+    constant: usize,
+    ordinal: usize,
+) -> bool
+    ensures { result ≡ (same_ordinal (binds (named_tree_of names.now.module_read) occurrence) constant && not (same_ordinal (option_and_then (λ found. found) (slice_get bound.now occurrence)) ordinal)) }
+{
+    is_ordinal(names.declaration_of(occurrence), constant) && !is_bound(bound, occurrence, ordinal)
 }

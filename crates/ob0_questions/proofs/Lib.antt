@@ -1,3 +1,4 @@
+pub mod FieldWalks
 pub mod Selected
 pub mod Walks
 pub mod Written

@@ -1,5 +1,5 @@
 -- Selections of the code and those of the module.
-use Rattle.std.proofs.Common.{◌≡◌, ℕ, Bool, true, false, List, [], ◌∷◌, map, Option, option_map, refl, ap, ◌∙◌}
+use Rattle.std.proofs.Common.{◌≡◌, ℕ, Bool, true, false, List, [], ◌∷◌, map, Option, None, option_map, refl, ap, ◌∙◌}
 use Rattle.ob0_hover.specs.Shown.{Shown}
 use Rattle.ob0_refs.specs.Standing.{is_on}
 use Rattle.ob0_scan.specs.Scanned.{Scanned}
@@ -13,6 +13,7 @@ use Rattle.ob0_selectors.specs.declared.selecting.Selection.{Selection}
 use Rattle.ob0_selectors.specs.Selections.{Selected, module_selections, name_and_field, selections, token_meaning}
 use Rattle.ob0_selectors.specs.Walk.{selection_in, token_and_field}
 use Rattle.ob0_questions.specs.Fields.{module_selected}
+use Rattle.ob0_questions.specs.FieldTypes.{module_typed, typed_fields}
 use Rattle.ob0_questions.specs.Questions.{selected_on, selected_shown, selection_shown}
 use Rattle.ob0_questions.specs.Walk.{selection_on}
 use Rattle.ob0_values.specs.Values.{Shape}
@@ -26,6 +27,12 @@ pub module_found : (shapes : List Shape) (found given : List Selection) (objects
     → given ≡ found → map (selection_in shapes) found ≡ selections (token_meaning objects r) (tree_of r.module_read) → map (selection_in shapes) given ≡ module_selections names
 module_found shapes found given objects r names same holds e kept =
     ap (map (selection_in shapes)) e ∙ kept ∙ (λ i. selections (token_meaning (λ k. holds k i) (same i)) (tree_of (same i).module_read))
+
+-- the same of the fields that are declared
+pub module_typed_found : (shapes : List Shape) (found given : List Selection) (objects : ℕ → Option (Object Shape Signature)) (r names : Resolution) → r ≡ names → ((k : ℕ) → objects k ≡ declared_object (named_tree_of names.module_read) k)
+    → given ≡ found → map (selection_in shapes) found ≡ typed_fields (token_meaning objects r) None (tree_of r.module_read) → map (selection_in shapes) given ≡ module_typed names
+module_typed_found shapes found given objects r names same holds e kept =
+    ap (map (selection_in shapes)) e ∙ kept ∙ (λ i. typed_fields (token_meaning (λ k. holds k i) (same i)) None (tree_of (same i).module_read))
 
 pub selection_found : (shapes : List Shape) (source : Scanned) (offset : ℕ) (found : List Selection)
     → option_map (selection_in shapes) (selection_on source offset found) ≡ selected_on source offset (map (selection_in shapes) found)

@@ -13,6 +13,7 @@ use Rattle.ob0_selectors.specs.Selections.{Selected, module_selections}
 use Rattle.ob0_tree.specs.Places.{text_at}
 use Rattle.ob0_types.specs.declared.known.FieldOf.{FieldOf}
 use Rattle.ob0_questions.specs.Fields.{AreReferences, field_on, module_fields, or_else, tokens_of}
+use Rattle.ob0_questions.specs.FieldTypes.{module_typed}
 
 abbrev pub first : {A : Type 0} → List A → Option A
 first [] = None
@@ -54,7 +55,7 @@ AreReferred r None None include spans = spans ≡ []
 abbrev pub AreReferencesAt : Resolution → ℕ → Bool → List Span → Type 0
 AreReferencesAt r offset include spans = AreReferred r (name_on r.module_read offset) (field_on r offset) include spans
 
--- the first identifier of a selector that a place is on, with its field's type
+-- the first identifier of some fields that a place is on, with its field's type
 abbrev pub selected_on : Scanned → ℕ → List (Selected ℕ) → Option (Selected ℕ)
 selected_on source offset [] = None
 selected_on source offset (s ∷ found) = if is_on offset (span_at source s.name) then Some s else selected_on source offset found
@@ -66,10 +67,14 @@ field_text name of = codes "FIELD " ++ (name ++ (codes ": " ++ of))
 abbrev pub selection_shown : Resolution → Selected ℕ → Shown
 selection_shown r s = record { span = span_at r.module_read.source s.name; text = field_text (text_at r.module_read.source s.name) (type_text s.shape) }
 
--- what is shown of a field where it is selected
+-- what is shown of the one of some fields that a place is on
 abbrev pub selected_shown : Resolution → ℕ → List (Selected ℕ) → Option Shown
 selected_shown r offset found = option_map (selection_shown r) (selected_on r.module_read.source offset found)
 
--- what is shown at a place: of a name, or else of a field that is selected there
+-- what is shown of a field, where it is declared and where it is selected
+abbrev pub field_shown : Resolution → ℕ → Option Shown
+field_shown r offset = or_else (selected_shown r offset (module_typed r)) (selected_shown r offset (module_selections r))
+
+-- what is shown at a place: of a name, or else of a field
 abbrev pub all_shown_at : Resolution → ℕ → Option Shown
-all_shown_at r offset = or_else (shown_at r.module_read offset) (selected_shown r offset (module_selections r))
+all_shown_at r offset = or_else (shown_at r.module_read offset) (field_shown r offset)

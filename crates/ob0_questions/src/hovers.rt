@@ -1,4 +1,4 @@
-//! What is shown at a place: of a name, or else of a field that is selected there.
+//! What is shown at a place: of a name, or else of a field.
 
 ghost use Rattle.std.specs.Prelude.{◌≡◌, IfOk, map, option_map, string_bytes};
 ghost use Rattle.ob0_hover.specs.Parts.{hover_in};
@@ -7,9 +7,11 @@ ghost use Rattle.ob0_selectors.specs.Selections.{module_selections};
 ghost use Rattle.ob0_selectors.specs.Walk.{selection_in};
 ghost use Rattle.ob0_types.specs.KnownTables.{shapes_of};
 ghost use Rattle.ob0_types.specs.Tables.{type_shape};
-ghost use Rattle.ob0_questions.specs.Questions.{all_shown_at, field_text, selected_shown, selection_shown};
+ghost use Rattle.ob0_questions.specs.FieldTypes.{module_typed};
+ghost use Rattle.ob0_questions.specs.Questions.{all_shown_at, field_shown, field_text, selected_shown, selection_shown};
 ghost use Rattle.ob0_questions.specs.Walk.{selection_on};
 
+use crate::declaring::declared_by;
 use crate::fields::is_on;
 use crate::questions::span_of;
 use ob0_hover::{Hover, type_text};
@@ -23,7 +25,7 @@ use ob0_types::types::TypeId;
 use std::alloc::{AllocError, Global};
 
 /// What is shown at a place, where it lies in a name or at its end: of a name as `ob0_hover::hover`, and of a field where
-/// it is selected. None elsewhere, also where a field is declared.
+/// it is declared and where it is selected. None elsewhere.
 pub fn hover(
     alloc: Global,
     well_typed: &WellTyped<'_, '_>,
@@ -33,10 +35,38 @@ pub fn hover(
 {
     match ob0_hover::hover(alloc, well_typed, offset)? {
         Some(found) => Ok(Some(found)),
+        None => hover_field(alloc, well_typed, offset),
+    }
+}
+
+fn hover_field(
+    alloc: Global,
+    well_typed: &WellTyped<'_, '_>,
+    offset: usize,
+) -> Result<Option<Hover>, AllocError>
+    ensures { IfOk result (λ h. option_map hover_in h ≡ field_shown well_typed.now offset) }
+{
+    match hover_declared(alloc, well_typed, offset)? {
+        Some(found) => Ok(Some(found)),
         None => hover_selected(alloc, well_typed, offset),
     }
 }
 
+/// What is shown of a field where it is declared.
+fn hover_declared(
+    alloc: Global,
+    well_typed: &WellTyped<'_, '_>,
+    offset: usize,
+) -> Result<Option<Hover>, AllocError>
+    ensures { IfOk result (λ h. option_map hover_in h ≡ selected_shown well_typed.now offset (module_typed well_typed.now)) }
+{
+    let known = well_typed.known();
+    let names = well_typed.resolved();
+    let found = declared_by(alloc, known, names)?;
+    hover_among(alloc, known, names, offset, &found)
+}
+
+/// What is shown of a field where it is selected.
 fn hover_selected(
     alloc: Global,
     well_typed: &WellTyped<'_, '_>,

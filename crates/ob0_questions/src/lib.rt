@@ -1,6 +1,7 @@
 //! Questions about names and fields at the places of a well-typed module.
 #![tactic(auto)]
 
+mod declaring;
 mod fields;
 mod hovers;
 mod questions;

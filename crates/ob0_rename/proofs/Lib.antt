@@ -7,3 +7,4 @@ pub mod Rewritten
 pub mod Told
 pub mod Spelled
 pub mod Outcomes
+pub mod FieldOutcomes

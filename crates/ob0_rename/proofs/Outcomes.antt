@@ -1,6 +1,7 @@
 -- What is answered for a declaration: by what stands against the new name, or by the edits.
 use Rattle.std.proofs.Common.{◌≡◌, ◌⊎◌, ℕ, ◌≤◌, ◌<◌, Bool, true, false, if◌then◌else◌, Option, Some, None, Result, Ok, Err, Vec, List, [], ◌∷◌, length, map, slice_get, option_map, option_and_then, inl, inr, refl, sym, ap, ◌∙◌, subst, arith}
-use Rattle.std.specs.Prelude.{IfErr, IfOk, IsErrOf}
+use Rattle.std.proofs.lemmas.Bool.{ltb-false, ltb-true}
+use Rattle.std.specs.Prelude.{IfErr, IfOk, IsErrOf, nat_lt}
 use Rattle.std.specs.declared.alloc.Global.{Global}
 use Rattle.ob0_scan.specs.Classes.{IsIdentifier}
 use Rattle.ob0_scan.specs.Scanned.{IsScan, Scanned, Word, max_text}
@@ -27,10 +28,14 @@ use Rattle.ob0_edits.specs.Changed.{at_each, changed, words_of}
 use Rattle.ob0_edits.specs.OfTrees.{RenamedWordsSpell}
 use Rattle.ob0_edits.specs.Replaced.{AreNames, LeavesWords, StandsForName, edit_at, parts, with_text_at}
 use Rattle.ob0_edits.specs.Written.{name_word}
-use Rattle.ob0_refs.specs.Standing.{tokens_bound}
+use Rattle.ob0_refs.specs.Standing.{name_on, tokens_bound}
+use Rattle.ob0_refs.specs.declared.answers.Named as named
+use Rattle.ob0_fields.specs.Identifiers.{field_identifiers}
 use Rattle.ob0_refs.proofs.Written.{renamed_there}
-use Rattle.ob0_rename.specs.Answers.{Answers, AnswersFor, IsRefused, IsRefusedTo}
-use Rattle.ob0_rename.specs.Renaming.{Means, Renaming, declaring_token, is_declared_as, token_range, tokens_renamed}
+use Rattle.ob0_run.specs.EditLaws.{SameRuns}
+use Rattle.ob0_tree.specs.Module.{ModuleOf}
+use Rattle.ob0_rename.specs.Answers.{Answers, AnswersFor, IsRefused, IsRefusedTo, OnlyMemory, TakesOwnName, Writes}
+use Rattle.ob0_rename.specs.Renaming.{Means, MeansField, Renaming, by_ordinal, by_token, declaration, field_on, meant_at, meant_by, declaring_token, field_of, is_declared_as, meant, module_of, nothing, predeclared, token_range, tokens_renamed}
 use Rattle.ob0_rename.proofs.Owned.{other_stands}
 use Rattle.ob0_rename.proofs.Rewritten.{of_renamed}
 use Rattle.ob0_rename.proofs.Told.{occurrence_stands}
@@ -53,52 +58,64 @@ difference_of false (Some j) k e = let same : j ≡ k = cc in ap Some same
 difference_of false None k e = absurd (cc)
 
 module _ (unit : counting.Unit) (text : List ℕ) (place : Position) (new : Name) (d : ℕ) where
-  abbrev pub asked : Parsed → Renaming
-  asked m = record { unit = unit; text = text; module_read = m; place = place; new = new }
+  abbrev pub asked : Resolution → Renaming
+  asked r = record { unit = unit; text = text; names = r; place = place; new = new }
 
   pub captured : (r : Resolution) → IsResolution r → IsIdentifier new → (capture : told.Capture) (why : EditRefusal)
       → Some (place_of capture) ≡ first_captured (named_tree_of r.module_read) d new → other_of (Some capture) ≡ namesake (named_tree_of r.module_read) d new
-      → ((other token : ℕ) → capture ≡ tells.Duplicate other → declaring_token r.module_read other ≡ Some token → why ≡ refusal.Duplicate (token_range (asked r.module_read) token))
-      → ((k token : ℕ) → capture ≡ tells.Occurrence k → slice_get (occurrences (tree_of r.module_read)) k ≡ Some token → why ≡ refusal.Captures (token_range (asked r.module_read) token))
-      → IsRefusedTo (asked r.module_read) d why
+      → ((other token : ℕ) → capture ≡ tells.Duplicate other → declaring_token r.module_read other ≡ Some token → why ≡ refusal.Duplicate (token_range (asked r) token))
+      → ((k token : ℕ) → capture ≡ tells.Occurrence k → slice_get (occurrences (tree_of r.module_read)) k ≡ Some token → why ≡ refusal.Captures (token_range (asked r) token))
+      → IsRefusedTo (asked r) d why
   captured r is id (tells.Duplicate other) why first named duplicate occurrence =
       let m = r.module_read in
       let stands = other_stands m d new other (sym named) in
-      let range = ap (λ o. option_map (token_range (asked m)) (option_and_then (declaring_token m) o)) (sym named) ∙ ap (option_map (token_range (asked m))) stands.1 in
-      subst (IsRefusedTo (asked m) d) (sym (duplicate other stands.0 refl stands.1)) (id, sym first, range)
+      let range = ap (λ o. option_map (token_range (asked r)) (option_and_then (declaring_token m) o)) (sym named) ∙ ap (option_map (token_range (asked r))) stands.1 in
+      subst (IsRefusedTo (asked r) d) (sym (duplicate other stands.0 refl stands.1)) (id, sym first, range)
   captured r is id (tells.Occurrence k) why first named duplicate occurrence =
       let m = r.module_read in
       let bound = bindings (renamed (named_tree_of m) d new) in
       let found = difference_of (is_duplicate (named_tree_of m) d new) (first_difference bound (bindings (named_tree_of m))) k (sym first) in
       let stands = occurrence_stands r bound k is found in
-      subst (IsRefusedTo (asked m) d) (sym (occurrence k stands.0 refl stands.1)) (id, (k, sym first, ap (option_map (token_range (asked m))) stands.1))
+      subst (IsRefusedTo (asked r) d) (sym (occurrence k stands.0 refl stands.1)) (id, (k, sym first, ap (option_map (token_range (asked r))) stands.1))
 
-  pub answered : (r : Resolution) → IsWellTyped r → IsIdentifier new → Free (named_tree_of r.module_read) d new → FreeKeepsModules → RenamedWordsSpell
-      → ((name : List ℕ) → IsIdentifier name → StandsForName name (name_word name ∷ [])) → AreNames r.module_read.source.tokens 0 (tokens_renamed r.module_read d new)
-      → (result : Result (Vec Edit Global) EditRefusal) → Edited unit text new r.module_read.source (tokens_renamed r.module_read d new) result → AnswersFor (asked r.module_read) d result
-  answered r well id free keeps spells stand names (Ok edits) made =
-      let m = r.module_read in
+  -- edits at places leave a text of a tree that the new name makes there, where that tree is well-typed and runs as the module
+  pub written : (r : Resolution) (tree : Tree Name module_text) (places : List ℕ) → IsIdentifier new → ((name : List ℕ) → IsIdentifier name → StandsForName name (name_word name ∷ []))
+      → ((after : Scanned) → IsScan after → words_of after ≡ changed (at_each places (name_word new ∷ [])) 0 (words_of r.module_read.source) → ModuleOf after tree)
+      → WellTyped tree × SameRuns tree (named_tree_of r.module_read)
+      → (edits : Vec Edit Global) → Edited unit text new r.module_read.source places (Ok edits) → Writes (asked r) places tree edits.items
+  written r tree places id stand leaves kept edits made =
       let words = made.leaves (name_word new ∷ []) (stand new id) in
-      let kept = keeps (named_tree_of m) d new free well.well_typed in
       record {
-        identifier = id;
-        free = free;
         short = made.short;
         changes = made.edits;
         after = words.after;
         scan = words.scan;
         made = words.made;
-        of_module = of_renamed m d new well.resolved.parsed (once_of (named_tree_of m) well.well_typed) spells (renamed_there r d well.resolved) names words.after words.scan words.words_are;
+        of_module = leaves words.after words.scan words.words_are;
         well_typed = kept.0;
         same_runs = kept.1;
       }
+
+  pub answered : (r : Resolution) → IsWellTyped r → IsIdentifier new → Free (named_tree_of r.module_read) d new → FreeKeepsModules → RenamedWordsSpell
+      → ((name : List ℕ) → IsIdentifier name → StandsForName name (name_word name ∷ [])) → AreNames r.module_read.source.tokens 0 (tokens_renamed r.module_read d new)
+      → (result : Result (Vec Edit Global) EditRefusal) → Edited unit text new r.module_read.source (tokens_renamed r.module_read d new) result → AnswersFor (asked r) d result
+  answered r well id free keeps spells stand names (Ok edits) made =
+      let m = r.module_read in
+      record {
+        identifier = id;
+        free = free;
+        writes =
+            written r (renamed (named_tree_of m) d new) (tokens_renamed m d new) id stand
+            (of_renamed m d new well.resolved.parsed (once_of (named_tree_of m) well.well_typed) spells (renamed_there r d well.resolved) names)
+            (keeps (named_tree_of m) d new free well.well_typed) edits made;
+      }
   answered r well id free keeps spells stand names (Err why) made =
       elim made.refusals [
-        | inl e ↦ inr (subst (IsRefusedTo (asked r.module_read) d) (sym e) (id, free, made.too_long (ap Err e)))
+        | inl e ↦ inr (subst (IsRefusedTo (asked r) d) (sym e) (id, free, made.too_long (ap Err e)))
         | inr e ↦ inl e
       ]
 
-whole : (text : List ℕ) → length (pieced text 0 []) ≡ length text
+pub whole : (text : List ℕ) → length (pieced text 0 []) ≡ length text
 unfolding pieced
 whole text = refl
 
@@ -119,20 +136,62 @@ own_answered unit text new d m scan own (Err why) made =
     own_places places true e = refl
     own_places places false e = absurd (cc)
 
--- an answer for the declaration that is named at the place is the answer
+-- ---- an answer for what is named at the place is the answer
 
 refused_there : (a : Renaming) (d : ℕ) → Means a d → (why : EditRefusal) → IsRefusedTo a d why → IsRefused a why
 refused_there a d means refusal.NoName h = absurd h
 refused_there a d means refusal.Predeclared h = absurd h
-refused_there a d means refusal.BadName h = (d, means, h)
-refused_there a d means (refusal.Duplicate range) h = (d, means, h)
-refused_there a d means (refusal.Captures range) h = (d, means, h)
-refused_there a d means refusal.TooLong h = (d, means, h)
+refused_there a d means refusal.BadName h = inl (d, means, h)
+refused_there a d means (refusal.Duplicate range) h = inl (d, means, h)
+refused_there a d means (refusal.Captures range) h = inl (d, means, h)
+refused_there a d means refusal.TooLong h = inl (d, means, h)
 refused_there a d means refusal.TooDeep h = absurd h
 refused_there a d means refusal.Shadowed h = absurd h
 refused_there a d means refusal.CommentInside h = absurd h
 refused_there a d means refusal.Memory h = absurd h
 
 pub answered_there : (a : Renaming) (d : ℕ) → Means a d → (result : Result (Vec Edit Global) EditRefusal) → AnswersFor a d result → Answers a result
-answered_there a d means (Ok edits) h = (d, means, h)
+answered_there a d means (Ok edits) h = inl (d, means, h)
 answered_there a d means (Err why) h = elim h [ inl e ↦ inl e | inr e ↦ inr (refused_there a d means why e) ]
+
+-- what is named at the place is one thing
+
+pub own_there : (a : Renaming) (d : ℕ) → Means a d → (result : Result (Vec Edit Global) EditRefusal) → (is_declared_as (module_of a) d a.new ≡ true → OnlyMemory result) → TakesOwnName a result
+own_there a d means result own = (
+  λ e also. let both : declaration d ≡ declaration e = sym means ∙ also in let same : d ≡ e = cc in subst (λ n. is_declared_as (module_of a) n a.new ≡ true → OnlyMemory result) same own,
+  λ k f also. let both : declaration d ≡ field_of k f = sym means ∙ also in absurd (cc),
+)
+
+pub own_nowhere : (a : Renaming) (result : Result (Vec Edit Global) EditRefusal) → ((d : ℕ) → Means a d → ⊥) → ((k : ℕ) (f : Name) → MeansField a k f → ⊥) → TakesOwnName a result
+own_nowhere a result none no_field = (λ d means own. absurd (none d means), λ k f means own. absurd (no_field k f means))
+
+pub own_nothing : (a : Renaming) (result : Result (Vec Edit Global) EditRefusal) → meant a ≡ nothing → TakesOwnName a result
+own_nothing a result is =
+    own_nowhere a result (λ d means. let both : nothing ≡ declaration d = sym is ∙ means in absurd (cc)) (λ k f means. let both : nothing ≡ field_of k f = sym is ∙ means in absurd (cc))
+
+pub own_predeclared : (a : Renaming) (result : Result (Vec Edit Global) EditRefusal) → meant a ≡ predeclared → TakesOwnName a result
+own_predeclared a result is =
+    own_nowhere a result (λ d means. let both : predeclared ≡ declaration d = sym is ∙ means in absurd (cc)) (λ k f means. let both : predeclared ≡ field_of k f = sym is ∙ means in absurd (cc))
+
+-- ---- what stands at the place
+
+pub meant_named : (r : Resolution) (offset : ℕ) (n : named.Named) → name_on r.module_read offset ≡ Some n → meant_at r offset ≡ by_ordinal n.ordinal
+meant_named r offset n is = ap (λ o. meant_by r.module_read.source o (field_on r.module_read.source offset (field_identifiers r))) is
+
+pub meant_unnamed : (r : Resolution) (offset : ℕ) (found : Option (ℕ × ℕ)) → name_on r.module_read offset ≡ None → field_on r.module_read.source offset (field_identifiers r) ≡ found
+    → meant_at r offset ≡ by_token r.module_read.source found
+meant_unnamed r offset found is there = (λ i. meant_by r.module_read.source (is i) (there i))
+
+pub is_predeclared : (ordinal : ℕ) → ordinal < 7 → by_ordinal ordinal ≡ predeclared
+is_predeclared ordinal low = one (nat_lt ordinal 7) refl
+  where
+    one : (b : Bool) → nat_lt ordinal 7 ≡ b → (if b then predeclared else declaration ordinal) ≡ predeclared
+    one true e = refl
+    one false e = absurd (omega (arith, low, ltb-false ordinal 7 e))
+
+pub is_declaration : (ordinal : ℕ) → 7 ≤ ordinal → by_ordinal ordinal ≡ declaration ordinal
+is_declaration ordinal high = one (nat_lt ordinal 7) refl
+  where
+    one : (b : Bool) → nat_lt ordinal 7 ≡ b → (if b then predeclared else declaration ordinal) ≡ declaration ordinal
+    one true e = absurd (omega (arith, high, ltb-true ordinal 7 e))
+    one false e = refl

@@ -34,7 +34,7 @@ text_same s k = of_list s.tokens k
     of_list (t ∷ ts) zero = refl
     of_list (t ∷ ts) (suc k) = of_list ts k
 
-number_same : (s : Scanned) (k : ℕ) → number_at (words_of s) k ≡ place.value_at s k
+pub number_same : (s : Scanned) (k : ℕ) → number_at (words_of s) k ≡ place.value_at s k
 number_same s k = of_list s.tokens k
   where
     of_list : (ts : List Token) (k : ℕ) → number_at (map (read_in s.text) ts) k ≡ place.value_in (slice_get ts k)

@@ -1,5 +1,6 @@
 -- The name that something is declared by is an identifier.
-use Rattle.std.proofs.Common.{◌≡◌, ℕ, zero, suc, ◌-◌, ◌<◌, List, [], ◌∷◌, ◌++◌, Some, length, map, slice_get, refl, sym, ◌∙◌, subst, arith, true}
+use Rattle.std.proofs.Common.{◌≡◌, ℕ, zero, suc, ◌-◌, ◌<◌, Bool, false, if◌then◌else◌, List, [], ◌∷◌, ◌++◌, Some, length, map, slice_get, refl, sym, ◌∙◌, subst, arith, true}
+use Rattle.std.specs.Prelude.{IfSome}
 use Rattle.std.proofs.lemmas.List.{length-map}
 use Rattle.ob0_scan.specs.Classes.{Belongs, IsIdentifier}
 use Rattle.ob0_scan.specs.Lexed.{AreLexemes, Lexeme}
@@ -13,15 +14,17 @@ use Rattle.ob0_tree.proofs.Leaves.{leaves_are_identifiers}
 use Rattle.ob0_tree.specs.Order as order
 use Rattle.ob0_tree.specs.Order.{AreIdentifiers, names_only}
 use Rattle.ob0_tree.specs.Parsed.{IsParsed, Parsed, tree_of}
+use Rattle.ob0_tree.specs.Places as place
 use Rattle.ob0_tree.specs.Tree.{identifiers}
 use Rattle.ob0_tree.specs.declared.tree.Role.{Role}
 use Rattle.ob0_tree.specs.declared.tree.Role.TheVariants as role
 use Rattle.ob0_scope.specs.Names.{Name}
-use Rattle.ob0_scope.specs.Resolution.{declaring_only}
+use Rattle.ob0_scope.specs.Resolution.{declaring_only, span_at}
+use Rattle.ob0_refs.specs.Standing.{is_on}
 use Rattle.ob0_edits.specs.Changed.{words_of}
 use Rattle.ob0_edits.specs.OfTrees.{text_at, word_at}
 use Rattle.ob0_edits.specs.Replaced as edit
-use Rattle.ob0_rename.specs.Renaming.{is_declared_as}
+use Rattle.ob0_rename.specs.Renaming.{field_on, is_declared_as}
 use Rattle.ob0_rename.proofs.Owned.{IsDeclaredBy, declared_by, declaring_tokens}
 use Rattle.ob0_rename.proofs.Rewritten.{text_same}
 
@@ -68,12 +71,27 @@ one_stands ts [] j k h e = absurd (cc)
 one_stands ts (p ∷ ps) zero k h e = let same : p ≡ k = cc in subst (order.IsIdentifier ts) same h.0
 one_stands ts (p ∷ ps) (suc j) k h e = one_stands ts ps j k h.1 e
 
+-- an identifier is written as one
+pub spelled_at : (m : Parsed) (k : ℕ) → IsScan m.source → order.IsIdentifier m.source.tokens k → IsIdentifier (place.text_at m.source k)
+spelled_at m k scan stands =
+    let each : EachNamed (words_of m.source) = subst EachNamed (sym (scan_words m.source scan)) (words_named scan.lexemes [] scan.lexed.each) in
+    let low : k < length (words_of m.source) = omega (arith, stands.0, length-map m.source.tokens (read_in m.source.text)) in
+    subst IsIdentifier (text_same m.source k) (named_word (words_of m.source) k each low (word_kind m.source k ∙ stands.1 _))
+
 pub own_identifier : (m : Parsed) (d : ℕ) (new : Name) → IsParsed m → IsScan m.source → is_declared_as m d new ≡ true → IsIdentifier new
 own_identifier m d new is scan e =
     let found = declared_by m d new e in
     let by : IsDeclaredBy m d new found.0 = found.1 in
-    let k : ℕ = found.0 in
-    let stands = one_stands m.source.tokens (declaring_tokens m) (d - 7) k (declaring_stand m.source.tokens (identifiers role.Declaring (tree_of m)) (leaves_are_identifiers m is)) by.there in
-    let each : EachNamed (words_of m.source) = subst EachNamed (sym (scan_words m.source scan)) (words_named scan.lexemes [] scan.lexed.each) in
-    let low : k < length (words_of m.source) = omega (arith, stands.0, length-map m.source.tokens (read_in m.source.text)) in
-    subst IsIdentifier (text_same m.source k ∙ by.written) (named_word (words_of m.source) k each low (word_kind m.source k ∙ stands.1 _))
+    let stands = one_stands m.source.tokens (declaring_tokens m) (d - 7) found.0 (declaring_stand m.source.tokens (identifiers role.Declaring (tree_of m)) (leaves_are_identifiers m is)) by.there in
+    subst IsIdentifier by.written (spelled_at m found.0 scan stands)
+
+-- so is a field that a place is on
+pub field_spelled : (m : Parsed) (offset : ℕ) (xs : List (ℕ × ℕ)) → IsScan m.source → AreIdentifiers m.source.tokens (map (λ x. x.0) xs)
+    → IfSome (field_on m.source offset xs) (λ x. IsIdentifier (place.text_at m.source x.0))
+field_spelled m offset [] scan stand = tt
+field_spelled m offset (x ∷ xs) scan stand = one (is_on offset (span_at m.source x.0)) (spelled_at m x.0 scan stand.0) (field_spelled m offset xs scan stand.1)
+  where
+    one : (b : Bool) → IsIdentifier (place.text_at m.source x.0) → IfSome (field_on m.source offset xs) (λ x. IsIdentifier (place.text_at m.source x.0))
+        → IfSome (if b then Some x else field_on m.source offset xs) (λ x. IsIdentifier (place.text_at m.source x.0))
+    one true h later = h
+    one false h later = later

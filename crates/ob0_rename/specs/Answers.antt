@@ -1,4 +1,4 @@
--- What is answered where a declaration is to have another name: edits, or a refusal.
+-- What is answered where a declaration or a field is to have another name: edits, or a refusal.
 use Rattle.std.specs.Prelude.{◌≡◌, ◌⊎◌, ℕ, ◌<◌, ◌≤◌, List, Option, Some, None, Result, Ok, Err, IfErr, Vec, length, map, true}
 use Rattle.std.specs.Str.{chars}
 use Rattle.std.specs.declared.alloc.Global.{Global}
@@ -10,28 +10,35 @@ use Rattle.ob0_text.specs.declared.edits.Edit.{Edit}
 use Rattle.ob0_text.specs.declared.refusals.EditRefusal.{EditRefusal}
 use Rattle.ob0_text.specs.declared.refusals.EditRefusal.TheVariants as refusal
 use Rattle.ob0_tree.specs.Module.{ModuleOf}
+use Rattle.ob0_tree.specs.Tree.{Tree, module_text}
+use Rattle.ob0_scope.specs.Names.{Name}
 use Rattle.ob0_scope.specs.Occurrences.{Free, at_declaration, at_occurrence, first_captured}
 use Rattle.ob0_scope.specs.Scopes.{renamed}
 use Rattle.ob0_types.specs.WellTyped.{WellTyped}
 use Rattle.ob0_run.specs.EditLaws.{SameRuns}
 use Rattle.ob0_edits.specs.Replaced.{edit_at, parts}
-use Rattle.ob0_refs.specs.declared.answers.Of as of
-use Rattle.ob0_refs.specs.declared.answers.Of.TheVariants as tells
-use Rattle.ob0_rename.specs.Renaming.{Means, Renaming, is_declared_as, meant, occurrence_range, other_range, text_renamed, tokens_renamed, tree_of}
+use Rattle.ob0_fields.specs.Renaming.{FieldFree, field_renamed, is_duplicate_field}
+use Rattle.ob0_rename.specs.Renaming.{Means, MeansField, Renaming, field_tokens_renamed, is_declared_as, meant, module_of, nothing, occurrence_range, other_field_range, other_range, predeclared, text_with, tokens_renamed, tree_of}
 
--- The edits write the new name for the declaration d at the places of its name, and nowhere else. Made at once they leave a text of
--- the renamed module, which is well-typed and has the same runs.
-pub record Renames (r : Renaming) (d : ℕ) (edits : List Edit) : Type 0 where
-  pub identifier : IsIdentifier r.new
-  pub free : Free (tree_of r) d r.new
-  pub short : length (text_renamed r d) ≤ max_text
-  pub changes : map parts edits ≡ map (edit_at r.unit r.text r.module_read.source.tokens r.new) (tokens_renamed r.module_read d r.new)
+-- The edits write the new name at these tokens, and nothing else. Made at once they leave a text of this tree, which is
+-- well-typed and has the same runs.
+pub record Writes (r : Renaming) (tokens : List ℕ) (tree : Tree Name module_text) (edits : List Edit) : Type 0 where
+  pub short : length (text_with r tokens) ≤ max_text
+  pub changes : map parts edits ≡ map (edit_at r.unit r.text (module_of r).source.tokens r.new) tokens
   pub after : Scanned
   pub scan : IsScan after
   pub made : patched (width_of r.unit) r.text edits ≡ Some (chars after.text)
-  pub of_module : ModuleOf after (renamed (tree_of r) d r.new)
-  pub well_typed : WellTyped (renamed (tree_of r) d r.new)
-  pub same_runs : SameRuns (renamed (tree_of r) d r.new) (tree_of r)
+  pub of_module : ModuleOf after tree
+  pub well_typed : WellTyped tree
+  pub same_runs : SameRuns tree (tree_of r)
+
+-- ---- for a declaration
+
+-- The edits write the new name for the declaration d at the places of its name, and leave the renamed module.
+pub record Renames (r : Renaming) (d : ℕ) (edits : List Edit) : Type 0 where
+  pub identifier : IsIdentifier r.new
+  pub free : Free (tree_of r) d r.new
+  pub writes : Writes r (tokens_renamed (module_of r) d r.new) (renamed (tree_of r) d r.new) edits
 
 -- Why the new name is refused to the declaration d: of several reasons the first in this order.
 abbrev pub IsRefusedTo : Renaming → ℕ → EditRefusal → Type 0
@@ -40,7 +47,7 @@ IsRefusedTo r d refusal.Predeclared = ⊥
 IsRefusedTo r d refusal.BadName = ¬ IsIdentifier r.new
 IsRefusedTo r d (refusal.Duplicate range) = IsIdentifier r.new × (first_captured (tree_of r) d r.new ≡ Some at_declaration) × (other_range r d ≡ Some range)
 IsRefusedTo r d (refusal.Captures range) = IsIdentifier r.new × ((k : ℕ) × (first_captured (tree_of r) d r.new ≡ Some (at_occurrence k)) × (occurrence_range r k ≡ Some range))
-IsRefusedTo r d refusal.TooLong = IsIdentifier r.new × Free (tree_of r) d r.new × (max_text < length (text_renamed r d))
+IsRefusedTo r d refusal.TooLong = IsIdentifier r.new × Free (tree_of r) d r.new × (max_text < length (text_with r (tokens_renamed (module_of r) d r.new)))
 IsRefusedTo r d refusal.TooDeep = ⊥
 IsRefusedTo r d refusal.Shadowed = ⊥
 IsRefusedTo r d refusal.CommentInside = ⊥
@@ -51,22 +58,42 @@ abbrev pub AnswersFor : Renaming → ℕ → Result (Vec Edit Global) EditRefusa
 AnswersFor r d (Ok edits) = Renames r d edits.items
 AnswersFor r d (Err why) = (why ≡ refusal.Memory) ⊎ IsRefusedTo r d why
 
+-- ---- for a field
+
+-- The edits write the new name for the field f of the record k where it is declared and wherever it is selected, and leave
+-- the module with that field renamed.
+pub record RenamesField (r : Renaming) (k : ℕ) (f : Name) (edits : List Edit) : Type 0 where
+  pub identifier : IsIdentifier r.new
+  pub free : FieldFree (tree_of r) k f r.new
+  pub writes : Writes r (field_tokens_renamed r.names k f r.new) (field_renamed (tree_of r) k f r.new) edits
+
+-- Why the new name is refused to the field. Only another field of its record stands against it.
+abbrev pub IsRefusedToField : Renaming → ℕ → Name → EditRefusal → Type 0
+IsRefusedToField r k f refusal.NoName = ⊥
+IsRefusedToField r k f refusal.Predeclared = ⊥
+IsRefusedToField r k f refusal.BadName = ¬ IsIdentifier r.new
+IsRefusedToField r k f (refusal.Duplicate range) = IsIdentifier r.new × (is_duplicate_field (tree_of r) k f r.new ≡ true) × (other_field_range r k ≡ Some range)
+IsRefusedToField r k f (refusal.Captures range) = ⊥
+IsRefusedToField r k f refusal.TooLong = IsIdentifier r.new × FieldFree (tree_of r) k f r.new × (max_text < length (text_with r (field_tokens_renamed r.names k f r.new)))
+IsRefusedToField r k f refusal.TooDeep = ⊥
+IsRefusedToField r k f refusal.Shadowed = ⊥
+IsRefusedToField r k f refusal.CommentInside = ⊥
+IsRefusedToField r k f refusal.Memory = ⊥
+
+-- edits for the field, or why there are none; want of memory may take the place of either
+abbrev pub AnswersForField : Renaming → ℕ → Name → Result (Vec Edit Global) EditRefusal → Type 0
+AnswersForField r k f (Ok edits) = RenamesField r k f edits.items
+AnswersForField r k f (Err why) = (why ≡ refusal.Memory) ⊎ IsRefusedToField r k f why
+
 -- ---- by what stands at the place
 
--- there is no name that could be another; fields of records keep theirs so far
-abbrev pub IsNoName : Option of.Of → Type 0
-IsNoName None = Unit {0}
-IsNoName (Some (tells.Declared d)) = ⊥
-IsNoName (Some tells.Predeclared) = ⊥
-IsNoName (Some (tells.Field ordinal index)) = Unit {0}
-
 abbrev pub IsRefusedToNamed : Renaming → EditRefusal → Type 0
-IsRefusedToNamed r why = (d : ℕ) × Means r d × IsRefusedTo r d why
+IsRefusedToNamed r why = ((d : ℕ) × Means r d × IsRefusedTo r d why) ⊎ ((k : ℕ) × ((f : Name) × MeansField r k f × IsRefusedToField r k f why))
 
 -- why there is no edit
 abbrev pub IsRefused : Renaming → EditRefusal → Type 0
-IsRefused r refusal.NoName = IsNoName (meant r)
-IsRefused r refusal.Predeclared = meant r ≡ Some tells.Predeclared
+IsRefused r refusal.NoName = meant r ≡ nothing
+IsRefused r refusal.Predeclared = meant r ≡ predeclared
 IsRefused r refusal.BadName = IsRefusedToNamed r refusal.BadName
 IsRefused r (refusal.Duplicate range) = IsRefusedToNamed r (refusal.Duplicate range)
 IsRefused r (refusal.Captures range) = IsRefusedToNamed r (refusal.Captures range)
@@ -76,15 +103,22 @@ IsRefused r refusal.Shadowed = ⊥
 IsRefused r refusal.CommentInside = ⊥
 IsRefused r refusal.Memory = ⊥
 
--- edits for the declaration that is named at the place
+-- edits for the declaration or field that is named at the place
 abbrev pub AreEdits : Renaming → List Edit → Type 0
-AreEdits r edits = (d : ℕ) × Means r d × Renames r d edits
+AreEdits r edits = ((d : ℕ) × Means r d × Renames r d edits) ⊎ ((k : ℕ) × ((f : Name) × MeansField r k f × RenamesField r k f edits))
 
 -- edits, or the one refusal, or want of memory
 abbrev pub Answers : Renaming → Result (Vec Edit Global) EditRefusal → Type 0
 Answers r (Ok edits) = AreEdits r edits.items
 Answers r (Err why) = (why ≡ refusal.Memory) ⊎ IsRefused r why
 
+-- ---- the name that is there already
+
+abbrev pub OnlyMemory : Result (Vec Edit Global) EditRefusal → Type 0
+OnlyMemory result = IfErr result (λ why. why ≡ refusal.Memory)
+
 -- to what has the new name already it isn't refused
 abbrev pub TakesOwnName : Renaming → Result (Vec Edit Global) EditRefusal → Type 0
-TakesOwnName r result = (d : ℕ) → Means r d → is_declared_as r.module_read d r.new ≡ true → IfErr result (λ why. why ≡ refusal.Memory)
+TakesOwnName r result =
+    ((d : ℕ) → Means r d → is_declared_as (module_of r) d r.new ≡ true → OnlyMemory result)
+    × ((k : ℕ) (f : Name) → MeansField r k f → r.new ≡ f → OnlyMemory result)

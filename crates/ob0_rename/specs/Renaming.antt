@@ -1,5 +1,7 @@
--- Another name for the declaration that is named at a place of a text: where it is to be written, and what stands against it.
-use Rattle.std.specs.Prelude.{◌≡◌, ℕ, Bool, true, false, if◌then◌else◌, List, [], Option, Some, None, option_and_then, option_map, slice_get}
+-- Another name for what is named at a place of a text, a declaration or a record's field: where it is to be written, and what
+-- stands against it.
+use Rattle.std.specs.Prelude.{◌≡◌, ℕ, Bool, true, false, nat_lt, if◌then◌else◌, List, [], ◌∷◌, Option, Some, None, option_and_then, option_map, slice_get}
+use Rattle.ob0_scan.specs.Scanned.{Scanned}
 use Rattle.ob0_text.specs.Texts.{offset_of}
 use Rattle.ob0_text.specs.Units.{width_of}
 use Rattle.ob0_text.specs.declared.positions.Position.{Position}
@@ -11,32 +13,69 @@ use Rattle.ob0_tree.specs.Tree.{Tree, identifiers, module_text, occurrences}
 use Rattle.ob0_tree.specs.declared.tree.Role.TheVariants as role
 use Rattle.ob0_scope.specs.Names.{Name, same_name}
 use Rattle.ob0_scope.specs.Renames.{namesake}
-use Rattle.ob0_scope.specs.Resolution.{declaring_only, span_at, token_declaring}
+use Rattle.ob0_scope.specs.Resolution.{Resolution, declaring_only, span_at, token_declaring}
 use Rattle.ob0_edits.specs.Replaced.{with_text_at}
 use Rattle.ob0_edits.specs.Ranges.{range_of}
-use Rattle.ob0_refs.specs.Standing.{at_name, name_on, tokens_bound}
-use Rattle.ob0_refs.specs.declared.answers.At as told
-use Rattle.ob0_refs.specs.declared.answers.Of as of
-use Rattle.ob0_refs.specs.declared.answers.Of.TheVariants as tells
+use Rattle.ob0_refs.specs.Standing.{is_on, name_on, tokens_bound}
+use Rattle.ob0_refs.specs.declared.answers.Named as named
+use Rattle.ob0_fields.specs.Identifiers.{declaring_field, field_identifiers, field_tokens}
 
 -- A module's text, by characters, whose positions are counted in a unit; a place of it, and the new name.
 pub record Renaming : Type 0 where
   pub unit : counting.Unit
   pub text : List ℕ
-  pub module_read : read.Parsed
+  pub names : Resolution
   pub place : Position
   pub new : Name
 
-abbrev pub tree_of : Renaming → Tree Name module_text
-tree_of r = read.named_tree_of r.module_read
+abbrev pub module_of : Renaming → read.Parsed
+module_of r = r.names.module_read
 
--- what the identifier at the place is a name of
-abbrev pub meant : Renaming → Option of.Of
-meant r = option_map (λ (t : told.At). t.of) (option_map (at_name r.module_read) (name_on r.module_read (offset_of (width_of r.unit) r.text r.place)))
+abbrev pub tree_of : Renaming → Tree Name module_text
+tree_of r = read.named_tree_of (module_of r)
+
+-- ---- what is named at a place
+
+pub data Meant : Type 0 where
+  nothing : Meant
+  predeclared : Meant
+  -- the declaration with this ordinal
+  declaration : ℕ → Meant
+  -- the field of this name of the record with this ordinal
+  field_of : ℕ → Name → Meant
+
+-- the first identifier of a field that a place is on, in it or at its end
+abbrev pub field_on : Scanned → ℕ → List (ℕ × ℕ) → Option (ℕ × ℕ)
+field_on source offset [] = None
+field_on source offset (x ∷ xs) = if is_on offset (span_at source x.0) then Some x else field_on source offset xs
+
+-- the predeclared names come first
+abbrev pub by_ordinal : ℕ → Meant
+by_ordinal ordinal = if nat_lt ordinal 7 then predeclared else declaration ordinal
+
+abbrev pub by_token : Scanned → Option (ℕ × ℕ) → Meant
+by_token source None = nothing
+by_token source (Some x) = field_of x.1 (text_at source x.0)
+
+abbrev pub meant_by : Scanned → Option named.Named → Option (ℕ × ℕ) → Meant
+meant_by source (Some n) f = by_ordinal n.ordinal
+meant_by source None f = by_token source f
+
+-- what an identifier at an offset names: a name of the module, or else a field
+abbrev pub meant_at : Resolution → ℕ → Meant
+meant_at names offset =
+    meant_by names.module_read.source (name_on names.module_read offset) (field_on names.module_read.source offset (field_identifiers names))
+
+abbrev pub meant : Renaming → Meant
+meant r = meant_at r.names (offset_of (width_of r.unit) r.text r.place)
 
 -- it is a name of the declaration with this ordinal
 abbrev pub Means : Renaming → ℕ → Type 0
-Means r d = meant r ≡ Some (tells.Declared d)
+Means r d = meant r ≡ declaration d
+
+-- it is the field f of the record with the ordinal k
+abbrev pub MeansField : Renaming → ℕ → Name → Type 0
+MeansField r k f = meant r ≡ field_of k f
 
 -- ---- where the new name is to be written
 
@@ -52,19 +91,27 @@ is_declared_as m d new = elim (declaring_token m d) [ Some token ↦ same_name (
 abbrev pub tokens_renamed : read.Parsed → ℕ → Name → List ℕ
 tokens_renamed m d new = if is_declared_as m d new then [] else tokens_bound m d true
 
--- the text with the new name there, in bytes
-abbrev pub text_renamed : Renaming → ℕ → List ℕ
-text_renamed r d = with_text_at r.module_read.source (tokens_renamed r.module_read d r.new) r.new
+-- the tokens of the field f of the record k, the one that declares it and all that select it; none where it has the new name
+abbrev pub field_tokens_renamed : Resolution → ℕ → Name → Name → List ℕ
+field_tokens_renamed names k f new = if same_name new f then [] else field_tokens names k f
+
+-- the text with the new name at some tokens, in bytes
+abbrev pub text_with : Renaming → List ℕ → List ℕ
+text_with r tokens = with_text_at (module_of r).source tokens r.new
 
 -- ---- what stands against it
 
 abbrev pub token_range : Renaming → ℕ → Range
-token_range r token = range_of (width_of r.unit) r.text (span_at r.module_read.source token)
+token_range r token = range_of (width_of r.unit) r.text (span_at (module_of r).source token)
 
 -- the range of the other declaration of the block that has the new name
 abbrev pub other_range : Renaming → ℕ → Option Range
-other_range r d = option_map (token_range r) (option_and_then (declaring_token r.module_read) (namesake (tree_of r) d r.new))
+other_range r d = option_map (token_range r) (option_and_then (declaring_token (module_of r)) (namesake (tree_of r) d r.new))
+
+-- the range of the identifier that declares the field of the record k that has the new name
+abbrev pub other_field_range : Renaming → ℕ → Option Range
+other_field_range r k = option_map (token_range r) (declaring_field (module_of r) k r.new)
 
 -- that of the occurrence with a number, counted from 0 in text order
 abbrev pub occurrence_range : Renaming → ℕ → Option Range
-occurrence_range r k = option_map (token_range r) (slice_get (occurrences (read.tree_of r.module_read)) k)
+occurrence_range r k = option_map (token_range r) (slice_get (occurrences (read.tree_of (module_of r))) k)

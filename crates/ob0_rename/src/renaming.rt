@@ -1,34 +1,36 @@
-//! The edits that give a declaration another name.
+//! The edits that give a declaration or a field another name.
 
 ghost use Rattle.std.specs.Prelude.{◌≡◌, ℕ, IfErr, Some, slice_get, true};
 ghost use Rattle.std.specs.Str.{chars};
 ghost use Rattle.ob0_text.specs.Units.{width_of};
 ghost use Rattle.ob0_text.specs.declared.positions.Position as positions;
-ghost use Rattle.ob0_text.specs.declared.refusals.EditRefusal.TheVariants as refused;
 ghost use Rattle.ob0_tree.specs.Parsed.{tree_of};
 ghost use Rattle.ob0_tree.specs.Tree.{occurrences};
 ghost use Rattle.ob0_scope.specs.Resolution.{span_at};
 ghost use Rattle.ob0_scope.specs.declared.captures.Capture.TheVariants.{Duplicate, Occurrence};
+ghost use Rattle.ob0_text.specs.declared.refusals.EditRefusal.TheVariants as refused;
 ghost use Rattle.ob0_edits.specs.Ranges.{range_of};
-ghost use Rattle.ob0_rename.specs.Answers.{Answers, AnswersFor, TakesOwnName};
+ghost use Rattle.ob0_rename.specs.Answers.{Answers, AnswersFor, OnlyMemory, TakesOwnName};
 ghost use Rattle.ob0_rename.specs.Renaming.{declaring_token, is_declared_as};
 
+use crate::fields::{field_at, rename_field};
 use crate::places::{token_range, tokens_renamed};
 use ob0_edits::edits_for;
 use ob0_edits::laws::{names_stand_for_names, renamed_words_spell};
-use ob0_refs::{Capture, Of, at, captures};
+use ob0_refs::{Capture, captures, name_at};
 use ob0_run::laws::free_keeps_modules;
 use ob0_scan::is_identifier;
-use ob0_scope::resolved::Resolved;
+use ob0_scope::resolved::{PREDECLARED, Resolved};
 use ob0_text::{Edit, EditRefusal, Position, TextStore};
 use ob0_types::checked::WellTyped;
 use std::alloc::Global;
 
-/// The edits that write `new` for the declaration that is named at a place, one for each identifier that declares, closes
-/// or is bound to it, in text order; none where it has that name. The place may lie in the name or at its end.
-/// Refused are, the first of these where several apply: `NoName` where there is no name, at the module's name and, so far,
-/// at fields of records; `Predeclared`; `BadName`; `Duplicate` with the range of the other declaration; `Captures` with that
-/// of the first occurrence that would be bound to another declaration; `TooLong`.
+/// The edits that write `new` for the declaration or the field that is named at a place, in text order: one for each
+/// identifier that declares, closes or is bound to the declaration, or declares or selects the field; none where it has that
+/// name. The place may lie in the name or at its end. Refused are, the first of these where several apply: `NoName` where
+/// there is no name, and at the module's; `Predeclared`; `BadName`; `Duplicate` with the range of the other declaration, or of
+/// the other field of the record; `Captures` with that of the first occurrence that would be bound to another declaration,
+/// never for a field; `TooLong`.
 pub fn rename<T: TextStore>(
     alloc: Global,
     store: &T,
@@ -37,23 +39,22 @@ pub fn rename<T: TextStore>(
     new: &str,
 ) -> Result<Vec<Edit>, EditRefusal>
     requires { T.content store.now ≡ chars well_typed.now.module_read.source.text }
-    ensures answers { Answers (record { unit = T.unit_of store.now; text = T.content store.now; module_read = well_typed.now.module_read; place = place; new = new.now }) result }
-    ensures own_name { TakesOwnName (record { unit = T.unit_of store.now; text = T.content store.now; module_read = well_typed.now.module_read; place = place; new = new.now }) result }
+    ensures answers { Answers (record { unit = T.unit_of store.now; text = T.content store.now; names = well_typed.now; place = place; new = new.now }) result }
+    ensures own_name { TakesOwnName (record { unit = T.unit_of store.now; text = T.content store.now; names = well_typed.now; place = place; new = new.now }) result }
 {
-    let names = well_typed.resolved();
-    match at(names, store.offset(place)) {
-        Some(name) => match name.of {
-            Of::Declared(declaration) => rename_declaration(
-                alloc,
-                store,
-                well_typed,
-                declaration,
-                new,
-            ),
-            Of::Predeclared => Err(EditRefusal::Predeclared),
-            Of::Field { .. } => Err(EditRefusal::NoName),
+    let offset = store.offset(place);
+    match name_at(well_typed.resolved(), offset) {
+        Some(name) => {
+            if name.ordinal < PREDECLARED {
+                Err(EditRefusal::Predeclared)
+            } else {
+                rename_declaration(alloc, store, well_typed, name.ordinal, new)
+            }
+        }
+        None => match field_at(alloc, well_typed, offset)? {
+            Some(field) => rename_field(alloc, store, well_typed, field, new),
+            None => Err(EditRefusal::NoName),
         },
-        None => Err(EditRefusal::NoName),
     }
 }
 
@@ -66,8 +67,8 @@ fn rename_declaration<T: TextStore>(
     new: &str,
 ) -> Result<Vec<Edit>, EditRefusal>
     requires { T.content store.now ≡ chars well_typed.now.module_read.source.text }
-    ensures answers { (place : positions.Position) → AnswersFor (record { unit = T.unit_of store.now; text = T.content store.now; module_read = well_typed.now.module_read; place = place; new = new.now }) declaration result }
-    ensures own_name { is_declared_as well_typed.now.module_read declaration new.now ≡ true → IfErr result (λ why. why ≡ refused.Memory) }
+    ensures answers { (place : positions.Position) → AnswersFor (record { unit = T.unit_of store.now; text = T.content store.now; names = well_typed.now; place = place; new = new.now }) declaration result }
+    ensures own_name { is_declared_as well_typed.now.module_read declaration new.now ≡ true → OnlyMemory result }
 {
     names_stand_for_names();
     renamed_words_spell();

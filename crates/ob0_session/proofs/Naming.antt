@@ -67,7 +67,7 @@ answer_can unit text at Definition names value is =
 answer_can unit text at (References include) names value (spans, are, is) =
     subst CanBeSent (sym is) (record { whole = plain_locations unit at.uri text spans; shallow = omega (arith, shallow_locations unit at.uri text spans) })
 answer_can unit text at PrepareRename names value is =
-    subst CanBeSent (sym is) (one_or_none (range_at unit text) (renamable_in names.module_read (place_in unit text at)) (λ (span : Span). record { whole = refl; shallow = omega arith }))
+    subst CanBeSent (sym is) (one_or_none (range_at unit text) (renamable_in names (place_in unit text at)) (λ (span : Span). record { whole = refl; shallow = omega arith }))
 
 none_can : (question : NameQuestion) → CanBeSent (no_answer question)
 none_can Hover = record { whole = refl; shallow = omega arith }

@@ -10,7 +10,7 @@ abbrev pub built : List ℕ → Bool
 built method =
     bytes_eq method (codes "initialize") || bytes_eq method (codes "shutdown") || bytes_eq method (codes "textDocument/hover") || bytes_eq method (codes "textDocument/definition")
     || bytes_eq method (codes "textDocument/references") || bytes_eq method (codes "textDocument/prepareRename") || bytes_eq method (codes "textDocument/rename")
-    || bytes_eq method (codes "textDocument/formatting")
+    || bytes_eq method (codes "textDocument/codeAction") || bytes_eq method (codes "textDocument/formatting")
 
 -- positions count bytes of UTF-8 where the client offers that
 abbrev pub unit_for : Client → Unit

@@ -7,12 +7,10 @@ use Rattle.ob0_text.specs.Texts.{offset_of}
 use Rattle.ob0_text.specs.Units.{width_of}
 use Rattle.ob0_text.specs.declared.positions.Range.{Range}
 use Rattle.ob0_text.specs.declared.positions.Unit.{Unit}
-use Rattle.ob0_tree.specs.Parsed.{Parsed}
 use Rattle.ob0_refs.specs.Ranges.{range_of}
 use Rattle.ob0_scope.specs.Resolution.{Resolution}
 use Rattle.ob0_hover.specs.Shown.{Shown}
-use Rattle.ob0_questions.specs.Questions.{AreReferencesAt, all_shown_at, definition_at}
-use Rattle.ob0_refs.specs.Standing.{at_name, name_on}
+use Rattle.ob0_questions.specs.Questions.{AreReferencesAt, all_shown_at, definition_at, stands_at}
 use Rattle.ob0_refs.specs.declared.answers.At as told
 use Rattle.ob0_refs.specs.declared.answers.Of as of
 use Rattle.ob0_refs.specs.declared.answers.Of.TheVariants as tells
@@ -24,17 +22,17 @@ use Rattle.ob0_session.specs.Shapes.{hover_value, range_value, location_value}
 use Rattle.ob0_session.specs.declared.questions.NameQuestion.{NameQuestion}
 use Rattle.ob0_session.specs.declared.questions.NameQuestion.TheVariants.{Hover, Definition, References, PrepareRename}
 
--- ---- names that can be renamed, in bytes of a module's text
+-- ---- names and fields that can be renamed, in bytes of a module's text
 
--- predeclared names keep their names; fields keep theirs so far
+-- predeclared names keep their names
 abbrev pub can_be_renamed : of.Of → Span → Option Span
 can_be_renamed (tells.Declared ordinal) span = Some span
 can_be_renamed tells.Predeclared span = None
-can_be_renamed (tells.Field ordinal index) span = None
+can_be_renamed (tells.Field ordinal index) span = Some span
 
--- the name itself that stands there, where it can be renamed
-abbrev pub renamable_in : Parsed → ℕ → Option Span
-renamable_in m offset = option_and_then (λ (a : told.At). can_be_renamed a.of a.span) (option_map (at_name m) (name_on m offset))
+-- the name or field itself that stands there, where it can be renamed
+abbrev pub renamable_in : Resolution → ℕ → Option Span
+renamable_in names offset = option_and_then (λ (a : told.At). can_be_renamed a.of a.span) (stands_at names offset)
 
 -- ---- as values, at positions of a unit: the unit, the uri and the characters of the text
 
@@ -70,7 +68,7 @@ abbrev pub AnswersIn : Unit → List ℕ → At → NameQuestion → Resolution 
 AnswersIn unit text at Hover names value = value ≡ or_null (option_map (hover_at unit text) (all_shown_at names (place_in unit text at)))
 AnswersIn unit text at Definition names value = value ≡ or_null (option_map (location_at unit at.uri text) (definition_at names (place_in unit text at)))
 AnswersIn unit text at (References include) names value = AnswersReferences unit text at include names value
-AnswersIn unit text at PrepareRename names value = value ≡ or_null (option_map (range_at unit text) (renamable_in names.module_read (place_in unit text at)))
+AnswersIn unit text at PrepareRename names value = value ≡ or_null (option_map (range_at unit text) (renamable_in names (place_in unit text at)))
 
 -- the answer about every other text
 abbrev pub no_answer : NameQuestion → Data

@@ -15,9 +15,11 @@ use Rattle.ob0_text.specs.declared.positions.Unit.{Unit}
 use Rattle.ob0_text.specs.declared.refusals.EditRefusal.{EditRefusal}
 use Rattle.ob0_scan.specs.Scanned.{IsScanOf}
 use Rattle.ob0_tree.specs.Parsed.{Parsed, IsParsed, named_tree_of}
+use Rattle.ob0_scope.specs.Resolution.{Resolution}
 use Rattle.ob0_types.specs.WellTyped.{WellTyped}
 use Rattle.ob0_rename.specs.Answers.{AreEdits, IsRefused}
 use Rattle.ob0_rename.specs.Renaming.{Renaming}
+use Rattle.ob0_session.specs.Analysed.{IsModuleIn}
 use Rattle.ob0_session.specs.Diagnosed.{IsWellTypedModule, TellsFaults, complaint_in}
 use Rattle.ob0_session.specs.Diagnostics.{utf8}
 use Rattle.ob0_session.specs.RunsKept.{RunsAsBefore}
@@ -32,9 +34,9 @@ pub record IsReadAs (text : List ℕ) (m : Parsed) : Type 0 where
   pub parsed : IsParsed m
   pub well_typed : WellTyped (named_tree_of m)
 
--- another name for what is named at a place of a text that is read as this module
-abbrev pub renaming_of : Unit → List ℕ → Parsed → Position → List ℕ → Renaming
-renaming_of unit text m place new = record { unit = unit; text = text; module_read = m; place = place; new = new }
+-- another name for what is named at a place of a text that is this module
+abbrev pub renaming_of : Unit → List ℕ → Resolution → Position → List ℕ → Renaming
+renaming_of unit text names place new = record { unit = unit; text = text; names = names; place = place; new = new }
 
 -- edits, or why there are none
 abbrev pub Settles : Renaming → Result (Vec Edit Global) EditRefusal → Type 0
@@ -43,18 +45,18 @@ Settles r (Err refusal) = IsRefused r refusal
 
 -- These edits write the new name. Made at once they leave a text whose module is the renamed one, and runs as before.
 pub record RenamesIn (unit : Unit) (text : List ℕ) (place : Position) (new : List ℕ) (edits : List Edit) : Type 0 where
-  pub module_read : Parsed
-  pub read : IsReadAs (utf8 text) module_read
-  pub are_edits : AreEdits (renaming_of unit text module_read place new) edits
+  pub names : Resolution
+  pub read : IsModuleIn (utf8 text) names
+  pub are_edits : AreEdits (renaming_of unit text names place new) edits
   pub after : List ℕ
   pub made : patched (width_of unit) text edits ≡ Some after
   pub runs : RunsAsBefore (utf8 text) (utf8 after)
 
 -- there is no edit, for this reason
 pub record IsRefusedIn (unit : Unit) (text : List ℕ) (place : Position) (new : List ℕ) (refusal : EditRefusal) : Type 0 where
-  pub module_read : Parsed
-  pub read : IsReadAs (utf8 text) module_read
-  pub refused : IsRefused (renaming_of unit text module_read place new) refusal
+  pub names : Resolution
+  pub read : IsModuleIn (utf8 text) names
+  pub refused : IsRefused (renaming_of unit text names place new) refusal
 
 -- edits, or why there are none, for a well-typed module alone
 abbrev pub FindsNewName : Unit → List ℕ → Position → List ℕ → Asked (Result (Vec Edit Global) EditRefusal) → Type 0

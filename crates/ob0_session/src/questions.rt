@@ -13,8 +13,8 @@ ghost use Rattle.ob0_session.specs.declared.questions.NameQuestion.TheVariants.{
 
 use crate::analysis::{Asked, Question, ask};
 use crate::results::{hover_value, location_value, range_value};
-use ob0_questions::{definition, hover, references};
-use ob0_refs::{Of, at, ranges};
+use ob0_questions::{at, definition, hover, references};
+use ob0_refs::{Of, ranges};
 use ob0_rpc::{Id, Place, result};
 use ob0_scan::Span;
 use ob0_text::{Range, TextStore};
@@ -88,7 +88,7 @@ impl Question for ReferencesAt {
     }
 }
 
-/// Which name at this place of the text could be renamed?
+/// Which name or field at this place of the text could be renamed?
 #[derive(Drop)]
 struct RenamableAt {
     offset: usize,
@@ -97,14 +97,14 @@ struct RenamableAt {
 impl Question for RenamableAt {
     type Answer = Option<Span>;
 
-    ghost answers = { λ q names found. found ≡ renamable_in names.module_read q.offset };
+    ghost answers = { λ q names found. found ≡ renamable_in names q.offset };
 
     fn answer(
         &self,
-        _alloc: Global,
+        alloc: Global,
         module: &WellTyped<'_, '_>,
     ) -> Result<Option<Span>, AllocError> {
-        match at(module.resolved(), self.offset) {
+        match at(alloc, module, self.offset)? {
             Some(name) => Ok(renamable(name.of, name.span)),
             None => Ok(None),
         }
@@ -117,7 +117,7 @@ fn renamable(of: Of, span: Span) -> Option<Span>
     match of {
         Of::Declared(_) => Some(span),
         Of::Predeclared => None,
-        Of::Field { .. } => None,
+        Of::Field { .. } => Some(span),
     }
 }
 

@@ -77,7 +77,7 @@ const LIFECYCLE: [Talk; 8] = [
         name: "requests of unknown methods",
         comes: &[
             INITIALIZE,
-            "{\"id\":5,\"method\":\"textDocument/codeAction\"}",
+            "{\"id\":5,\"method\":\"textDocument/completion\"}",
             "{\"id\":\"a\",\"method\":\"exit\"}",
             "{\"id\":-3,\"method\":\"$/x\"}",
         ],

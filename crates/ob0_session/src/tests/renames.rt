@@ -3,7 +3,7 @@
 use crate::tests::talks::{INITIALIZE, INITIALIZED, Talk, holds};
 use std::test::Fail;
 
-const RENAMES: [Talk; 3] = [
+const RENAMES: [Talk; 4] = [
     Talk {
         name: "another name where nothing stands against it, and why not elsewhere",
         comes: &[
@@ -27,6 +27,38 @@ const RENAMES: [Talk; 3] = [
             "{\"error\":{\"code\":-32803,\"message\":\"BadName\"},\"id\":6,\"jsonrpc\":\"2.0\"}",
             "{\"error\":{\"code\":-32803,\"message\":\"Predeclared\"},\"id\":7,\"jsonrpc\":\"2.0\"}",
             "{\"error\":{\"code\":-32803,\"message\":\"NoName\"},\"id\":8,\"jsonrpc\":\"2.0\"}",
+        ],
+        result: Ok(1),
+    },
+    Talk {
+        name: "another name for a field of one record, and where it could be renamed",
+        comes: &[
+            INITIALIZE,
+            "{\"method\":\"textDocument/didOpen\",\"params\":{\"textDocument\":{\"text\":\"MODULE M;\\nTYPE R = RECORD a, b: INTEGER END;\\nVAR r: R; s: RECORD a: INTEGER END; a: INTEGER;\\nBEGIN r.a := 1; s.a := 2; a := r.a + s.a; Write(a) END M.\",\"uri\":\"u\",\"version\":1}}}",
+            "{\"id\":2,\"method\":\"textDocument/rename\",\"params\":{\"newName\":\"c\",\"position\":{\"character\":8,\"line\":3},\"textDocument\":{\"uri\":\"u\"}}}",
+            "{\"id\":3,\"method\":\"textDocument/rename\",\"params\":{\"newName\":\"r\",\"position\":{\"character\":16,\"line\":1},\"textDocument\":{\"uri\":\"u\"}}}",
+            "{\"id\":4,\"method\":\"textDocument/rename\",\"params\":{\"newName\":\"b\",\"position\":{\"character\":8,\"line\":3},\"textDocument\":{\"uri\":\"u\"}}}",
+            "{\"id\":5,\"method\":\"textDocument/rename\",\"params\":{\"newName\":\"b\",\"position\":{\"character\":19,\"line\":3},\"textDocument\":{\"uri\":\"u\"}}}",
+            "{\"id\":6,\"method\":\"textDocument/rename\",\"params\":{\"newName\":\"a\",\"position\":{\"character\":16,\"line\":1},\"textDocument\":{\"uri\":\"u\"}}}",
+            "{\"id\":7,\"method\":\"textDocument/rename\",\"params\":{\"newName\":\"END\",\"position\":{\"character\":16,\"line\":1},\"textDocument\":{\"uri\":\"u\"}}}",
+            "{\"id\":8,\"method\":\"textDocument/rename\",\"params\":{\"newName\":\"d\",\"position\":{\"character\":26,\"line\":3},\"textDocument\":{\"uri\":\"u\"}}}",
+            "{\"id\":9,\"method\":\"textDocument/prepareRename\",\"params\":{\"position\":{\"character\":8,\"line\":3},\"textDocument\":{\"uri\":\"u\"}}}",
+            "{\"id\":10,\"method\":\"textDocument/prepareRename\",\"params\":{\"position\":{\"character\":20,\"line\":1},\"textDocument\":{\"uri\":\"u\"}}}",
+            "{\"id\":11,\"method\":\"textDocument/prepareRename\",\"params\":{\"position\":{\"character\":6,\"line\":3},\"textDocument\":{\"uri\":\"u\"}}}",
+        ],
+        goes: &[
+            INITIALIZED,
+            "{\"jsonrpc\":\"2.0\",\"method\":\"textDocument/publishDiagnostics\",\"params\":{\"diagnostics\":[],\"uri\":\"u\",\"version\":1}}",
+            "{\"id\":2,\"jsonrpc\":\"2.0\",\"result\":{\"changes\":{\"u\":[{\"newText\":\"c\",\"range\":{\"end\":{\"character\":17,\"line\":1},\"start\":{\"character\":16,\"line\":1}}},{\"newText\":\"c\",\"range\":{\"end\":{\"character\":9,\"line\":3},\"start\":{\"character\":8,\"line\":3}}},{\"newText\":\"c\",\"range\":{\"end\":{\"character\":34,\"line\":3},\"start\":{\"character\":33,\"line\":3}}}]}}}",
+            "{\"id\":3,\"jsonrpc\":\"2.0\",\"result\":{\"changes\":{\"u\":[{\"newText\":\"r\",\"range\":{\"end\":{\"character\":17,\"line\":1},\"start\":{\"character\":16,\"line\":1}}},{\"newText\":\"r\",\"range\":{\"end\":{\"character\":9,\"line\":3},\"start\":{\"character\":8,\"line\":3}}},{\"newText\":\"r\",\"range\":{\"end\":{\"character\":34,\"line\":3},\"start\":{\"character\":33,\"line\":3}}}]}}}",
+            "{\"error\":{\"code\":-32803,\"message\":\"Duplicate 1:19-1:20\"},\"id\":4,\"jsonrpc\":\"2.0\"}",
+            "{\"id\":5,\"jsonrpc\":\"2.0\",\"result\":{\"changes\":{\"u\":[{\"newText\":\"b\",\"range\":{\"end\":{\"character\":21,\"line\":2},\"start\":{\"character\":20,\"line\":2}}},{\"newText\":\"b\",\"range\":{\"end\":{\"character\":19,\"line\":3},\"start\":{\"character\":18,\"line\":3}}},{\"newText\":\"b\",\"range\":{\"end\":{\"character\":40,\"line\":3},\"start\":{\"character\":39,\"line\":3}}}]}}}",
+            "{\"id\":6,\"jsonrpc\":\"2.0\",\"result\":{\"changes\":{\"u\":[]}}}",
+            "{\"error\":{\"code\":-32803,\"message\":\"BadName\"},\"id\":7,\"jsonrpc\":\"2.0\"}",
+            "{\"id\":8,\"jsonrpc\":\"2.0\",\"result\":{\"changes\":{\"u\":[{\"newText\":\"d\",\"range\":{\"end\":{\"character\":37,\"line\":2},\"start\":{\"character\":36,\"line\":2}}},{\"newText\":\"d\",\"range\":{\"end\":{\"character\":27,\"line\":3},\"start\":{\"character\":26,\"line\":3}}},{\"newText\":\"d\",\"range\":{\"end\":{\"character\":49,\"line\":3},\"start\":{\"character\":48,\"line\":3}}}]}}}",
+            "{\"id\":9,\"jsonrpc\":\"2.0\",\"result\":{\"end\":{\"character\":9,\"line\":3},\"start\":{\"character\":8,\"line\":3}}}",
+            "{\"id\":10,\"jsonrpc\":\"2.0\",\"result\":{\"end\":{\"character\":20,\"line\":1},\"start\":{\"character\":19,\"line\":1}}}",
+            "{\"id\":11,\"jsonrpc\":\"2.0\",\"result\":{\"end\":{\"character\":7,\"line\":3},\"start\":{\"character\":6,\"line\":3}}}",
         ],
         result: Ok(1),
     },

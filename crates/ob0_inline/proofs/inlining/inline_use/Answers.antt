@@ -1,4 +1,4 @@
-use Rattle.std.proofs.Common.{Err, List, ℕ, [], ◌∷◌, inl, sym, ap, ◌∙◌, subst}
+use Rattle.std.proofs.Common.{Err, [], ◌∷◌, inl, sym, ap, ◌∙◌, subst}
 use Rattle.ob0_edits.specs.Replaced.{AreNames}
 use Rattle.ob0_tree.specs.Parsed.{named_tree_of}
 use Rattle.ob0_scope.specs.Resolution.{Resolution}

@@ -1,4 +1,4 @@
-use Rattle.std.proofs.Common.{◌==◌, List, ℕ, sym, ap, ◌∙◌}
+use Rattle.std.proofs.Common.{◌==◌, sym, ap, ◌∙◌}
 use Rattle.std.specs.List.{position_from}
 use Rattle.ob0_scope.specs.Resolution.{Resolution}
 use Rattle.ob0_refs.specs.Standing.{name_on}

@@ -1,4 +1,4 @@
-use Rattle.std.proofs.Common.{◌≡◌, List, sym, ◌∙◌, subst, ap}
+use Rattle.std.proofs.Common.{List, sym, ◌∙◌, subst}
 use Rattle.std.proofs.lemmas.Bool.{ltb-true, ltb-false}
 use Rattle.ob0_scan.specs.Scanned.{Scanned, Word}
 use Rattle.ob0_text.specs.declared.edits.Edit.{Edit}
@@ -37,4 +37,4 @@ returns-clause-inlined g c = λ alone.
     subst (λ (s : Scanned). LeavesWords unit content c.in_ok-edits.edits.items (changed (at_each places (value_words c.args.value)) 0 (words_of s))) c.tokens.ensures (c.in_ok-edits.ensures.words (value_words c.args.value) stands) in
     let passed = subst (λ (es : List Edit). LeavesWords unit content es ws) (sym c.deref-2.ensures.value) leaves in
     let low = ltb-false 100 (nesting (inlined_at m places c.args.value)) (sym (c.in_ok-is_too_deep.ensures.deep ws (inlined_at m places c.args.value) passed spelled) ∙ c.if-branch.false) in
-    leaves_module unit content c.in_ok-edits.edits.items ws m places c.args.value leaves spelled low
+    leaves_module unit content c.in_ok-edits.edits.items ws (inlined_at m places c.args.value) leaves spelled low

@@ -1,4 +1,4 @@
-use Rattle.std.proofs.Common.{ℤ, pos, ◌≤◌, FitsSigned, w32, arith}
+use Rattle.std.proofs.Common.{ℤ, pos, FitsSigned, w32, arith}
 use Rattle.std.proofs.lemmas.Int.{ints}
 use Rattle.std.specs.Prelude.{negsuc}
 use Rattle.ob0_edits.specs.Written.{IsInt32}

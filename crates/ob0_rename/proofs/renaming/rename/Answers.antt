@@ -1,16 +1,30 @@
-use Rattle.std.proofs.Common.{◌∙◌, ℕ, Some, option_map, sym, ap}
+use Rattle.std.proofs.Common.{◌≡◌, ◌≤◌, ◌∙◌, ℕ, Some, sym, ap, arith}
+use Rattle.ob0_tree.specs.Places.{text_at}
 use Rattle.ob0_scope.specs.Resolution.{Resolution}
-use Rattle.ob0_refs.specs.Standing.{at_name, name_on}
-use Rattle.ob0_refs.specs.declared.answers.At as told
-use Rattle.ob0_rename.proofs.Outcomes.{answered_there, asked}
+use Rattle.ob0_refs.specs.Standing.{name_on}
+use Rattle.ob0_rename.specs.Renaming.{meant_at}
+use Rattle.ob0_rename.proofs.FieldOutcomes.{field_answered_there}
+use Rattle.ob0_rename.proofs.Outcomes.{answered_there, asked, is_declaration, meant_named, meant_unnamed}
 use Rattle.ob0_rename.proofs.renaming.rename.Goals as goal
 
-pub returns-in-Declared-clause-answers : goal.returns-in-Declared-clause-answers
-returns-in-Declared-clause-answers g c =
+pub returns-else-name-lt-PREDECLARED-clause-answers : goal.returns-else-name-lt-PREDECLARED-clause-answers
+returns-else-name-lt-PREDECLARED-clause-answers g c =
     let unit = g.T.TextStore.unit_of c.args.store.now in
     let text = g.T.TextStore.content c.args.store.now in
-    let d = c.in-Declared.declaration in
-    let at = λ (x : Resolution) (offset : ℕ). option_map (at_name x.module_read) (name_on x.module_read offset) in
-    let here = (λ i. at (sym c.resolved-names.ensures.value i) (sym c.offset.ensures i)) ∙ (sym c.at.ensures ∙ c.in-Some.is) in
-    let means = ap (option_map (λ (t : told.At). t.of)) here ∙ ap Some c.in-Declared.is in
-    answered_there (asked unit text c.args.place c.args.new.now d c.args.well_typed.now.module_read) d means c.rename_declaration.result (c.rename_declaration.ensures.answers c.args.place)
+    let r = c.args.well_typed.now in
+    let d : ℕ = c.in-Some.name.ordinal in
+    let here = ap (λ (x : Resolution). name_on x.module_read c.offset-offset.result) (sym c.resolved.ensures.value) ∙ (sym c.name_at.ensures ∙ c.in-Some.is) in
+    let high : 7 ≤ d = omega (arith, c.if-name-lt-PREDECLARED.false) in
+    let means = ap (meant_at r) (sym c.offset-offset.ensures) ∙ (meant_named r c.offset-offset.result c.in-Some.name here ∙ is_declaration d high) in
+    answered_there (asked unit text c.args.place c.args.new.now d r) d means c.rename_declaration.result (c.rename_declaration.ensures.answers c.args.place)
+
+pub returns-in-Some-2-clause-answers : goal.returns-in-Some-2-clause-answers
+returns-in-Some-2-clause-answers g c =
+    let unit = g.T.TextStore.unit_of c.args.store.now in
+    let text = g.T.TextStore.content c.args.store.now in
+    let r = c.args.well_typed.now in
+    let k : ℕ = c.in-Some-2.field.1 in
+    let here = ap (λ (x : Resolution). name_on x.module_read c.offset-offset.result) (sym c.resolved.ensures.value) ∙ (sym c.name_at.ensures ∙ c.in-None.is) in
+    let there = sym c.in_ok-field-in-None.ensures.found ∙ c.in-Some-2.is in
+    let means = ap (meant_at r) (sym c.offset-offset.ensures) ∙ meant_unnamed r c.offset-offset.result (Some c.in-Some-2.field) here there in
+    field_answered_there (asked unit text c.args.place c.args.new.now k r) k (text_at r.module_read.source c.in-Some-2.field.0) means c.rename_field.result (c.rename_field.ensures.answers c.args.place)

@@ -1,0 +1,75 @@
+-- The identifiers of one field: the one that declares it, and those that select it. The names of these trees are tokens.
+use Rattle.std.specs.Prelude.{◌≡◌, ℕ, ◌+◌, ◌==◌, ◌&&◌, Bool, not, is_some, List, [], ◌∷◌, ◌++◌, Option, Some, None, if◌then◌else◌}
+use Rattle.std.specs.List.{list_any}
+use Rattle.ob0_scan.specs.Scanned.{Scanned}
+use Rattle.ob0_tree.specs.Tree.{Tree, block, declares, declares_procedure, end, has_body, item, items, mapped, module_text, more, procedure}
+use Rattle.ob0_tree.specs.Parsed.{Parsed, named_tree_of, tree_of}
+use Rattle.ob0_tree.specs.Places.{text_at, value_at}
+use Rattle.ob0_scope.specs.Names.{Name, same_name}
+use Rattle.ob0_scope.specs.Parts.{formal_sections, module_block, section_types, section_variables}
+use Rattle.ob0_scope.specs.Resolution.{Resolution}
+use Rattle.ob0_types.specs.CheckedModules.{IsWellTyped}
+use Rattle.ob0_types.specs.Declarations.{after_formals, after_types, after_variables, procedure_constructors}
+use Rattle.ob0_fields.specs.Owned.{fields_among, marked_sections, marked_types, marked_variables, owned_tokens}
+use Rattle.ob0_fields.specs.Renaming.{field_renamed, is_duplicate_field}
+
+-- the identifiers of a module that are fields, in text order, each with the ordinal of its record
+abbrev pub field_identifiers : Resolution → List (ℕ × ℕ)
+field_identifiers r = fields_among (owned_tokens r)
+
+-- it is the field x of the record k
+abbrev pub is_field : Scanned → ℕ → Name → ℕ × ℕ → Bool
+is_field source k x found = (found.1 == k) && same_name (text_at source found.0) x
+
+-- the tokens of that field among some identifiers of fields
+abbrev pub tokens_among : Scanned → ℕ → Name → List (ℕ × ℕ) → List ℕ
+tokens_among source k x [] = []
+tokens_among source k x (found ∷ rest) = if is_field source k x found then found.0 ∷ tokens_among source k x rest else tokens_among source k x rest
+
+-- all tokens of the field x of the record k
+abbrev pub field_tokens : Resolution → ℕ → Name → List ℕ
+field_tokens r k x = tokens_among r.module_read.source k x (field_identifiers r)
+
+-- ---- those that declare
+
+abbrev mutual
+  -- the fields that the declarations of a block declare, each with its record; k is the ordinal of the first ARRAY or RECORD
+  pub declared_in : ℕ → Tree ℕ block → List (ℕ × ℕ)
+  declared_in k (has_body (declares cs ts vs ps) statements) =
+      marked_types k (section_types ts)
+      ++ (marked_variables (after_types k (has_body (declares cs ts vs ps) statements)) (section_variables vs)
+      ++ declared_in_procedures (after_variables k (has_body (declares cs ts vs ps) statements)) ps)
+
+  pub declared_in_procedures : ℕ → Tree ℕ (items procedure) → List (ℕ × ℕ)
+  declared_in_procedures k end = []
+  declared_in_procedures k (more p rest) = declared_in_procedure k p ++ declared_in_procedures (k + procedure_constructors p) rest
+
+  pub declared_in_procedure : ℕ → Tree ℕ (item procedure) → List (ℕ × ℕ)
+  declared_in_procedure k (declares_procedure x fs b closing) =
+      marked_sections k (formal_sections fs) ++ declared_in (after_formals k (declares_procedure x fs b closing)) b
+
+-- all fields that a module declares
+abbrev pub declared_fields : Parsed → List (ℕ × ℕ)
+declared_fields m = declared_in 0 (module_block (tree_of m))
+
+abbrev pub first : List ℕ → Option ℕ
+first [] = None
+first (token ∷ tokens) = Some token
+
+-- the token that declares the field x of the record k
+abbrev pub declaring_field : Parsed → ℕ → Name → Option ℕ
+declaring_field m k x = first (tokens_among m.source k x (declared_fields m))
+
+-- ---- laws
+
+-- In a well-typed module the field f of the record k is called `new` where the new name stands at the tokens of that field.
+abbrev pub RenamedAtTokens : Type 0
+RenamedAtTokens =
+    (r : Resolution) (k : ℕ) (f new : Name) → IsWellTyped r
+    → field_renamed (named_tree_of r.module_read) k f new
+    ≡ mapped (λ i. if list_any (λ token. i == token) (field_tokens r k f) then new else text_at r.module_read.source i) (value_at r.module_read.source) (tree_of r.module_read)
+
+-- Another field of a record has the name where that is another name, and a token declares a field of it.
+abbrev pub DuplicateByToken : Type 0
+DuplicateByToken =
+    (m : Parsed) (k : ℕ) (f new : Name) → is_duplicate_field (named_tree_of m) k f new ≡ (not (same_name new f) && is_some (declaring_field m k new))

@@ -1,0 +1,164 @@
+-- What is answered at a name of a constant.
+use Rattle.std.proofs.Common.{zero, arith, ◌≡◌, ◌⊎◌, ℕ, ℤ, suc, ◌+◌, ◌-◌, ◌<◌, ◌≤◌, ◌&&◌, ◌||◌, not, Bool, true, false, nat_lt, if◌then◌else◌, Option, Some, None, List, [], ◌∷◌, length, map, refl, sym, ap, ◌∙◌, inl, inr, IsSomeAnd, MatchOption, option_and_then, slice_get, eq-eqb, true≢false}
+use Rattle.std.proofs.lemmas.Bool.{le-ltb, lt-ltb}
+use Rattle.std.specs.List.{list_any, range_with_len}
+use Rattle.ob0_scan.specs.Scanned.{max_text}
+use Rattle.ob0_text.specs.declared.edits.Edit.{Edit}
+use Rattle.ob0_text.specs.declared.positions.Unit as counting
+use Rattle.ob0_text.specs.declared.refusals.EditRefusal.{EditRefusal}
+use Rattle.ob0_text.specs.declared.refusals.EditRefusal.TheVariants.{CommentInside, Memory, Shadowed, TooDeep, TooLong}
+use Rattle.ob0_text.specs.Units.{width_of}
+use Rattle.ob0_tree.specs.Parsed.{Parsed, named_tree_of}
+use Rattle.ob0_tree.specs.Tree.{Tree, module_text, nesting}
+use Rattle.ob0_edits.specs.Ranges.{range_of}
+use Rattle.ob0_edits.specs.Removed.{span_over}
+use Rattle.ob0_edits.specs.Replaced.{edit_at, parts}
+use Rattle.ob0_scope.specs.Names.{Label, Name}
+use Rattle.ob0_scope.specs.Occurrences.{bindings, binds, label_ordinal}
+use Rattle.ob0_scope.specs.Resolution.{Resolution}
+use Rattle.ob0_scope.specs.Scopes.{same_ordinal}
+use Rattle.ob0_refs.specs.declared.answers.Named as named
+use Rattle.ob0_refs.specs.Standing.{name_on}
+use Rattle.ob0_types.specs.CheckedModules.{IsWellTyped}
+use Rattle.ob0_types.specs.EditLaws.{ConstantsStandAlone, IsConstantWritten, IsScalar, IsShown}
+use Rattle.ob0_run.specs.EditLaws.{InliningEverywhereKeepsModules}
+use Rattle.ob0_values.specs.declared.scalar.Scalar.TheVariants as scalar
+use Rattle.ob0_values.specs.Scalars.{scalar_value}
+use Rattle.ob0_inline.specs.declared.constants.Constant.{Constant}
+use Rattle.ob0_inline.specs.Everywhere.{InlinesEverywhere, IsConstant, IsConstantAt, NoConstantAt, StandsAlone, any_hidden, has_comment, inlined_all, is_hidden, refusal_everywhere, text_without, uses_of}
+use Rattle.ob0_inline.specs.Inlined.{LeavesModule}
+use Rattle.ob0_inline.specs.Uses.{is_shown}
+use Rattle.ob0_inline.specs.Values.{value_factor, value_text}
+use Rattle.ob0_inline.proofs.AtUses.{literal_of, shown_is}
+
+-- where none of the numbers from one on passes
+
+none_passes : (f : ℕ → Bool) (a n k : ℕ) → list_any f (range_with_len a n) ≡ false → k < n → f (a + k) ≡ false
+none_passes f a zero k e h = absurd (omega (arith, h))
+none_passes f a (suc n) k e h = by_test (f a) refl e k h (none_passes f (a + 1) n)
+  where
+    by_test : (b : Bool) → f a ≡ b → (b || list_any f (range_with_len (a + 1) n)) ≡ false → (k : ℕ) → k < suc n
+        → ((j : ℕ) → list_any f (range_with_len (a + 1) n) ≡ false → j < n → f (a + 1 + j) ≡ false) → f (a + k) ≡ false
+    by_test true q e k h later = absurd (true≢false e)
+    by_test false q e zero h later = ap f (let z : a + 0 ≡ a = omega arith in z) ∙ q
+    by_test false q e (suc k) h later = ap f (let z : a + suc k ≡ a + 1 + k = omega arith in z) ∙ later k e (omega (arith, h))
+
+-- one number further, where it doesn't pass
+pub passes_further : (f : ℕ → Bool) (a n : ℕ) → a < n → f a ≡ false → list_any f (range_with_len (a + 1) (n - (a + 1))) ≡ list_any f (range_with_len a (n - a))
+passes_further f a n h e =
+    sym (ap (λ k. list_any f (range_with_len a k)) (let z : n - a ≡ suc (n - (a + 1)) = omega (arith, h) in z) ∙ ap (λ b. b || list_any f (range_with_len (a + 1) (n - (a + 1)))) e)
+
+bound_inside : (ls : List Label) (k d : ℕ) → option_and_then label_ordinal (slice_get ls k) ≡ Some d → k < length ls
+bound_inside [] k d e = absurd (cc)
+bound_inside (l ∷ ls) zero d e = omega arith
+bound_inside (l ∷ ls) (suc k) d e = let h = bound_inside ls k d e in omega (arith, h)
+
+module _ (m : Tree Name module_text) (c : Constant) (none : any_hidden m c ≡ false) where
+  shown_each : (k : ℕ) → binds m k ≡ Some c.ordinal → is_shown m k c.value ≡ true
+  shown_each k e =
+      let here : is_hidden m c k ≡ false = ap (is_hidden m c) (let z : k ≡ 0 + k = omega arith in z) ∙ none_passes (is_hidden m c) 0 (length (bindings m)) k none (bound_inside (bindings m) k c.ordinal e) in
+      one (is_shown m k c.value) (sym (ap (λ o. same_ordinal o c.ordinal && not (is_shown m k c.value)) e ∙ ap (λ b. b && not (is_shown m k c.value)) (eq-eqb c.ordinal c.ordinal refl)) ∙ here)
+    where
+      one : (b : Bool) → not b ≡ false → b ≡ true
+      one true e = refl
+      one false e = absurd (true≢false e)
+
+  -- at each use the literal is seen
+  pub all_seen : (k : ℕ) → binds m k ≡ Some c.ordinal → IsShown m k (scalar_value c.value)
+  all_seen k e = shown_is m k c.value (shown_each k e)
+
+-- a number is written without a name
+none_of : (f : ℕ → Bool) (ks : List ℕ) → list_any (λ k. f k && false) ks ≡ false
+none_of f [] = refl
+none_of f (k ∷ ks) = one (f k) ∙ none_of f ks
+  where
+    one : (b : Bool) → ((b && false) || list_any (λ j. f j && false) ks) ≡ list_any (λ j. f j && false) ks
+    one true = refl
+    one false = refl
+
+pub numbers_shown : (m : Tree Name module_text) (c : Constant) (n : ℤ) → c.value ≡ scalar.Number n → any_hidden m c ≡ false
+numbers_shown m c n e =
+    (λ i. list_any (λ k. same_ordinal (binds m k) c.ordinal && not (is_shown m k (e i))) (range_with_len 0 (length (bindings m))))
+    ∙ none_of (λ k. same_ordinal (binds m k) c.ordinal) (range_with_len 0 (length (bindings m)))
+
+-- the constant of which a name was found
+pub constant_named : (m : Parsed) (offset : ℕ) (found : named.Named) → Some found ≡ name_on m offset → (o : Option Constant) → IsSomeAnd o (λ c. (c.ordinal ≡ found.ordinal) × IsConstant m c)
+    → MatchOption o (NoConstantAt m offset) (λ c. IsConstantAt m offset c)
+constant_named m offset found e None h = absurd h
+constant_named m offset found e (Some c) h =
+    record { token = found.token; named = sym e ∙ ap (λ n. Some (let a : named.Named = record { token = found.token; ordinal = n } in a)) (sym h.0); is_constant = h.1 }
+
+-- the first refusal
+
+module _ (m : Parsed) (c : Constant) where
+  pub too_long_there : max_text < length (text_without m c) → refusal_everywhere m c ≡ Some TooLong
+  too_long_there h =
+      ap (λ a. if a then Some TooLong else if nat_lt 100 (nesting (inlined_all m c)) then Some TooDeep else if any_hidden (named_tree_of m) c then Some Shadowed else if has_comment m c then Some CommentInside else None)
+      (lt-ltb max_text (length (text_without m c)) h)
+
+  short_there : length (text_without m c) ≤ max_text
+      → refusal_everywhere m c ≡ (if nat_lt 100 (nesting (inlined_all m c)) then Some TooDeep else if any_hidden (named_tree_of m) c then Some Shadowed else if has_comment m c then Some CommentInside else None)
+  short_there h =
+      ap (λ a. if a then Some TooLong else if nat_lt 100 (nesting (inlined_all m c)) then Some TooDeep else if any_hidden (named_tree_of m) c then Some Shadowed else if has_comment m c then Some CommentInside else None)
+      (le-ltb max_text (length (text_without m c)) h)
+
+  pub too_deep_there : length (text_without m c) ≤ max_text → 100 < nesting (inlined_all m c) → refusal_everywhere m c ≡ Some TooDeep
+  too_deep_there h d =
+      short_there h
+      ∙ ap (λ a. if a then Some TooDeep else if any_hidden (named_tree_of m) c then Some Shadowed else if has_comment m c then Some CommentInside else None) (lt-ltb 100 (nesting (inlined_all m c)) d)
+
+  pub rest_there : length (text_without m c) ≤ max_text → nesting (inlined_all m c) ≤ 100 → (hidden comment : Bool) → any_hidden (named_tree_of m) c ≡ hidden → has_comment m c ≡ comment
+      → refusal_everywhere m c ≡ (if hidden then Some Shadowed else if comment then Some CommentInside else None)
+  rest_there h d hidden comment e f =
+      short_there h
+      ∙ (ap (λ a. if a then Some TooDeep else if any_hidden (named_tree_of m) c then Some Shadowed else if has_comment m c then Some CommentInside else None) (le-ltb 100 (nesting (inlined_all m c)) d)
+      ∙ (λ i. if e i then Some Shadowed else if f i then Some CommentInside else None))
+
+-- what is known of the edits of a constant, or of their refusal, by any reading of the module
+pub record Made (r : Resolution) (c : Constant) (unit : counting.Unit) (text : List ℕ) (edits : List Edit) : Type 0 where
+  pub edits_are : map parts edits ≡ (range_of (width_of unit) text (span_over r.module_read.source.tokens c.first c.last), []) ∷ map (edit_at unit text r.module_read.source.tokens (value_text c.value)) (uses_of r.module_read c.ordinal)
+  pub leaves : StandsAlone r.module_read c.ordinal → LeavesModule unit text edits (inlined_all r.module_read c)
+  pub short : length (text_without r.module_read c) ≤ max_text
+
+pub record Refused (r : Resolution) (c : Constant) (refusal : EditRefusal) : Type 0 where
+  pub too_long : refusal ≡ TooLong → max_text < length (text_without r.module_read c)
+  pub too_deep : StandsAlone r.module_read c.ordinal → refusal ≡ TooDeep → 100 < nesting (inlined_all r.module_read c)
+  pub deep_and_short : refusal ≡ TooDeep → length (text_without r.module_read c) ≤ max_text
+  pub one_of : (refusal ≡ TooLong) ⊎ ((refusal ≡ TooDeep) ⊎ (refusal ≡ Memory))
+
+module _ (r : Resolution) (well : IsWellTyped r) (c : Constant) (constant : IsConstant r.module_read c) (law : ConstantsStandAlone) (scalar_so : IsScalar (scalar_value c.value)) where
+  written_there : IsConstantWritten (named_tree_of r.module_read) c.ordinal (scalar_value c.value) (value_factor c.value)
+  written_there = record { value = constant.worth; scalar = scalar_so; literal = literal_of c.value }
+
+  pub alone_there : StandsAlone r.module_read c.ordinal
+  unfolding written_there
+  alone_there = law (named_tree_of r.module_read) c.ordinal (scalar_value c.value) (value_factor c.value) written_there well.well_typed
+
+  low_there : (unit : counting.Unit) (text : List ℕ) (edits : List Edit) → Made r c unit text edits → nesting (inlined_all r.module_read c) ≤ 100
+  low_there unit text edits h = (h.leaves alone_there).module_of.shallow
+
+  pub answer_made : InliningEverywhereKeepsModules → (unit : counting.Unit) (text : List ℕ) (edits : List Edit) → Made r c unit text edits
+      → any_hidden (named_tree_of r.module_read) c ≡ false → has_comment r.module_read c ≡ false → (refusal_everywhere r.module_read c ≡ None) × InlinesEverywhere unit text r.module_read c edits
+  answer_made keeps unit text edits h shown bare =
+      let kept = keeps (named_tree_of r.module_read) c.ordinal (scalar_value c.value) (value_factor c.value) written_there (all_seen (named_tree_of r.module_read) c shown) well.well_typed in (
+        rest_there r.module_read c h.short (low_there unit text edits h) false false shown bare,
+        record { everywhere = h.edits_are; leaves = h.leaves alone_there; well_typed = kept.0; same_runs = kept.1 },
+      )
+
+  pub answer_hidden : (unit : counting.Unit) (text : List ℕ) (edits : List Edit) → Made r c unit text edits → any_hidden (named_tree_of r.module_read) c ≡ true → refusal_everywhere r.module_read c ≡ Some Shadowed
+  answer_hidden unit text edits h hidden = rest_there r.module_read c h.short (low_there unit text edits h) true (has_comment r.module_read c) hidden refl
+
+  pub answer_comment : (unit : counting.Unit) (text : List ℕ) (edits : List Edit) → Made r c unit text edits
+      → any_hidden (named_tree_of r.module_read) c ≡ false → has_comment r.module_read c ≡ true → refusal_everywhere r.module_read c ≡ Some CommentInside
+  answer_comment unit text edits h shown comment = rest_there r.module_read c h.short (low_there unit text edits h) false true shown comment
+
+  pub answer_not_made : (refusal : EditRefusal) → Refused r c refusal → (refusal_everywhere r.module_read c ≡ Some refusal) ⊎ (refusal ≡ Memory)
+  answer_not_made refusal h =
+      elim h.one_of [
+        | inl e ↦ inl (too_long_there r.module_read c (h.too_long e) ∙ ap Some (sym e))
+        | inr other ↦
+            elim other [
+              | inl e ↦ inl (too_deep_there r.module_read c (h.deep_and_short e) (h.too_deep alone_there e) ∙ ap Some (sym e))
+              | inr e ↦ inr e
+            ]
+      ]

@@ -1,0 +1,201 @@
+-- Where the declaration of a constant begins and ends, and that its uses stand behind it.
+use Rattle.std.proofs.Common.{◌≡◌, ℕ, suc, ◌+◌, ◌-◌, Bool, true, false, cond, if◌then◌else◌, Option, Some, None, List, [], ◌∷◌, ◌++◌, drop, map, length, refl, sym, ap, ◌∙◌, subst, arith, slice_get, append_assoc}
+use Rattle.std.proofs.lemmas.Bool.{le-ltb}
+use Rattle.std.specs.List.{filter, position_from, zip}
+use Rattle.ob0_scan.specs.declared.lexeme.Symbol.TheVariants as symbol
+use Rattle.ob0_scan.specs.declared.lexeme.Token.{Token}
+use Rattle.ob0_scan.specs.declared.lexeme.TokenKind.{TokenKind}
+use Rattle.ob0_scan.specs.declared.lexeme.TokenKind.TheVariants as kind
+use Rattle.ob0_scan.specs.Scanned.{Scanned, read_in}
+use Rattle.ob0_tree.specs.declared.tree.Role.TheVariants as role
+use Rattle.ob0_tree.specs.Lexeme.{Lexeme, Mark}
+use Rattle.ob0_tree.specs.Lexeme as lexeme
+use Rattle.ob0_tree.specs.Parsed.{Parsed, named_tree_of, tree_of}
+use Rattle.ob0_tree.specs.Places.{lexeme_of}
+use Rattle.ob0_tree.specs.Places as leaf
+use Rattle.ob0_tree.specs.Tree.{identifiers, occurrences, spell}
+use Rattle.ob0_edits.specs.Changed.{at_each, changed, words_of}
+use Rattle.ob0_edits.specs.OfTrees.{placed}
+use Rattle.ob0_edits.specs.Removed.{IsDeclaration, without}
+use Rattle.ob0_edits.specs.Replaced.{AreNames}
+use Rattle.ob0_edits.specs.Words.{word_lexeme}
+use Rattle.ob0_scope.specs.Names.{Label, Name, as_names, declared, same_label}
+use Rattle.ob0_scope.specs.Occurrences.{bindings}
+use Rattle.ob0_scope.specs.Parts.{module_block}
+use Rattle.ob0_scope.specs.Resolution.{IsResolution, Resolution, declaring_only, label_at, ordinal_in, token_declaring}
+use Rattle.ob0_scope.specs.Scopes.{as_label, same_ordinal}
+use Rattle.ob0_scope.proofs.Bound.{bindings_by_table}
+use Rattle.ob0_scope.proofs.OccurrenceNames.{length-map}
+use Rattle.ob0_scope.proofs.Peeling.{heads}
+use Rattle.ob0_types.specs.ConstantValues.{value_of_constant}
+use Rattle.ob0_values.specs.Scalars.{scalar_value}
+use Rattle.ob0_values.specs.Values.{Value}
+use Rattle.ob0_inline.specs.declared.constants.Constant.{Constant}
+use Rattle.ob0_inline.specs.Declarations.{is_semicolon}
+use Rattle.ob0_inline.specs.Everywhere.{IsConstant, StandsAlone, inlined_all, uses_of}
+use Rattle.ob0_inline.specs.Values.{value_factor, value_words}
+use Rattle.ob0_inline.proofs.EverywhereAt.{bound_tokens, late_here, uses_are_names, words_everywhere}
+use Rattle.ob0_inline.proofs.ModuleTexts.{spelled_by_words, value_spelled}
+use Rattle.ob0_inline.proofs.TakenOut.{NoEnd, Taken, block_declares, gone_module, module_declared}
+use Rattle.ob0_inline.proofs.UsesStand.{inside}
+use Rattle.ob0_inline.proofs.WordsLeft.{first_token, is_declaration, last_token, mark_kind, name_is_first}
+
+-- the uses by the table of ordinals
+
+label_same : (o : Option ℕ) (x : Name) (d : ℕ) → same_label (as_label as_names o x) (declared d) ≡ same_ordinal o d
+label_same None x d = refl
+label_same (Some k) x d = refl
+
+uses_kept : (source : Scanned) (ordinals : List (Option ℕ)) (d : ℕ) (is : List ℕ)
+    → map (λ (u : ℕ × Label). u.0) (filter (λ u. same_label u.1 (declared d)) (zip is (map (label_at source ordinals) is))) ≡ bound_tokens ordinals d is
+uses_kept source ordinals d [] = refl
+uses_kept source ordinals d (i ∷ is) =
+    let kept = filter (λ (u : ℕ × Label). same_label u.1 (declared d)) (zip is (map (label_at source ordinals) is)) in
+    ap (λ b. map (λ (u : ℕ × Label). u.0) (cond b ((i, label_at source ordinals i) ∷ kept) kept)) (label_same (ordinal_in ordinals i) (leaf.text_at source i) d)
+    ∙ one kept (bound_tokens ordinals d is) (uses_kept source ordinals d is) (same_ordinal (ordinal_in ordinals i) d)
+  where
+    one : (kept : List (ℕ × Label)) (bound : List ℕ) → map (λ (u : ℕ × Label). u.0) kept ≡ bound → (b : Bool)
+        → map (λ (u : ℕ × Label). u.0) (cond b ((i, label_at source ordinals i) ∷ kept) kept) ≡ cond b (i ∷ bound) bound
+    one kept bound e true = λ j. i ∷ e j
+    one kept bound e false = e
+
+pub uses_by_table : (r : Resolution) → IsResolution r → (d : ℕ) → bound_tokens r.ordinals d r.uses ≡ uses_of r.module_read d
+uses_by_table r is d =
+    let m = r.module_read in
+    ap (bound_tokens r.ordinals d) is.occurring
+    ∙ (sym (uses_kept m.source r.ordinals d (occurrences (tree_of m)))
+    ∙ ap (λ ls. map (λ (u : ℕ × Label). u.0) (filter (λ u. same_label u.1 (declared d)) (zip (occurrences (tree_of m)) ls))) (sym (bindings_by_table m r.ordinals is.numbering)))
+
+-- there are as many bindings as occurrences
+pub as_many_bindings : (r : Resolution) → IsResolution r → length r.uses ≡ length (bindings (named_tree_of r.module_read))
+as_many_bindings r is =
+    let m = r.module_read in
+    ap length is.occurring ∙ (sym (length-map (label_at m.source r.ordinals) (occurrences (tree_of m))) ∙ ap length (sym (bindings_by_table m r.ordinals is.numbering)))
+
+-- the first `;` among tokens
+
+not_end : (k : ℕ) (q : TokenKind) (x : Lexeme ℕ) (xs : List (Lexeme ℕ)) → lexeme_of k q ≡ x → NoEnd (x ∷ xs) → is_semicolon q ≡ false
+not_end k kind.Identifier x xs e n = refl
+not_end k (kind.Reserved r) x xs e n = refl
+not_end k (kind.Integer v) x xs e n = refl
+not_end k (kind.Symbol s) x xs e n = (subst (λ y. NoEnd (y ∷ xs)) (sym e) n).0
+
+others_no_end : (x : Lexeme ℕ) (xs : List (Lexeme ℕ)) → NoEnd (x ∷ xs) → NoEnd xs
+others_no_end (Mark k) xs n = n.1
+others_no_end (lexeme.Name i) xs n = n
+others_no_end (lexeme.Number i) xs n = n
+others_no_end lexeme.EndOfText xs n = n
+
+first_end : (text : List ℕ) (k j : ℕ) (ts : List Token) (xs ys : List (Lexeme ℕ)) → placed k (map (read_in text) ts) ≡ xs ++ (Mark (kind.Symbol symbol.Semicolon) ∷ ys) → NoEnd xs
+    → position_from (λ t. is_semicolon t.kind) j ts ≡ Some (j + length xs)
+first_end text k j [] [] ys e n = absurd (cc)
+first_end text k j [] (x ∷ xs) ys e n = absurd (cc)
+first_end text k j (t ∷ ts) [] ys e n =
+    ap (λ b. cond b (Some j) (position_from (λ (t : Token). is_semicolon t.kind) (j + 1) ts)) (ap is_semicolon (mark_kind k t.kind (kind.Symbol symbol.Semicolon) (heads e).0))
+    ∙ ap Some (let z : j ≡ j + 0 = omega arith in z)
+first_end text k j (t ∷ ts) (x ∷ xs) ys e n =
+    ap (λ b. cond b (Some j) (position_from (λ (t : Token). is_semicolon t.kind) (j + 1) ts)) (not_end k t.kind x xs (heads e).0 n)
+    ∙ (first_end text (suc k) (j + 1) ts xs ys (heads e).1 (others_no_end x xs n) ∙ ap Some (let z : j + 1 + length xs ≡ j + suc (length xs) = omega arith in z))
+
+-- tokens without those in front
+behind_front : (text : List ℕ) (k : ℕ) (ts : List Token) (front rest : List (Lexeme ℕ)) → placed k (map (read_in text) ts) ≡ front ++ rest → placed (k + length front) (map (read_in text) (drop (length front) ts)) ≡ rest
+behind_front text k ts [] rest e = ap (λ n. placed n (map (read_in text) ts)) (let z : k + 0 ≡ k = omega arith in z) ∙ e
+behind_front text k [] (x ∷ front) rest e = absurd (cc)
+behind_front text k (t ∷ ts) (x ∷ front) rest e =
+    ap (λ n. placed n (map (read_in text) (drop (length front) ts))) (let z : k + suc (length front) ≡ suc k + length front = omega arith in z)
+    ∙ behind_front text (suc k) ts front rest (heads e).1
+
+pub none_some : (n : ℕ) → None ≡ Some n → ⊥
+none_some n e = cc
+
+-- a declaration's tokens, by the ordinal of what it declares
+
+token_of : (labels : List ℕ) (d place : ℕ) → d ≡ 7 + place → token_declaring labels d ≡ slice_get labels place
+token_of labels d place e =
+    ap (λ b. if b then None else slice_get labels (d - 7)) (le-ltb d 7 (omega (arith, e))) ∙ ap (slice_get labels) (let z : d - 7 ≡ place = omega (arith, e) in z)
+
+module _ (m : Parsed) (d : ℕ) (left : List (Lexeme ℕ)) (t : Taken d 7 (block_declares (module_block (tree_of m))) (placed 0 (words_of m.source)) left) where
+  pub begins_there : token_declaring (declaring_only (identifiers role.Declaring (tree_of m))) d ≡ Some (first_token t)
+  begins_there =
+      let labels = block_declares (module_block (tree_of m)) in
+      ap (λ (xs : List ℕ). token_declaring xs d) (module_declared (tree_of m))
+      ∙ (token_of labels d t.place t.ordinal_is ∙ (t.named_there ∙ ap Some (name_is_first m.source d 7 labels left t)))
+
+  pub ends_there : position_from (λ x. is_semicolon x.kind) (first_token t) (drop (first_token t) m.source.tokens) ≡ Some (last_token t)
+  ends_there =
+      let front : List (Lexeme ℕ) = t.before ++ (Mark t.border ∷ []) in
+      let inner : List (Lexeme ℕ) = lexeme.Name t.name ∷ Mark (kind.Symbol symbol.Equal) ∷ t.right in
+      let declaration : List (Lexeme ℕ) = lexeme.Name t.name ∷ Mark (kind.Symbol symbol.Equal) ∷ (t.right ++ (Mark (kind.Symbol symbol.Semicolon) ∷ [])) in
+      let there = behind_front m.source.text 0 m.source.tokens front (declaration ++ t.after) t.whole_is in
+      let regrouped : declaration ++ t.after ≡ inner ++ (Mark (kind.Symbol symbol.Semicolon) ∷ t.after) =
+      ap (λ (l : List (Lexeme ℕ)). lexeme.Name t.name ∷ Mark (kind.Symbol symbol.Equal) ∷ l) (append_assoc t.right (Mark (kind.Symbol symbol.Semicolon) ∷ []) t.after) in
+      first_end m.source.text (0 + length front) (first_token t) (drop (length front) m.source.tokens) inner t.after (there ∙ regrouped) (refl, t.no_end)
+      ∙ ap Some (let z : length front + suc (suc (length t.right)) ≡ length front + (2 + length t.right) = omega arith in z)
+
+-- what is known of a constant whose declaration is taken out
+
+module _ (r : Resolution) (is : IsResolution r) (d : ℕ) (w : Value) (worth : value_of_constant (named_tree_of r.module_read) d ≡ Some w) where
+  abbrev spelled : spell (tree_of r.module_read) ≡ placed 0 (words_of r.module_read.source)
+  spelled = spelled_by_words r.module_read is.parsed
+
+  abbrev taken : Taken d 7 (block_declares (module_block (tree_of r.module_read))) (placed 0 (words_of r.module_read.source)) (spell (gone_module d (tree_of r.module_read)))
+  taken = (late_here r is d w worth spelled).taken
+
+  abbrev pub name_token : ℕ
+  name_token = first_token taken
+
+  abbrev pub end_token : ℕ
+  end_token = last_token taken
+
+  pub begins_at : token_declaring (declaring_only (identifiers role.Declaring (tree_of r.module_read))) d ≡ Some name_token
+  begins_at = begins_there r.module_read d (spell (gone_module d (tree_of r.module_read))) taken
+
+  pub ends_at : position_from (λ x. is_semicolon x.kind) name_token (drop name_token r.module_read.source.tokens) ≡ Some end_token
+  ends_at = ends_there r.module_read d (spell (gone_module d (tree_of r.module_read))) taken
+
+  -- what the table of declarations tells, and what the search behind it finds
+  pub token_known : token_declaring r.declarations d ≡ Some name_token
+  token_known = ap (λ (xs : List ℕ). token_declaring xs d) is.declaring ∙ begins_at
+
+  pub end_known : (first : ℕ) → Some first ≡ token_declaring r.declarations d → position_from (λ x. is_semicolon x.kind) first (drop first r.module_read.source.tokens) ≡ Some end_token
+  end_known first e = ap (λ n. position_from (λ (x : Token). is_semicolon x.kind) n (drop n r.module_read.source.tokens)) (inside (e ∙ token_known)) ∙ ends_at
+
+  pub declaration_at : IsDeclaration r.module_read.source.tokens name_token end_token
+  declaration_at = is_declaration r.module_read.source d 7 (block_declares (module_block (tree_of r.module_read))) (spell (gone_module d (tree_of r.module_read))) taken
+
+  pub names_at : AreNames r.module_read.source.tokens (suc end_token) (uses_of r.module_read d)
+  names_at =
+      subst (AreNames r.module_read.source.tokens (suc end_token)) (uses_by_table r is d)
+      (uses_are_names r is d w worth spelled declaration_at.inside)
+
+module _ (r : Resolution) (is : IsResolution r) (c : Constant) (constant : IsConstant r.module_read c) where
+  first_is : name_token r is c.ordinal (scalar_value c.value) constant.worth ≡ c.first
+  first_is = inside (sym (begins_at r is c.ordinal (scalar_value c.value) constant.worth) ∙ constant.begins)
+
+  last_is : end_token r is c.ordinal (scalar_value c.value) constant.worth ≡ c.last
+  last_is =
+      inside (sym (ends_at r is c.ordinal (scalar_value c.value) constant.worth)
+      ∙ (ap (λ n. position_from (λ (x : Token). is_semicolon x.kind) n (drop n r.module_read.source.tokens)) first_is ∙ constant.ends))
+
+  pub is_taken : IsDeclaration r.module_read.source.tokens c.first c.last
+  is_taken =
+      subst (λ n. IsDeclaration r.module_read.source.tokens n c.last) first_is
+      (subst (IsDeclaration r.module_read.source.tokens (name_token r is c.ordinal (scalar_value c.value) constant.worth)) last_is
+      (declaration_at r is c.ordinal (scalar_value c.value) constant.worth))
+
+  pub are_uses : AreNames r.module_read.source.tokens (suc c.last) (uses_of r.module_read c.ordinal)
+  are_uses = subst (λ n. AreNames r.module_read.source.tokens (suc n) (uses_of r.module_read c.ordinal)) last_is (names_at r is c.ordinal (scalar_value c.value) constant.worth)
+
+  -- the words that are left spell the inlined module
+  pub left_spelled : StandsAlone r.module_read c.ordinal
+      → map word_lexeme (changed (without c.first c.last (at_each (uses_of r.module_read c.ordinal) (value_words c.value))) 0 (words_of r.module_read.source)) ≡ spell (inlined_all r.module_read c)
+  left_spelled alone =
+      let m = r.module_read in
+      let d = c.ordinal in
+      let w = scalar_value c.value in
+      let spelled = spelled_by_words m is.parsed in
+      let first = name_token r is d w constant.worth in
+      let last = end_token r is d w constant.worth in
+      let inside_it = (declaration_at r is d w constant.worth).inside in
+      let there = words_everywhere r is d w constant.worth spelled (value_factor c.value) (value_words c.value) (value_spelled c.value) alone (uses_are_names r is d w constant.worth spelled inside_it) in
+      (λ i. map word_lexeme (changed (without (sym first_is i) (sym last_is i) (at_each (sym (uses_by_table r is d) i) (value_words c.value))) 0 (words_of m.source))) ∙ there

@@ -1,0 +1,14 @@
+use Rattle.std.proofs.Common.{◌≡◌, IsSomeAnd, sym, ap, ◌∙◌, subst}
+use Rattle.ob0_scope.specs.Resolution.{Resolution}
+use Rattle.ob0_refs.specs.Standing.{name_on}
+use Rattle.ob0_inline.specs.Everywhere.{IsConstant}
+use Rattle.ob0_inline.proofs.AtConstants.{constant_named}
+use Rattle.ob0_inline.proofs.constants.constant_at.Goals as goal
+
+pub returns-in-Some-constant : goal.returns-in-Some-constant
+returns-in-Some-constant c =
+    let r = c.args.«module».now in
+    let back = c.resolved-names.ensures.value in
+    constant_named r.module_read c.args.offset c.in-Some.found
+    (sym c.in-Some.is ∙ (c.name_at.ensures ∙ ap (λ (q : Resolution). name_on q.module_read c.args.offset) back)) c.declared.result
+    (subst (λ (q : Resolution). IsSomeAnd c.declared.result (λ x. (x.ordinal ≡ c.in-Some.found.ordinal) × IsConstant q.module_read x)) back c.declared.ensures)

@@ -1,0 +1,103 @@
+-- A constant that a place names, what inlining it everywhere makes of the module, and what refuses it.
+use Rattle.std.specs.Prelude.{◌≡◌, ◌≢◌, ◌⊎◌, ℕ, Bool, not, nat_lt, ◌&&◌, if◌then◌else◌, List, [], ◌∷◌, Option, Some, None, Result, Ok, Err, Vec, drop, length, map}
+use Rattle.std.specs.List.{All, filter, list_any, position_from, range_with_len, zip}
+use Rattle.std.specs.declared.alloc.Global.{Global}
+use Rattle.ob0_scan.specs.Scanned.{max_text}
+use Rattle.ob0_text.specs.declared.edits.Edit.{Edit}
+use Rattle.ob0_text.specs.declared.positions.Unit as counting
+use Rattle.ob0_text.specs.declared.refusals.EditRefusal.{EditRefusal}
+use Rattle.ob0_text.specs.declared.refusals.EditRefusal.TheVariants.{CommentInside, Memory, NoName, Shadowed, TooDeep, TooLong}
+use Rattle.ob0_text.specs.Units.{width_of}
+use Rattle.ob0_tree.specs.declared.tree.Role.TheVariants as role
+use Rattle.ob0_tree.specs.Parsed.{Parsed, named_tree_of, tree_of}
+use Rattle.ob0_tree.specs.Tree.{Tree, identifiers, module_text, nesting, occurrences}
+use Rattle.ob0_edits.specs.Ranges.{range_of}
+use Rattle.ob0_edits.specs.Removed.{span_over, without_text}
+use Rattle.ob0_edits.specs.Replaced.{edit_at, parts}
+use Rattle.ob0_scope.specs.Elsewhere.{names_elsewhere}
+use Rattle.ob0_scope.specs.Inlining.{inlined_everywhere}
+use Rattle.ob0_scope.specs.Names.{Name, declared, same_label}
+use Rattle.ob0_scope.specs.Occurrences.{bindings, binds}
+use Rattle.ob0_scope.specs.Resolution.{declaring_only, token_declaring}
+use Rattle.ob0_scope.specs.Scopes.{numbered, same_ordinal}
+use Rattle.ob0_values.specs.Scalars.{scalar_value}
+use Rattle.ob0_refs.specs.declared.answers.Named as named
+use Rattle.ob0_refs.specs.Standing.{name_on}
+use Rattle.ob0_types.specs.ConstantValues.{value_of_constant}
+use Rattle.ob0_types.specs.WellTyped.{WellTyped}
+use Rattle.ob0_run.specs.EditLaws.{SameRuns}
+use Rattle.ob0_inline.specs.declared.constants.Constant.{Constant}
+use Rattle.ob0_inline.specs.Declarations.{is_inside, is_semicolon}
+use Rattle.ob0_inline.specs.Inlined.{LeavesModule}
+use Rattle.ob0_inline.specs.Uses.{is_shown}
+use Rattle.ob0_inline.specs.Values.{value_factor, value_text}
+
+-- A constant of a CONST section: its ordinal and value, the token that declares it, and the first `;` behind that.
+pub record IsConstant (m : Parsed) (c : Constant) : Type 0 where
+  pub worth : value_of_constant (named_tree_of m) c.ordinal ≡ Some (scalar_value c.value)
+  pub begins : token_declaring (declaring_only (identifiers role.Declaring (tree_of m))) c.ordinal ≡ Some c.first
+  pub ends : position_from (λ t. is_semicolon t.kind) c.first (drop c.first m.source.tokens) ≡ Some c.last
+
+-- the place is on a name of this constant: the one that declares it, or a use
+pub record IsConstantAt (m : Parsed) (offset : ℕ) (c : Constant) : Type 0 where
+  pub token : ℕ
+  pub named : name_on m offset ≡ Some (record { token = token; ordinal = c.ordinal })
+  pub is_constant : IsConstant m c
+
+-- the place is on no name of a constant
+abbrev pub NoConstantAt : Parsed → ℕ → Type 0
+NoConstantAt m offset = (n : named.Named) → name_on m offset ≡ Some n → value_of_constant (named_tree_of m) n.ordinal ≡ None
+
+-- the tokens of the occurrences that are bound to d, in text order
+abbrev pub uses_of : Parsed → ℕ → List ℕ
+uses_of m d = map (λ u. u.0) (filter (λ u. same_label u.1 (declared d)) (zip (occurrences (tree_of m)) (bindings (named_tree_of m))))
+
+-- none of the names of d stands elsewhere than alone as a factor
+abbrev pub StandsAlone : Parsed → ℕ → Type 0
+StandsAlone m d = All (λ l. l ≢ declared d) (names_elsewhere (numbered (named_tree_of m)))
+
+-- the module with the value in the place of all uses, without the declaration
+abbrev pub inlined_all : Parsed → Constant → Tree Name module_text
+inlined_all m c = inlined_everywhere (named_tree_of m) c.ordinal (value_factor c.value)
+
+-- the text of it
+abbrev pub text_without : Parsed → Constant → List ℕ
+text_without m c = without_text m.source c.first c.last (uses_of m c.ordinal) (value_text c.value)
+
+-- an occurrence is a use, and TRUE or FALSE, where it would be written, isn't the predeclared one there
+abbrev pub is_hidden : Tree Name module_text → Constant → ℕ → Bool
+is_hidden m c k = same_ordinal (binds m k) c.ordinal && not (is_shown m k c.value)
+
+abbrev pub any_hidden : Tree Name module_text → Constant → Bool
+any_hidden m c = list_any (is_hidden m c) (range_with_len 0 (length (bindings m)))
+
+-- a comment stands between the declaration's name and its `;`
+abbrev pub has_comment : Parsed → Constant → Bool
+has_comment m c = list_any (is_inside (span_over m.source.tokens c.first c.last)) m.source.comments
+
+-- the first of the refusals that apply to a constant; None where none applies
+abbrev pub refusal_everywhere : Parsed → Constant → Option EditRefusal
+refusal_everywhere m c =
+    if nat_lt max_text (length (text_without m c)) then Some TooLong
+    else if nat_lt 100 (nesting (inlined_all m c)) then Some TooDeep
+    else if any_hidden (named_tree_of m) c then Some Shadowed
+    else if has_comment m c then Some CommentInside
+    else None
+
+-- These edits take the declaration out, from its name to its `;`, write the value in the place of each use, and touch no
+-- other character. They leave the text of the inlined module, which is well-typed and has the same runs.
+pub record InlinesEverywhere (unit : counting.Unit) (text : List ℕ) (m : Parsed) (c : Constant) (edits : List Edit) : Type 0 where
+  pub everywhere : map parts edits ≡ (range_of (width_of unit) text (span_over m.source.tokens c.first c.last), []) ∷ map (edit_at unit text m.source.tokens (value_text c.value)) (uses_of m c.ordinal)
+  pub leaves : LeavesModule unit text edits (inlined_all m c)
+  pub well_typed : WellTyped (inlined_all m c)
+  pub same_runs : SameRuns (inlined_all m c) (named_tree_of m)
+
+-- the edits where nothing refuses a constant, else the first refusal
+abbrev pub AnswersConstant : counting.Unit → List ℕ → Parsed → Constant → Result (Vec Edit Global) EditRefusal → Type 0
+AnswersConstant unit text m c (Ok edits) = (refusal_everywhere m c ≡ None) × InlinesEverywhere unit text m c edits.items
+AnswersConstant unit text m c (Err refusal) = refusal_everywhere m c ≡ Some refusal
+
+-- The answer at a place: that of the constant that it names, and NoName where it names none; want of memory may stand for either.
+abbrev pub AnswersEverywhere : counting.Unit → List ℕ → Parsed → ℕ → Result (Vec Edit Global) EditRefusal → Type 0
+AnswersEverywhere unit text m offset answer =
+    ((c : Constant) × IsConstantAt m offset c × AnswersConstant unit text m c answer) ⊎ (((answer ≡ Err NoName) × NoConstantAt m offset) ⊎ (answer ≡ Err Memory))

@@ -1,0 +1,81 @@
+//! The constant that a place names, and its declaration.
+
+ghost use Rattle.std.specs.Prelude.{◌≡◌, drop, IsSomeAnd, MatchOption, Some};
+ghost use Rattle.std.specs.List.{position_from};
+ghost use Rattle.ob0_tree.specs.Parsed.{named_tree_of};
+ghost use Rattle.ob0_types.specs.ConstantValues.{value_of_constant};
+ghost use Rattle.ob0_values.specs.Scalars.{scalar_value};
+ghost use Rattle.ob0_inline.specs.Declarations.{is_semicolon};
+ghost use Rattle.ob0_inline.specs.Everywhere.{IsConstant, IsConstantAt, NoConstantAt};
+
+use ob0_refs::name_at;
+use ob0_scan::{Symbol, Token, TokenKind};
+use ob0_scope::resolved::Resolved;
+use ob0_types::checked::WellTyped;
+use ob0_values::scalar::Scalar;
+
+/// A constant of a CONST section: its ordinal and value, and the tokens of its declaration's name and `;`.
+#[derive(Clone, Copy)]
+pub struct Constant {
+    pub ordinal: usize,
+    pub value: Scalar,
+    pub first: usize,
+    pub last: usize,
+}
+
+/// The constant that a place names, at its declaration or at a use.
+pub(crate) fn constant_at(module: &WellTyped, offset: usize) -> Option<Constant>
+    ensures { MatchOption result (NoConstantAt «module».now.module_read offset) (λ c. IsConstantAt «module».now.module_read offset c) }
+{
+    let names = module.resolved();
+    match name_at(names, offset) {
+        Some(found) => match module.constant(found.ordinal) {
+            Some(value) => declared(names, found.ordinal, value),
+            None => None,
+        },
+        None => None,
+    }
+}
+
+/// A constant of which the ordinal and the value are known.
+fn declared(names: &Resolved, ordinal: usize, value: Scalar) -> Option<Constant>
+    requires worth { value_of_constant (named_tree_of names.now.module_read) ordinal ≡ Some (scalar_value value) }
+    ensures { IsSomeAnd result (λ c. (c.ordinal ≡ ordinal) × IsConstant names.now.module_read c) }
+{
+    let _module = names.module();
+    match names.declaring_token(ordinal) {
+        Some(first) => match end_of_declaration(names.tokens().tokens(), first) {
+            Some(last) => Some(Constant {
+                ordinal,
+                value,
+                first,
+                last,
+            }),
+            None => None,
+        },
+        None => None,
+    }
+}
+
+/// The first `;` from a token on.
+fn end_of_declaration(tokens: &[Token], first: usize) -> Option<usize>
+    ensures { result ≡ position_from (λ t. is_semicolon t.kind) first (drop first tokens.now) }
+{
+    for index in first..tokens.len() {
+        if is_semicolon(tokens[index].kind) {
+            return Some(index);
+        }
+    }
+    None
+}
+
+fn is_semicolon(kind: TokenKind) -> bool
+    ensures { result ≡ is_semicolon kind }
+{
+    match kind {
+        TokenKind::Symbol(symbol) => symbol == Symbol::Semicolon,
+        TokenKind::Identifier => false,
+        TokenKind::Reserved(_) => false,
+        TokenKind::Integer(_) => false,
+    }
+}

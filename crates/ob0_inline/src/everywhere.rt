@@ -1,0 +1,133 @@
+//! The edits that inline a constant everywhere.
+
+ghost use Rattle.std.specs.Prelude.{◌≡◌, ◌⊎◌, ◌<◌, ◌≤◌, ◌∷◌, [], Err, IfOk, IfErr, IsErrOf, length, map};
+ghost use Rattle.std.specs.List.{list_any};
+ghost use Rattle.std.specs.Str.{chars};
+ghost use Rattle.ob0_scan.specs.Scanned.{max_text};
+ghost use Rattle.ob0_text.specs.declared.refusals.EditRefusal.TheVariants.{Memory, TooDeep, TooLong};
+ghost use Rattle.ob0_text.specs.Texts.{offset_of};
+ghost use Rattle.ob0_text.specs.Units.{width_of};
+ghost use Rattle.ob0_tree.specs.Tree.{nesting};
+ghost use Rattle.ob0_edits.specs.Ranges.{range_of};
+ghost use Rattle.ob0_edits.specs.Removed.{span_over};
+ghost use Rattle.ob0_edits.specs.Replaced.{edit_at, parts};
+ghost use Rattle.ob0_inline.specs.Declarations.{is_inside};
+ghost use Rattle.ob0_inline.specs.Everywhere.{AnswersConstant, AnswersEverywhere, IsConstant, StandsAlone, inlined_all, text_without, uses_of};
+ghost use Rattle.ob0_inline.specs.Inlined.{LeavesModule};
+ghost use Rattle.ob0_inline.specs.Values.{value_text};
+
+use crate::constants::{Constant, constant_at};
+use crate::depth::is_too_deep;
+use crate::shown::{any_hidden, is_ordinal};
+use crate::written::{is_scalar, value_text};
+use ob0_edits::edits_without;
+use ob0_run::laws::inlining_everywhere_keeps_modules;
+use ob0_scan::{Span, Tokens};
+use ob0_scope::resolved::Resolved;
+use ob0_text::{Edit, EditRefusal, Position, TextStore};
+use ob0_types::checked::WellTyped;
+use ob0_types::laws::constants_stand_alone;
+use std::alloc::{AllocError, Global};
+
+/// The edits that write a constant's value in the place of all uses of it, and take its declaration out, from its name to
+/// its `;`. The place is on one of its names. The first edit takes the declaration out, the others are in text order behind it.
+pub fn inline_all<T: TextStore>(
+    alloc: Global,
+    store: &T,
+    module: &WellTyped,
+    place: Position,
+) -> Result<Vec<Edit>, EditRefusal>
+    requires content { T.content store.now ≡ chars «module».now.module_read.source.text }
+    ensures { AnswersEverywhere (T.unit_of store.now) (T.content store.now) «module».now.module_read (offset_of (width_of (T.unit_of store.now)) (T.content store.now) place) result }
+{
+    match constant_at(module, store.offset(place)) {
+        Some(found) => inline_constant(alloc, store, module, found),
+        None => Err(EditRefusal::NoName),
+    }
+}
+
+/// The same of a constant.
+fn inline_constant<T: TextStore>(
+    alloc: Global,
+    store: &T,
+    module: &WellTyped,
+    constant: Constant,
+) -> Result<Vec<Edit>, EditRefusal>
+    requires content { T.content store.now ≡ chars «module».now.module_read.source.text }
+    requires is_constant { IsConstant «module».now.module_read constant }
+    ensures { AnswersConstant (T.unit_of store.now) (T.content store.now) «module».now.module_read constant result ⊎ (result ≡ Err Memory) }
+{
+    constants_stand_alone();
+    inlining_everywhere_keeps_modules();
+    is_scalar(constant.value);
+    let names = module.resolved();
+    match edits_everywhere(alloc, store, names, constant) {
+        Ok(edits) => {
+            if any_hidden(alloc, names, constant)? {
+                return Err(EditRefusal::Shadowed);
+            }
+            if has_comment(names.tokens(), constant) {
+                return Err(EditRefusal::CommentInside);
+            }
+            Ok(edits)
+        }
+        Err(refusal) => Err(refusal),
+    }
+}
+
+/// One edit that takes the constant's declaration out, and one for each use of it, which writes the value in its place.
+fn edits_everywhere<T: TextStore>(
+    alloc: Global,
+    store: &T,
+    names: &Resolved,
+    constant: Constant,
+) -> Result<Vec<Edit>, EditRefusal>
+    requires content { T.content store.now ≡ chars names.now.module_read.source.text }
+    requires is_constant { IsConstant names.now.module_read constant }
+    ensures edits { IfOk result (λ edits. map parts edits.items
+        ≡ (range_of (width_of (T.unit_of store.now)) (T.content store.now) (span_over names.now.module_read.source.tokens constant.first constant.last), [])
+        ∷ map (edit_at (T.unit_of store.now) (T.content store.now) names.now.module_read.source.tokens (value_text constant.value)) (uses_of names.now.module_read constant.ordinal)) }
+    ensures inlined { StandsAlone names.now.module_read constant.ordinal → IfOk result (λ edits. LeavesModule (T.unit_of store.now) (T.content store.now) edits.items (inlined_all names.now.module_read constant)) }
+    ensures too_long { IsErrOf result TooLong → max_text < length (text_without names.now.module_read constant) }
+    ensures too_deep { StandsAlone names.now.module_read constant.ordinal → IsErrOf result TooDeep → 100 < nesting (inlined_all names.now.module_read constant) }
+    ensures short { IfOk result (λ edits. length (text_without names.now.module_read constant) ≤ max_text) }
+    ensures deep_and_short { IsErrOf result TooDeep → length (text_without names.now.module_read constant) ≤ max_text }
+    ensures refusals { IfErr result (λ refusal. (refusal ≡ TooLong) ⊎ ((refusal ≡ TooDeep) ⊎ (refusal ≡ Memory))) }
+{
+    let _module = names.module();
+    let text = value_text(alloc, constant.value)?;
+    let uses = uses_of(alloc, names, constant.ordinal)?;
+    let (first, last) = (constant.first, constant.last);
+    let edits = edits_without(alloc, store, names.tokens(), first, last, &uses, &text)?;
+    if is_too_deep(alloc, store, &edits)? {
+        return Err(EditRefusal::TooDeep);
+    }
+    Ok(edits)
+}
+
+/// The tokens of the uses of a constant, in text order.
+fn uses_of(alloc: Global, names: &Resolved, constant: usize) -> Result<Vec<usize>, AllocError>
+    ensures { IfOk result (λ uses. uses.items ≡ uses_of names.now.module_read constant) }
+{
+    let _module = names.module();
+    let mut uses = Vec::new(alloc);
+    for token in names.occurrences() {
+        if is_ordinal(names.ordinal_at(*token), constant) {
+            uses.push(*token)?;
+        }
+    }
+    Ok(uses)
+}
+
+/// Whether a comment stands between the name of a constant's declaration and its `;`.
+fn has_comment(tokens: &Tokens, constant: Constant) -> bool
+    requires inside { constant.last < length tokens.now.tokens }
+    requires order { constant.first < constant.last }
+    ensures { result ≡ list_any (is_inside (span_over tokens.now.tokens constant.first constant.last)) tokens.now.comments }
+{
+    let part = Span {
+        start: tokens.tokens()[constant.first].span.start,
+        end: tokens.tokens()[constant.last].span.end,
+    };
+    tokens.comments().iter().any(|comment| part.start <= comment.start && comment.end <= part.end)
+}

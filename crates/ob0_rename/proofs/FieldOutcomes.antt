@@ -1,0 +1,154 @@
+-- What is answered for a field: by another field of its record that has the new name, or by the edits.
+use Rattle.std.proofs.Common.{◌≡◌, ◌⊎◌, ℕ, ◌≤◌, ◌<◌, Bool, true, false, not, is_some, ◌&&◌, ◌||◌, ◌==◌, if◌then◌else◌, Option, Some, None, Result, Ok, Err, Vec, List, [], ◌∷◌, length, map, option_map, inl, inr, refl, sym, ap, ◌∙◌, subst, arith, eqb-true}
+use Rattle.std.specs.Prelude.{IfErr}
+use Rattle.std.specs.List.{list_any}
+use Rattle.std.specs.declared.alloc.Global.{Global}
+use Rattle.std.proofs.lemmas.Slice.Eq.{bytes_eq-Decides}
+use Rattle.ob0_scan.specs.Classes.{IsIdentifier}
+use Rattle.ob0_scan.specs.Scanned.{IsScan, Scanned, max_text}
+use Rattle.ob0_text.specs.declared.edits.Edit.{Edit}
+use Rattle.ob0_text.specs.declared.positions.Position.{Position}
+use Rattle.ob0_text.specs.declared.positions.Unit as counting
+use Rattle.ob0_text.specs.declared.refusals.EditRefusal.{EditRefusal}
+use Rattle.ob0_text.specs.declared.refusals.EditRefusal.TheVariants as refusal
+use Rattle.ob0_tree.specs.Parsed.{Parsed, named_tree_of, tree_of}
+use Rattle.ob0_tree.specs.Places as place
+use Rattle.ob0_tree.specs.Tree.{Tree, mapped, module_text}
+use Rattle.ob0_scope.specs.Names.{Name, same_name}
+use Rattle.ob0_scope.specs.Resolution.{Resolution}
+use Rattle.ob0_types.specs.CheckedModules.{IsWellTyped}
+use Rattle.ob0_edits.specs.Changed.{at_each, changed, is_among, words_of}
+use Rattle.ob0_edits.specs.OfTrees.{RenamedWordsSpell, number_at, renamed_at, text_at}
+use Rattle.ob0_edits.specs.Replaced.{AreNames, StandsForName, with_text_at}
+use Rattle.ob0_edits.specs.Written.{name_word}
+use Rattle.ob0_fields.specs.FieldLaws.{FreeFieldKeepsModules}
+use Rattle.ob0_fields.specs.Identifiers.{DuplicateByToken, RenamedAtTokens, declaring_field, field_identifiers, field_tokens, is_field, tokens_among}
+use Rattle.ob0_fields.specs.Renaming.{FieldFree, field_renamed, is_duplicate_field}
+use Rattle.ob0_rename.specs.Answers.{Answers, AnswersForField, IsRefused, IsRefusedToField, OnlyMemory, TakesOwnName}
+use Rattle.ob0_rename.specs.Renaming.{MeansField, Renaming, declaration, field_of, field_tokens_renamed, token_range}
+use Rattle.ob0_rename.proofs.Outcomes.{Edited, asked, whole, written}
+use Rattle.ob0_rename.proofs.Rewritten.{number_same, of_rewritten, text_same}
+
+-- ---- the tree with the new name at the tokens of a field
+
+among-any : (k : ℕ) (places : List ℕ) → is_among k places ≡ list_any (λ token. k == token) places
+among-any k [] = refl
+among-any k (p ∷ ps) = ap (λ b. (k == p) || b) (among-any k ps)
+
+-- each token of a field is written as the field
+written-so : (source : Scanned) (k : ℕ) (f : Name) (i : ℕ) (xs : List (ℕ × ℕ)) → list_any (λ token. i == token) (tokens_among source k f xs) ≡ true → place.text_at source i ≡ f
+written-so source k f i [] e = absurd (cc)
+written-so source k f i (x ∷ xs) e = one (x.1 == k) (same_name (place.text_at source x.0) f) refl (written-so source k f i xs) e
+  where
+    here : (b : Bool) → (i == x.0) ≡ b → same_name (place.text_at source x.0) f ≡ true → (list_any (λ token. i == token) (tokens_among source k f xs) ≡ true → place.text_at source i ≡ f)
+        → (b || list_any (λ token. i == token) (tokens_among source k f xs)) ≡ true → place.text_at source i ≡ f
+    here true at same later e = ap (place.text_at source) (eqb-true i x.0 at) ∙ (bytes_eq-Decides (place.text_at source x.0) f).0 same
+    here false at same later e = later e
+
+    one : (b c : Bool) → same_name (place.text_at source x.0) f ≡ c → (list_any (λ token. i == token) (tokens_among source k f xs) ≡ true → place.text_at source i ≡ f)
+        → list_any (λ token. i == token) (if b && c then x.0 ∷ tokens_among source k f xs else tokens_among source k f xs) ≡ true → place.text_at source i ≡ f
+    one true true same later e = here (i == x.0) refl same later e
+    one true false same later e = later e
+    one false c same later e = later e
+
+pub field_there : (r : Resolution) (k : ℕ) (f new : Name) → IsWellTyped r → RenamedAtTokens
+    → mapped (renamed_at (words_of r.module_read.source) (field_tokens_renamed r k f new) new) (number_at (words_of r.module_read.source)) (tree_of r.module_read) ≡ field_renamed (named_tree_of r.module_read) k f new
+field_there r k f new well by_tokens = one (same_name new f) refl
+  where
+    s : Scanned
+    s = r.module_read.source
+
+    kept : (i : ℕ) → new ≡ f → (b : Bool) → list_any (λ token. i == token) (field_tokens r k f) ≡ b → place.text_at s i ≡ (if b then new else place.text_at s i)
+    kept i own true e = written-so s k f i (field_identifiers r) e ∙ sym own
+    kept i own false e = refl
+
+    one : (b : Bool) → same_name new f ≡ b
+        → mapped (renamed_at (words_of s) (if b then [] else field_tokens r k f) new) (number_at (words_of s)) (tree_of r.module_read) ≡ field_renamed (named_tree_of r.module_read) k f new
+    one true own =
+        (λ j. mapped (λ i. (text_same s i ∙ kept i ((bytes_eq-Decides new f).0 own) (list_any (λ token. i == token) (field_tokens r k f)) refl) j) (λ i. number_same s i j) (tree_of r.module_read))
+        ∙ sym (by_tokens r k f new well)
+    one false other =
+        (λ j. mapped (λ i. if among-any i (field_tokens r k f) j then new else text_same s i j) (λ i. number_same s i j) (tree_of r.module_read))
+        ∙ sym (by_tokens r k f new well)
+
+-- ---- another field of the name
+
+pub other_some : (b : Bool) (o : Option ℕ) (token : ℕ) → (if b then None else o) ≡ Some token → ((not b && is_some o) ≡ true) × (o ≡ Some token)
+other_some true o token e = absurd (cc)
+other_some false (Some t) token e = (refl, e)
+other_some false None token e = absurd (cc)
+
+pub other_none : (b : Bool) (o : Option ℕ) → (if b then None else o) ≡ None → (not b && is_some o) ≡ false
+other_none true o e = refl
+other_none false (Some t) e = absurd (cc)
+other_none false None e = refl
+
+module _ (unit : counting.Unit) (text : List ℕ) (place : Position) (new : Name) (k : ℕ) (f : Name) where
+  abbrev pub asked_field : Resolution → Renaming
+  asked_field r = record { unit = unit; text = text; names = r; place = place; new = new }
+
+  pub duplicated : (r : Resolution) → IsIdentifier new → DuplicateByToken → (token : ℕ) (why : EditRefusal) → (if same_name new f then None else declaring_field r.module_read k new) ≡ Some token
+      → why ≡ refusal.Duplicate (token_range (asked_field r) token) → IsRefusedToField (asked_field r) k f why
+  duplicated r id by_token token why other is =
+      let found = other_some (same_name new f) (declaring_field r.module_read k new) token other in
+      subst (IsRefusedToField (asked_field r) k f) (sym is) (id, by_token r.module_read k f new ∙ found.0, ap (option_map (token_range (asked_field r))) found.1)
+
+  pub field_answered : (r : Resolution) → IsWellTyped r → IsIdentifier new → FieldFree (named_tree_of r.module_read) k f new → FreeFieldKeepsModules → RenamedAtTokens → RenamedWordsSpell
+      → ((name : List ℕ) → IsIdentifier name → StandsForName name (name_word name ∷ [])) → AreNames r.module_read.source.tokens 0 (field_tokens_renamed r k f new)
+      → (result : Result (Vec Edit Global) EditRefusal) → Edited unit text new r.module_read.source (field_tokens_renamed r k f new) result → AnswersForField (asked_field r) k f result
+  field_answered r well id free keeps by_tokens spells stand names (Ok edits) made =
+      let m = r.module_read in
+      record {
+        identifier = id;
+        free = free;
+        writes =
+            written unit text place new k r (field_renamed (named_tree_of m) k f new) (field_tokens_renamed r k f new) id stand
+            (of_rewritten m (field_renamed (named_tree_of m) k f new) (field_tokens_renamed r k f new) new well.resolved.parsed spells names (field_there r k f new well by_tokens))
+            (keeps (named_tree_of m) k f new free well.well_typed) edits made;
+      }
+  field_answered r well id free keeps by_tokens spells stand names (Err why) made =
+      elim made.refusals [
+        | inl e ↦ inr (subst (IsRefusedToField (asked_field r) k f) (sym e) (id, free, made.too_long (ap Err e)))
+        | inr e ↦ inl e
+      ]
+
+  -- the name that is there makes no text longer
+  pub own_field_answered : (r : Resolution) → IsScan r.module_read.source → new ≡ f
+      → (result : Result (Vec Edit Global) EditRefusal) → Edited unit text new r.module_read.source (field_tokens_renamed r k f new) result → OnlyMemory result
+  own_field_answered r scan own (Ok edits) made = tt
+  own_field_answered r scan own (Err why) made =
+      elim made.refusals [
+        | inl e ↦
+            let none : field_tokens_renamed r k f new ≡ [] = ap (λ b. if b then [] else field_tokens r k f) ((bytes_eq-Decides new f).1 own) in
+            absurd (too_long_never r scan (field_tokens_renamed r k f new) none (made.too_long (ap Err e)))
+        | inr e ↦ e
+      ]
+    where
+      too_long_never : (r : Resolution) → IsScan r.module_read.source → (places : List ℕ) → places ≡ [] → max_text < length (with_text_at r.module_read.source places new) → ⊥
+      too_long_never r scan places none long =
+          let same = subst (λ places. max_text < length (with_text_at r.module_read.source places new)) none long in
+          omega (arith, same, whole r.module_read.source.text, scan.short)
+
+-- ---- an answer for the field that is named at the place is the answer
+
+field_refused_there : (a : Renaming) (k : ℕ) (f : Name) → MeansField a k f → (why : EditRefusal) → IsRefusedToField a k f why → IsRefused a why
+field_refused_there a k f means refusal.NoName h = absurd h
+field_refused_there a k f means refusal.Predeclared h = absurd h
+field_refused_there a k f means refusal.BadName h = inr (k, (f, means, h))
+field_refused_there a k f means (refusal.Duplicate range) h = inr (k, (f, means, h))
+field_refused_there a k f means (refusal.Captures range) h = absurd h
+field_refused_there a k f means refusal.TooLong h = inr (k, (f, means, h))
+field_refused_there a k f means refusal.TooDeep h = absurd h
+field_refused_there a k f means refusal.Shadowed h = absurd h
+field_refused_there a k f means refusal.CommentInside h = absurd h
+field_refused_there a k f means refusal.Memory h = absurd h
+
+pub field_answered_there : (a : Renaming) (k : ℕ) (f : Name) → MeansField a k f → (result : Result (Vec Edit Global) EditRefusal) → AnswersForField a k f result → Answers a result
+field_answered_there a k f means (Ok edits) h = inr (k, (f, means, h))
+field_answered_there a k f means (Err why) h = elim h [ inl e ↦ inl e | inr e ↦ inr (field_refused_there a k f means why e) ]
+
+pub own_field_there : (a : Renaming) (k : ℕ) (f : Name) → MeansField a k f → (result : Result (Vec Edit Global) EditRefusal) → (a.new ≡ f → OnlyMemory result) → TakesOwnName a result
+own_field_there a k f means result own = (
+  λ d also declared. let both : field_of k f ≡ declaration d = sym means ∙ also in absurd (cc),
+  λ j g also same. let both : field_of k f ≡ field_of j g = sym means ∙ also in let alike : f ≡ g = cc in own (same ∙ sym alike),
+)

@@ -1,0 +1,81 @@
+use Rattle.std.proofs.Common.{◌≡◌, ◌∙◌, sym, ap, subst, inr, true, if◌then◌else◌, None, Some, ℕ, refl}
+use Rattle.ob0_scan.specs.Scanned.{IsScan, Scanned}
+use Rattle.ob0_text.specs.Units.{width_of}
+use Rattle.ob0_text.specs.declared.refusals.EditRefusal.TheVariants as refusal
+use Rattle.ob0_tree.specs.Parsed.{named_tree_of}
+use Rattle.ob0_tree.specs.Places.{text_at}
+use Rattle.ob0_scope.specs.Names.{Name, same_name}
+use Rattle.ob0_scope.specs.Resolution.{Resolution, span_at}
+use Rattle.ob0_types.specs.CheckedModules.{IsWellTyped}
+use Rattle.ob0_edits.specs.Ranges.{range_of}
+use Rattle.ob0_edits.specs.Replaced.{AreNames}
+use Rattle.ob0_fields.specs.Renaming.{FieldFree}
+use Rattle.ob0_fields.specs.Identifiers.{declaring_field}
+use Rattle.ob0_rename.specs.Answers.{AnswersForField, IsRefusedToField, OnlyMemory}
+use Rattle.ob0_rename.specs.Renaming.{field_tokens_renamed}
+use Rattle.ob0_rename.proofs.Outcomes.{Edited}
+use Rattle.ob0_rename.proofs.FieldOutcomes.{asked_field, duplicated, field_answered, other_none, own_field_answered}
+use Rattle.ob0_rename.proofs.fields.rename_field.Goals as goal
+
+pub returns-then-not-is_identifier-clause-own_name : goal.returns-then-not-is_identifier-clause-own_name
+returns-then-not-is_identifier-clause-own_name g c = λ id own.
+    absurd (let yes : c.is_identifier.result ≡ true = c.is_identifier.ensures.1 id in let no = c.if-not-is_identifier.true in cc)
+
+pub returns-in-Some-clause-answers : goal.returns-in-Some-clause-answers
+returns-in-Some-clause-answers g c = λ place.
+    let unit = g.T.TextStore.unit_of c.args.store.now in
+    let text = g.T.TextStore.content c.args.store.now in
+    let new = c.args.new.now in
+    let names = c.resolved-names.result.now in
+    let f : Name = text_at names.module_read.source c.args.field.0 in
+    let id = c.is_identifier.ensures.0 c.if-not-is_identifier.false in
+    let old = c.text_at-old.ensures ∙ ap (λ (s : Scanned). text_at s c.args.field.0) c.tokens-2.ensures in
+    let other : (if same_name new f then None else declaring_field names.module_read c.args.field.1 new) ≡ Some c.in-Some.token =
+    ap (λ (f : Name). if same_name new f then None else declaring_field names.module_read c.args.field.1 new) (sym old) ∙ (sym c.in_ok-token.ensures ∙ c.in-Some.is) in
+    let range = c.token_range.ensures c.in-Some.token refl ∙ ap (λ (s : Scanned). range_of (width_of unit) text (span_at s c.in-Some.token)) c.tokens-in-Some.ensures in
+    let refused = duplicated unit text place new c.args.field.1 f names id c.duplicate_by_token.ensures c.in-Some.token (refusal.Duplicate c.token_range.result) other (ap (λ r. refusal.Duplicate r) range) in
+    inr (subst (λ (x : Resolution). IsRefusedToField (asked_field unit text place new c.args.field.1 (text_at x.module_read.source c.args.field.0) x) c.args.field.1 (text_at x.module_read.source c.args.field.0) (refusal.Duplicate c.token_range.result)) c.resolved-names.ensures.value refused)
+
+pub returns-in_ok-tokens-in-None-clause-answers : goal.returns-in_ok-tokens-in-None-clause-answers
+returns-in_ok-tokens-in-None-clause-answers g c = λ place.
+    let unit = g.T.TextStore.unit_of c.args.store.now in
+    let text = g.T.TextStore.content c.args.store.now in
+    let new = c.args.new.now in
+    let k : ℕ = c.args.field.1 in
+    let names = c.resolved-names.result.now in
+    let f : Name = text_at names.module_read.source c.args.field.0 in
+    let well = subst IsWellTyped (sym c.resolved-names.ensures.value) c.resolved-names.ensures.well_typed in
+    let id = c.is_identifier.ensures.0 c.if-not-is_identifier.false in
+    let old = c.text_at-old.ensures ∙ ap (λ (s : Scanned). text_at s c.args.field.0) c.tokens-2.ensures in
+    let other : (if same_name new f then None else declaring_field names.module_read k new) ≡ None =
+    ap (λ (f : Name). if same_name new f then None else declaring_field names.module_read k new) (sym old) ∙ (sym c.in_ok-token.ensures ∙ c.in-None.is) in
+    let free : FieldFree (named_tree_of names.module_read) k f new = c.duplicate_by_token.ensures names.module_read k f new ∙ other_none (same_name new f) (declaring_field names.module_read k new) other in
+    let value = c.in_ok-tokens-in-None.ensures.value ∙ (λ i. field_tokens_renamed (sym c.resolved-names.ensures.value i) k (old i) new) in
+    let places = c.deref.ensures.value ∙ value in
+    let made : Edited unit text new c.tokens-in-None.result.now c.deref.result.now c.edits_for.result =
+    record { edits = c.edits_for.ensures.edits; short = c.edits_for.ensures.short; leaves = c.edits_for.ensures.words; too_long = c.edits_for.ensures.too_long; refusals = c.edits_for.ensures.refusals } in
+    let there = subst (λ places. Edited unit text new names.module_read.source places c.edits_for.result) places
+    (subst (λ (s : Scanned). Edited unit text new s c.deref.result.now c.edits_for.result) c.tokens-in-None.ensures made) in
+    let found = subst (λ (x : Resolution). AreNames x.module_read.source.tokens 0 c.in_ok-tokens-in-None.tokens.items) (sym c.resolved-names.ensures.value) c.in_ok-tokens-in-None.ensures.names in
+    let are = subst (AreNames names.module_read.source.tokens 0) value found in
+    subst (λ (x : Resolution). AnswersForField (asked_field unit text place new k (text_at x.module_read.source c.args.field.0) x) k (text_at x.module_read.source c.args.field.0) c.edits_for.result) c.resolved-names.ensures.value
+    (field_answered unit text place new k f names well id free c.free_field_keeps_modules.ensures c.renamed_at_tokens.ensures c.renamed_words_spell.ensures c.names_stand_for_names.ensures are c.edits_for.result there)
+
+pub returns-in_ok-tokens-in-None-clause-own_name : goal.returns-in_ok-tokens-in-None-clause-own_name
+returns-in_ok-tokens-in-None-clause-own_name g c = λ id own.
+    let unit = g.T.TextStore.unit_of c.args.store.now in
+    let text = g.T.TextStore.content c.args.store.now in
+    let new = c.args.new.now in
+    let k : ℕ = c.args.field.1 in
+    let names = c.resolved-names.result.now in
+    let f : Name = text_at names.module_read.source c.args.field.0 in
+    let same : new ≡ f = own ∙ ap (λ (x : Resolution). text_at x.module_read.source c.args.field.0) (sym c.resolved-names.ensures.value) in
+    let scan = subst IsScan c.tokens.ensures c.text-text.ensures.scan in
+    let old = c.text_at-old.ensures ∙ ap (λ (s : Scanned). text_at s c.args.field.0) c.tokens-2.ensures in
+    let value = c.in_ok-tokens-in-None.ensures.value ∙ (λ i. field_tokens_renamed (sym c.resolved-names.ensures.value i) k (old i) new) in
+    let places = c.deref.ensures.value ∙ value in
+    let made : Edited unit text new c.tokens-in-None.result.now c.deref.result.now c.edits_for.result =
+    record { edits = c.edits_for.ensures.edits; short = c.edits_for.ensures.short; leaves = c.edits_for.ensures.words; too_long = c.edits_for.ensures.too_long; refusals = c.edits_for.ensures.refusals } in
+    let there = subst (λ places. Edited unit text new names.module_read.source places c.edits_for.result) places
+    (subst (λ (s : Scanned). Edited unit text new s c.deref.result.now c.edits_for.result) c.tokens-in-None.ensures made) in
+    own_field_answered unit text (record { line = 0; character = 0 }) new k f names scan same c.edits_for.result there

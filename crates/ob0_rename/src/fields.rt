@@ -1,0 +1,125 @@
+//! The edits that give a record's field another name.
+
+ghost use Rattle.std.specs.Prelude.{◌≡◌, IfOk, IfSome, None, if◌then◌else◌};
+ghost use Rattle.std.specs.Str.{chars};
+ghost use Rattle.ob0_scan.specs.Classes.{IsIdentifier};
+ghost use Rattle.ob0_text.specs.declared.positions.Position as positions;
+ghost use Rattle.ob0_tree.specs.Places.{text_at};
+ghost use Rattle.ob0_scope.specs.Names.{same_name};
+ghost use Rattle.ob0_edits.specs.Replaced.{AreNames};
+ghost use Rattle.ob0_refs.specs.Standing.{is_on};
+ghost use Rattle.ob0_fields.specs.Identifiers.{declaring_field, field_identifiers};
+ghost use Rattle.ob0_rename.specs.Answers.{AnswersForField, OnlyMemory};
+ghost use Rattle.ob0_rename.specs.Renaming.{field_on, field_tokens_renamed};
+
+use crate::places::{span_of, token_range};
+use ob0_edits::edits_for;
+use ob0_edits::laws::{names_stand_for_names, renamed_words_spell};
+use ob0_fields::laws::{duplicate_by_token, free_field_keeps_modules, renamed_at_tokens};
+use ob0_fields::{declaring_field, field_identifiers, field_tokens};
+use ob0_scan::{Span, Tokens, is_identifier};
+use ob0_scope::resolved::Resolved;
+use ob0_text::{Edit, EditRefusal, TextStore};
+use ob0_types::checked::WellTyped;
+use ob0_types::names::text_at;
+use std::alloc::{AllocError, Global};
+
+/// The field whose identifier a place is on: the identifier's token, and the ordinal of the field's record.
+pub(crate) fn field_at(
+    alloc: Global,
+    well_typed: &WellTyped<'_, '_>,
+    offset: usize,
+) -> Result<Option<(usize, usize)>, AllocError>
+    ensures found { IfOk result (λ found. found ≡ field_on well_typed.now.module_read.source offset (field_identifiers well_typed.now)) }
+    ensures spelled { IfOk result (λ found. IfSome found (λ x. IsIdentifier (text_at well_typed.now.module_read.source x.0))) }
+{
+    let tokens = well_typed.resolved().tokens();
+    let _text = tokens.text();
+    let found = field_identifiers(alloc, well_typed)?;
+    Ok(field_on(tokens, offset, &found))
+}
+
+/// The first identifier that a place is on.
+fn field_on(tokens: &Tokens, offset: usize, found: &[(usize, usize)]) -> Option<(usize, usize)>
+    ensures { result ≡ field_on tokens.now offset found.now }
+{
+    for field in found {
+        if is_on(offset, span_of(tokens, field.0)) {
+            return Some(*field);
+        }
+    }
+    None
+}
+
+fn is_on(offset: usize, span: Span) -> bool
+    ensures { result ≡ is_on offset span }
+{
+    span.start <= offset && offset <= span.end
+}
+
+/// The edits for the field that is named at a token, of the record with an ordinal.
+pub(crate) fn rename_field<T: TextStore>(
+    alloc: Global,
+    store: &T,
+    well_typed: &WellTyped<'_, '_>,
+    field: (usize, usize),
+    new: &str,
+) -> Result<Vec<Edit>, EditRefusal>
+    requires { T.content store.now ≡ chars well_typed.now.module_read.source.text }
+    ensures answers { (place : positions.Position) → AnswersForField (record { unit = T.unit_of store.now; text = T.content store.now; names = well_typed.now; place = place; new = new.now }) field.1 (text_at well_typed.now.module_read.source field.0) result }
+    ensures own_name { IsIdentifier new.now → new.now ≡ text_at well_typed.now.module_read.source field.0 → OnlyMemory result }
+{
+    names_stand_for_names();
+    renamed_words_spell();
+    free_field_keeps_modules();
+    renamed_at_tokens();
+    duplicate_by_token();
+    let names = well_typed.resolved();
+    let _text = names.tokens().text();
+    if !is_identifier(new) {
+        return Err(EditRefusal::BadName);
+    }
+    let old = text_at(names.tokens(), field.0);
+    match other_field(alloc, names, field.1, old, new)? {
+        Some(token) => Err(EditRefusal::Duplicate {
+            range: token_range(store, names.tokens(), Some(token)),
+        }),
+        None => {
+            let tokens = field_tokens_renamed(alloc, well_typed, field.1, old, new)?;
+            edits_for(alloc, store, names.tokens(), &tokens, new)
+        }
+    }
+}
+
+/// The token that declares another field of the record that has the new name.
+fn other_field(
+    alloc: Global,
+    names: &Resolved<'_>,
+    owner: usize,
+    old: &str,
+    new: &str,
+) -> Result<Option<usize>, AllocError>
+    ensures { IfOk result (λ token. token ≡ (if same_name new.now old.now then None else declaring_field names.now.module_read owner new.now)) }
+{
+    if new == old {
+        return Ok(None);
+    }
+    declaring_field(alloc, names, owner, new)
+}
+
+/// The tokens of a field, in text order; none where it has the new name.
+fn field_tokens_renamed(
+    alloc: Global,
+    well_typed: &WellTyped<'_, '_>,
+    owner: usize,
+    old: &str,
+    new: &str,
+) -> Result<Vec<usize>, AllocError>
+    ensures value { IfOk result (λ found. found.items ≡ field_tokens_renamed well_typed.now owner old.now new.now) }
+    ensures names { IfOk result (λ found. AreNames well_typed.now.module_read.source.tokens 0 found.items) }
+{
+    if new == old {
+        return Ok(Vec::new(alloc));
+    }
+    field_tokens(alloc, well_typed, owner, old)
+}
