@@ -1,10 +1,11 @@
 -- What a session promises, in the words of the two ends.
 use Rattle.std.proofs.Common.{◌≡◌, ◌∙◌, ℕ, Bool, true, false, cond, List, [], ◌∷◌, ◌++◌, length, refl, sym, ap, subst, inl, inr, arith, ◌<◌}
-use Rattle.std.specs.Prelude.{◌↔◌, IsTrue, ⊤, ℤ, pos, All, Option, Some, None, is_some, map, fold, filter_map, option_map, option_and_then, unwrap_or, string_bytes, codes, Ok, IsUtf8}
+use Rattle.std.specs.Prelude.{◌↔◌, ◌⊎◌, IsTrue, ⊤, ℤ, pos, Vec, All, Option, Some, None, is_some, map, fold, filter_map, option_map, option_and_then, unwrap_or, string_bytes, codes, Ok, IsUtf8}
 use Rattle.std.specs.List.{cons_option}
 use Rattle.std.specs.Option.{option_to_list}
 use Rattle.std.specs.Str.{bytes_eq, chars}
 use Rattle.std.specs.FinMap as map_of
+use Rattle.std.specs.declared.alloc.Global.{Global}
 use Rattle.std.proofs.lemmas.Option.{same_Some, none-some}
 use Rattle.std.proofs.lemmas.List.Elements.{All-nil, All-push}
 use Rattle.serde_json.specs.Data.{Data, number, array, object, unsigned, item, no_items, member, no_members}
@@ -22,27 +23,29 @@ use Rattle.ob0_text.specs.RefusalTexts.{refusal_text}
 use Rattle.ob0_text.specs.declared.refusals.EditRefusal.TheVariants.{TooLong}
 use Rattle.ob0_text.proofs.EntryLaws.{updated-some, updated-none}
 use Rattle.ob0_rpc.specs.Asks.{call_of}
-use Rattle.ob0_rpc.specs.Faults.{error_code, error_text, minus}
+use Rattle.ob0_rpc.specs.Faults.{minus}
 use Rattle.ob0_rpc.specs.Messages.{Reads, meaning, meaning_of, request, notice}
 use Rattle.ob0_rpc.specs.Notes.{note_of}
 use Rattle.ob0_rpc.specs.Shapes.{result_message, error_message}
 use Rattle.ob0_rpc.specs.declared.clients.Client.{Client}
-use Rattle.ob0_rpc.specs.declared.incoming.RpcFault.TheVariants.{UnknownMethod}
+use Rattle.ob0_session.specs.Actions.{ActionsAsked, ListsActions, Offers, place_of, actions_value}
 use Rattle.ob0_session.specs.Answers as answers_of
-use Rattle.ob0_session.specs.Answers.{State, Say, Says, Sends, Reaction, reacts, told, hears, requested, asked as asked_in, calls, refuses_fault, of_document, lays_out, renames, published, Answers, AnswersIn, AnswersGoingOn, says}
+use Rattle.ob0_session.specs.Answers.{State, Say, Says, Sends, Reaction, reacts, told, hears, requested, asked as asked_in, calls, of_document, lays_out, renames, offers_actions, published, Answers, AnswersIn, AnswersGoingOn, says}
 use Rattle.ob0_session.specs.Diagnosed.{Complaint, IsWellTypedModule, Tells, TellsFaults, complaint_of}
 use Rattle.ob0_session.specs.Diagnostics.{Diagnoses, diagnostic_of, utf8}
 use Rattle.ob0_session.specs.Formatted.{AnswersFormatting}
 use Rattle.ob0_session.specs.Renamed.{RenameAsked, AnswersRenaming}
 use Rattle.ob0_session.specs.RunsKept.{RunsAsBefore}
 use Rattle.ob0_session.specs.Shapes.{Diagnostic, diagnostic_value, edit_value, edits_value, document_edit, workspace_edit, edit_refused, publication}
+use Rattle.ob0_session.specs.declared.actions.Inlining.{Inlining}
+use Rattle.ob0_session.specs.declared.actions.Inlining.TheVariants.{Here, Everywhere}
 use Rattle.ob0_session.specs.declared.server.Phase.{Phase}
 use Rattle.ob0_session.specs.declared.server.Phase.TheVariants.{Running}
 use Rattle.ob0_editor.specs.Code.{replacement_of, replacements}
 use Rattle.ob0_editor.specs.Heard as heard_as
 use Rattle.ob0_editor.specs.Heard.{told_as, HasVersion, IsNote, IsRequest, IsAsk, call_for, indent_read}
-use Rattle.ob0_editor.specs.Shapes.{method_of}
-use Rattle.ob0_editor.specs.Understood.{understood, value_understood, edits_in, edits_for, has_none}
+use Rattle.ob0_editor.specs.Shapes.{method_of, empty_at}
+use Rattle.ob0_editor.specs.Understood.{understood, value_understood, edits_in, workspace_items, edits_for, has_none}
 use Rattle.ob0_editor.proofs.Hearing.{understood_as}
 use Rattle.ob0_editor.proofs.Patching.{edited_as_patched}
 use Rattle.ob0_ends.specs.Language.{WellTypedText}
@@ -264,15 +267,19 @@ formatted asked k uri indent read_as unit version text sent of (message, how, se
     go (inr (inr (unfit, is))) = refused asked k uri (format indent) unit (Some (InStep version text)) (minus 32803) (codes "ill-typed") sent of (subst (λ m. Sends m sent) is sends)
 
 -- edits of a versioned document are read back
-renames_read_back : (id : Data) (position : Position) (name uri : List ℕ) (version : ℤ) (edits : List Edit) (client : Client) → client.takes_document_changes ≡ true
-    → edits_for (rename position name) (result_message id (workspace_edit client uri version edits)) ≡ replacements edits
-renames_read_back id position name uri version edits client takes = go client.takes_document_changes takes
+workspace_read_back : (client : Client) (uri : List ℕ) (version : ℤ) (edits : List Edit) → client.takes_document_changes ≡ true
+    → option_and_then edits_in (workspace_items (workspace_edit client uri version edits)) ≡ Some (replacements edits)
+workspace_read_back client uri version edits takes = go client.takes_document_changes takes
   where
     go : (b : Bool) → b ≡ true
-        → edits_for (rename position name) (result_message id (cond b (object (member (codes "documentChanges") (array (item (document_edit uri version edits) no_items)) no_members)) (object (member (codes "changes") (object (member uri (edits_value edits) no_members)) no_members))))
-        ≡ replacements edits
-    go true is = ap (λ o. unwrap_or o []) (edits_read_back edits)
+        → option_and_then edits_in (workspace_items (cond b (object (member (codes "documentChanges") (array (item (document_edit uri version edits) no_items)) no_members)) (object (member (codes "changes") (object (member uri (edits_value edits) no_members)) no_members))))
+        ≡ Some (replacements edits)
+    go true is = edits_read_back edits
     go false is = absurd (cc)
+
+renames_read_back : (id : Data) (position : Position) (name uri : List ℕ) (version : ℤ) (edits : List Edit) (client : Client) → client.takes_document_changes ≡ true
+    → edits_for (rename position name) (result_message id (workspace_edit client uri version edits)) ≡ replacements edits
+renames_read_back id position name uri version edits client takes = ap (λ o. unwrap_or o []) (workspace_read_back client uri version edits takes)
 
 -- the request as the session takes it
 abbrev rename_asked : Client → ℕ → List ℕ → Position → List ℕ → ℤ → RenameAsked
@@ -295,6 +302,77 @@ renamed asked k uri position name client unit version text sent takes of (messag
     go (inr (inl (refusal, why, is))) = refused asked k uri (rename position name) unit (Some (InStep version text)) (minus 32803) (refusal_text refusal) sent of (subst (λ m. Sends m sent) is sends)
     go (inr (inr (unfit, is))) = refused asked k uri (rename position name) unit (Some (InStep version text)) (minus 32803) (codes "ill-typed") sent of (subst (λ m. Sends m sent) is sends)
 
+-- ---- inlining
+
+-- what an editor asks for of each kind
+abbrev inlining_at : Inlining → Position → Ask
+inlining_at Here position = inline_here position
+inlining_at Everywhere position = inline_all position
+
+-- the one that was asked for, of what is offered
+abbrev asked_for : {A : Type 0} → Inlining → A → A → A
+asked_for Here here everywhere = here
+asked_for Everywhere here everywhere = everywhere
+
+abbrev edits_offered : Option (Vec Edit Global) → List Replacement
+edits_offered (Some edits) = replacements edits.items
+edits_offered None = []
+
+-- of the actions that are offered that with the title is read
+actions_read_back : (how : Inlining) (position : Position) (asked : ActionsAsked) (here everywhere : Option (Vec Edit Global)) → asked.client.takes_document_changes ≡ true
+    → edits_for (inlining_at how position) (result_message asked.id (actions_value asked here everywhere)) ≡ edits_offered (asked_for how here everywhere)
+actions_read_back Here position asked (Some edits) everywhere takes = ap (λ o. unwrap_or o []) (workspace_read_back asked.client asked.uri asked.version edits.items takes)
+actions_read_back Here position asked None (Some other) takes = refl
+actions_read_back Here position asked None None takes = refl
+actions_read_back Everywhere position asked (Some other) (Some edits) takes = ap (λ o. unwrap_or o []) (workspace_read_back asked.client asked.uri asked.version edits.items takes)
+actions_read_back Everywhere position asked None (Some edits) takes = ap (λ o. unwrap_or o []) (workspace_read_back asked.client asked.uri asked.version edits.items takes)
+actions_read_back Everywhere position asked (Some other) None takes = refl
+actions_read_back Everywhere position asked None None takes = refl
+
+none_read_back : (how : Inlining) (position : Position) (id : Data) → edits_for (inlining_at how position) (result_message id (array no_items)) ≡ []
+none_read_back Here position id = refl
+none_read_back Everywhere position id = refl
+
+-- edits that are offered keep the run
+offered_keep : (how : Inlining) (unit : Unit) (text : List ℕ) (offset : ℕ) (o : Option (Vec Edit Global)) → Offers how unit text offset o → (edits_offered o ≡ []) ⊎ KeepTheRun unit text (edits_offered o)
+offered_keep how unit text offset None refused = inl refl
+offered_keep how unit text offset (Some edits) found = inr (keeps_the_run unit text found.after edits.items found.made found.runs)
+
+asked_keep : (how : Inlining) (unit : Unit) (text : List ℕ) (offset : ℕ) (here everywhere : Option (Vec Edit Global)) → Offers Here unit text offset here → Offers Everywhere unit text offset everywhere
+    → (edits_offered (asked_for how here everywhere) ≡ []) ⊎ KeepTheRun unit text (edits_offered (asked_for how here everywhere))
+asked_keep Here unit text offset here everywhere one other = offered_keep Here unit text offset here one
+asked_keep Everywhere unit text offset here everywhere one other = offered_keep Everywhere unit text offset everywhere other
+
+-- the request as the session takes it
+abbrev actions_asked_at : Client → ℕ → List ℕ → Position → ℤ → ActionsAsked
+actions_asked_at client k uri position version =
+    record { id = number (unsigned k); client = client; uri = uri; version = version; range = empty_at position; only = None }
+
+inlined : (how : Inlining) (asked : List Asked) (k : ℕ) (uri : List ℕ) (position : Position) (client : Client) (unit : Unit) (version : ℤ) (text : List ℕ) (sent : List (List ℕ)) → client.takes_document_changes ≡ true → IsAsk asked k uri (inlining_at how position)
+    → Says (offers_actions unit (actions_asked_at client k uri position version) text) sent → Answered asked k (inlining_at how position) unit (Some (InStep version text)) sent
+inlined how asked k uri position client unit version text sent takes of (message, (value, how_listed, is), sends) = go how_listed
+  where
+    request : ActionsAsked
+    request = actions_asked_at client k uri position version
+
+    with_edits : (edits : List Replacement) → edits_for (inlining_at how position) (result_message (number (unsigned k)) value) ≡ edits → (edits ≡ []) ⊎ KeepTheRun unit text edits
+        → Answered asked k (inlining_at how position) unit (Some (InStep version text)) sent
+    with_edits edits these keep =
+        let answer : Data = result_message (number (unsigned k)) value in
+        record {
+          edits = edits;
+          heard = heard_one asked sent answer (answers k edits) (subst (λ m. Sends m sent) is sends) (answered asked k uri (inlining_at how position) answer of ∙ ap (λ es. Some (answers k es)) these);
+          may = keep;
+        }
+
+    go : ListsActions unit request text value → Answered asked k (inlining_at how position) unit (Some (InStep version text)) sent
+    go (inl (here, everywhere, wanted, offers_here, offers_everywhere, listed)) =
+        with_edits (edits_offered (asked_for how here everywhere))
+        (ap (λ v. edits_for (inlining_at how position) (result_message (number (unsigned k)) v)) listed ∙ actions_read_back how position request here everywhere takes)
+        (asked_keep how unit text (place_of unit text request.range) here everywhere offers_here offers_everywhere)
+    go (inr (why, listed)) =
+        with_edits [] (ap (λ v. edits_for (inlining_at how position) (result_message (number (unsigned k)) v)) listed ∙ none_read_back how position (number (unsigned k))) (inl refl)
+
 -- ---- asks
 
 asks_served : (asked : List Asked) (k : ℕ) (uri : List ℕ) (ask : Ask) (before after : State) (sent : List (List ℕ)) → IsRunning before → after ≡ before → Answered asked k ask before.held.unit (document_at before.held uri) sent
@@ -314,12 +392,6 @@ about_document asked k uri ask say before after sent running of in_step (Some Ou
 about_document asked k uri ask say before after sent running of in_step (Some (InStep version text)) at same saying =
     asks_served asked k uri ask before after sent running same (subst (λ o. Answered asked k ask before.held.unit o sent) (sym at) (in_step version text saying))
 
--- a request that isn't built
-not_built : (asked : List Asked) (k : ℕ) (uri : List ℕ) (ask : Ask) (before after : State) (sent : List (List ℕ)) → IsRunning before → IsAsk asked k uri ask → after ≡ before
-    → Sends (error_message (number (unsigned k)) (error_code UnknownMethod) (error_text UnknownMethod)) sent → Served asked (asks k uri ask) before after sent
-not_built asked k uri ask before after sent running of is sends =
-    asks_served asked k uri ask before after sent running is (refused asked k uri ask before.held.unit (document_at before.held uri) (error_code UnknownMethod) (error_text UnknownMethod) sent of sends)
-
 -- a request of the editor, while the session runs
 request_served : (asked : List Asked) (k : ℕ) (uri : List ℕ) (ask : Ask) (params : Data) (before after : State) (sent : List (List ℕ)) → IsRunning before → IsAsk asked k uri ask → call_of (method_of ask) params ≡ Ok (call_for uri ask)
     → after ≡ (requested before (number (unsigned k)) (method_of ask) params).after → Says (requested before (number (unsigned k)) (method_of ask) params).say sent → Served asked (asks k uri ask) before after sent
@@ -330,8 +402,20 @@ request_served asked k uri (rename position name) params before after sent runni
     about_document asked k uri (rename position name) say before after sent running of
     (λ version text. renamed asked k uri position name before.client before.held.unit version text sent running.1 of) (document_at before.held uri) refl
     (is ∙ ap (λ (x : Reaction). x.after) so) (subst (λ (x : Reaction). Says x.say sent) so saying)
-request_served asked k uri (inline_here position) params before after sent running of call is saying = not_built asked k uri (inline_here position) before after sent running of is saying
-request_served asked k uri (inline_all position) params before after sent running of call is saying = not_built asked k uri (inline_all position) before after sent running of is saying
+request_served asked k uri (inline_here position) params before after sent running of call is saying =
+    let id : Data = number (unsigned k) in
+    let say : ℤ → List ℕ → Say = λ version. offers_actions before.held.unit (actions_asked_at before.client k uri position version) in
+    let so : requested before id (method_of (inline_here position)) params ≡ of_document before id (document_at before.held uri) say = ap (calls before id) call in
+    about_document asked k uri (inline_here position) say before after sent running of
+    (λ version text. inlined Here asked k uri position before.client before.held.unit version text sent running.1 of) (document_at before.held uri) refl
+    (is ∙ ap (λ (x : Reaction). x.after) so) (subst (λ (x : Reaction). Says x.say sent) so saying)
+request_served asked k uri (inline_all position) params before after sent running of call is saying =
+    let id : Data = number (unsigned k) in
+    let say : ℤ → List ℕ → Say = λ version. offers_actions before.held.unit (actions_asked_at before.client k uri position version) in
+    let so : requested before id (method_of (inline_all position)) params ≡ of_document before id (document_at before.held uri) say = ap (calls before id) call in
+    about_document asked k uri (inline_all position) say before after sent running of
+    (λ version text. inlined Everywhere asked k uri position before.client before.held.unit version text sent running.1 of) (document_at before.held uri) refl
+    (is ∙ ap (λ (x : Reaction). x.after) so) (subst (λ (x : Reaction). Says x.say sent) so saying)
 request_served asked k uri (format indent) params before after sent running of call is saying =
     let id : Data = number (unsigned k) in
     let say : ℤ → List ℕ → Say = λ version. lays_out before.held.unit id (indent_read indent) in
