@@ -4,3 +4,4 @@ mod Shallow
 pub mod Hearing
 pub mod Patching
 pub mod Moving
+mod Counting

@@ -3,6 +3,7 @@
 use crate::tests::acts::{
     Act, Edited, FAULTY, FITS, NOTHING, Published, SENT, SERVED, Story, holds,
 };
+use ob0_ends::laws::in_every_interleaving;
 use ob0_text::Unit;
 use std::test::Fail;
 
@@ -15,6 +16,12 @@ const RENAMED: &str =
 const LAID_OUT: &str =
     "MODULE M;\nVAR\n  n: INTEGER;\n  PROCEDURE P;\n  BEGIN\n    Write(n)\n  END P;\nBEGIN\n  Read(n);\n  WHILE n > 0 DO\n    n := n - 1;\n    WriteLn\n  END;\n  P\nEND M.\n";
 
+const FIELDS: &str =
+    "MODULE M;\nTYPE R = RECORD a, b: INTEGER END;\nVAR r: R; s: RECORD a: INTEGER END; a: INTEGER;\nBEGIN r.a := 1; s.a := 2; a := r.a + s.a; Write(a) END M.\n";
+
+const FIELD_RENAMED: &str =
+    "MODULE M;\nTYPE R = RECORD r, b: INTEGER END;\nVAR r: R; s: RECORD a: INTEGER END; a: INTEGER;\nBEGIN r.r := 1; s.a := 2; a := r.r + s.a; Write(a) END M.\n";
+
 /// No module: the full stop is missing.
 const FAULTY_TEXT: &str = "MODULE M; END M";
 
@@ -22,7 +29,7 @@ const NAME: Act = Act::Rename(1, 4, "k");
 
 const FIRST_KEPT: &str = "Answered { k: 1, edits: true }";
 
-const STORIES: [Story; 8] = [
+const STORIES: [Story; 9] = [
     Story {
         name: "another name is applied",
         moments: &[
@@ -53,6 +60,27 @@ const STORIES: [Story; 8] = [
                 empty: true,
             },
         ],
+    },
+    Story {
+        name: "another name of a field is applied",
+        moments: &[
+            (Act::Open(FIELDS), SENT),
+            (Act::Rename(3, 8, "r"), SENT),
+            (Act::Serve, SERVED),
+            (Act::Serve, SERVED),
+            (Act::Take, FITS),
+            (Act::Take, FIRST_KEPT),
+            (Act::Apply(1), "Applied { k: 1 }"),
+        ],
+        applied: &[Edited {
+            before: FIELDS,
+            after: FIELD_RENAMED,
+        }],
+        made: &[Published {
+            version: 1,
+            text: FIELDS,
+            empty: true,
+        }],
     },
     Story {
         name: "a layout is applied",
@@ -221,6 +249,12 @@ const STORIES: [Story; 8] = [
         }],
     },
 ];
+
+/// The law over any server.
+#[test]
+fn the_law_holds() {
+    in_every_interleaving();
+}
 
 #[test]
 fn names_and_layouts(rt: HostRuntime) -> Result<(), Fail> {
