@@ -6,7 +6,8 @@ use Rattle.ob0_scope.specs.Names.{Name}
 use Rattle.ob0_types.specs.WellTyped.{WellTyped}
 use Rattle.ob0_run.specs.Runs.{Run, run}
 use Rattle.ob0_session.specs.Diagnosed.{IsTextOf}
-use Rattle.ob0_values.specs.Values.{Done}
+use Rattle.ob0_run.specs.Outcomes.{end_in}
+use Rattle.ob0_run.specs.declared.running.End.TheVariants as end
 use Rattle.ob0_commands.specs.Printed.{TellsWrong, output_text}
 
 -- the text is a well-typed module, and this is its run
@@ -24,8 +25,8 @@ pub record PrintsRun (file : List ℕ) (c t : ℕ) (before after : Option (List 
 
 -- a run that reaches the end of the module's body is printed
 abbrev pub PrintsDone : List ℕ → ℕ → ℕ → Option (List ℕ) → Option (List ℕ) → Type 0
-PrintsDone file c t before after = (r : Run) × PrintsRun file c t before after r × (r.ending ≡ Done)
+PrintsDone file c t before after = (r : Run) × PrintsRun file c t before after r × (r.ending ≡ end_in end.Done)
 
 -- a run that ends otherwise is printed, or what is wrong with the file
 abbrev pub PrintsOther : List ℕ → ℕ → ℕ → Option (List ℕ) → Option (List ℕ) → Type 0
-PrintsOther file c t before after = TellsWrong file before after ⊎ ((r : Run) × PrintsRun file c t before after r × (r.ending ≢ Done))
+PrintsOther file c t before after = TellsWrong file before after ⊎ ((r : Run) × PrintsRun file c t before after r × (r.ending ≢ end_in end.Done))

@@ -19,7 +19,7 @@ use std::io::Write;
 /// status with which the program ends: 0 for a module with no diagnostic, 1 for diagnostics, 4 for bytes that are no
 /// UTF-8 or a failed write, 5 for want of memory.
 pub fn check_text<O: Write, E: Write>(alloc: Global, file: &[u8], out: &mut O, err: &mut E) -> u8
-    ensures { result ≡ 0 → Tells file.now [] }
+    ensures nothing { result ≡ 0 → Tells file.now [] }
     ensures quiet { result ≡ 0 → out.new ≡ out.old }
     ensures told { result ≡ 1 → TellsWrong file.now (O.contents out.old) (O.contents out.new) }
 {

@@ -46,6 +46,20 @@ fn rename_file<O: Write, E: Write>(
     let Some(text) = text_of(file, out)? else {
         return Ok(1);
     };
+    rename_in_text(alloc, text, position, new, out, err)
+}
+
+fn rename_in_text<O: Write, E: Write>(
+    alloc: Global,
+    text: &str,
+    position: Position,
+    new: &str,
+    out: &mut O,
+    err: &mut E,
+) -> Result<u8, Fault>
+    ensures renamed { IfOk result (λ status. status ≡ 0 → PrintsRenamed text.now position new.now (O.contents out.old) (O.contents out.new)) }
+    ensures other { IfOk result (λ status. status ≡ 1 → PrintsNoName text.now position new.now (O.contents out.old) (O.contents out.new)) }
+{
     let store = Whole::from_str(alloc, text)?;
     match rename_in(alloc, &store, position, new)? {
         Asked::Answered(outcome) => print_edited(alloc, &store, outcome, out, err),
