@@ -96,11 +96,7 @@ fn starts_of(alloc: Global, told: &[Diagnosis]) -> Result<Vec<usize>, AllocError
 }
 
 /// A line for each diagnostic, with its position.
-fn lines_at(
-    alloc: Global,
-    told: &[Diagnosis],
-    positions: &[Position],
-) -> Result<String, AllocError>
+fn lines_at(alloc: Global, told: &[Diagnosis], positions: &[Position]) -> Result<String, AllocError>
     ensures { IfOk result (λ lines. string_bytes lines ≡ lines_at positions.now (map complaint_in told.now)) }
 {
     let mut lines = String::new(alloc);

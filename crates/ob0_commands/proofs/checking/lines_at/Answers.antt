@@ -1,4 +1,4 @@
-use Rattle.std.proofs.Common.{◌≡◌, suc, [], ◌∷◌, ◌++◌, length, length-append, string_bytes, rules, ap, ◌∙◌, subst, sym, arith}
+use Rattle.std.proofs.Common.{◌≡◌, suc, [], ◌∷◌, ◌++◌, length, length-append, string_bytes, rules, ◌∙◌, subst, sym, arith}
 use Rattle.std.proofs.lemmas.Slice.Zip.{zip_end, zip_turn}
 use Rattle.ob0_session.specs.Diagnosed.{complaint_in}
 use Rattle.ob0_commands.proofs.Lines.{Gathered, gathered_all, gathered_further}

@@ -1,9 +1,5 @@
-use Rattle.std.proofs.Common.{◌≡◌, ◌∙◌, ℕ, List, Result, Vec, Global, ap, subst, inl, inr}
+use Rattle.std.proofs.Common.{inl, inr}
 use Rattle.std.proofs.lemmas.Result.{IfOk-weaker}
-use Rattle.ob0_text.specs.declared.edits.Edit.{Edit}
-use Rattle.ob0_text.specs.declared.refusals.EditRefusal.{EditRefusal}
-use Rattle.ob0_session.specs.Renamed.{FindsNewName}
-use Rattle.ob0_session.specs.declared.analysis.Asked.{Asked}
 use Rattle.ob0_commands.proofs.Renames.{edited_in_text, found_in_text, prints_renamed, refuses_name}
 use Rattle.ob0_commands.proofs.Wrong.{ill_typed}
 use Rattle.ob0_commands.proofs.renaming.rename_in_text.Goals as goal
