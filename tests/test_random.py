@@ -96,6 +96,20 @@ def characters():
             same(server.tell(did_open(text)), wanted(text), f"seed {seed}, of the text {text!r}")
 
 
+def answers_at(server, found, at, where):
+    """Holds the answers at a place of a text to those of the second writing."""
+    span, shown, declared, places = reference_questions.asked(found, at) or (None, None, None, [])
+    ranges = lambda it: extent("{}:{}-{}:{}".format(*found.position(it[0]), *found.position(it[1])))
+    params = {"position": place(*found.position(at)), "textDocument": {"uri": URI}}
+    result = lambda what, **more: server.ask(f"textDocument/{what}", {**params, **more})["result"]
+    for include in (True, False):
+        got = result("references", context={"includeDeclaration": include})
+        same([it["range"] for it in got], [ranges(it) for it in places if include or it != declared], f"{where}: references")
+    same(result("definition"), declared and {"range": ranges(declared), "uri": URI}, f"{where}: definition")
+    contents = {"kind": "plaintext", "value": shown}
+    same(result("hover"), span and {"contents": contents, "range": ranges(span)}, f"{where}: hover")
+
+
 @test("random: hover, definition and references at each place", "questions", "hover", "fields")
 def questions():
     with Server() as server:
@@ -103,19 +117,21 @@ def questions():
             text = corpus.module(900, seed)
             found, chance = reference.Text(text), random.Random(seed)
             server.tell(did_open(text))
-            spread_ = lambda it: extent("{}:{}-{}:{}".format(*found.position(it[0]), *found.position(it[1])))
-            fields_ = [it[0].start for it in found.checker.fields]
-            for at in [*(chance.randrange(len(text)) for _ in range(60)), *chance.sample(fields_, min(10, len(fields_)))]:
-                span, shown, declared, places = reference_questions.asked(found, at) or (None, None, None, [])
-                params = {"position": place(*found.position(at)), "textDocument": {"uri": URI}}
-                result = lambda what, **more: server.ask(f"textDocument/{what}", {**params, **more})["result"]
-                where = f"seed {seed}, at {found.position(at)}"
-                for include in (True, False):
-                    got = result("references", context={"includeDeclaration": include})
-                    same([it["range"] for it in got], [spread_(it) for it in places if include or it != declared], f"{where}: references")
-                same(result("definition"), declared and {"range": spread_(declared), "uri": URI}, f"{where}: definition")
-                contents = {"kind": "plaintext", "value": shown}
-                same(result("hover"), span and {"contents": contents, "range": spread_(span)}, f"{where}: hover")
+            selected = [it[0].start for it in found.checker.fields]
+            for at in [*(chance.randrange(len(text)) for _ in range(60)), *chance.sample(selected, min(10, len(selected)))]:
+                answers_at(server, found, at, f"seed {seed}, at {found.position(at)}")
+
+
+@test("random: hover, definition and references where fields are declared", "questions", "hover", "fields")
+def declared_fields():
+    with Server() as server:
+        for seed in range(SEED, SEED + COUNT // 3):
+            text = wild.records(seed)
+            found = reference.Text(text)
+            same(server.tell(did_open(text)), wanted(text), f"seed {seed}, of the text\n{text}\n")
+            if found.is_well_typed:
+                for it, _, _ in found.checker.fields:
+                    answers_at(server, found, it.start, f"seed {seed}, at {found.position(it.start)} of\n{text}\n")
 
 
 def program(seed):

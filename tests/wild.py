@@ -115,3 +115,51 @@ class Wild:
 
 def module(seed):
     return Wild(seed).module()
+
+
+class Records:
+    """Modules of types alone: records in records, arrays and parameters, with names that are declared anew."""
+
+    def __init__(self, seed):
+        self.chance = random.Random(f"records {seed}")
+
+    def type(self, known, depth):
+        way = self.chance.random()
+        if way < 0.35 or depth > 3:
+            return self.chance.choice(["INTEGER", "BOOLEAN", *known[-4:]])
+        if way < 0.55:
+            return f"ARRAY {self.chance.choice(['1', '2', 'n'])} OF {self.type(known, depth + 1)}"
+        return self.record(known, depth)
+
+    def record(self, known, depth=0):
+        names = self.chance.sample("abcdefgh", self.chance.randrange(5))
+        groups = [""] * self.chance.randrange(2)
+        while names:
+            count = 1 + self.chance.randrange(min(2, len(names)))
+            groups.append(f"{', '.join(names[:count])}: {self.type(known, depth + 1)}")
+            names = names[count:]
+        return f"RECORD {'; '.join(groups)} END"
+
+    def block(self, known, depth):
+        constant = f"CONST n = {1 + self.chance.randrange(3)};\n" if not depth or self.chance.random() < 0.4 else ""
+        here, declared = set(), ""
+        for _ in range(self.chance.randrange(3)):
+            name = self.chance.choice("RSTU")
+            if name not in here:
+                here.add(name)
+                declared += f"{name} = {self.type(known, 0)}; "
+                known = [*[it for it in known if it != name], name]
+        variables = "".join(f"v{at}, w{at}: {self.type(known, 0)}; " for at in range(self.chance.randrange(4)))
+        procedures = "".join(self.procedure(known, depth, at) for at in range(self.chance.randrange(3))) if depth < 3 else ""
+        return constant + (f"TYPE {declared}\n" if declared else "") + (f"VAR {variables}\n" if variables else "") + procedures
+
+    def procedure(self, known, depth, at):
+        formals = "; ".join(f"{self.chance.choice(['', 'VAR '])}p{it}, q{it}: {self.type(known, 0)}" for it in range(self.chance.randrange(3)))
+        return f"PROCEDURE P{at}({formals});\n{self.block(known, depth + 1)}END P{at};\n"
+
+    def module(self):
+        return f"MODULE M;\n{self.block([], 0)}END M.\n"
+
+
+def records(seed):
+    return Records(seed).module()

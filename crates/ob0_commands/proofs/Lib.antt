@@ -1,1 +1,3 @@
+mod Lines
 mod Renames
+mod Wrong

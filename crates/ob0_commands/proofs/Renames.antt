@@ -1,6 +1,5 @@
--- Edits are printed only where they write the name in the file's text.
-use Rattle.std.proofs.Common.{◌≡◌, ◌∙◌, ℕ, List, true, Result, Ok, Err, Vec, Global, ap, subst}
-use Rattle.std.specs.Prelude.{is_ok}
+-- A text is printed only where the edits write the name in the file's text, and no text where the name is refused.
+use Rattle.std.proofs.Common.{◌≡◌, ℕ, List, Option, Result, Ok, Err, Vec, Global, subst}
 use Rattle.std.specs.Str.{chars}
 use Rattle.ob0_text.specs.declared.edits.Edit.{Edit}
 use Rattle.ob0_text.specs.declared.positions.Position.{Position}
@@ -10,18 +9,28 @@ use Rattle.ob0_text.specs.declared.refusals.EditRefusal.{EditRefusal}
 use Rattle.ob0_session.specs.Renamed.{FindsNewName}
 use Rattle.ob0_session.specs.declared.analysis.Asked.{Asked}
 use Rattle.ob0_session.specs.declared.analysis.Asked.TheVariants.{Answered}
-use Rattle.ob0_commands.specs.Renamed.{CanBeRenamed}
+use Rattle.ob0_commands.specs.Renamed.{IsRefusal, PrintsEdited, PrintsRenamed, RefusesName}
 
-of_found : (text : List ℕ) (place : Position) (new : List ℕ) (outcome : Result (Vec Edit Global) EditRefusal)
-    → FindsNewName Utf16 (chars text) place new (Answered outcome) → is_ok outcome ≡ true → CanBeRenamed text place new
-of_found text place new (Ok edits) h some = (edits.items, h)
-of_found text place new (Err refusal) h some = cc
-
--- what was found in a store that holds the file's text
-pub can_be_renamed : (unit : Unit) (content text file : List ℕ) (place : Position) (new : List ℕ) (found : Asked (Result (Vec Edit Global) EditRefusal)) (outcome : Result (Vec Edit Global) EditRefusal)
-    → unit ≡ Utf16 → content ≡ chars text → text ≡ file → found ≡ Answered outcome → FindsNewName unit content place new found → is_ok outcome ≡ true → CanBeRenamed file place new
-can_be_renamed unit content text file place new found outcome counts holds same is h =
+-- what was found in a store that holds the text
+pub found_in_text : (unit : Unit) (content text : List ℕ) (place : Position) (new : List ℕ) (found : Asked (Result (Vec Edit Global) EditRefusal)) (outcome : Result (Vec Edit Global) EditRefusal)
+    → unit ≡ Utf16 → content ≡ chars text → found ≡ Answered outcome → FindsNewName unit content place new found → FindsNewName Utf16 (chars text) place new (Answered outcome)
+found_in_text unit content text place new found outcome counts holds is h =
     let here : FindsNewName unit content place new (Answered outcome) = subst (λ (a : Asked (Result (Vec Edit Global) EditRefusal)). FindsNewName unit content place new a) is h in
     let in_unit : FindsNewName Utf16 content place new (Answered outcome) = subst (λ (u : Unit). FindsNewName u content place new (Answered outcome)) counts here in
-    let in_text : FindsNewName Utf16 (chars file) place new (Answered outcome) = subst (λ (t : List ℕ). FindsNewName Utf16 t place new (Answered outcome)) (holds ∙ ap chars same) in_unit in
-    of_found file place new outcome in_text
+    subst (λ (t : List ℕ). FindsNewName Utf16 t place new (Answered outcome)) holds in_unit
+
+pub edited_in_text : (unit : Unit) (content text : List ℕ) (outcome : Result (Vec Edit Global) EditRefusal) (before after : Option (List ℕ))
+    → unit ≡ Utf16 → content ≡ chars text → PrintsEdited unit content outcome before after → PrintsEdited Utf16 (chars text) outcome before after
+edited_in_text unit content text outcome before after counts holds h =
+    let in_unit : PrintsEdited Utf16 content outcome before after = subst (λ (u : Unit). PrintsEdited u content outcome before after) counts h in
+    subst (λ (t : List ℕ). PrintsEdited Utf16 t outcome before after) holds in_unit
+
+pub prints_renamed : (text : List ℕ) (place : Position) (new : List ℕ) (outcome : Result (Vec Edit Global) EditRefusal) (before after : Option (List ℕ))
+    → FindsNewName Utf16 (chars text) place new (Answered outcome) → PrintsEdited Utf16 (chars text) outcome before after → PrintsRenamed text place new before after
+prints_renamed text place new (Ok edits) before after h p = record { edits = edits.items; rename = h; prints = p }
+prints_renamed text place new (Err refusal) before after h p = absurd p
+
+pub refuses_name : (text : List ℕ) (place : Position) (new : List ℕ) (outcome : Result (Vec Edit Global) EditRefusal) (before after : Option (List ℕ))
+    → FindsNewName Utf16 (chars text) place new (Answered outcome) → IsRefusal outcome → after ≡ before → RefusesName text place new before after
+refuses_name text place new (Ok edits) before after h p e = absurd p
+refuses_name text place new (Err refusal) before after h p e = record { refusal = refusal; refused = h; nothing = e }

@@ -1,3 +1,4 @@
+pub mod Printed
 pub mod Renamed
 pub mod Statuses
 pub mod TextRuns

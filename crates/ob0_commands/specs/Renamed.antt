@@ -1,11 +1,44 @@
--- What a file's text with another name comes from.
-use Rattle.std.specs.Prelude.{ℕ, List}
+-- What is printed of a file's text with another name.
+use Rattle.std.specs.Prelude.{◌≡◌, ◌⊎◌, ⊤, ℕ, List, Option, Some, Result, Ok, Err, Vec}
+use Rattle.std.specs.declared.alloc.Global.{Global}
+use Rattle.std.specs.Io.KnownBytes.{Appends}
 use Rattle.std.specs.Str.{chars}
+use Rattle.ob0_text.specs.Patches.{patched}
+use Rattle.ob0_text.specs.Units.{width_of}
 use Rattle.ob0_text.specs.declared.edits.Edit.{Edit}
 use Rattle.ob0_text.specs.declared.positions.Position.{Position}
+use Rattle.ob0_text.specs.declared.positions.Unit.{Unit}
 use Rattle.ob0_text.specs.declared.positions.Unit.TheVariants.{Utf16}
-use Rattle.ob0_session.specs.Renamed.{RenamesIn}
+use Rattle.ob0_text.specs.declared.refusals.EditRefusal.{EditRefusal}
+use Rattle.ob0_session.specs.Renamed.{IsRefusedIn, RenamesIn}
+use Rattle.ob0_commands.specs.Printed.{TellsWrong}
 
--- there are edits that write the name in the text of these bytes, in positions that count UTF-16 units
-abbrev pub CanBeRenamed : List ℕ → Position → List ℕ → Type 0
-CanBeRenamed file position new = (edits : List Edit) × RenamesIn Utf16 (chars file) position new edits
+-- known bytes grow by the text that edits make
+pub record PrintsPatched (unit : Unit) (content : List ℕ) (edits : List Edit) (before after : Option (List ℕ)) : Type 0 where
+  pub text : List ℕ
+  pub made : patched (width_of unit) content edits ≡ Some (chars text)
+  pub printed : Appends before after text
+
+abbrev pub PrintsEdited : Unit → List ℕ → Result (Vec Edit Global) EditRefusal → Option (List ℕ) → Option (List ℕ) → Type 0
+PrintsEdited unit content (Ok edits) before after = PrintsPatched unit content edits.items before after
+PrintsEdited unit content (Err refusal) before after = ⊥
+
+abbrev pub IsRefusal : Result (Vec Edit Global) EditRefusal → Type 0
+IsRefusal (Ok edits) = ⊥
+IsRefusal (Err refusal) = ⊤
+
+-- Edits write the name in the file's text, in positions that count UTF-16 units, and the text that they make is printed.
+pub record PrintsRenamed (file : List ℕ) (position : Position) (new : List ℕ) (before after : Option (List ℕ)) : Type 0 where
+  pub edits : List Edit
+  pub rename : RenamesIn Utf16 (chars file) position new edits
+  pub prints : PrintsPatched Utf16 (chars file) edits before after
+
+-- the name is refused, and nothing printed
+pub record RefusesName (file : List ℕ) (position : Position) (new : List ℕ) (before after : Option (List ℕ)) : Type 0 where
+  pub refusal : EditRefusal
+  pub refused : IsRefusedIn Utf16 (chars file) position new refusal
+  pub nothing : after ≡ before
+
+-- the name is refused, or it is told what is wrong with the file
+abbrev pub PrintsNoName : List ℕ → Position → List ℕ → Option (List ℕ) → Option (List ℕ) → Type 0
+PrintsNoName file position new before after = TellsWrong file before after ⊎ RefusesName file position new before after

@@ -1,5 +1,7 @@
 -- The statuses with which a command on a file ends.
 use Rattle.std.specs.Prelude.{ℕ}
+use Rattle.ob0_run.specs.declared.running.End.{End}
+use Rattle.ob0_run.specs.declared.running.End.TheVariants as end
 use Rattle.ob0_commands.specs.declared.faults.Fault.{Fault}
 use Rattle.ob0_commands.specs.declared.faults.Fault.TheVariants as fault
 
@@ -10,3 +12,13 @@ status_of fault.Utf8 = 4
 status_of fault.Input = 4
 status_of fault.Write = 4
 status_of fault.Memory = 5
+
+-- 0 for a run that reaches the end of the module's body, else 1
+abbrev pub status_at : End → ℕ
+status_at end.Done = 0
+status_at end.Overflow = 1
+status_at end.Divisor = 1
+status_at end.Index = 1
+status_at end.InputEnd = 1
+status_at end.CallBound = 1
+status_at end.TurnBound = 1

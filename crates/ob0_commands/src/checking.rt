@@ -1,13 +1,16 @@
 //! Telling what is wrong with a file.
 
-ghost use Rattle.std.specs.Prelude.{◌≡◌, [], IfOk, IfSome};
-ghost use Rattle.ob0_session.specs.Diagnosed.{Tells};
+ghost use Rattle.std.specs.Prelude.{◌≡◌, ◌<◌, ◌++◌, [], IfOk, MatchOption, OnOk, codes, length, map, string_bytes};
+ghost use Rattle.std.specs.Io.KnownBytes.{Appends};
+ghost use Rattle.ob0_commands.specs.Printed.{TellsWrong, complaint_lines, line_at, lines_at};
+ghost use Rattle.ob0_scan.specs.Scanned.{max_text};
+ghost use Rattle.ob0_session.specs.Diagnosed.{Tells, complaint_in};
 
 use crate::faults::{Fault, tell_fault};
 use crate::printing::print;
 use crate::reading::MAX_FILE;
 use ob0_session::{Diagnosis, diagnose};
-use ob0_text::{TextStore, Whole};
+use ob0_text::{Position, TextStore, Whole};
 use std::alloc::{AllocError, Global};
 use std::io::Write;
 
@@ -16,7 +19,9 @@ use std::io::Write;
 /// status with which the program ends: 0 for a module with no diagnostic, 1 for diagnostics, 4 for bytes that are no
 /// UTF-8 or a failed write, 5 for want of memory.
 pub fn check_text<O: Write, E: Write>(alloc: Global, file: &[u8], out: &mut O, err: &mut E) -> u8
-    ensures { result ≡ 0 → Tells file.now [] }
+    ensures nothing { result ≡ 0 → Tells file.now [] }
+    ensures quiet { result ≡ 0 → out.new ≡ out.old }
+    ensures told { result ≡ 1 → TellsWrong file.now (O.contents out.old) (O.contents out.new) }
 {
     match check(alloc, file, out) {
         Ok(Some(_text)) => 0,
@@ -32,7 +37,7 @@ pub fn check<'f, O: Write>(
     file: &'f [u8],
     out: &mut O,
 ) -> Result<Option<&'f str>, Fault>
-    ensures { IfOk result (λ found. IfSome found (λ text. (text.now ≡ file.entry.now) × Tells file.entry.now [])) }
+    ensures { IfOk result (λ found. MatchOption found (TellsWrong file.entry.now (O.contents out.old) (O.contents out.new)) (λ text. (text.now ≡ file.entry.now) × Tells file.entry.now [] × (out.new ≡ out.old))) }
 {
     let Some(text) = text_of(file, out)? else {
         return Ok(None);
@@ -47,7 +52,7 @@ pub fn check<'f, O: Write>(
 
 /// The text of a file that isn't too long; else that is printed.
 pub fn text_of<'f, O: Write>(file: &'f [u8], out: &mut O) -> Result<Option<&'f str>, Fault>
-    ensures { IfOk result (λ found. IfSome found (λ text. text.now ≡ file.entry.now)) }
+    ensures { IfOk result (λ found. MatchOption found ((max_text < length file.entry.now) × Appends (O.contents out.old) (O.contents out.new) (codes "0:0: TooLong: text too long\n")) (λ text. (text.now ≡ file.entry.now) × (out.new ≡ out.old))) }
 {
     if file.len() >= MAX_FILE {
         print(out, "0:0: TooLong: text too long\n")?;
@@ -65,25 +70,49 @@ pub fn print_diagnoses<O: Write>(
     text: &str,
     told: &[Diagnosis],
     out: &mut O,
-) -> Result<(), Fault> {
+) -> Result<(), Fault>
+    ensures { OnOk result (Appends (O.contents out.old) (O.contents out.new) (complaint_lines text.now (map complaint_in told.now))) }
+{
     print(out, lines_of(alloc, text, told)?.as_str())
 }
 
 /// A line for each diagnostic.
-fn lines_of(alloc: Global, text: &str, told: &[Diagnosis]) -> Result<String, AllocError> {
+fn lines_of(alloc: Global, text: &str, told: &[Diagnosis]) -> Result<String, AllocError>
+    ensures { IfOk result (λ lines. string_bytes lines ≡ complaint_lines text.now (map complaint_in told.now)) }
+{
     let store = Whole::from_str(alloc, text)?;
-    let mut starts = Vec::new(alloc);
-    for diagnosis in told {
-        starts.push(diagnosis.span.start)?;
-    }
+    let starts = starts_of(alloc, told)?;
     let positions = store.positions(alloc, starts.as_slice())?;
+    lines_at(alloc, told, positions.as_slice())
+}
+
+/// Where diagnostics start.
+fn starts_of(alloc: Global, told: &[Diagnosis]) -> Result<Vec<usize>, AllocError>
+    ensures { IfOk result (λ starts. starts.items ≡ map (λ d. d.span.start) told.now) }
+{
+    told.iter()
+        .map(|diagnosis| diagnosis.span.start)
+        .collect(alloc)
+}
+
+/// A line for each diagnostic, with its position.
+fn lines_at(alloc: Global, told: &[Diagnosis], positions: &[Position]) -> Result<String, AllocError>
+    ensures { IfOk result (λ lines. string_bytes lines ≡ lines_at positions.now (map complaint_in told.now)) }
+{
     let mut lines = String::new(alloc);
-    for (diagnosis, position) in told.iter().zip(positions.iter()) {
-        let (line, character) = (position.line, position.character);
-        let code = diagnosis.code;
-        let message = diagnosis.message.as_str();
-        let row = format!(in alloc; "{line}:{character}: {code}: {message}\n")?;
-        lines.push_str(row.as_str())?;
+    for (diagnosis, position) in told.iter().zip(positions) {
+        let line = line_at(alloc, diagnosis, *position)?;
+        lines.push_str(line.as_str())?;
     }
     Ok(lines)
+}
+
+/// The line of a diagnostic at a position.
+fn line_at(alloc: Global, diagnosis: &Diagnosis, position: Position) -> Result<String, AllocError>
+    ensures { IfOk result (λ line. string_bytes line ≡ line_at position (complaint_in diagnosis.now)) }
+{
+    let (line, character) = (position.line, position.character);
+    let code = diagnosis.code;
+    let message = diagnosis.message.as_str();
+    format!(in alloc; "{line}:{character}: {code}: {message}\n")
 }

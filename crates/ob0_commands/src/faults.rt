@@ -1,6 +1,7 @@
 //! Why a command on a file gave up.
 
-ghost use Rattle.std.specs.Prelude.{◌≡◌};
+ghost use Rattle.std.specs.Prelude.{◌≡◌, ◌≤◌};
+ghost use Rattle.ob0_commands.specs.Printed.{fault_line};
 ghost use Rattle.ob0_commands.specs.Statuses.{status_of};
 
 use crate::printing::print;
@@ -24,7 +25,8 @@ pub enum Fault {
 impl Fault {
     /// The status with which the program ends.
     pub fn status(self) -> u8
-        ensures { result ≡ status_of self }
+        ensures status { result ≡ status_of self }
+        ensures fails { 4 ≤ result }
     {
         match self {
             Fault::Memory => 5,
@@ -33,7 +35,9 @@ impl Fault {
     }
 
     /// The line, with its ending, that tells the fault.
-    fn line(self) -> &'static str {
+    fn line(self) -> &'static str
+        ensures { result.now ≡ fault_line self }
+    {
         match self {
             Fault::File => "fault: File\n",
             Fault::Utf8 => "fault: Utf8\n",
@@ -45,12 +49,20 @@ impl Fault {
 }
 
 impl From<AllocError> for Fault {
+    ghost use Rattle.ob0_commands.specs.declared.faults.Fault.TheVariants.{Memory};
+
+    ghost from_gives = { λ _ fault. fault ≡ Memory };
+
     fn from(_error: AllocError) -> Fault {
         Fault::Memory
     }
 }
 
 impl<T: Drop> From<AllocFailed<T>> for Fault {
+    ghost use Rattle.ob0_commands.specs.declared.faults.Fault.TheVariants.{Memory};
+
+    ghost from_gives = { λ _ fault. fault ≡ Memory };
+
     fn from(_error: AllocFailed<T>) -> Fault {
         Fault::Memory
     }
@@ -59,7 +71,8 @@ impl<T: Drop> From<AllocFailed<T>> for Fault {
 /// Prints a fault to `err`, and answers the status with which the program ends. A fault that can't be told keeps its
 /// status.
 pub fn tell_fault<E: Write>(fault: Fault, err: &mut E) -> u8
-    ensures { result ≡ status_of fault }
+    ensures status { result ≡ status_of fault }
+    ensures fails { 4 ≤ result }
 {
     let _ = print(err, fault.line());
     fault.status()

@@ -1,7 +1,7 @@
 //! Another name in a file's text.
 
-ghost use Rattle.std.specs.Prelude.{◌≡◌, true, IfOk, is_ok};
-ghost use Rattle.ob0_commands.specs.Renamed.{CanBeRenamed};
+ghost use Rattle.std.specs.Prelude.{◌≡◌, IfOk};
+ghost use Rattle.ob0_commands.specs.Renamed.{IsRefusal, PrintsEdited, PrintsNoName, PrintsRenamed};
 
 use crate::checking::{print_diagnoses, text_of};
 use crate::faults::{Fault, tell_fault};
@@ -23,7 +23,8 @@ pub fn rename_text<O: Write, E: Write>(
     out: &mut O,
     err: &mut E,
 ) -> u8
-    ensures { result ≡ 0 → CanBeRenamed file.now position new.now }
+    ensures renamed { result ≡ 0 → PrintsRenamed file.now position new.now (O.contents out.old) (O.contents out.new) }
+    ensures other { result ≡ 1 → PrintsNoName file.now position new.now (O.contents out.old) (O.contents out.new) }
 {
     match rename_file(alloc, file, position, new, out, err) {
         Ok(status) => status,
@@ -39,11 +40,26 @@ fn rename_file<O: Write, E: Write>(
     out: &mut O,
     err: &mut E,
 ) -> Result<u8, Fault>
-    ensures { IfOk result (λ status. status ≡ 0 → CanBeRenamed file.now position new.now) }
+    ensures renamed { IfOk result (λ status. status ≡ 0 → PrintsRenamed file.now position new.now (O.contents out.old) (O.contents out.new)) }
+    ensures other { IfOk result (λ status. status ≡ 1 → PrintsNoName file.now position new.now (O.contents out.old) (O.contents out.new)) }
 {
     let Some(text) = text_of(file, out)? else {
         return Ok(1);
     };
+    rename_in_text(alloc, text, position, new, out, err)
+}
+
+fn rename_in_text<O: Write, E: Write>(
+    alloc: Global,
+    text: &str,
+    position: Position,
+    new: &str,
+    out: &mut O,
+    err: &mut E,
+) -> Result<u8, Fault>
+    ensures renamed { IfOk result (λ status. status ≡ 0 → PrintsRenamed text.now position new.now (O.contents out.old) (O.contents out.new)) }
+    ensures other { IfOk result (λ status. status ≡ 1 → PrintsNoName text.now position new.now (O.contents out.old) (O.contents out.new)) }
+{
     let store = Whole::from_str(alloc, text)?;
     match rename_in(alloc, &store, position, new)? {
         Asked::Answered(outcome) => print_edited(alloc, &store, outcome, out, err),
@@ -63,7 +79,8 @@ pub fn print_edited<T: TextStore, O: Write, E: Write>(
     out: &mut O,
     err: &mut E,
 ) -> Result<u8, Fault>
-    ensures { IfOk result (λ status. status ≡ 0 → is_ok edits ≡ true) }
+    ensures edited { IfOk result (λ status. status ≡ 0 → PrintsEdited (T.unit_of store.now) (T.content store.now) edits (O.contents out.old) (O.contents out.new)) }
+    ensures refused { IfOk result (λ status. status ≡ 1 → IsRefusal edits × (O.contents out.new ≡ O.contents out.old)) }
 {
     match edits {
         Ok(edits) => match patch(alloc, store, edits.as_slice()) {

@@ -1,11 +1,15 @@
 //! Running a file's module: its input, and what a run puts out.
 
-ghost use Rattle.std.specs.Prelude.{◌≡◌, [], IfOk};
+ghost use Rattle.std.specs.Prelude.{◌≡◌, ◌++◌, [], IfOk, OnOk, option_map, string_bytes};
+ghost use Rattle.std.specs.Io.KnownBytes.{Appends};
 ghost use Rattle.ob0_tree.specs.Parsed.{named_tree_of};
 ghost use Rattle.ob0_run.specs.Outcomes.{run_of};
 ghost use Rattle.ob0_run.specs.Runs.{run};
 ghost use Rattle.ob0_session.specs.Diagnosed.{Tells};
-ghost use Rattle.ob0_commands.specs.TextRuns.{RunsAs};
+ghost use Rattle.ob0_run.specs.States.{item_of, items_out};
+ghost use Rattle.ob0_commands.specs.Printed.{end_line, output_text, written_text};
+ghost use Rattle.ob0_commands.specs.Statuses.{status_at};
+ghost use Rattle.ob0_commands.specs.TextRuns.{PrintsDone, PrintsOther, RunsAs};
 
 use crate::checking::check;
 use crate::faults::{Fault, tell_fault};
@@ -49,7 +53,10 @@ pub fn run_text<R: Read, O: Write, E: Write>(
     turns: u32,
     out: &mut O,
     err: &mut E,
-) -> u8 {
+) -> u8
+    ensures done { result ≡ 0 → PrintsDone file.now calls turns (O.contents out.old) (O.contents out.new) }
+    ensures other { result ≡ 1 → PrintsOther file.now calls turns (O.contents out.old) (O.contents out.new) }
+{
     match run_file(alloc, file, input, calls, turns, out, err) {
         Ok(status) => status,
         Err(fault) => tell_fault(fault, err),
@@ -64,7 +71,10 @@ fn run_file<R: Read, O: Write, E: Write>(
     turns: u32,
     out: &mut O,
     err: &mut E,
-) -> Result<u8, Fault> {
+) -> Result<u8, Fault>
+    ensures done { IfOk result (λ status. status ≡ 0 → PrintsDone file.now calls turns (O.contents out.old) (O.contents out.new)) }
+    ensures other { IfOk result (λ status. status ≡ 1 → PrintsOther file.now calls turns (O.contents out.old) (O.contents out.new)) }
+{
     let Some(text) = check(alloc, file, out)? else {
         return Ok(1);
     };
@@ -125,7 +135,9 @@ fn number_of(word: &str) -> Option<i32> {
 }
 
 /// The line, with its ending, that tells an end other than `Done`.
-fn line_of(end: End) -> Option<&'static str> {
+fn line_of(end: End) -> Option<&'static str>
+    ensures { option_map (λ line. line.now) result ≡ end_line end }
+{
     match end {
         End::Done => None,
         End::Overflow => Some("fault: Overflow\n"),
@@ -145,7 +157,10 @@ pub fn print_outcome<O: Write, E: Write>(
     end: End,
     out: &mut O,
     err: &mut E,
-) -> Result<u8, Fault> {
+) -> Result<u8, Fault>
+    ensures printed { OnOk result (Appends (O.contents out.old) (O.contents out.new) (output_text (items_out output.now))) }
+    ensures status { IfOk result (λ status. status ≡ status_at end) }
+{
     print(out, text_of(alloc, output)?.as_str())?;
     match line_of(end) {
         Some(line) => {
@@ -157,16 +172,24 @@ pub fn print_outcome<O: Write, E: Write>(
 }
 
 /// A number is a space and its digits, a line a line ending.
-fn text_of(alloc: Global, output: &[Item]) -> Result<String, AllocError> {
+fn text_of(alloc: Global, output: &[Item]) -> Result<String, AllocError>
+    ensures { IfOk result (λ text. string_bytes text ≡ output_text (items_out output.now)) }
+{
     let mut text = String::new(alloc);
     for item in output {
-        match item {
-            Item::Number(number) => {
-                let digits = format!(in alloc; " {number}")?;
-                text.push_str(digits.as_str())?;
-            }
-            Item::Line => text.push('\n')?,
-        }
+        push_item(alloc, &mut text, *item)?;
     }
     Ok(text)
+}
+
+fn push_item(alloc: Global, text: &mut String, item: Item) -> Result<(), AllocError>
+    ensures { OnOk result (string_bytes text.new ≡ string_bytes text.old ++ written_text (item_of item)) }
+{
+    match item {
+        Item::Number(number) => {
+            let digits = format!(in alloc; " {number}")?;
+            text.push_str(digits.as_str())
+        }
+        Item::Line => text.push_str("\n"),
+    }
 }

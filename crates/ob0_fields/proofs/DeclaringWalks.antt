@@ -1,5 +1,5 @@
 -- The walk over procedures that finds the fields that they declare, and how many ARRAY and RECORD there are.
-use Rattle.std.proofs.Common.{◌≡◌, ℕ, ◌+◌, ◌<◌, ◌≤◌, List, ◌∷◌, ◌++◌, length, get_or, drop, refl, sym, ap, ◌∙◌, append_assoc, append-nil, arith}
+use Rattle.std.proofs.Common.{◌≡◌, ℕ, ◌+◌, ◌<◌, ◌≤◌, List, ◌∷◌, ◌++◌, length, get_or, drop, sym, ap, ◌∙◌, append_assoc, append-nil, arith}
 use Rattle.std.proofs.lemmas.List.{drop_all, drop_more}
 use Rattle.ob0_tree.specs.declared.tree.Procedure.{Procedure}
 use Rattle.ob0_tree.specs.Tree.{Tree, items, more, procedure}

@@ -1,5 +1,5 @@
 -- The tokens of one field: they are identifiers in text order, and the module with the field renamed has the new name there.
-use Rattle.std.proofs.Common.{◌≡◌, ◌≢◌, ℕ, zero, suc, ◌+◌, ◌<◌, ◌≤◌, Bool, true, false, ◌&&◌, ◌||◌, ◌==◌, if◌then◌else◌, List, [], ◌∷◌, map, length, replicate, set, Some, None, Option, refl, ap, ◌∙◌, sym, subst, arith, le_refl, get_or-set_other, get_or-set_same, eq-eqb, eqb-true}
+use Rattle.std.proofs.Common.{◌≡◌, ◌≢◌, ℕ, zero, suc, ◌+◌, ◌<◌, ◌≤◌, Bool, true, false, ◌&&◌, ◌||◌, ◌==◌, if◌then◌else◌, List, [], ◌∷◌, map, length, replicate, set, Some, None, Option, refl, ap, ◌∙◌, sym, subst, arith, get_or-set_other, get_or-set_same, eq-eqb, eqb-true}
 use Rattle.std.specs.List.{list_any}
 use Rattle.std.proofs.Math.ListN.{length-set}
 use Rattle.std.proofs.lemmas.List.{length-replicate}

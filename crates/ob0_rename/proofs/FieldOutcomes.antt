@@ -1,6 +1,5 @@
 -- What is answered for a field: by another field of its record that has the new name, or by the edits.
-use Rattle.std.proofs.Common.{◌≡◌, ◌⊎◌, ℕ, ◌≤◌, ◌<◌, Bool, true, false, not, is_some, ◌&&◌, ◌||◌, ◌==◌, if◌then◌else◌, Option, Some, None, Result, Ok, Err, Vec, List, [], ◌∷◌, length, map, option_map, inl, inr, refl, sym, ap, ◌∙◌, subst, arith, eqb-true}
-use Rattle.std.specs.Prelude.{IfErr}
+use Rattle.std.proofs.Common.{◌≡◌, ℕ, ◌<◌, Bool, true, false, not, is_some, ◌&&◌, ◌||◌, ◌==◌, if◌then◌else◌, Option, Some, None, Result, Ok, Err, Vec, List, [], ◌∷◌, length, option_map, inl, inr, refl, sym, ap, ◌∙◌, subst, arith, eqb-true}
 use Rattle.std.specs.List.{list_any}
 use Rattle.std.specs.declared.alloc.Global.{Global}
 use Rattle.std.proofs.lemmas.Slice.Eq.{bytes_eq-Decides}
@@ -11,22 +10,22 @@ use Rattle.ob0_text.specs.declared.positions.Position.{Position}
 use Rattle.ob0_text.specs.declared.positions.Unit as counting
 use Rattle.ob0_text.specs.declared.refusals.EditRefusal.{EditRefusal}
 use Rattle.ob0_text.specs.declared.refusals.EditRefusal.TheVariants as refusal
-use Rattle.ob0_tree.specs.Parsed.{Parsed, named_tree_of, tree_of}
+use Rattle.ob0_tree.specs.Parsed.{named_tree_of, tree_of}
 use Rattle.ob0_tree.specs.Places as place
-use Rattle.ob0_tree.specs.Tree.{Tree, mapped, module_text}
+use Rattle.ob0_tree.specs.Tree.{mapped}
 use Rattle.ob0_scope.specs.Names.{Name, same_name}
 use Rattle.ob0_scope.specs.Resolution.{Resolution}
 use Rattle.ob0_types.specs.CheckedModules.{IsWellTyped}
-use Rattle.ob0_edits.specs.Changed.{at_each, changed, is_among, words_of}
-use Rattle.ob0_edits.specs.OfTrees.{RenamedWordsSpell, number_at, renamed_at, text_at}
+use Rattle.ob0_edits.specs.Changed.{is_among, words_of}
+use Rattle.ob0_edits.specs.OfTrees.{RenamedWordsSpell, number_at, renamed_at}
 use Rattle.ob0_edits.specs.Replaced.{AreNames, StandsForName, with_text_at}
 use Rattle.ob0_edits.specs.Written.{name_word}
 use Rattle.ob0_fields.specs.FieldLaws.{FreeFieldKeepsModules}
-use Rattle.ob0_fields.specs.Identifiers.{DuplicateByToken, RenamedAtTokens, declaring_field, field_identifiers, field_tokens, is_field, tokens_among}
-use Rattle.ob0_fields.specs.Renaming.{FieldFree, field_renamed, is_duplicate_field}
+use Rattle.ob0_fields.specs.Identifiers.{DuplicateByToken, RenamedAtTokens, declaring_field, field_identifiers, field_tokens, tokens_among}
+use Rattle.ob0_fields.specs.Renaming.{FieldFree, field_renamed}
 use Rattle.ob0_rename.specs.Answers.{Answers, AnswersForField, IsRefused, IsRefusedToField, OnlyMemory, TakesOwnName}
 use Rattle.ob0_rename.specs.Renaming.{MeansField, Renaming, declaration, field_of, field_tokens_renamed, token_range}
-use Rattle.ob0_rename.proofs.Outcomes.{Edited, asked, whole, written}
+use Rattle.ob0_rename.proofs.Outcomes.{Edited, whole, written}
 use Rattle.ob0_rename.proofs.Rewritten.{number_same, of_rewritten, text_same}
 
 -- ---- the tree with the new name at the tokens of a field

@@ -135,12 +135,10 @@ fn owned(alloc: Global, text: &str) -> Result<Vec<(usize, usize)>, Fail> {
     };
     let owners = field_owners(alloc, &module)?;
     let mut found = Vec::new(alloc);
-    let mut token = 0;
-    for owner in &owners {
+    for (token, owner) in owners.iter().enumerate() {
         if let Some(record) = owner {
             found.push((token, *record))?;
         }
-        token += 1;
     }
     let listed = field_identifiers(alloc, &module)?;
     if listed.as_slice() == found.as_slice() {

@@ -1,5 +1,5 @@
 -- The edits that inline a constant leave a text whose module runs as before.
-use Rattle.std.proofs.Common.{◌≡◌, ◌⊎◌, ℕ, List, [], ◌∷◌, ◌++◌, Option, Some, None, Result, Ok, Err, Vec, Global, inl, inr, refl, sym, subst}
+use Rattle.std.proofs.Common.{◌≡◌, ℕ, List, Option, Some, None, Result, Vec, Global, inl, inr, refl, subst}
 use Rattle.std.specs.Str.{chars, IsUtf8}
 use Rattle.ob0_inline.specs.Everywhere.{inlined_all}
 use Rattle.ob0_inline.specs.Inlined.{LeavesModule}

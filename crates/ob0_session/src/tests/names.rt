@@ -68,7 +68,7 @@ const QUESTIONS: [Talk; 4] = [
             "{\"id\":5,\"jsonrpc\":\"2.0\",\"result\":[{\"range\":{\"end\":{\"character\":9,\"line\":3},\"start\":{\"character\":8,\"line\":3}},\"uri\":\"u\"},{\"range\":{\"end\":{\"character\":26,\"line\":3},\"start\":{\"character\":25,\"line\":3}},\"uri\":\"u\"}]}",
             "{\"id\":6,\"jsonrpc\":\"2.0\",\"result\":[{\"range\":{\"end\":{\"character\":21,\"line\":2},\"start\":{\"character\":20,\"line\":2}},\"uri\":\"u\"},{\"range\":{\"end\":{\"character\":19,\"line\":3},\"start\":{\"character\":18,\"line\":3}},\"uri\":\"u\"}]}",
             "{\"id\":7,\"jsonrpc\":\"2.0\",\"result\":{\"end\":{\"character\":9,\"line\":3},\"start\":{\"character\":8,\"line\":3}}}",
-            "{\"id\":8,\"jsonrpc\":\"2.0\",\"result\":null}",
+            "{\"id\":8,\"jsonrpc\":\"2.0\",\"result\":{\"contents\":{\"kind\":\"plaintext\",\"value\":\"FIELD a: INTEGER\"},\"range\":{\"end\":{\"character\":17,\"line\":1},\"start\":{\"character\":16,\"line\":1}}}}",
         ],
         result: Ok(1),
     },

@@ -1,9 +1,12 @@
+use Rattle.std.proofs.Common.{ℕ, List, Option, ap, subst}
 use Rattle.std.proofs.lemmas.Result.{IfOk-weaker}
-use Rattle.ob0_commands.proofs.Renames.{can_be_renamed}
+use Rattle.ob0_commands.specs.Renamed.{PrintsNoName}
 use Rattle.ob0_commands.proofs.renaming.rename_file.Goals as goal
 
-pub returns-in-Answered : goal.returns-in-Answered
-returns-in-Answered g c =
-    let same = rw c.in-Some.is at c.in_ok-text.ensures in
-    IfOk-weaker c.print_edited.result _ _ (λ status some zero.
-    can_be_renamed _ _ c.in-Some.text.now c.args.file.now c.args.position c.args.new.now c.in_ok-outcome.field-0 c.in-Answered.outcome c.in_ok-store.ensures.unit c.in_ok-store.ensures.content same c.in-Answered.is c.in_ok-outcome.ensures (some zero)) c.print_edited.ensures
+pub returns-clause-other : goal.returns-clause-other
+returns-clause-other g c =
+    let here = rw c.in-Some.is at c.in_ok-text.ensures in
+    let after = g.O.Write.contents c.rename_in_text.new.out in
+    IfOk-weaker c.rename_in_text.result _ _ (λ status h one.
+    subst (λ (t : List ℕ). PrintsNoName t c.args.position c.args.new.now (g.O.Write.contents c.args.out.now) after) here.0
+    (subst (λ (b : Option (List ℕ)). PrintsNoName c.in-Some.text.now c.args.position c.args.new.now b after) (ap g.O.Write.contents here.1) (h one))) c.rename_in_text.ensures.other

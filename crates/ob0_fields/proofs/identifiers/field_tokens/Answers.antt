@@ -1,5 +1,4 @@
 use Rattle.std.proofs.Common.{List, ℕ, length, ◌∙◌, ap, sym, subst}
-use Rattle.ob0_scan.specs.Scanned.{Scanned}
 use Rattle.ob0_tree.specs.Order.{AreIdentifiers, Ascending}
 use Rattle.ob0_scope.specs.Resolution.{Resolution}
 use Rattle.ob0_fields.specs.Identifiers.{field_identifiers, tokens_among}

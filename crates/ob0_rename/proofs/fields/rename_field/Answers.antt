@@ -11,7 +11,7 @@ use Rattle.ob0_edits.specs.Ranges.{range_of}
 use Rattle.ob0_edits.specs.Replaced.{AreNames}
 use Rattle.ob0_fields.specs.Renaming.{FieldFree}
 use Rattle.ob0_fields.specs.Identifiers.{declaring_field}
-use Rattle.ob0_rename.specs.Answers.{AnswersForField, IsRefusedToField, OnlyMemory}
+use Rattle.ob0_rename.specs.Answers.{AnswersForField, IsRefusedToField}
 use Rattle.ob0_rename.specs.Renaming.{field_tokens_renamed}
 use Rattle.ob0_rename.proofs.Outcomes.{Edited}
 use Rattle.ob0_rename.proofs.FieldOutcomes.{asked_field, duplicated, field_answered, other_none, own_field_answered}

@@ -1,4 +1,4 @@
-use Rattle.std.proofs.Common.{◌≡◌, ◌≤◌, ◌∙◌, ℕ, Some, sym, ap, arith}
+use Rattle.std.proofs.Common.{◌≤◌, ◌∙◌, ℕ, Some, sym, ap, arith}
 use Rattle.ob0_tree.specs.Places.{text_at}
 use Rattle.ob0_scope.specs.Resolution.{Resolution}
 use Rattle.ob0_refs.specs.Standing.{name_on}

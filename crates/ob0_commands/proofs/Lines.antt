@@ -1,0 +1,46 @@
+-- Lines gathered from positions and from what is told there, side by side.
+use Rattle.std.proofs.Common.{◌≡◌, ℕ, ◌<◌, zero, suc, min, List, [], ◌∷◌, ◌++◌, length, drop, map, get_or, refl, ap, ap₂, sym, ◌∙◌, arith, append_assoc, append-nil}
+use Rattle.std.specs.Str.{chars}
+use Rattle.ob0_text.specs.Texts.{position_of}
+use Rattle.ob0_text.specs.Units.{width_of}
+use Rattle.ob0_text.specs.declared.positions.Position.{Position}
+use Rattle.ob0_text.specs.declared.positions.Unit.TheVariants.{Utf16}
+use Rattle.ob0_session.specs.Diagnosed.{complaint_in}
+use Rattle.ob0_session.specs.declared.diagnoses.Diagnosis.{Diagnosis}
+use Rattle.ob0_commands.specs.Printed.{complaint_lines, line_at, lines_at}
+
+-- the lines so far and those that are left are all
+abbrev pub Gathered : List Diagnosis → List Position → ℕ → List ℕ → Type 0
+Gathered ds ps n lines = lines ++ lines_at (drop n ps) (map complaint_in (drop n ds)) ≡ lines_at ps (map complaint_in ds)
+
+one_more : (ds : List Diagnosis) (ps : List Position) (n : ℕ) → n < length ds → n < length ps → (d : Diagnosis) (p : Position)
+    → lines_at (drop n ps) (map complaint_in (drop n ds)) ≡ line_at (get_or ps n p) (complaint_in (get_or ds n d)) ++ lines_at (drop (suc n) ps) (map complaint_in (drop (suc n) ds))
+one_more [] ps n h g d p = absurd (omega arith)
+one_more (x ∷ ds) [] n h g d p = absurd (omega arith)
+one_more (x ∷ ds) (y ∷ ps) zero h g d p = refl
+one_more (x ∷ ds) (y ∷ ps) (suc n) h g d p = one_more ds ps n (omega arith) (omega arith) d p
+
+pub gathered_further : (ds : List Diagnosis) (ps : List Position) (n : ℕ) (lines : List ℕ) (d : Diagnosis) (p : Position) → Gathered ds ps n lines
+    → n < length ds → n < length ps → ((e : Diagnosis) → d ≡ get_or ds n e) → ((e : Position) → p ≡ get_or ps n e) → Gathered ds ps (suc n) (lines ++ line_at p (complaint_in d))
+gathered_further ds ps n lines d p so_far h g at here =
+    append_assoc lines (line_at p (complaint_in d)) (lines_at (drop (suc n) ps) (map complaint_in (drop (suc n) ds)))
+    ∙ ap (λ l. lines ++ l) (ap₂ (λ (q : Position) (e : Diagnosis). line_at q (complaint_in e) ++ lines_at (drop (suc n) ps) (map complaint_in (drop (suc n) ds))) (here p) (at d) ∙ sym (one_more ds ps n h g d p))
+    ∙ so_far
+
+none_left : (ds : List Diagnosis) (ps : List Position) (n : ℕ) → n ≡ min (length ds) (length ps) → lines_at (drop n ps) (map complaint_in (drop n ds)) ≡ []
+none_left [] [] zero e = refl
+none_left [] [] (suc n) e = refl
+none_left [] (y ∷ ps) zero e = refl
+none_left [] (y ∷ ps) (suc n) e = absurd (omega arith)
+none_left (x ∷ ds) [] zero e = refl
+none_left (x ∷ ds) [] (suc n) e = refl
+none_left (x ∷ ds) (y ∷ ps) zero e = absurd (omega arith)
+none_left (x ∷ ds) (y ∷ ps) (suc n) e = none_left ds ps n (omega arith)
+
+pub gathered_all : (ds : List Diagnosis) (ps : List Position) (n : ℕ) (lines : List ℕ) → Gathered ds ps n lines → n ≡ min (length ds) (length ps) → lines ≡ lines_at ps (map complaint_in ds)
+gathered_all ds ps n lines so_far e = sym (append-nil lines) ∙ ap (λ l. lines ++ l) (sym (none_left ds ps n e)) ∙ so_far
+
+-- the positions are those of the places
+pub placed : (text : List ℕ) (ds : List Diagnosis) → lines_at (map (position_of (width_of Utf16) (chars text)) (map (λ (d : Diagnosis). d.span.start) ds)) (map complaint_in ds) ≡ complaint_lines text (map complaint_in ds)
+placed text [] = refl
+placed text (d ∷ ds) = ap (λ l. line_at (position_of (width_of Utf16) (chars text) d.span.start) (complaint_in d) ++ l) (placed text ds)

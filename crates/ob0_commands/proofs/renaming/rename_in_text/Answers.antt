@@ -1,0 +1,23 @@
+use Rattle.std.proofs.Common.{inl, inr}
+use Rattle.std.proofs.lemmas.Result.{IfOk-weaker}
+use Rattle.ob0_commands.proofs.Renames.{edited_in_text, found_in_text, prints_renamed, refuses_name}
+use Rattle.ob0_commands.proofs.Wrong.{ill_typed}
+use Rattle.ob0_commands.proofs.renaming.rename_in_text.Goals as goal
+
+pub returns-in-Answered-clause-renamed : goal.returns-in-Answered-clause-renamed
+returns-in-Answered-clause-renamed g c =
+    let found = found_in_text _ _ c.args.text.now c.args.position c.args.new.now c.in_ok-outcome.field-0 c.in-Answered.outcome c.in_ok-store.ensures.unit c.in_ok-store.ensures.content c.in-Answered.is c.in_ok-outcome.ensures in
+    IfOk-weaker c.print_edited.result _ _ (λ status edited zero.
+    prints_renamed c.args.text.now c.args.position c.args.new.now c.in-Answered.outcome _ _ found
+    (edited_in_text _ _ c.args.text.now c.in-Answered.outcome _ _ c.in_ok-store.ensures.unit c.in_ok-store.ensures.content (edited zero))) c.print_edited.ensures.edited
+
+pub returns-in-Answered-clause-other : goal.returns-in-Answered-clause-other
+returns-in-Answered-clause-other g c =
+    let found = found_in_text _ _ c.args.text.now c.args.position c.args.new.now c.in_ok-outcome.field-0 c.in-Answered.outcome c.in_ok-store.ensures.unit c.in_ok-store.ensures.content c.in-Answered.is c.in_ok-outcome.ensures in
+    IfOk-weaker c.print_edited.result _ _ (λ status refused one.
+    inr (refuses_name c.args.text.now c.args.position c.args.new.now c.in-Answered.outcome _ _ found (refused one).0 (refused one).1)) c.print_edited.ensures.refused
+
+pub returns-clause-other : goal.returns-clause-other
+returns-clause-other g c =
+    λ one. inl (ill_typed _ _ c.args.text.now c.args.position c.args.new.now c.in_ok-outcome.field-0 c.in-IllTyped.told c.as_slice.result.now (g.O.Write.contents c.args.out.now) (g.O.Write.contents c.print_diagnoses.new.out)
+    c.in_ok-store.ensures.content c.utf8.text c.as_slice.ensures.value c.in-IllTyped.is c.in_ok-outcome.ensures c.in_ok-print_diagnoses-in-IllTyped.ensures)

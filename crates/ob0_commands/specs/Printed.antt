@@ -1,0 +1,73 @@
+-- What the commands print, in bytes of UTF-8.
+use Rattle.std.specs.Prelude.{◌⊎◌, ◌<◌, ℕ, List, [], ◌∷◌, ◌++◌, Option, Some, None, length, codes, decimal}
+use Rattle.std.specs.Fmt.{signed_decimal}
+use Rattle.std.specs.Io.KnownBytes.{Appends}
+use Rattle.std.specs.Str.{chars}
+use Rattle.ob0_run.specs.Runs.{Written, line_out, number_out}
+use Rattle.ob0_run.specs.declared.running.End.{End}
+use Rattle.ob0_run.specs.declared.running.End.TheVariants as end
+use Rattle.ob0_scan.specs.Scanned.{max_text}
+use Rattle.ob0_session.specs.Diagnosed.{Complaint, IsWellTypedModule, TellsFaults}
+use Rattle.ob0_text.specs.Texts.{position_of}
+use Rattle.ob0_text.specs.Units.{width_of}
+use Rattle.ob0_text.specs.declared.positions.Position.{Position}
+use Rattle.ob0_text.specs.declared.positions.Unit.TheVariants.{Utf16}
+use Rattle.ob0_commands.specs.declared.faults.Fault.{Fault}
+use Rattle.ob0_commands.specs.declared.faults.Fault.TheVariants as fault
+
+-- ---- faults
+
+abbrev pub fault_line : Fault → List ℕ
+fault_line fault.File = codes "fault: File\n"
+fault_line fault.Utf8 = codes "fault: Utf8\n"
+fault_line fault.Input = codes "fault: Input\n"
+fault_line fault.Write = codes "fault: Write\n"
+fault_line fault.Memory = codes "fault: Memory\n"
+
+-- ---- what is wrong with a file
+
+-- L:C: Code: message
+abbrev pub line_at : Position → Complaint → List ℕ
+line_at p c = decimal p.line ++ (codes ":" ++ (decimal p.character ++ (codes ": " ++ (c.code ++ (codes ": " ++ (c.said ++ codes "\n"))))))
+
+-- a line for each thing that is told, at these positions
+abbrev pub lines_at : List Position → List Complaint → List ℕ
+lines_at [] cs = []
+lines_at (p ∷ ps) [] = []
+lines_at (p ∷ ps) (c ∷ cs) = line_at p c ++ lines_at ps cs
+
+-- lines and UTF-16 units are counted from 0 on
+abbrev pub complaint_line : List ℕ → Complaint → List ℕ
+complaint_line text c = line_at (position_of (width_of Utf16) (chars text) c.span.start) c
+
+abbrev pub complaint_lines : List ℕ → List Complaint → List ℕ
+complaint_lines text [] = []
+complaint_lines text (c ∷ cs) = complaint_line text c ++ complaint_lines text cs
+
+-- Known bytes grow by what is wrong with a file: one line where it has more bytes than a text may have, else a line for
+-- each thing that is told of its text, which is no well-typed module.
+abbrev pub TellsWrong : List ℕ → Option (List ℕ) → Option (List ℕ) → Type 0
+TellsWrong file before after =
+    ((max_text < length file) × Appends before after (codes "0:0: TooLong: text too long\n"))
+    ⊎ ((told : List Complaint) × (¬ IsWellTypedModule file) × TellsFaults file told × Appends before after (complaint_lines file told))
+
+-- ---- runs
+
+-- a number is a space and its digits, a line a line ending
+abbrev pub written_text : Written → List ℕ
+written_text (number_out n) = codes " " ++ signed_decimal n
+written_text line_out = codes "\n"
+
+abbrev pub output_text : List Written → List ℕ
+output_text [] = []
+output_text (w ∷ ws) = written_text w ++ output_text ws
+
+-- the line of an end other than Done
+abbrev pub end_line : End → Option (List ℕ)
+end_line end.Done = None
+end_line end.Overflow = Some (codes "fault: Overflow\n")
+end_line end.Divisor = Some (codes "fault: Divisor\n")
+end_line end.Index = Some (codes "fault: Index\n")
+end_line end.InputEnd = Some (codes "fault: InputEnd\n")
+end_line end.CallBound = Some (codes "fault: CallBound\n")
+end_line end.TurnBound = Some (codes "fault: TurnBound\n")
