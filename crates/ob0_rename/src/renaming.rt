@@ -1,6 +1,6 @@
 //! The edits that give a declaration or a field another name.
 
-ghost use Rattle.std.specs.Prelude.{◌≡◌, ℕ, IfErr, Some, slice_get, true};
+ghost use Rattle.std.specs.Prelude.{◌≡◌, ℕ, Some, slice_get, true};
 ghost use Rattle.std.specs.Str.{chars};
 ghost use Rattle.ob0_text.specs.Units.{width_of};
 ghost use Rattle.ob0_text.specs.declared.positions.Position as positions;
