@@ -126,6 +126,14 @@ BEGIN a[c] := d; Q(a[0], p[0][1], on, b); b := TRUE END M.
 """
 
 
+def shows(server, wanted):
+    """Hover tells these texts at both ends of their ranges."""
+    for span, text in wanted.items():
+        at = extent(span)
+        for end in ("start", "end"):
+            same(server.hover(at[end]["line"], at[end]["character"]), (text, at), f"at {span}")
+
+
 @test("questions: what hover tells of each kind of name", "hover")
 def hovers():
     wanted = {
@@ -150,10 +158,7 @@ def hovers():
         "2:20-2:27": "predeclared INTEGER",
     }
     with Asked(NAMES) as server:
-        for span, text in wanted.items():
-            at = extent(span)
-            for end in ("start", "end"):
-                same(server.hover(at[end]["line"], at[end]["character"]), (text, at), f"at {span}")
+        shows(server, wanted)
 
 
 @test("questions: names that are declared anew, closing names", "questions")
@@ -193,10 +198,7 @@ def declared_fields():
         "2:55-2:57": "FIELD on: BOOLEAN",
     }
     with Asked(NAMES) as server:
-        for span, text in wanted.items():
-            at = extent(span)
-            for end in ("start", "end"):
-                same(server.hover(at[end]["line"], at[end]["character"]), (text, at), f"at {span}")
+        shows(server, wanted)
     text = """MODULE M;
 TYPE A = ARRAY 2 OF RECORD a: ARRAY 3 OF BOOLEAN; r: RECORD END END;
 VAR v: RECORD a: A; b, c: RECORD a, d: INTEGER END END;
@@ -218,10 +220,7 @@ END M.
         "4:18-4:19": "FIELD b: RECORD with 2 fields",
     }
     with Asked(text) as server:
-        for span, shown in wanted.items():
-            at = extent(span)
-            for end in ("start", "end"):
-                same(server.hover(at[end]["line"], at[end]["character"]), (shown, at), f"at {span}")
+        shows(server, wanted)
         for line, character in ((1, 20), (1, 29), (2, 8), (2, 26), (2, 55)):
             same(server.hover(line, character), None, f"at {line}:{character}")
 
