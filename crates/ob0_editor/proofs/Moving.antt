@@ -2,8 +2,7 @@
 use Rattle.std.proofs.Common.{◌≡◌, ◌∙◌, ◌<◌, ◌≤◌, ◌+◌, ℕ, zero, suc, Bool, true, false, cond, List, [], ◌∷◌, ◌++◌, length, take, drop, get_or, map, Option, Some, None, option_map, arith, refl, ap, sym, subst, add-one}
 use Rattle.std.specs.Prelude.{Vec, slice_get, ◌==◌}
 use Rattle.std.specs.declared.alloc.Global.{Global}
-use Rattle.std.specs.List.{remove}
-use Rattle.std.proofs.lemmas.List.{append_assoc, append-nil, map-append, length-map}
+use Rattle.std.proofs.lemmas.List.{append_assoc, map-append, length-map}
 use Rattle.std.proofs.lemmas.Option.{slice_get-map, slice_get_read}
 use Rattle.std.proofs.Math.Seq.{drop-cons, drop-nil, take-suc}
 use Rattle.ob0_editor.specs.declared.editor.Asked as asked
@@ -14,9 +13,9 @@ use Rattle.ob0_ends.specs.Edited.{Replacement}
 use Rattle.ob0_ends.specs.Asks.{Ask}
 use Rattle.ob0_ends.specs.Ends.{Open, Asked, Answer, Editor, numbered, open_at}
 use Rattle.ob0_ends.specs.Editing.{asks_about, held_answer, all_but, without_answer, applies_answer, Outcome, not_held, lets_go, makes}
-use Rattle.ob0_editor.specs.Code.{asked_of, answer_of, applied_of, replacements}
+use Rattle.ob0_editor.specs.Code.{asked_of, answer_of, replacements}
 use Rattle.ob0_editor.specs.Heard.{IsRequest, Says}
-use Rattle.ob0_editor.specs.Moves.{AreFew, Moves, IsPlaceOf, IsRewritten, IsMade, ComesOf, with_text, text_told}
+use Rattle.ob0_editor.specs.Moves.{AreFew, Moves, IsPlaceOf, IsRewritten, IsMade, ComesOf, text_told}
 
 -- ---- asks
 

@@ -1,8 +1,6 @@
 -- The edits of the code are those of the model.
-use Rattle.std.proofs.Common.{◌≡◌, ◌∙◌, ℕ, List, map, refl, sym, ap}
+use Rattle.std.proofs.Common.{◌≡◌, ℕ, List, ap}
 use mathlib.Core.List.{map-map}
-use Rattle.std.specs.Prelude.{string_bytes, Option}
-use Rattle.std.specs.Str.{chars}
 use Rattle.ob0_text.specs.declared.edits.Edit.{Edit}
 use Rattle.ob0_text.specs.declared.positions.Unit.{Unit}
 use Rattle.ob0_text.specs.Units.{width_of}

@@ -5,13 +5,12 @@ use Rattle.std.specs.Str.{chars}
 use Rattle.serde_json.specs.Data.{Data, depth, items_depth}
 use Rattle.serde_json.specs.View.{items_of}
 use Rattle.ob0_text.specs.declared.edits.Change.{Change}
-use Rattle.ob0_text.specs.declared.edits.Indent.{Indent}
 use Rattle.ob0_text.specs.declared.edits.Indent.TheVariants.{Tab, Spaces}
 use Rattle.ob0_text.specs.declared.positions.Range.{Range}
 use Rattle.ob0_text.specs.OpenDocuments.{Opened, Changed, Closed, TextChange, told_change}
 use Rattle.ob0_rpc.specs.Asks.{call_of}
 use Rattle.ob0_rpc.specs.Messages.{Reads}
-use Rattle.ob0_rpc.specs.Notes.{Told, opens, changes, change_in, all_changes, change_of, open_of, note_of}
+use Rattle.ob0_rpc.specs.Notes.{change_in, all_changes, change_of, open_of}
 use Rattle.ob0_rpc.specs.Shapes.{notification_message}
 use Rattle.ob0_ends.specs.Edited.{whole_text}
 use Rattle.ob0_ends.specs.Asks.{Ask, rename, inline_here, inline_all, format}

@@ -1,5 +1,5 @@
 -- What the values of the code stand for.
-use Rattle.std.specs.Prelude.{ℕ, List, map, string_bytes}
+use Rattle.std.specs.Prelude.{List, map, string_bytes}
 use Rattle.std.specs.Str.{chars}
 use Rattle.ob0_text.specs.declared.edits.Edit as text_edit
 use Rattle.ob0_editor.specs.declared.asks.Ask as ask

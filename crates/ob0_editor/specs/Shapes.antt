@@ -1,13 +1,13 @@
 -- The messages that an editor writes, as JSON values (LSP 3.17). Members stand in byte order of their names.
-use Rattle.std.specs.Prelude.{ℕ, List, true, false, Bool, Option, Some, None, codes, map, max, min, string_bytes}
-use Rattle.serde_json.specs.Data.{Data, boolean, number, string, array, object, unsigned, no_items, Members, member, no_members}
+use Rattle.std.specs.Prelude.{ℕ, List, true, false, Bool, Option, Some, None, codes, string_bytes}
+use Rattle.serde_json.specs.Data.{Data, boolean, number, array, object, unsigned, no_items, member, no_members}
 use Rattle.serde_json.specs.View.{items_of}
 use Rattle.ob0_text.specs.declared.positions.Position.{Position}
 use Rattle.ob0_text.specs.declared.positions.Range.{Range}
 use Rattle.ob0_text.specs.declared.edits.Change.{Change}
 use Rattle.ob0_text.specs.declared.edits.Indent.{Indent}
 use Rattle.ob0_text.specs.declared.edits.Indent.TheVariants.{Tab, Spaces}
-use Rattle.ob0_rpc.specs.Shapes.{text, json_rpc, notification_message}
+use Rattle.ob0_rpc.specs.Shapes.{text, json_rpc}
 use Rattle.ob0_ends.specs.Asks.{Ask, rename, inline_here, inline_all, format}
 
 -- {"id":k,"jsonrpc":"2.0","method":M,"params":P}

@@ -2,7 +2,7 @@
 use Rattle.std.specs.Prelude.{ℕ, ℤ, List, [], ◌∷◌, Bool, true, false, Option, Some, None, is_some, option_and_then, option_map, unwrap_or, if◌then◌else◌, codes}
 use Rattle.std.specs.Str.{bytes_eq, chars, is_utf8}
 use Rattle.serde_json.specs.Data.{Data, Items, no_items, item}
-use Rattle.serde_json.specs.Find.{get, at, as_str, as_array, as_number, as_i64}
+use Rattle.serde_json.specs.Find.{get, at, as_array, as_number, as_i64}
 use Rattle.serde_json.specs.Read.{read}
 use Rattle.ob0_text.specs.declared.positions.Range.{Range}
 use Rattle.ob0_rpc.specs.Members.{text_in, range_in}

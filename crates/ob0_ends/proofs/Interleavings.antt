@@ -15,13 +15,13 @@ use Rattle.ob0_ends.specs.Language.{WellTypedText, SameRun}
 use Rattle.ob0_ends.specs.Edited.{Replacement, edited, whole_text, after_changes}
 use Rattle.ob0_ends.specs.Asks.{Ask, KeepTheRun, MayAnswer}
 use Rattle.ob0_ends.specs.Ends.{Open, Asked, Answer, Editor, numbered, open_at, ToServer, tells, asks, ToEditor, publishes, answers, Applied, Made, Ends, start, after_message, will_hold, as_held}
-use Rattle.ob0_ends.specs.Editing.{opens_document, rewrites, changes_text, changes_document, closes_document, asks_about, keeps, held_answer, all_but, without_answer, discards, if_same, applies_text, applies_edits, applies_asked, applies_answer, Move, idle, sends, Outcome, not_held, lets_go, makes}
+use Rattle.ob0_ends.specs.Editing.{opens_document, changes_text, changes_document, closes_document, asks_about, keeps, held_answer, all_but, without_answer, discards, if_same, applies_text, applies_edits, applies_asked, applies_answer, Move, idle, sends, Outcome, not_held, lets_go, makes}
 use Rattle.ob0_ends.specs.Serving.{MayPublish, taken_back, MayTell, MaySend}
 use Rattle.ob0_ends.specs.Happens.{Event, open_document, change_document, close_document, ask_about, serve, take_message, apply, discard, Seen, moved, takes, comes_of, Serves, Happens, Run}
 use Rattle.ob0_ends.specs.Headline.{KeepsTheRun, IsRight, IsMadeFor, latest, IsUpToDate, Holds}
 use Rattle.ob0_ends.proofs.UriLaws.{get_put, get_removed, same_uri, uri_itself, latest_push}
 use Rattle.ob0_ends.proofs.SameDocument.{Known, Same, same_from, still_known, later_answers, later_open, later_close, later_ask, slice_get_last, found, left}
-use Rattle.ob0_ends.proofs.Keeping.{Fits, AnswerFits, HeldFits, AsksSee, Kept, message_unit, sent_by, sends_kept, put_mirrors, remove_mirrors, rewrites_kept, answers_kept, held_known}
+use Rattle.ob0_ends.proofs.Keeping.{Fits, AnswerFits, HeldFits, AsksSee, Kept, message_unit, sends_kept, put_mirrors, remove_mirrors, rewrites_kept, answers_kept, held_known}
 
 -- ---- the editor's events
 

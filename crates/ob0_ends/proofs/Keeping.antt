@@ -8,7 +8,7 @@ use Rattle.std.proofs.lemmas.Option.{same_Some, none-some}
 use Rattle.std.proofs.lemmas.List.Elements.{All-head, All-tail, All-weaker}
 use Rattle.std.proofs.lemmas.List.Sums.{fold_push}
 use Rattle.ob0_text.specs.declared.positions.Unit.{Unit}
-use Rattle.ob0_text.specs.OpenDocuments.{OpenDocuments, Document, document, DocumentNote, Opened, Changed, Lost, Closed, TextChange, after_note, changed_document, document_at}
+use Rattle.ob0_text.specs.OpenDocuments.{OpenDocuments, document, DocumentNote, Opened, Changed, Lost, Closed, TextChange, after_note, changed_document, document_at}
 use Rattle.ob0_text.proofs.EntryLaws.{updated-some}
 use Rattle.ob0_ends.specs.Edited.{Replacement, after_changes}
 use Rattle.ob0_ends.specs.Asks.{KeepTheRun}

@@ -1,4 +1,4 @@
-use Rattle.std.proofs.Common.{◌≡◌, ◌∙◌, ap, option_map, Some}
+use Rattle.std.proofs.Common.{◌∙◌, ap, option_map, Some}
 use Rattle.ob0_editor.specs.Understood.{has_none}
 use Rattle.ob0_editor.proofs.Lists.{none_is_empty}
 use Rattle.ob0_editor.proofs.reading.has_no_diagnostics.Goals as goal

@@ -1,4 +1,4 @@
-use Rattle.std.proofs.Common.{◌-◌, arith, refl}
+use Rattle.std.proofs.Common.{◌-◌, arith}
 use Rattle.ob0_editor.proofs.Moving.{numbered_at, numbered_past}
 use Rattle.ob0_editor.proofs.reading.numbered_ask.Goals as goal
 

@@ -1,4 +1,4 @@
-use Rattle.std.proofs.Common.{◌≡◌, ◌∙◌, sym, rules, map}
+use Rattle.std.proofs.Common.{◌∙◌, sym, rules, map}
 use Rattle.serde_json.specs.View.{view}
 use Rattle.ob0_editor.specs.Code.{asked_of}
 use Rattle.ob0_editor.proofs.Hearing.{understood_as, not_understood, if_ok}

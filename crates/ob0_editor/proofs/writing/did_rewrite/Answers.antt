@@ -1,4 +1,4 @@
-use Rattle.std.proofs.Common.{◌≡◌, ◌≤◌, ◌∙◌, [], ◌∷◌, ap, arith, subst, sym, Some, None}
+use Rattle.std.proofs.Common.{◌≡◌, ◌≤◌, [], ◌∷◌, arith, subst, sym, Some, None}
 use Rattle.std.specs.Prelude.{codes}
 use Rattle.serde_json.specs.Data.{depth}
 use Rattle.serde_json.specs.View.{view}

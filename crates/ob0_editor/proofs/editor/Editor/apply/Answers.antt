@@ -1,5 +1,4 @@
-use Rattle.std.proofs.Common.{◌≡◌, refl, ap, sym, subst}
-use Rattle.std.specs.Option.{option_map}
+use Rattle.std.proofs.Common.{refl, sym, subst}
 use Rattle.ob0_editor.specs.declared.applied.Applying as applying
 use Rattle.ob0_ends.specs.Editing.{held_answer, applies_answer}
 use Rattle.ob0_editor.specs.Moves.{AreFew, ComesOf}

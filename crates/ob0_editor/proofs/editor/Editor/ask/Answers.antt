@@ -1,4 +1,4 @@
-use Rattle.std.proofs.Common.{◌≡◌, ◌∙◌, ap, sym, map, refl, Some}
+use Rattle.std.proofs.Common.{◌≡◌, ◌∙◌, ap, sym, map, Some}
 use Rattle.ob0_ends.specs.Ends.{Editor, open_at}
 use Rattle.ob0_editor.specs.Entries.{open_of}
 use Rattle.ob0_editor.specs.Code.{ask_of, asked_of}

@@ -1,9 +1,7 @@
 use Rattle.std.proofs.Common.{◌≡◌, ◌∙◌, ap, sym, map, get_or, Some}
-use Rattle.std.specs.Option.{option_map}
 use Rattle.ob0_ends.specs.Ends.{Editor}
-use Rattle.ob0_ends.specs.Editing.{held_answer, without_answer, all_but}
-use Rattle.ob0_editor.specs.declared.editor.Answer as answer
-use Rattle.ob0_editor.specs.Code.{answer_of, replacements}
+use Rattle.ob0_ends.specs.Editing.{held_answer, all_but}
+use Rattle.ob0_editor.specs.Code.{answer_of}
 use Rattle.ob0_editor.specs.Moves.{IsPlaceOf}
 use Rattle.ob0_editor.proofs.Moving.{none_goes, edits_at}
 use Rattle.ob0_editor.proofs.editor.Editor.let_go.Goals as goal
