@@ -2,9 +2,13 @@
 """Proves the program's crates, lowest first, builds the program and leaves it as bin/ob0.
 
 It says which crate is being proved, how many are left and the time so far. What is proved already is kept in
-crates/*/out and not proved again; a program that is up to date is left as it is."""
+crates/*/out and not proved again; a program that is up to date is left as it is.
+
+Two runs of rt in one tree wait for each other where they stand on the same crate. So each crate is proved in a tree of
+its own, a room: copies of its sources and of those below, with their proved libraries as hard links."""
 import os
 import re
+import shutil
 import signal
 import subprocess
 import sys
@@ -14,11 +18,16 @@ import common
 from common import TOP, BINARY
 
 STEP = 15  # seconds between two lines about a crate that takes long
+LARGE = 2000  # lines of code from which on a crate's check gets each processor
+ROOMS = os.path.join(TOP, "bin", "rooms")
+
+
+def processors():
+    return len(os.sched_getaffinity(0)) if hasattr(os, "sched_getaffinity") else (os.cpu_count() or 1)
 
 
 def lanes():
     """How many crates are proved side by side: one a processor, and one for each 4 GB of free memory."""
-    processors = len(os.sched_getaffinity(0)) if hasattr(os, "sched_getaffinity") else (os.cpu_count() or 1)
     free = 4
     try:
         with open("/proc/meminfo", encoding="ascii") as file:
@@ -26,27 +35,74 @@ def lanes():
             free = int(found[1]) // (4 << 20) if found else free
     except OSError:
         pass
-    return max(1, min(processors, free, 3))
+    return max(1, min(processors(), free, 3))
+
+
+def link(old, new):
+    """A hard link, or a copy where there can be none."""
+    try:
+        os.link(old, new)
+    except OSError:
+        shutil.copy2(old, new)
+
+
+def lines_of(name):
+    """How many lines of code a crate has."""
+    folder = os.path.join(TOP, "crates", name, "src")
+    count = 0
+    for at, _, files in os.walk(folder):
+        for it in files:
+            with open(os.path.join(at, it), "rb") as file:
+                count += sum(1 for _ in file)
+    return count
 
 
 class Work:
-    """One crate that is being proved."""
+    """One crate that is being proved, in a room of its own."""
 
-    def __init__(self, name):
-        folder = os.path.join(TOP, "crates", name)
-        os.makedirs(os.path.join(folder, "out"), exist_ok=True)
-        self.name, self.log = name, os.path.join(folder, "out", "build.log")
-        words = ["rt", "run", "--", "--help"] if name == "ob0" else ["rt", "lib"]
+    def __init__(self, name, named):
+        self.name, self.room = name, os.path.join(ROOMS, name)
+        self.out, self.moved = os.path.join(TOP, "crates", name, "out"), os.path.join(self.room, "crates", name, "out")
+        self.furnish(named)
+        self.log = os.path.join(self.moved, "build.log")
+        jobs = processors() if lines_of(name) > LARGE else max(1, processors() // 2)
+        words = ["rt", "run", "--", "--help"] if name == "ob0" else ["rt", "lib", "--jobs", str(jobs)]
         with open(self.log, "wb") as out:
-            how = {"cwd": folder, "stdin": subprocess.DEVNULL, "stdout": out, "stderr": subprocess.STDOUT}
-            self.process = subprocess.Popen(words, start_new_session=True, **how)
+            how = {"cwd": os.path.join(self.room, "crates", name), "stdin": subprocess.DEVNULL, "stdout": out}
+            self.process = subprocess.Popen(words, start_new_session=True, stderr=subprocess.STDOUT, **how)
+
+    def furnish(self, named):
+        """Makes the room: the sources, the libraries below, and what was kept of the crate's own proofs."""
+        shutil.rmtree(self.room, ignore_errors=True)
+        os.makedirs(os.path.join(self.room, "crates"))
+        shutil.copy2(os.path.join(TOP, "HANDLES"), self.room)
+        common.write_list(os.path.join(self.room, "crates.txt"), common.below(self.name, named))
+        for it in common.below(self.name, named):
+            crate, copied = os.path.join(TOP, "crates", it), os.path.join(self.room, "crates", it)
+            shutil.copytree(crate, copied, ignore=shutil.ignore_patterns("out", "must-fail"))
+            if it != self.name:
+                library = os.path.join("out", "rlib")
+                shutil.copytree(os.path.join(crate, library), os.path.join(copied, library), copy_function=link)
+        if os.path.isdir(self.out):
+            os.rename(self.out, self.moved)
+        os.makedirs(self.moved, exist_ok=True)
+
+    def leave(self):
+        """Brings what was proved back to the crate's folder."""
+        if os.path.isdir(self.moved):
+            shutil.rmtree(self.out, ignore_errors=True)
+            os.rename(self.moved, self.out)
+            self.log = os.path.join(self.out, "build.log")
+        shutil.rmtree(self.room, ignore_errors=True)
 
     def end(self):
         """Ends this check and what it started."""
         try:
             os.killpg(self.process.pid, signal.SIGTERM)
+            self.process.wait()
         except OSError:
             pass
+        self.leave()
 
     def said(self):
         with open(self.log, encoding="utf-8", errors="replace") as file:
@@ -73,8 +129,12 @@ def build():
     try:
         return prove_all(running)
     except KeyboardInterrupt:
+        # (a second interrupt would leave in the rooms what was proved)
+        signal.signal(signal.SIGINT, signal.SIG_IGN)
         end_all(running)
         return 130
+    finally:
+        shutil.rmtree(ROOMS, ignore_errors=True)
 
 
 def prove_all(running):
@@ -91,13 +151,14 @@ def prove_all(running):
         for name in [it for it in left if all(low in done for low in named[it])]:
             if len(running) < most:
                 left.remove(name)
-                running[name] = Work(name)
+                running[name] = Work(name, named)
                 say(f"{name}: proving it; {total - len(done)} of {total} crates are left")
         time.sleep(0.2)
         for name, work in list(running.items()):
             if work.process.poll() is None:
                 continue
             del running[name]
+            work.leave()
             if work.process.returncode:
                 end_all(running)
                 print(work.said()[-4000:], file=sys.stderr)

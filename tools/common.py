@@ -43,8 +43,8 @@ class Timer:
         return clock(time.monotonic() - self.start)
 
 
-def libraries():
-    """Each crate of crates.txt with the crates of this repository that its line names."""
+def listed():
+    """Each crate of crates.txt with all that its line names."""
     lines = {}
     with open(os.path.join(TOP, "crates.txt"), encoding="utf-8") as file:
         for line in file:
@@ -53,7 +53,20 @@ def libraries():
                 continue
             head, _, after = line.partition(":")
             lines[head.split()[0]] = after.split()
+    return lines
+
+
+def libraries():
+    """Each crate of crates.txt with the crates of this repository that its line names."""
+    lines = listed()
     return {name: [it for it in given if it in lines] for name, given in lines.items()}
+
+
+def write_list(path, names):
+    """Writes a crates.txt of these crates alone."""
+    lines = listed()
+    with open(path, "w", encoding="utf-8") as file:
+        file.writelines(f"{name}: {' '.join(lines[name])}\n" for name in names)
 
 
 def below(name, named=None, found=None):
