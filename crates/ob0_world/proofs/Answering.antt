@@ -1,16 +1,13 @@
 -- What a session promises, in the words of the two ends.
-use Rattle.std.proofs.Common.{◌≡◌, ◌∙◌, ℕ, Bool, true, false, cond, List, [], ◌∷◌, ◌++◌, length, refl, sym, ap, subst, inl, inr, arith, ◌<◌}
-use Rattle.std.specs.Prelude.{◌↔◌, ◌⊎◌, IsTrue, ⊤, ℤ, pos, Vec, All, Option, Some, None, is_some, map, fold, filter_map, option_map, option_and_then, unwrap_or, string_bytes, codes, Ok, IsUtf8}
+use Rattle.std.proofs.Common.{◌≡◌, ◌∙◌, ℕ, Bool, true, false, cond, List, [], ◌∷◌, length, refl, sym, ap, subst, inl, inr, arith, ◌<◌}
+use Rattle.std.specs.Prelude.{◌⊎◌, ℤ, Vec, All, Option, Some, None, is_some, map, fold, filter_map, option_map, option_and_then, unwrap_or, codes, Ok}
 use Rattle.std.specs.List.{cons_option}
 use Rattle.std.specs.Option.{option_to_list}
-use Rattle.std.specs.Str.{bytes_eq, chars}
 use Rattle.std.specs.FinMap as map_of
 use Rattle.std.specs.declared.alloc.Global.{Global}
-use Rattle.std.proofs.lemmas.Option.{same_Some, none-some}
 use Rattle.std.proofs.lemmas.List.Elements.{All-nil, All-push}
 use Rattle.serde_json.specs.Data.{Data, number, array, object, unsigned, item, no_items, member, no_members}
 use Rattle.serde_json.specs.Find.{as_i64, of_integer}
-use Rattle.serde_json.specs.Read.{read}
 use Rattle.serde_json.specs.View.{items_of}
 use Rattle.ob0_text.specs.declared.edits.Edit.{Edit}
 use Rattle.ob0_text.specs.declared.edits.Indent.{Indent}
@@ -18,28 +15,26 @@ use Rattle.ob0_text.specs.Patches.{patched}
 use Rattle.ob0_text.specs.Units.{width_of}
 use Rattle.ob0_text.specs.declared.positions.Position.{Position}
 use Rattle.ob0_text.specs.declared.positions.Unit.{Unit}
-use Rattle.ob0_text.specs.OpenDocuments.{OpenDocuments, Document, InStep, OutOfStep, DocumentNote, Opened, Changed, Lost, Closed, TextChange, changed_text, text_of, document, document_at, after_note, opened, changed, changed_document, closed, lost}
+use Rattle.ob0_text.specs.OpenDocuments.{OpenDocuments, Document, InStep, OutOfStep, DocumentNote, Opened, Changed, Lost, Closed, TextChange, changed_text, text_of, document, document_at, opened, changed, changed_document}
 use Rattle.ob0_text.specs.RefusalTexts.{refusal_text}
 use Rattle.ob0_text.specs.declared.refusals.EditRefusal.TheVariants.{TooLong}
 use Rattle.ob0_text.proofs.EntryLaws.{updated-some, updated-none}
 use Rattle.ob0_rpc.specs.Asks.{call_of}
 use Rattle.ob0_rpc.specs.Faults.{minus}
-use Rattle.ob0_rpc.specs.Messages.{Reads, meaning, meaning_of, request, notice}
-use Rattle.ob0_rpc.specs.Notes.{note_of}
+use Rattle.ob0_rpc.specs.Messages.{Reads, meaning, meaning_of}
 use Rattle.ob0_rpc.specs.Shapes.{result_message, error_message}
 use Rattle.ob0_rpc.specs.declared.clients.Client.{Client}
 use Rattle.ob0_session.specs.Actions.{ActionsAsked, ListsActions, Offers, place_of, actions_value}
 use Rattle.ob0_session.specs.Answers as answers_of
 use Rattle.ob0_session.specs.Answers.{State, Say, Says, Sends, Reaction, reacts, told, hears, requested, asked as asked_in, calls, of_document, lays_out, renames, offers_actions, published, Answers, AnswersIn, AnswersGoingOn, says}
-use Rattle.ob0_session.specs.Diagnosed.{Complaint, IsWellTypedModule, Tells, TellsFaults, complaint_of}
+use Rattle.ob0_session.specs.Diagnosed.{Complaint, Tells, TellsFaults, complaint_of}
 use Rattle.ob0_session.specs.Diagnostics.{Diagnoses, diagnostic_of, utf8}
 use Rattle.ob0_session.specs.Formatted.{AnswersFormatting}
 use Rattle.ob0_session.specs.Renamed.{RenameAsked, AnswersRenaming}
 use Rattle.ob0_session.specs.RunsKept.{RunsAsBefore}
-use Rattle.ob0_session.specs.Shapes.{Diagnostic, diagnostic_value, edit_value, edits_value, document_edit, workspace_edit, edit_refused, publication}
+use Rattle.ob0_session.specs.Shapes.{Diagnostic, diagnostic_value, edit_value, edits_value, document_edit, workspace_edit, publication}
 use Rattle.ob0_session.specs.declared.actions.Inlining.{Inlining}
 use Rattle.ob0_session.specs.declared.actions.Inlining.TheVariants.{Here, Everywhere}
-use Rattle.ob0_session.specs.declared.server.Phase.{Phase}
 use Rattle.ob0_session.specs.declared.server.Phase.TheVariants.{Running}
 use Rattle.ob0_editor.specs.Code.{replacement_of, replacements}
 use Rattle.ob0_editor.specs.Heard as heard_as
@@ -48,13 +43,12 @@ use Rattle.ob0_editor.specs.Shapes.{method_of, empty_at}
 use Rattle.ob0_editor.specs.Understood.{understood, value_understood, edits_in, workspace_items, edits_for, has_none}
 use Rattle.ob0_editor.proofs.Hearing.{understood_as}
 use Rattle.ob0_editor.proofs.Patching.{edited_as_patched}
-use Rattle.ob0_ends.specs.Language.{WellTypedText}
 use Rattle.ob0_ends.specs.Edited.{Replacement}
 use Rattle.ob0_ends.specs.Asks.{Ask, rename, inline_here, inline_all, format, KeepTheRun, MayAnswer, TellsOf}
-use Rattle.ob0_ends.specs.Ends.{Asked, numbered, ToServer, tells, asks, ToEditor, publishes, answers, Made, after_message}
-use Rattle.ob0_ends.specs.Serving.{MayPublish, taken_back, MayTell, MaySend}
+use Rattle.ob0_ends.specs.Ends.{Asked, numbered, ToServer, tells, asks, ToEditor, publishes, answers, after_message}
+use Rattle.ob0_ends.specs.Serving.{MayPublish, taken_back, MaySend}
 use Rattle.ob0_ends.proofs.UriLaws.{get_put, uri_itself}
-use Rattle.ob0_world.specs.Queues.{IsRunning, made_of_document, made_for, made_first}
+use Rattle.ob0_world.specs.Queues.{IsRunning, made_of_document, made_first}
 
 -- ---- contents that are read
 

@@ -6,7 +6,6 @@ use Rattle.ob0_text.specs.declared.positions.Unit.TheVariants.{Utf16, Utf8}
 use Rattle.ob0_rpc.specs.Messages.{Reads, meaning_of}
 use Rattle.ob0_session.specs.Answers.{State, start, begins, reacts, Answers}
 use Rattle.ob0_session.specs.Standing.{Standing, serving, failed}
-use Rattle.ob0_session.specs.declared.server.Phase.TheVariants.{Running}
 use Rattle.ob0_editor.specs.Beginning.{initialize_message, client_for}
 use Rattle.ob0_world.specs.Queues.{Contents, bytes, Stands, held_by, IsAnswered}
 use Rattle.ob0_world.proofs.Answering.{reacts_so}

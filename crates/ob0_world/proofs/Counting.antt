@@ -1,16 +1,16 @@
 -- What is counted rises by one a step at most.
-use Rattle.std.proofs.Common.{◌≡◌, ◌∙◌, ◌≤◌, ◌<◌, ◌+◌, ◌-◌, ◌^◌, ℕ, List, [], ◌∷◌, ◌++◌, length, Option, Some, None, Bool, refl, sym, ap, subst, arith, add-one}
+use Rattle.std.proofs.Common.{◌≡◌, ◌∙◌, ◌≤◌, ◌<◌, ◌+◌, ◌-◌, ◌^◌, ℕ, List, [], ◌∷◌, ◌++◌, length, Option, Some, None, refl, sym, ap, subst, arith}
 use Rattle.std.specs.FinMap as map_of
 use Rattle.std.specs.Ordering.{nat_cmp}
 use Rattle.std.specs.Cmp.Lexicographic.{slice_cmp}
-use Rattle.std.proofs.lemmas.Option.{same_Some, none-some}
+use Rattle.std.proofs.lemmas.Option.{none-some}
 use Rattle.std.proofs.lemmas.List.{length-append}
 use Rattle.ob0_text.specs.OpenDocuments.{TextChange}
 use Rattle.ob0_text.specs.declared.positions.Unit.{Unit}
 use Rattle.ob0_ends.specs.Edited.{Replacement, edited, after_changes}
 use Rattle.ob0_ends.specs.Asks.{Ask}
 use Rattle.ob0_ends.specs.Ends.{Open, Asked, Editor, numbered, open_at, ToServer, ToEditor, publishes, answers, Ends, new_editor}
-use Rattle.ob0_ends.specs.Editing.{Move, idle, sends, opens_document, rewritten, rewrites, changes_text, changes_document, closes_document, asks_about, keeps, Outcome, not_held, lets_go, makes, held_answer, without_answer, discards, if_same, applies_text, applies_edits, applies_asked, applies_answer}
+use Rattle.ob0_ends.specs.Editing.{opens_document, rewritten, rewrites, changes_text, changes_document, closes_document, asks_about, held_answer, without_answer, discards, if_same, applies_text, applies_edits, applies_asked, applies_answer}
 use Rattle.ob0_ends.specs.Happens.{Event, open_document, change_document, close_document, ask_about, serve, take_message, apply, discard, Seen, moved, comes_of, takes, Serves, Happens}
 use Rattle.ob0_ends.proofs.SameDocument.{found, left, same_from, Same}
 use Rattle.ob0_editor.specs.Moves.{AreFew}

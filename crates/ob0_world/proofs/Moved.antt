@@ -1,9 +1,9 @@
 -- What the editor's moves make of both ends.
-use Rattle.std.proofs.Common.{◌≡◌, ◌∙◌, ℕ, Bool, true, false, cond, List, [], ◌∷◌, ◌++◌, length, Option, Some, None, Result, Ok, Err, refl, sym, ap, subst}
-use Rattle.std.specs.Prelude.{⊤, ℤ, All, Vec, map, IfOk, OnErr, is_ok, is_some}
+use Rattle.std.proofs.Common.{◌≡◌, ◌∙◌, ℕ, Bool, true, false, cond, List, [], ◌∷◌, ◌++◌, Option, Some, None, Result, Ok, Err, refl, sym, ap, subst}
+use Rattle.std.specs.Prelude.{⊤, ℤ, All, Vec, map, IfOk, OnErr, is_some}
 use Rattle.std.specs.declared.alloc.Global.{Global}
 use Rattle.std.proofs.lemmas.List.{append-nil, map-append}
-use Rattle.std.proofs.lemmas.List.Elements.{All-push, All-head, All-tail}
+use Rattle.std.proofs.lemmas.List.Elements.{All-push, All-tail}
 use Rattle.ob0_text.specs.OpenDocuments.{TextChange}
 use Rattle.ob0_session.specs.Standing.{Standing}
 use Rattle.ob0_editor.specs.Code.{applied_of}
@@ -21,10 +21,9 @@ use Rattle.ob0_ends.specs.Editing.{Move, idle, sends, opens_document, changes_te
 use Rattle.ob0_ends.specs.Happens.{Is, moved, comes_of, takes, applies, drops, nothing, published, answered}
 use Rattle.ob0_world.specs.declared.events.Seen as seen
 use Rattle.ob0_world.specs.declared.played.Made as made
-use Rattle.ob0_world.specs.Code.{seen_of, made_of}
-use Rattle.ob0_world.specs.Queues.{Contents, bytes, all_heard, all_understood, IsHeard, IsUnderstood, Sound, ends_from, IsSent}
-use Rattle.ob0_world.specs.Worlds.{SameHistory}
-use Rattle.ob0_world.proofs.Waiting.{all_heard_still, all_understood_still, heard_still, understood_same, said_push, said_first, all_appended}
+use Rattle.ob0_world.specs.Code.{seen_of}
+use Rattle.ob0_world.specs.Queues.{Contents, all_heard, all_understood, IsHeard, IsUnderstood, Sound, ends_from, IsSent}
+use Rattle.ob0_world.proofs.Waiting.{all_heard_still, all_understood_still, heard_still, understood_same, said_push, said_first}
 
 pub on_err : {T E P : Type 0} (r : Result T E) → P → OnErr r P
 on_err (Ok x) p = tt

@@ -1,6 +1,6 @@
 -- What the server's turn makes of both ends.
-use Rattle.std.proofs.Common.{◌≡◌, ◌∙◌, ℕ, Bool, List, [], ◌∷◌, ◌++◌, length, Option, Some, None, refl, sym, ap, subst, cond, true, false}
-use Rattle.std.specs.Prelude.{All, Vec, map, option_map, option_and_then, filter_map}
+use Rattle.std.proofs.Common.{◌≡◌, ◌∙◌, ℕ, Bool, List, [], ◌∷◌, ◌++◌, length, Option, Some, None, refl, sym, ap, subst, cond}
+use Rattle.std.specs.Prelude.{All, Vec, map, option_map, option_and_then}
 use Rattle.std.specs.Option.{option_to_list}
 use Rattle.std.specs.declared.alloc.Global.{Global}
 use Rattle.std.proofs.lemmas.List.{map-append, length-map}
@@ -21,7 +21,7 @@ use Rattle.ob0_ends.specs.Happens as events
 use Rattle.ob0_world.specs.declared.played.Made as made
 use Rattle.ob0_world.specs.Code.{made_of}
 use Rattle.ob0_world.specs.Queues.{Contents, bytes, all_heard, all_understood, IsHeard, IsUnderstood, Sound, IsRunning, Stands, held_by, ends_from, IsAnswered, made_first, made_for, made_sent}
-use Rattle.ob0_world.proofs.Answering.{Served, Heard, served}
+use Rattle.ob0_world.proofs.Answering.{Served, served}
 use Rattle.ob0_world.proofs.Waiting.{said_append, said_first, all_appended}
 
 -- all contents that were sent are understood

@@ -1,16 +1,16 @@
 -- Contents that wait say the same once more was asked, and what they say as the queues grow and shrink.
-use Rattle.std.proofs.Common.{◌≡◌, ◌∙◌, ℕ, zero, suc, length, Bool, true, false, cond, List, [], ◌∷◌, ◌++◌, Option, Some, None, refl, sym, ap, subst}
-use Rattle.std.specs.Prelude.{All, Vec, is_some, map, filter_map, option_map, option_and_then}
+use Rattle.std.proofs.Common.{◌≡◌, ◌∙◌, ℕ, Bool, true, false, cond, List, [], ◌∷◌, ◌++◌, Option, Some, None, refl, sym, ap, subst}
+use Rattle.std.specs.Prelude.{All, Vec, is_some, filter_map, option_map, option_and_then}
 use Rattle.std.specs.List.{cons_option}
 use Rattle.std.specs.Str.{is_utf8}
 use Rattle.std.specs.declared.alloc.Global.{Global}
 use Rattle.std.proofs.lemmas.Option.{none-some}
 use Rattle.std.proofs.lemmas.List.{map-append}
-use Rattle.std.proofs.lemmas.List.Elements.{All-nil, All-cons, All-push, All-append, All-head, All-tail, All-weaker, filter_map-append}
+use Rattle.std.proofs.lemmas.List.Elements.{All-append, All-head, All-tail, All-weaker, filter_map-append}
 use Rattle.serde_json.specs.Data.{Data}
 use Rattle.serde_json.specs.Find.{get}
 use Rattle.serde_json.specs.Read.{read}
-use Rattle.ob0_editor.specs.Heard.{heard, Says, IsAsk, number_of}
+use Rattle.ob0_editor.specs.Heard.{heard, Says, number_of}
 use Rattle.ob0_editor.specs.Understood.{understood, value_understood, answer_understood, answer_to, publication_understood}
 use Rattle.ob0_editor.proofs.Hearing.{says_heard}
 use Rattle.ob0_ends.specs.Ends.{Asked, numbered, ToServer, tells, asks, ToEditor}

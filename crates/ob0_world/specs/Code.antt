@@ -1,9 +1,8 @@
 -- What the values of the code stand for.
-use Rattle.std.specs.Prelude.{ℕ, List, map, string_bytes}
+use Rattle.std.specs.Prelude.{List, map, string_bytes}
 use Rattle.std.specs.Str.{chars}
 use Rattle.ob0_text.specs.OpenDocuments.{told_change}
 use Rattle.ob0_editor.specs.Code.{ask_of, applied_of}
-use Rattle.ob0_editor.specs.declared.applied.Applied as applied
 use Rattle.ob0_world.specs.declared.events.Event as event
 use Rattle.ob0_world.specs.declared.events.Seen as seen
 use Rattle.ob0_world.specs.declared.played.Made as made

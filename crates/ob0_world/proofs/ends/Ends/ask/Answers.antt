@@ -1,9 +1,6 @@
-use Rattle.std.proofs.Common.{map}
-use Rattle.std.specs.Str.{chars}
-use Rattle.ob0_text.specs.OpenDocuments.{told_change}
 use Rattle.ob0_editor.specs.Code.{ask_of}
 use Rattle.ob0_ends.specs.Ends.{Editor, open_at}
-use Rattle.ob0_ends.specs.Editing.{Move, asks_about}
+use Rattle.ob0_ends.specs.Editing.{asks_about}
 use Rattle.ob0_world.proofs.Moved.{sent_sound, sent_happens, ask_extends}
 use Rattle.ob0_world.proofs.ends.Ends.ask.Goals as goal
 

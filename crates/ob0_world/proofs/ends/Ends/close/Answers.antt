@@ -1,9 +1,5 @@
-use Rattle.std.proofs.Common.{map}
-use Rattle.std.specs.Str.{chars}
-use Rattle.ob0_text.specs.OpenDocuments.{told_change}
-use Rattle.ob0_editor.specs.Code.{ask_of}
 use Rattle.ob0_ends.specs.Ends.{Editor, open_at}
-use Rattle.ob0_ends.specs.Editing.{Move, closes_document}
+use Rattle.ob0_ends.specs.Editing.{closes_document}
 use Rattle.ob0_world.proofs.Moved.{sent_sound, sent_happens, close_extends}
 use Rattle.ob0_world.proofs.ends.Ends.close.Goals as goal
 

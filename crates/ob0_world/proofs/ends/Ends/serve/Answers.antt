@@ -1,4 +1,4 @@
-use Rattle.std.proofs.Common.{◌≡◌, ◌∙◌, ◌++◌, cond, ap, sym, subst}
+use Rattle.std.proofs.Common.{◌∙◌, ◌++◌, cond, ap, sym, subst}
 use Rattle.std.specs.Prelude.{is_ok}
 use Rattle.std.specs.Option.{option_to_list}
 use Rattle.std.proofs.lemmas.List.{append-nil}
@@ -6,7 +6,7 @@ use Rattle.ob0_ends.specs.Ends.{Ends}
 use Rattle.ob0_ends.specs.Happens.{Serves}
 use Rattle.ob0_ends.specs.Happens as events
 use Rattle.ob0_world.specs.Queues.{IsAnswered, Stands, ends_from, made_sent}
-use Rattle.ob0_world.proofs.Serving.{Turn, turn, rest_sound, turn_stands, turn_sound, turn_happens}
+use Rattle.ob0_world.proofs.Serving.{turn, rest_sound, turn_stands, turn_sound, turn_happens}
 use Rattle.ob0_world.proofs.ends.Ends.serve.Goals as goal
 use Rattle.ob0_world.proofs.ends.Ends.serve.Goals.{in-Some-made+in_ok-push, in_default-made}
 

@@ -1,4 +1,4 @@
-use Rattle.std.proofs.Common.{◌≡◌, ◌∙◌, ap}
+use Rattle.std.proofs.Common.{◌∙◌, ap}
 use Rattle.ob0_ends.specs.Ends.{Editor}
 use Rattle.ob0_editor.specs.Code.{replacements}
 use Rattle.ob0_world.proofs.Moved.{taken_sound, same_sound, keep_asks}
