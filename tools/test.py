@@ -16,10 +16,11 @@ LINE = re.compile(r"^(\d+) passed, (\d+) failed$")
 RESULTS = os.path.join(TOP, "bin", "results")
 
 
-def stream(words):
+def stream(words, **named):
     """Runs a command, shows what it says, and returns its status and the counts of its last line that has them."""
     counts = None
     how = {"cwd": TOP, "stdin": subprocess.DEVNULL, "stdout": subprocess.PIPE, "stderr": subprocess.STDOUT}
+    how["env"] = {**os.environ, **named}
     with subprocess.Popen(words, **how) as process:
         for line in process.stdout:
             text = line.decode(errors="replace")
@@ -34,13 +35,20 @@ def stream(words):
     return passed, failed
 
 
+def at_once():
+    """How many checks the gate makes side by side: one a processor, and one for each 5 GB of memory. A check takes 1 to
+    2.5 GB; left to itself `rt ci` reckons three times that, and lets large crates wait for each other's edits."""
+    memory = os.sysconf("SC_PAGE_SIZE") * os.sysconf("SC_PHYS_PAGES")
+    return max(1, min(len(os.sched_getaffinity(0)), memory // 5_000_000_000))
+
+
 def gate():
     """The gate's counts. The program that it builds becomes bin/ob0: it is not proved a second time."""
     linked = os.path.join(TOP, "crates", "ob0", "out", "ob0")
     for old in (linked, common.BINARY):
         if os.path.exists(old):
             os.remove(old)
-    counts = stream(["rt", "ci"])
+    counts = stream(["rt", "ci"], RT_JOBS=os.environ.get("RT_JOBS") or str(at_once()))
     if os.path.isfile(linked):
         common.keep(linked)
     return counts
