@@ -4,6 +4,8 @@
 mod answers;
 mod hovering;
 mod showing;
+#[cfg(test)]
+mod tests;
 mod typing;
 
 pub use answers::Hover;

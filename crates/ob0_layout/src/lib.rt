@@ -6,6 +6,8 @@ mod gap;
 pub mod laws;
 mod sites;
 mod standing;
+#[cfg(test)]
+mod tests;
 mod walk;
 
 pub use formatting::format;

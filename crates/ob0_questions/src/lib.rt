@@ -5,6 +5,8 @@ mod declaring;
 mod fields;
 mod hovers;
 mod questions;
+#[cfg(test)]
+mod tests;
 mod writing;
 
 pub use fields::{field_tokens, module_fields};

@@ -6,6 +6,8 @@ mod answers;
 mod hovers;
 mod naming;
 mod places;
+#[cfg(test)]
+mod tests;
 
 pub use answers::{At, Named, Of};
 pub use hovers::{

@@ -2,6 +2,8 @@
 #![tactic(auto)]
 
 mod selecting;
+#[cfg(test)]
+mod tests;
 
 ghost use Rattle.std.specs.Prelude.{◌≡◌, IfOk, map};
 ghost use Rattle.ob0_tree.specs.Parsed.{tree_of};

@@ -1,11 +1,11 @@
 //! What the texts of types denote, from the text of a module.
 
+use crate::denoting::denote;
+use crate::known::Known;
+use crate::types::TypeId;
 use ob0_parse::parse;
 use ob0_scan::scan;
 use ob0_scope::resolve::resolve;
-use ob0_types::denoting::denote;
-use ob0_types::known::Known;
-use ob0_types::types::TypeId;
 use std::alloc::Global;
 use std::test::Fail;
 

@@ -1,7 +1,7 @@
 //! What a name may be renamed to, and what that leaves.
 
+use crate::rename;
 use ob0_parse::parse;
-use ob0_rename::rename;
 use ob0_scan::{MAX_TEXT, scan};
 use ob0_scope::resolve::resolve;
 use ob0_text::{Edit, EditRefusal, Position, Range, TextStore, Unit, Whole, patch};

@@ -1,7 +1,7 @@
 //! What is answered of fields.
 
+use crate::{at, definition, hover, references};
 use ob0_parse::parse;
-use ob0_questions::{at, definition, hover, references};
 use ob0_refs::Of;
 use ob0_scan::{Span, scan};
 use ob0_scope::resolve::resolve;

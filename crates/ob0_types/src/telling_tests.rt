@@ -1,9 +1,9 @@
 //! Faults of worked modules: code, start and end of each, in the order of their places.
 
+use crate::checked::check;
 use ob0_parse::parse;
 use ob0_scan::scan;
 use ob0_scope::resolve::resolve;
-use ob0_types::checked::check;
 use std::alloc::Global;
 use std::test::Fail;
 

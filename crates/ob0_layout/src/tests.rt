@@ -1,6 +1,6 @@
 //! The worked layouts: each is laid out, and laid out again with no edits.
 
-use ob0_layout::format;
+use crate::format;
 use ob0_parse::parse;
 use ob0_scan::scan;
 use ob0_text::{EditRefusal, Indent, TextStore, Unit, Whole, patch};

@@ -1,8 +1,8 @@
 //! What worked modules put out, and how they end.
 
+use crate::running::{End, run};
+use crate::state::Item;
 use ob0_parse::parse;
-use ob0_run::running::{End, run};
-use ob0_run::state::Item;
 use ob0_scan::scan;
 use ob0_scope::resolve::resolve;
 use ob0_types::checked::check;

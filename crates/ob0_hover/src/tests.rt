@@ -1,6 +1,6 @@
 //! What is shown at places of texts.
 
-use ob0_hover::hover;
+use crate::hover;
 use ob0_parse::parse;
 use ob0_scan::{Span, TokenKind, scan};
 use ob0_scope::resolve::resolve;

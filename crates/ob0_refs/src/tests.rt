@@ -1,11 +1,11 @@
 //! What is answered of a text's names.
 
-use ob0_parse::parse;
-use ob0_refs::{
+use crate::{
     At, Capture, Named, Of, Parameter, array_text, at, captures, constant_text, definition,
     name_at, named_type_text, predeclared_text, procedure_text, ranges, record_text, references,
     references_to, renamed_tokens, variable_text,
 };
+use ob0_parse::parse;
 use ob0_scan::{Span, scan};
 use ob0_scope::resolve::resolve;
 use ob0_text::{Position, Range, TextStore, Whole};

@@ -1,10 +1,10 @@
 //! Which declaration each name of a text is bound to, and which faults its names have.
 
+use crate::captures::{Capture, captures};
+use crate::renamed::resolve_renamed;
+use crate::resolve::resolve;
 use ob0_parse::parse;
 use ob0_scan::{Code, Fault, scan};
-use ob0_scope::captures::{Capture, captures};
-use ob0_scope::renamed::resolve_renamed;
-use ob0_scope::resolve::resolve;
 use std::alloc::Global;
 use std::test::Fail;
 

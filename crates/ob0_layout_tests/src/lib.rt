@@ -1,5 +1,0 @@
-//! Examples of layouts, from texts of modules.
-#![tactic(auto)]
-
-#[cfg(test)]
-mod tests;

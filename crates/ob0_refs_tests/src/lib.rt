@@ -1,5 +1,0 @@
-//! Examples of questions, from a text to ranges.
-#![tactic(auto)]
-
-#[cfg(test)]
-mod tests;

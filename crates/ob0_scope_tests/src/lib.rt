@@ -1,5 +1,0 @@
-//! Examples of scopes, from a text to its bindings and faults.
-#![tactic(auto)]
-
-#[cfg(test)]
-mod tests;
