@@ -1,3 +1,4 @@
+mod Gathering
 mod Lines
 mod Renames
 mod Wrong

@@ -1,5 +1,5 @@
 -- The run of the module that a text is, and how it is printed.
-use Rattle.std.specs.Prelude.{◌≡◌, ◌≢◌, ◌⊎◌, ℕ, ℤ, List, Option}
+use Rattle.std.specs.Prelude.{◌≡◌, ◌≢◌, ◌⊎◌, ℕ, ℤ, List, Option, IfSome}
 use Rattle.std.specs.Io.KnownBytes.{Appends}
 use Rattle.ob0_tree.specs.Tree.{Tree, module_text}
 use Rattle.ob0_scope.specs.Names.{Name}
@@ -8,6 +8,7 @@ use Rattle.ob0_run.specs.Runs.{Run, run}
 use Rattle.ob0_session.specs.Diagnosed.{IsTextOf}
 use Rattle.ob0_run.specs.Outcomes.{end_in}
 use Rattle.ob0_run.specs.declared.running.End.TheVariants as end
+use Rattle.ob0_commands.specs.Numbers.{WritesNumbers}
 use Rattle.ob0_commands.specs.Printed.{TellsWrong, output_text}
 
 -- the text is a well-typed module, and this is its run
@@ -17,16 +18,17 @@ pub record RunsAs (text : List ℕ) (input : List ℤ) (c t : ℕ) (r : Run) : T
   pub well_typed : WellTyped tree
   pub is : r ≡ run tree input c t
 
--- known bytes grow by what a run of the file's module puts out
-pub record PrintsRun (file : List ℕ) (c t : ℕ) (before after : Option (List ℕ)) (r : Run) : Type 0 where
+-- known bytes grow by what a run of the file's module puts out, given the numbers that the known bytes of an input write
+pub record PrintsRun (file : List ℕ) (given : Option (List ℕ)) (c t : ℕ) (before after : Option (List ℕ)) (r : Run) : Type 0 where
   pub input : List ℤ
+  pub written : IfSome given (λ text. WritesNumbers text input)
   pub runs : RunsAs file input c t r
   pub printed : Appends before after (output_text r.output)
 
 -- a run that reaches the end of the module's body is printed
-abbrev pub PrintsDone : List ℕ → ℕ → ℕ → Option (List ℕ) → Option (List ℕ) → Type 0
-PrintsDone file c t before after = (r : Run) × PrintsRun file c t before after r × (r.ending ≡ end_in end.Done)
+abbrev pub PrintsDone : List ℕ → Option (List ℕ) → ℕ → ℕ → Option (List ℕ) → Option (List ℕ) → Type 0
+PrintsDone file given c t before after = (r : Run) × PrintsRun file given c t before after r × (r.ending ≡ end_in end.Done)
 
 -- a run that ends otherwise is printed, or what is wrong with the file
-abbrev pub PrintsOther : List ℕ → ℕ → ℕ → Option (List ℕ) → Option (List ℕ) → Type 0
-PrintsOther file c t before after = TellsWrong file before after ⊎ ((r : Run) × PrintsRun file c t before after r × (r.ending ≢ end_in end.Done))
+abbrev pub PrintsOther : List ℕ → Option (List ℕ) → ℕ → ℕ → Option (List ℕ) → Option (List ℕ) → Type 0
+PrintsOther file given c t before after = TellsWrong file before after ⊎ ((r : Run) × PrintsRun file given c t before after r × (r.ending ≢ end_in end.Done))

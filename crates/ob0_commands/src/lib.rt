@@ -3,6 +3,7 @@
 
 mod checking;
 mod faults;
+mod numbers;
 mod printing;
 mod reading;
 mod renaming;

@@ -1,6 +1,7 @@
 //! Reading a file and the input.
 
-ghost use Rattle.std.specs.Prelude.{◌≡◌, ◌≤◌, IfOk, length};
+ghost use Rattle.std.specs.Prelude.{◌≡◌, ◌≤◌, ◌<◌, IfOk, length};
+ghost use Rattle.std.specs.Io.KnownBytes.{Consumes, IsAtEnd};
 
 use crate::faults::Fault;
 use std::alloc::Global;
@@ -16,14 +17,18 @@ const PIECE_SIZE: usize = 8192;
 
 /// Reads a file's bytes, or the first 1,048,577 of them.
 pub fn read_file<R: Read>(alloc: Global, file: &mut R) -> Result<Vec<u8>, Fault>
-    ensures { IfOk result (λ bytes. length bytes.items ≤ 1048577) }
+    ensures bound { IfOk result (λ bytes. length bytes.items ≤ 1048577) }
+    ensures taken { IfOk result (λ bytes. Consumes (R.remaining file.old) (R.remaining file.new) bytes.items) }
+    ensures end { IfOk result (λ bytes. length bytes.items < 1048577 → IsAtEnd (R.remaining file.new)) }
 {
     read_up_to(alloc, file, MAX_FILE, Fault::File)
 }
 
 /// Reads the input's bytes, which are at most 16,777,216.
 pub fn read_input<R: Read>(alloc: Global, input: &mut R) -> Result<Vec<u8>, Fault>
-    ensures { IfOk result (λ bytes. length bytes.items ≤ 16777216) }
+    ensures bound { IfOk result (λ bytes. length bytes.items ≤ 16777216) }
+    ensures taken { IfOk result (λ bytes. Consumes (R.remaining input.old) (R.remaining input.new) bytes.items) }
+    ensures end { IfOk result (λ bytes. IsAtEnd (R.remaining input.new)) }
 {
     let bytes = read_up_to(alloc, input, MAX_INPUT + 1, Fault::Input)?;
     if bytes.len() > MAX_INPUT {
@@ -39,7 +44,9 @@ fn read_up_to<R: Read>(
     most: usize,
     fault: Fault,
 ) -> Result<Vec<u8>, Fault>
-    ensures { IfOk result (λ bytes. length bytes.items ≤ most) }
+    ensures bound { IfOk result (λ bytes. length bytes.items ≤ most) }
+    ensures taken { IfOk result (λ bytes. Consumes (R.remaining reader.old) (R.remaining reader.new) bytes.items) }
+    ensures end { IfOk result (λ bytes. length bytes.items < most → IsAtEnd (R.remaining reader.new)) }
 {
     let mut bytes = Vec::new(alloc);
     let mut piece = [0u8; PIECE_SIZE];

@@ -13,8 +13,8 @@ ghost use Rattle.ob0_commands.specs.TextRuns.{PrintsDone, PrintsOther, RunsAs};
 
 use crate::checking::check;
 use crate::faults::{Fault, tell_fault};
+use crate::numbers::read_numbers;
 use crate::printing::print;
-use crate::reading::read_input;
 use ob0_run::running::{End, Outcome, run};
 use ob0_run::state::Item;
 use ob0_session::{Asked, Question, ask};
@@ -54,8 +54,8 @@ pub fn run_text<R: Read, O: Write, E: Write>(
     out: &mut O,
     err: &mut E,
 ) -> u8
-    ensures done { result ≡ 0 → PrintsDone file.now calls turns (O.contents out.old) (O.contents out.new) }
-    ensures other { result ≡ 1 → PrintsOther file.now calls turns (O.contents out.old) (O.contents out.new) }
+    ensures done { result ≡ 0 → PrintsDone file.now (R.remaining input.old) calls turns (O.contents out.old) (O.contents out.new) }
+    ensures other { result ≡ 1 → PrintsOther file.now (R.remaining input.old) calls turns (O.contents out.old) (O.contents out.new) }
 {
     match run_file(alloc, file, input, calls, turns, out, err) {
         Ok(status) => status,
@@ -72,8 +72,8 @@ fn run_file<R: Read, O: Write, E: Write>(
     out: &mut O,
     err: &mut E,
 ) -> Result<u8, Fault>
-    ensures done { IfOk result (λ status. status ≡ 0 → PrintsDone file.now calls turns (O.contents out.old) (O.contents out.new)) }
-    ensures other { IfOk result (λ status. status ≡ 1 → PrintsOther file.now calls turns (O.contents out.old) (O.contents out.new)) }
+    ensures done { IfOk result (λ status. status ≡ 0 → PrintsDone file.now (R.remaining input.old) calls turns (O.contents out.old) (O.contents out.new)) }
+    ensures other { IfOk result (λ status. status ≡ 1 → PrintsOther file.now (R.remaining input.old) calls turns (O.contents out.old) (O.contents out.new)) }
 {
     let Some(text) = check(alloc, file, out)? else {
         return Ok(1);
@@ -102,35 +102,6 @@ fn run_module(
     match ask(alloc, text, &question)? {
         Asked::Answered(outcome) => Ok(outcome),
         Asked::IllTyped(_) => unreachable!(),
-    }
-}
-
-/// The numbers of the input: whole numbers of 32 bits, digits with an optional `-` before them, between white space.
-pub fn read_numbers<R: Read>(alloc: Global, input: &mut R) -> Result<Vec<i32>, Fault> {
-    let bytes = read_input(alloc, input)?;
-    let Ok(text) = str::from_utf8(bytes.as_slice()) else {
-        return Err(Fault::Input);
-    };
-    let mut numbers = Vec::new(alloc);
-    for word in text.split([' ', '\t', '\r', '\n']) {
-        if !word.is_empty() {
-            let Some(number) = number_of(word) else {
-                return Err(Fault::Input);
-            };
-            numbers.push(number)?;
-        }
-    }
-    Ok(numbers)
-}
-
-/// The number that a word writes, if it writes one.
-fn number_of(word: &str) -> Option<i32> {
-    if word.starts_with('+') {
-        return None;
-    }
-    match word.parse() {
-        Ok(number) => Some(number),
-        Err(_) => None,
     }
 }
 

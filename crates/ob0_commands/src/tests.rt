@@ -2,7 +2,8 @@
 
 use super::*;
 use crate::renaming::print_edited;
-use crate::running::{print_outcome, read_numbers, run_text};
+use crate::numbers::read_numbers;
+use crate::running::{print_outcome, run_text};
 use ob0_run::running::End;
 use ob0_run::state::Item;
 use ob0_text::{Edit, EditRefusal, Position, Range, TextStore, Whole};

@@ -1,0 +1,55 @@
+-- Numbers read so far: with those of what is left they are the text's.
+use Rattle.std.proofs.Common.{◌≡◌, ◌∙◌, ℕ, ◌+◌, ◌-◌, ◌<◌, ◌≤◌, suc, Bool, true, false, List, [], ◌∷◌, ◌++◌, ℤ, length, drop, take, refl, sym, ap, subst, append_assoc, append-nil, arith, IsTrue, slice_index}
+use Rattle.std.specs.List.{position_or_len}
+use Rattle.std.proofs.Math.Seq.{drop-cons}
+use Rattle.std.proofs.lemmas.List.{drop_all, drop-drop, length-drop, take_all}
+use Rattle.std.proofs.lemmas.List.Folds.{drop_split}
+use Rattle.std.specs.List.{slice_range}
+use Rattle.ob0_commands.specs.Numbers.{WritesNumber, WritesNumbers, nothing, space, number, EndsBefore}
+use Rattle.ob0_scan.specs.Classes.{is_space}
+
+pub record Gathered (text : List ℕ) (at : ℕ) (ns : List ℤ) : Type 0 where
+  pub within : at ≤ length text
+  pub goes_on : (more : List ℤ) → WritesNumbers (drop at text) more → WritesNumbers text (ns ++ more)
+
+pub nothing_gathered : (text : List ℕ) → Gathered text 0 []
+nothing_gathered text = record { within = omega arith; goes_on = λ more h. h }
+
+pub space_passed : (text : List ℕ) (at : ℕ) (ns : List ℤ) → at < length text → IsTrue (is_space (slice_index text at)) → Gathered text at ns → Gathered text (at + 1) ns
+space_passed text at ns inside is g =
+    let next : at + 1 ≡ suc at = omega arith in
+    record {
+      within = omega (arith, inside);
+      goes_on = λ more h. g.goes_on more (subst (λ t. WritesNumbers t more) (sym (drop-cons text at 0 inside)) (space is (subst (λ n. WritesNumbers (drop n text) more) next h)));
+    }
+
+-- what follows the first word begins with white space, or is nothing
+pub ends_before : (text : List ℕ) → EndsBefore (drop (position_or_len is_space text) text)
+ends_before [] = tt
+ends_before (b ∷ text) = go (is_space b) refl (ends_before text)
+  where
+    go : (s : Bool) → is_space b ≡ s → EndsBefore (drop (position_or_len is_space text) text) → EndsBefore (drop (position_or_len is_space (b ∷ text)) (b ∷ text))
+    go true e more =
+        let none : position_or_len is_space (b ∷ text) ≡ 0 = rw e refl in
+        let is : EndsBefore (b ∷ text) = e in
+        subst (λ n. EndsBefore (drop n (b ∷ text))) (sym none) is
+    go false e more =
+        let counted : position_or_len is_space (b ∷ text) ≡ 1 + position_or_len is_space text = rw e refl in
+        let further : position_or_len is_space (b ∷ text) ≡ suc (position_or_len is_space text) = counted ∙ omega arith in
+        subst (λ n. EndsBefore (drop n (b ∷ text))) (sym further) more
+
+pub word_gathered : (text : List ℕ) (at end : ℕ) (ns : List ℤ) (n : ℤ) → at ≤ end → end ≤ length text → end ≡ at + position_or_len is_space (take (length text - at) (drop at text))
+    → WritesNumber (slice_range text at end) n → Gathered text at ns → Gathered text end (ns ++ n ∷ [])
+word_gathered text at end ns n forth inside is word g =
+    let all : take (length text - at) (drop at text) ≡ drop at text = take_all (length text - at) (drop at text) (omega (arith, length-drop at text)) in
+    let len : end ≡ at + position_or_len is_space (drop at text) = is ∙ ap (λ t. at + position_or_len is_space t) all in
+    let ends : EndsBefore (drop end text) = subst EndsBefore (drop-drop (position_or_len is_space (drop at text)) at text ∙ ap (λ i. drop i text) (sym len)) (ends_before (drop at text)) in
+    record {
+      within = inside;
+      goes_on = λ more h. subst (WritesNumbers text) (sym (append_assoc ns (n ∷ []) more)) (g.goes_on (n ∷ more)
+          (number (slice_range text at end) (drop end text) n (drop_split text at end forth) word ends h));
+    }
+
+pub all_gathered : (text : List ℕ) (at : ℕ) (ns : List ℤ) → length text ≤ at → Gathered text at ns → WritesNumbers text ns
+all_gathered text at ns end g =
+    subst (WritesNumbers text) (append-nil ns) (g.goes_on [] (subst (λ t. WritesNumbers t []) (sym (drop_all at text end)) nothing))

@@ -1,0 +1,22 @@
+-- The numbers that an input writes.
+use Rattle.std.specs.Prelude.{◌≡◌, ◌≢◌, ℕ, ℤ, List, [], ◌∷◌, ◌++◌, IsTrue, ⊤, slice_index}
+use Rattle.std.specs.Str.Parse.{IsNumeral, signed_digits_value, without_leading_sign}
+use Rattle.ob0_scan.specs.Classes.{is_space}
+
+-- a word writes a number: one decimal digit or more, with or without a `-` before them
+pub record WritesNumber (word : List ℕ) (n : ℤ) : Type 0 where
+  pub no_plus : slice_index word 0 ≢ 43
+  pub digits : IsNumeral 10 (without_leading_sign word)
+  pub value : n ≡ signed_digits_value 10 word
+
+-- a word ends where nothing follows, or white space
+abbrev pub EndsBefore : List ℕ → Type 0
+EndsBefore [] = ⊤
+EndsBefore (b ∷ bs) = IsTrue (is_space b)
+
+-- A text writes numbers: each is a word of its own, and between words stands white space: space, tab, CR or LF.
+pub data WritesNumbers : List ℕ → List ℤ → Type 0 where
+  nothing : WritesNumbers [] []
+  space : {b : ℕ} {text : List ℕ} {ns : List ℤ} → IsTrue (is_space b) → WritesNumbers text ns → WritesNumbers (b ∷ text) ns
+  number : {text : List ℕ} {ns : List ℤ} (word after : List ℕ) (n : ℤ) → text ≡ word ++ after → WritesNumber word n
+      → EndsBefore after → WritesNumbers after ns → WritesNumbers text (n ∷ ns)

@@ -1,0 +1,74 @@
+//! The numbers of an input.
+
+ghost use Rattle.std.specs.Prelude.{◌≡◌, ◌≤◌, IfOk, IfSome, length};
+ghost use Rattle.std.specs.List.{position_or_len};
+ghost use Rattle.ob0_scan.specs.Classes.{is_space};
+ghost use Rattle.ob0_commands.specs.Numbers.{WritesNumber, WritesNumbers};
+
+use crate::faults::Fault;
+use crate::reading::read_input;
+use std::alloc::{AllocError, Global};
+use std::io::Read;
+
+/// Reads the numbers of the input: whole numbers of 32 bits, digits with an optional `-` before them, between white space.
+pub fn read_numbers<R: Read>(alloc: Global, input: &mut R) -> Result<Vec<i32>, Fault>
+    ensures { IfOk result (λ numbers. IfSome (R.remaining input.old) (λ text. WritesNumbers text numbers.items)) }
+{
+    let text = read_input(alloc, input)?;
+    match numbers_in(alloc, text.as_slice())? {
+        Some(numbers) => Ok(numbers),
+        None => Err(Fault::Input),
+    }
+}
+
+/// The numbers that a text writes, in their order. None where a word of it writes none.
+fn numbers_in(alloc: Global, text: &[u8]) -> Result<Option<Vec<i32>>, AllocError>
+    ensures { IfOk result (λ found. IfSome found (λ numbers. WritesNumbers text.now numbers.items)) }
+{
+    let mut numbers = Vec::new(alloc);
+    let mut at = 0;
+    while at < text.len() {
+        if is_space(text[at]) {
+            at += 1;
+        } else {
+            let end = at + word_len(&text[at..]);
+            let Some(number) = number_of(&text[at..end]) else {
+                return Ok(None);
+            };
+            numbers.push(number)?;
+            at = end;
+        }
+    }
+    Ok(Some(numbers))
+}
+
+/// Space, tab, CR and LF part words.
+fn is_space(byte: u8) -> bool
+    ensures { result ≡ is_space byte }
+{
+    byte == b' ' || byte == b'\t' || byte == b'\n' || byte == b'\r'
+}
+
+/// How many bytes at the front are before the first white space.
+fn word_len(bytes: &[u8]) -> usize
+    ensures is { result ≡ position_or_len is_space bytes.now }
+    ensures inside { result ≤ length bytes.now }
+{
+    bytes.iter().take_while(|byte| !is_space(**byte)).count()
+}
+
+/// The number that a word writes.
+fn number_of(word: &[u8]) -> Option<i32>
+    ensures { IfSome result (λ number. WritesNumber word.now number) }
+{
+    let Ok(digits) = str::from_utf8(word) else {
+        return None;
+    };
+    if digits.starts_with('+') {
+        return None;
+    }
+    match digits.parse() {
+        Ok(number) => Some(number),
+        Err(_) => None,
+    }
+}
