@@ -1,5 +1,5 @@
 -- Messages that an editor writes aren't nested deeply, and are read as they were meant.
-use Rattle.std.proofs.Common.{◌≡◌, ◌∙◌, ◌≤◌, ◌<◌, ◌^◌, ℕ, ℤ, pos, List, [], ◌∷◌, Bool, true, cond, Option, Some, None, option_map, map, arith, refl, ap, sym}
+use Rattle.std.proofs.Common.{◌≡◌, ◌≤◌, ◌<◌, ◌^◌, ℕ, pos, List, [], ◌∷◌, true, cond, Option, Some, None, map, arith, refl, ap}
 use Rattle.std.specs.Prelude.{nat_lt, string_bytes, Ok, codes}
 use Rattle.std.specs.Str.{chars}
 use Rattle.serde_json.specs.Data.{Data, depth, items_depth}

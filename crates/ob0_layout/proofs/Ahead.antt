@@ -1,7 +1,6 @@
 -- A pass over the tokens and comments of a text: which comes next, and the gap before it.
-use Rattle.std.proofs.Common.{◌≡◌, ℕ, ◌+◌, ◌-◌, ◌<◌, ◌≤◌, Bool, true, false, ◌||◌, cond, ◌⊎◌, inl, inr, Option, Some, None, List, [], ◌∷◌, ◌++◌, length, take, drop, slice_range, refl, sym, ap, ◌∙◌, subst, arith, append_assoc, append-nil, length-drop, is_none}
+use Rattle.std.proofs.Common.{◌≡◌, ℕ, ◌+◌, ◌-◌, ◌<◌, ◌≤◌, Bool, true, false, ◌||◌, ◌⊎◌, inl, inr, Option, Some, None, List, [], ◌∷◌, ◌++◌, length, take, drop, slice_range, refl, sym, ap, ◌∙◌, subst, arith, append_assoc, append-nil, length-drop, is_none}
 use Rattle.std.proofs.Math.Seq.{take-append-add}
-use Rattle.std.proofs.lemmas.Bool.{ltb-true, ltb-false}
 use Rattle.std.proofs.lemmas.Bool.Decides.{nat_tests}
 use Rattle.std.proofs.lemmas.Str.{IsCharBoundary-start}
 use Rattle.std.specs.Prelude.{nat_lt, if◌then◌else◌, ◌==◌}
@@ -17,7 +16,6 @@ use Rattle.ob0_scan.specs.Scanned.{Scanned, IsScan, span_from, token_at, comment
 use Rattle.ob0_scan.proofs.Cuts.{nonempty}
 use Rattle.ob0_scan.proofs.Spans.{StandFrom, next_from}
 use Rattle.ob0_layout.specs.declared.sites.Site.{Site}
-use Rattle.ob0_layout.specs.declared.sites.Next.{Next}
 use Rattle.ob0_layout.specs.declared.sites.Next.TheVariants as next
 use Rattle.ob0_layout.specs.declared.sites.Solid.{Solid}
 use Rattle.ob0_layout.specs.declared.standing.Standing.{Standing}

@@ -1,12 +1,11 @@
 -- The edits of gaps, one after another.
-use Rattle.std.proofs.Common.{◌≡◌, ℕ, ◌+◌, ◌<◌, List, [], ◌∷◌, ◌++◌, length, map, take, get_or, string_bytes, refl, sym, ap, ◌∙◌, arith}
+use Rattle.std.proofs.Common.{◌≡◌, ℕ, ◌+◌, ◌<◌, List, [], ◌∷◌, ◌++◌, length, map, take, get_or, sym, ap, ◌∙◌, arith}
 use Rattle.std.proofs.lemmas.List.{get_or-map, map-append, map_more, length-map}
 use Rattle.ob0_text.specs.declared.edits.Edit.{Edit}
 use Rattle.ob0_text.specs.declared.edits.Indent.{Indent}
 use Rattle.ob0_text.specs.declared.positions.Position.{Position}
 use Rattle.ob0_text.specs.Texts.{position_of}
 use Rattle.ob0_layout.specs.declared.sites.Site.{Site}
-use Rattle.ob0_layout.specs.Layout.{gap_text}
 use Rattle.ob0_layout.specs.Sites.{said, edit_of}
 
 module _ (width : ℕ → ℕ) (content : List ℕ) (gs : List Site) (i : ℕ) (low : i < length gs) (d : Site) where

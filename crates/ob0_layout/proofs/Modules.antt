@@ -1,6 +1,6 @@
 -- The layout of a module's text is a text of the same module.
-use Rattle.std.proofs.Common.{◌≡◌, ℕ, List, map, refl, sym, ap, ◌∙◌, subst}
-use Rattle.ob0_scan.specs.Lexed.{Lexeme, joined, Lexed}
+use Rattle.std.proofs.Common.{◌≡◌, ℕ, List, map, refl, ap, ◌∙◌, subst}
+use Rattle.ob0_scan.specs.Lexed.{joined, Lexed}
 use Rattle.ob0_scan.specs.Scanned.{Scanned, IsScan, words}
 use Rattle.ob0_scan.proofs.Borders.{lexed_by_next_bytes}
 use Rattle.ob0_scan.proofs.Cuts.{one_cut}

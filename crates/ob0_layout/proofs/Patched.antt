@@ -1,5 +1,5 @@
 -- The edits of the gaps, made at once, give the layout.
-use Rattle.std.proofs.Common.{◌≡◌, ℕ, zero, suc, ◌+◌, ◌-◌, ◌*◌, ◌<◌, ◌≤◌, Bool, true, false, ◌||◌, not, cond, Option, Some, None, List, [], ◌∷◌, ◌++◌, length, take, drop, get_or, map, filter, replicate, refl, sym, ap, ◌∙◌, subst, arith, append_assoc, append-nil, get_or-append-add, string_bytes}
+use Rattle.std.proofs.Common.{◌≡◌, ℕ, zero, suc, ◌+◌, ◌-◌, ◌*◌, ◌<◌, Bool, true, false, ◌||◌, cond, Option, Some, None, List, [], ◌∷◌, ◌++◌, length, take, drop, get_or, map, replicate, sym, ap, ◌∙◌, subst, arith, append_assoc, append-nil, string_bytes}
 use Rattle.std.specs.Str.{IsUtf8, IsCharBoundary, chars}
 use Rattle.std.specs.Str.{IsAscii}
 use Rattle.std.proofs.lemmas.Str.{IsCharBoundary-start, IsUtf8-from_ascii, IsUtf8-append, IsUtf8-drop, IsUtf8-between}
@@ -14,19 +14,17 @@ use Rattle.ob0_scan.proofs.Spans.{StandFrom, next_from}
 use Rattle.ob0_text.specs.declared.edits.Edit.{Edit}
 use Rattle.ob0_text.specs.declared.edits.Indent.{Indent}
 use Rattle.ob0_text.specs.declared.edits.Indent.TheVariants as indent_by
-use Rattle.ob0_text.specs.declared.positions.Range.{Range}
 use Rattle.ob0_text.specs.declared.positions.Unit as counting
-use Rattle.ob0_text.specs.Texts.{position_of}
 use Rattle.ob0_text.specs.Units.{width_of}
-use Rattle.ob0_text.specs.Patches.{Cut, cut_at, cuts_of, patched, pieced}
+use Rattle.ob0_text.specs.Patches.{cut_at, cuts_of, patched, pieced}
 use Rattle.ob0_layout.specs.declared.gap.Gap.{Gap}
 use Rattle.ob0_layout.specs.declared.gap.Gap.TheVariants.{Nothing, Space, Line}
 use Rattle.ob0_layout.specs.declared.sites.Site.{Site}
 use Rattle.ob0_layout.specs.declared.sites.Solid.{Solid}
 use Rattle.ob0_layout.specs.declared.standing.Standing.{Standing}
-use Rattle.ob0_layout.specs.Layout.{placed, next_line, next_standing, holds_break, comment_standing, indentation, gap_text, laid}
+use Rattle.ob0_layout.specs.Layout.{placed, next_line, holds_break, indentation, gap_text, laid}
 use Rattle.ob0_layout.specs.Sites.{sites, all_sites, is_changed, changed_sites, said, edit_of}
-use Rattle.ob0_layout.specs.Cuts.{cut_of, made_of}
+use Rattle.ob0_layout.specs.Cuts.{cut_of}
 use Rattle.ob0_layout.proofs.Apart.{IsSolid, solid_first}
 use Rattle.ob0_layout.proofs.LastBytes.{last_byte, last_at, solid_last}
 use Rattle.ob0_layout.proofs.Pieced.{Chain, all_chain, all_made, changed_made, chain_changed}

@@ -1,5 +1,5 @@
 -- The gaps of a text, laid out, make its layout.
-use Rattle.std.proofs.Common.{◌≡◌, ℕ, ◌+◌, ◌-◌, ◌*◌, ◌<◌, ◌≤◌, Bool, true, false, ◌||◌, not, cond, Option, Some, None, List, [], ◌∷◌, ◌++◌, length, take, drop, map, filter, replicate, slice_range, refl, sym, ap, ap₂, ◌∙◌, subst, arith, append_assoc, append-nil, length-append, length-drop}
+use Rattle.std.proofs.Common.{◌≡◌, ℕ, ◌+◌, ◌-◌, ◌*◌, ◌≤◌, Bool, true, false, ◌||◌, not, cond, Option, Some, None, List, [], ◌∷◌, ◌++◌, length, take, drop, map, replicate, slice_range, refl, sym, ap, ap₂, ◌∙◌, arith, append_assoc, append-nil, length-append, length-drop}
 use Rattle.std.proofs.Math.Seq.{take-add, take-append-add}
 use Rattle.std.specs.List.{All}
 use Rattle.std.proofs.lemmas.List.{drop-drop, take-append-drop, length-take-le}
@@ -19,7 +19,7 @@ use Rattle.ob0_layout.specs.declared.sites.Site.{Site}
 use Rattle.ob0_layout.specs.declared.sites.Solid.{Solid}
 use Rattle.ob0_layout.specs.declared.standing.Standing.{Standing}
 use Rattle.ob0_layout.specs.Layout.{Placed, placed, next_line, next_standing, holds_break, comment_standing, indentation, gap, gap_text, spaced, laid_behind, laid}
-use Rattle.ob0_layout.specs.Sites.{sites, all_sites, gap_before, last_gap, is_changed, changed_sites, laid_len, LiesIn}
+use Rattle.ob0_layout.specs.Sites.{sites, all_sites, is_changed, changed_sites, laid_len, LiesIn}
 use Rattle.ob0_layout.proofs.Ahead.{all_lie}
 use Rattle.ob0_layout.specs.Cuts.{cut_of, made_of}
 

@@ -14,7 +14,7 @@ use Rattle.ob0_text.proofs.Widths.{wide}
 use Rattle.ob0_text.specs.Texts.{CR, LF, before, position_of, byte_len, IsInsideEnding}
 use Rattle.ob0_text.specs.Patches.{Cut, place, cut_at, are_apart, all_apart, is_before, put_in_order, in_text_order, pieced, patched_by_cuts}
 use Rattle.ob0_text.proofs.RoundTrip.{places_go_back}
-use Rattle.ob0_text.proofs.Prefixes.{bytes_up, border_at}
+use Rattle.ob0_text.proofs.Prefixes.{border_at}
 use Rattle.ob0_text.proofs.CutOrder.{bytes_further}
 use Rattle.ob0_text.proofs.Pieces.{middle_chars, last_chars}
 use Rattle.ob0_layout.proofs.Pieced.{Chain}

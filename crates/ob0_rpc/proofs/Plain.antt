@@ -1,5 +1,5 @@
 -- No message that is written has a float in it, so its text is determined; and none is nested too deep for a reader.
-use Rattle.std.proofs.Common.{◌≡◌, ◌∙◌, ◌≤◌, ℕ, ℤ, pos, negsuc, List, [], ◌∷◌, false, max, Option, Some, None, arith, refl, ap}
+use Rattle.std.proofs.Common.{◌≡◌, ◌≤◌, ℕ, ℤ, pos, negsuc, List, false, Option, Some, None, arith, refl}
 use Rattle.serde_json.specs.Data.{Data, depth}
 use Rattle.serde_json.specs.Written.{has_float}
 use Rattle.ob0_rpc.specs.Seen.{id_data, id_or_null}

@@ -2,7 +2,7 @@
 use Rattle.std.proofs.Common.{◌≡◌, ℕ, zero, suc, arith, Bool, true, false, ◌+◌, ◌-◌, ◌<◌, ◌≤◌, ◌≢◌, List, [], ◌∷◌, length, get_or, drop, refl, sym, ap, ◌∙◌, subst, Ok, Err, Option, None, Some, Result}
 use Rattle.std.proofs.lemmas.List.{drop_all, drop_more}
 use denote.MutBor.{MutBor}
-use Rattle.ob0_tree.specs.Tree.{Tree, branches, else_branch, else_part, elsif_branch, elsif_part, end, expression, further_statement, items, maybe, more, none, one, repeat_loop, runs, sequence, statement, then_statement}
+use Rattle.ob0_tree.specs.Tree.{Tree, branches, else_branch, else_part, elsif_branch, elsif_part, end, expression, further_statement, items, maybe, more, none, one, repeat_loop, sequence, statement}
 use Rattle.ob0_tree.specs.declared.tree.Statement.{Statement}
 use Rattle.ob0_tree.specs.declared.tree.Elsif.{Elsif}
 use Rattle.ob0_tree.specs.declared.tree.If.{If, out-If}

@@ -1,5 +1,4 @@
 -- A free renaming keeps a module well-typed, and its runs.
-use Rattle.std.proofs.Common.{}
 use Rattle.ob0_types.proofs.RenamedTypes.{free_keeps_well_typed-holds}
 use Rattle.ob0_run.specs.EditLaws.{FreeKeepsModules}
 use Rattle.ob0_run.proofs.Proved.{free_keeps_runs-holds}

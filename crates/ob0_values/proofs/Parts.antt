@@ -1,5 +1,5 @@
 -- The parts of the code's values are those of what they stand for.
-use Rattle.std.proofs.Common.{◌≡◌, ℕ, zero, suc, ◌+◌, ◌<◌, ◌≤◌, Bool, true, false, List, [], ◌∷◌, map, length, refl, sym, ap, ◌∙◌, subst, Some, None, Option, slice_get, get_or, drop, take, take_all, ◌-◌, arith}
+use Rattle.std.proofs.Common.{◌≡◌, ℕ, zero, suc, ◌<◌, true, false, List, [], ◌∷◌, map, length, refl, sym, ap, ◌∙◌, Some, None, Option, slice_get, get_or, drop, take, take_all, ◌-◌, arith}
 use Rattle.std.proofs.lemmas.List.{map-set}
 use Rattle.std.proofs.lemmas.Option.{slice_get-map}
 use Rattle.std.specs.Prelude.{option_map, option_and_then, slice_set, if◌then◌else◌}
@@ -7,7 +7,6 @@ use Rattle.ob0_scope.specs.Names.{Name, same_name}
 use Rattle.ob0_values.specs.declared.value.Member.{Member}
 use Rattle.ob0_values.specs.declared.value.Value.{Value, Elements, Members, Row_of-Value, end_of-Value, more_of-Value, items-the_row-Value, items_hidden-the_row-Value-0, Row_of-Member, end_of-Member, more_of-Member}
 use Rattle.ob0_values.specs.declared.value.Value.TheBlock.{hidden-the_row-Value-0, hidden-the_row-Member-1, items-the_row-Member, items_hidden-the_row-Member-1}
-use denote.Ref.{Bor}
 use Rattle.ob0_values.specs.declared.value.Step.{Step}
 use Rattle.ob0_values.specs.declared.value.Step.TheVariants as step
 use Rattle.ob0_values.specs.Stored.{value_of, values_of, members_of, members_in, step_of, path_of}

@@ -1,5 +1,5 @@
 -- What the code's values and places stand for.
-use Rattle.std.specs.Prelude.{ℕ, position, List, [], ◌∷◌, map, Option, Some, None, option_map, if◌then◌else◌}
+use Rattle.std.specs.Prelude.{ℕ, position, List, [], ◌∷◌, map, Option, Some, None}
 use denote.Ref.{Bor}
 use Rattle.ob0_scope.specs.Names.{Name, same_name}
 use Rattle.ob0_values.specs.declared.value.Member.{Member}

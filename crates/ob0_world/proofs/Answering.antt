@@ -38,7 +38,7 @@ use Rattle.ob0_session.specs.declared.actions.Inlining.TheVariants.{Here, Everyw
 use Rattle.ob0_session.specs.declared.server.Phase.TheVariants.{Running}
 use Rattle.ob0_editor.specs.Code.{replacement_of, replacements}
 use Rattle.ob0_editor.specs.Heard as heard_as
-use Rattle.ob0_editor.specs.Heard.{told_as, HasVersion, IsNote, IsRequest, IsAsk, call_for, indent_read}
+use Rattle.ob0_editor.specs.Heard.{told_as, HasVersion, IsAsk, call_for, indent_read}
 use Rattle.ob0_editor.specs.Shapes.{method_of, empty_at}
 use Rattle.ob0_editor.specs.Understood.{understood, value_understood, edits_in, workspace_items, edits_for, has_none}
 use Rattle.ob0_editor.proofs.Hearing.{understood_as}

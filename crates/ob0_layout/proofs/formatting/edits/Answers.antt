@@ -1,9 +1,9 @@
-use Rattle.std.proofs.Common.{◌≡◌, map, get_or, string_bytes, ap, ◌∙◌}
+use Rattle.std.proofs.Common.{map, ap, ◌∙◌}
 use Rattle.ob0_text.specs.Texts.{position_of}
 use Rattle.ob0_text.specs.Units.{width_of}
 use Rattle.ob0_layout.specs.declared.gap.Gap.TheVariants.{Nothing}
 use Rattle.ob0_layout.specs.declared.sites.Site.{Site}
-use Rattle.ob0_layout.specs.Sites.{said, edit_of}
+use Rattle.ob0_layout.specs.Sites.{said}
 use Rattle.ob0_layout.proofs.EditSteps.{position_at, edit_further}
 use Rattle.ob0_layout.proofs.formatting.edits.Goals as goal
 

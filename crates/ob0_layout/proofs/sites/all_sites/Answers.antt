@@ -1,12 +1,10 @@
-use Rattle.std.proofs.Common.{◌≡◌, ◌≤◌, ◌<◌, ◌-◌, ◌||◌, ◌++◌, [], ◌∷◌, ℕ, List, Option, Some, None, length, drop, slice_range, is_none, refl, sym, ap, ◌∙◌, subst, arith}
+use Rattle.std.proofs.Common.{◌-◌, ◌++◌, [], ◌∷◌, ℕ, List, Some, None, length, refl, sym, ap, ◌∙◌, subst, arith}
 use Rattle.ob0_scan.specs.declared.lexeme.LexemeKind.TheVariants as lexeme
 use Rattle.ob0_scan.specs.declared.lexeme.Span.{Span}
 use Rattle.ob0_scan.specs.declared.lexeme.Token.{Token}
-use Rattle.ob0_scan.specs.Scanned.{IsScan}
 use Rattle.ob0_layout.specs.declared.sites.Site.{Site}
-use Rattle.ob0_layout.specs.declared.sites.Solid.{Solid}
 use Rattle.ob0_layout.specs.declared.standing.Standing.{Standing}
-use Rattle.ob0_layout.specs.Layout.{next_line, next_standing, comment_standing, holds_break}
+use Rattle.ob0_layout.specs.Layout.{next_line, next_standing, comment_standing}
 use Rattle.ob0_layout.specs.Sites.{all_sites, last_gap, gap_before}
 use Rattle.ob0_layout.proofs.Ahead.{Sited, sited_at_start, sited_ends, comment_step, token_step, sited_moved, make_site, make_solid}
 use Rattle.ob0_layout.proofs.sites.all_sites.Goals as goal

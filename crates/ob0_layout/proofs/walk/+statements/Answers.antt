@@ -2,7 +2,7 @@ use Rattle.std.proofs.Common.{◌≡◌, ◌++◌, [], ◌∷◌, IfOk, sym, ap,
 use Rattle.ob0_tree.proofs.Viewed.{while_made, repeat_made, if_parts}
 use Rattle.ob0_tree.specs.declared.tree.If.{out-If}
 use Rattle.ob0_tree.specs.Tree.{branches}
-use Rattle.ob0_tree.specs.View.{items_of, expression_of, statement_of, sequence_listed, elsif_of, else_in, if_of}
+use Rattle.ob0_tree.specs.View.{items_of, expression_of, statement_of, sequence_listed, elsif_of, else_in}
 use Rattle.ob0_layout.specs.declared.standing.Standing.TheVariants.{Begins, Plain}
 use Rattle.ob0_layout.specs.Standings.{standings, deeper}
 use Rattle.ob0_layout.proofs.Walks.{step, closing, while_shape, repeat_shape, else_shape, if_shape}

@@ -1,4 +1,4 @@
-use Rattle.std.proofs.Common.{Some, None, length, replicate, map, ap, ◌∙◌}
+use Rattle.std.proofs.Common.{Some, None, length, replicate, ◌∙◌}
 use Rattle.std.proofs.lemmas.Result.{MatchResult-weaker}
 use Rattle.ob0_tree.specs.Parsed.{tree_of}
 use Rattle.ob0_scope.specs.Visiting.{started, visit_module, with_marks}

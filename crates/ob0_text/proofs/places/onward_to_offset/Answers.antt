@@ -1,11 +1,11 @@
-use Rattle.std.proofs.Common.{◌≡◌, ℕ, ◌-◌, ◌<◌, ◌≤◌, sym, ap, ◌∙◌, subst, arith}
+use Rattle.std.proofs.Common.{◌≡◌, ◌-◌, ◌<◌, sym, ap, ◌∙◌, subst, arith}
 use Rattle.std.specs.Str.{chars}
 use Rattle.std.specs.Str.Iter.{chars_rest}
 use Rattle.std.specs.Char.{len_utf8}
 use Rattle.ob0_text.specs.Texts.{ends_line}
 use Rattle.ob0_text.specs.Units.{width_of}
 use Rattle.ob0_text.proofs.Widths.{narrow}
-use Rattle.ob0_text.proofs.PositionSteps.{counted_past_end, counted_past_cr, counted_past_char, counted_at_stop, counted_at_end, counted_here_dropped, rest_border}
+use Rattle.ob0_text.proofs.PositionSteps.{counted_past_end, counted_past_cr, counted_past_char, counted_at_stop, counted_at_end, rest_border}
 use Rattle.ob0_text.proofs.places.onward_to_offset.Goals as goal
 
 pub range_from-requires : goal.range_from-requires

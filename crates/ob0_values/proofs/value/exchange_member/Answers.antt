@@ -1,4 +1,4 @@
-use Rattle.std.proofs.Common.{◌∙◌, ◌≡◌, set, ◌<◌, length, sym, ap, arith, subst}
+use Rattle.std.proofs.Common.{◌∙◌, ◌≡◌, set, ◌<◌, length, sym, ap, arith}
 use Rattle.std.specs.Prelude.{option_map, Some, None}
 use Rattle.ob0_values.specs.Stored.{value_of, members_in, member_place}
 use Rattle.ob0_values.proofs.Fields.{stands, missing, held}

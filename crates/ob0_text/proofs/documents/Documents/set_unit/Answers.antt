@@ -1,4 +1,4 @@
-use Rattle.std.proofs.Common.{ap, ◌∙◌, sym}
+use Rattle.std.proofs.Common.{ap, ◌∙◌}
 use Rattle.ob0_text.specs.OpenDocuments.{OpenDocuments, document_at}
 use Rattle.ob0_text.proofs.EntryLaws.{counted_where_none}
 use Rattle.ob0_text.proofs.documents.Documents.set_unit.Goals as goal
