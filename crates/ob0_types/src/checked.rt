@@ -8,6 +8,7 @@ ghost use Rattle.std.specs.Prelude.{◌≡◌, ◌≤◌, ◌&&◌, ◌++◌, []
 use crate::deciding::decide;
 use crate::known::Known;
 use crate::laws::fits_by_ordinal;
+use crate::sameness::Parts;
 use crate::telling::tell;
 use ob0_scan::{Code, Fault, Span};
 use ob0_scope::resolved::{PREDECLARED, Resolved};
@@ -191,6 +192,7 @@ impl<'c, 't> WellTyped<'c, 't> {
     ghost use Rattle.ob0_tree.specs.Parsed.{named_tree_of};
     ghost use Rattle.ob0_types.specs.CheckedModules.{HoldsDeclarations, IsWellTyped};
     ghost use Rattle.ob0_types.specs.ConstantValues.{value_of_constant};
+    ghost use Rattle.ob0_types.specs.DeclaredShapes.{IsShapeOf};
     ghost use Rattle.ob0_values.specs.Scalars.{scalar_value};
 
     /// The module with its names bound.
@@ -220,5 +222,17 @@ impl<'c, 't> WellTyped<'c, 't> {
         } else {
             value
         }
+    }
+
+    /// The type of a declaration with its parts, by its ordinal: of a type, of a variable or parameter, and of a constant.
+    /// None for a procedure, and for a number that no declaration has. What the types of the parts are, `known` tells.
+    pub fn shape(&self, declaration: usize) -> Option<Parts<'c, 't>>
+        ensures { IsShapeOf (named_tree_of self.now.module_read) declaration result }
+    {
+        let known = self.known();
+        let Some(of) = known.declared_type(declaration) else {
+            return None;
+        };
+        Some(known.parts(of))
     }
 }

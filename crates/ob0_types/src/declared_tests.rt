@@ -61,6 +61,16 @@ fn types_by_their_ordinals(rt: HostRuntime) -> Result<(), Fail> {
         }
         _ => return Err("a procedure")?,
     }
+    match module.shape(8).ok_or("the array")? {
+        Parts::Array(array) => assert_eq!(rt; array.length, 3),
+        _ => return Err("an array")?,
+    }
+    match module.shape(10).ok_or("the parameter")? {
+        Parts::Record(record) => assert_eq!(rt; record.fields.as_slice().len(), 2),
+        _ => return Err("a record")?,
+    }
+    assert!(rt; module.shape(9).is_none());
+    assert!(rt; module.shape(12).is_none());
     assert_eq!(rt; known.declared_type(9), None);
     assert_eq!(rt; known.declared_type(10), Some(record));
     assert_eq!(rt; known.declared_type(11), Some(TypeId::Integer));
