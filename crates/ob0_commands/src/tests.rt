@@ -1,8 +1,8 @@
 //! The commands, over the bytes of files.
 
 use super::*;
-use crate::renaming::print_edited;
 use crate::numbers::read_numbers;
+use crate::renaming::print_edited;
 use crate::running::{print_outcome, run_text};
 use ob0_run::running::End;
 use ob0_run::state::Item;

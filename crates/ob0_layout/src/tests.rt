@@ -95,3 +95,28 @@ fn statements_and_blocks(rt: HostRuntime) -> Result<(), Fail> {
     assert_eq!(rt; laid_out(alloc, text, Indent::Spaces(2))?.as_str(), wanted);
     Ok(())
 }
+
+/// Whether the layout of a module with so many assignments is too long.
+fn is_too_long(alloc: Global, assignments: usize) -> Result<bool, Fail> {
+    let mut text = String::from_str(alloc, "MODULE M; VAR x: INTEGER; BEGIN x:=0")?;
+    for _ in 0..assignments {
+        text.push_str(";x:=1")?;
+    }
+    text.push_str(" END M.")?;
+    let store = Whole::from_str(alloc, text.as_str())?;
+    let tokens = scan(alloc, text.as_str())?;
+    let module = parse(alloc, &tokens)?;
+    match format(alloc, &store, &module, Indent::Spaces(8)) {
+        Ok(_) => Ok(false),
+        Err(EditRefusal::TooLong) => Ok(true),
+        Err(_) => Err("refused")?,
+    }
+}
+
+#[test]
+fn layouts_past_the_limit_are_refused(rt: HostRuntime) -> Result<(), Fail> {
+    // a line of an assignment has 16 bytes in the layout, and the rest 73
+    assert!(rt; !is_too_long(rt.alloc(), 65_500)?);
+    assert!(rt; is_too_long(rt.alloc(), 65_600)?);
+    Ok(())
+}

@@ -147,14 +147,29 @@ fn event_of(alloc: Global, act: Act) -> Result<Event, AllocError> {
 /// Each event shows what it has to show, and the whole list leaves what it has to leave.
 pub fn holds(rt: &impl Abort, alloc: Global, unit: Unit, story: &Story) -> Result<(), Fail> {
     steps_are_seen(rt, alloc, unit, story)?;
+    let events = events_of(alloc, story)?;
+    let played = World::<Whole>::play_in(alloc, unit, events.as_slice()).expect(rt, "a run");
+    came_of(rt, story, &played);
+    Ok(())
+}
+
+/// The whole list leaves what it has to leave, where no unit is named.
+pub fn holds_in_utf16(rt: &impl Abort, alloc: Global, story: &Story) -> Result<(), Fail> {
+    let world = World::<Whole>::new(alloc).expect(rt, "a world");
+    assert_eq!(rt; world.steps(), 0);
+    let events = events_of(alloc, story)?;
+    let played = World::<Whole>::play(alloc, events.as_slice()).expect(rt, "a run");
+    came_of(rt, story, &played);
+    Ok(())
+}
+
+fn events_of(alloc: Global, story: &Story) -> Result<Vec<Event>, Fail> {
     let mut events = Vec::new(alloc);
     for moment in story.moments {
         let (act, _seen) = *moment;
         events.push(event_of(alloc, act)?)?;
     }
-    let played = World::<Whole>::play_in(alloc, unit, events.as_slice()).expect(rt, "a run");
-    came_of(rt, story, &played);
-    Ok(())
+    Ok(events)
 }
 
 fn steps_are_seen(rt: &impl Abort, alloc: Global, unit: Unit, story: &Story) -> Result<(), Fail> {

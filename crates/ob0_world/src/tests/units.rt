@@ -1,6 +1,8 @@
 //! Characters that count differently in the two units: both ends count alike.
 
-use crate::tests::acts::{Act, Edited, FAULTY, FITS, Published, SENT, SERVED, Story, holds};
+use crate::tests::acts::{
+    Act, Edited, FAULTY, FITS, Published, SENT, SERVED, Story, holds, holds_in_utf16,
+};
 use ob0_text::Unit;
 use std::test::Fail;
 
@@ -111,6 +113,7 @@ const IN_UTF8: [Story; 2] = [
 fn both_ends_count_alike(rt: HostRuntime) -> Result<(), Fail> {
     for story in &IN_UTF16 {
         holds(&rt, rt.alloc(), Unit::Utf16, story)?;
+        holds_in_utf16(&rt, rt.alloc(), story)?;
     }
     for story in &IN_UTF8 {
         holds(&rt, rt.alloc(), Unit::Utf8, story)?;
