@@ -1,7 +1,7 @@
 """Changes with a range, in both units: what the server holds is what the editor has."""
 import random
 
-from harness import Server, compact, did_change, did_open, extent, holds, same, test, told
+from harness import Server, compact, did_change, did_open, extent, holds, initialize, published, same, serve, test, told
 
 ENDS = ("\r\n", "\r", "\n")
 
@@ -140,6 +140,56 @@ def places():
     same(changed("(* 😀 *) x", ("0:4-0:4", "$")), [], "in the comment")
     same(changed("a\rb", ("1:0-1:0", "\n"), ("1:0-1:0", "$")), bad("1:0-1:1"), "behind CR LF")
     same(changed("a\r\nb", ("0:9-0:9", "$")), bad("0:1-0:2"), "before CR LF")
+
+
+WITH_PAIR = "(* 😀 *) x := 1;"
+
+
+@test("changes: a place inside a character moves back before it, in both units", "changes", "utf8")
+def inside():
+    wanted = [told("BadChar", "bad character", "0:5-0:6")]
+    for encodings, places in ((["utf-16"], [3, 4]), (["utf-8"], [3, 4, 5, 6])):
+        for at in places:
+            # (moved on behind the character, the bad one would stand at 0:7 in UTF-16 and at 0:9 in UTF-8)
+            found = changed(WITH_PAIR, (f"0:{at}-0:{at}", "*)$(*"), encodings=encodings)
+            same(found, wanted, f"0:{at} in {encodings[0]}")
+
+
+@test("changes: a place behind a line's end is that end, and one behind the last line is the text's end", "changes")
+def behind():
+    bad = lambda where: [told("BadChar", "bad character", where)]
+    same(changed(WITH_PAIR, ("0:99-0:99", "$")), bad("0:16-0:17"), "0:99, of one line")
+    same(changed(WITH_PAIR, ("7:0-7:0", "$")), bad("0:16-0:17"), "7:0, of one line")
+    for ending in ENDS:
+        text = f"ab{ending}(* 😀 *){ending}c"
+        same(changed(text, ("0:99-0:99", "$")), bad("0:2-0:3"), f"0:99 before {ending!r}")
+        same(changed(text, ("1:99-1:99", "$")), bad("1:8-1:9"), f"1:99 before {ending!r}")
+        same(changed(text, ("7:0-7:0", "$")), bad("2:1-2:2"), f"7:0 behind {ending!r}")
+
+
+@test("changes: places behind a line's end and behind the last line, in UTF-8 units", "changes", "utf8")
+def behind_utf8():
+    bad = [told("BadChar", "bad character", "0:18-0:19")]
+    for where in ("0:99-0:99", "7:0-7:0"):
+        same(changed(WITH_PAIR, (where, "$"), encodings=["utf-8"]), bad, where)
+
+
+def all_at_once(text, *changes):
+    """What is published of a text, and of what these changes in one notification make of it, which are all ranged."""
+    given = [{"range": extent(where), "text": new} for where, new in changes]
+    return serve([initialize(), did_open(text), did_change(given, version=2)]).contents()[1:]
+
+
+@test("changes: several in one notification are published once, with its version", "changes", "syntax")
+def one_notification():
+    bad = lambda *places: [told("BadChar", "bad character", it) for it in places]
+    module = [told("Syntax", "expected MODULE", "0:0-0:1")]
+    given = [("1:0-1:0", "\n"), ("1:1-1:1", "\nc")]
+    same(all_at_once("a\rb", *given, ("2:0-2:1", "d")), [published(module), published(module, version=2)], "letters")
+    found = all_at_once("$\r$", *given, ("2:0-2:1", "$"))
+    three = published(bad("0:0-0:1", "1:0-1:1", "2:0-2:1"), version=2)
+    same(found, [published(bad("0:0-0:1", "1:0-1:1")), three], "the three lines, each of a bad character")
+    same(all_at_once("$", ("0:0-0:0", "\r\n"), ("1:0-1:0", "\r"))[1], published(bad("2:0-2:1"), version=2), "two changes")
 
 
 @test("changes: units of UTF-8", "changes", "utf8")

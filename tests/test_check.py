@@ -114,6 +114,9 @@ EXAMPLES = [
     ("MODULE M; VAR a: ARRAY ⟦0⟧ OF INTEGER; b: ARRAY ⟦65537⟧ OF INTEGER; c: ARRAY ⟦-1⟧ OF INTEGER; END M.", *["ArrayLength"] * 3),
     ("MODULE M; CONST n = (-7) DIV 2; VAR a: ARRAY n + 5 OF INTEGER; END M.",),
     ("MODULE M; CONST n = (-7) DIV 2; VAR a: ARRAY ⟦n + 4⟧ OF INTEGER; END M.", "ArrayLength"),
+    # sizes
+    ("MODULE M; VAR a: ⟦ARRAY⟧ 256 OF ARRAY 257 OF INTEGER; END M.", "TypeTooLarge"),
+    ("MODULE M; TYPE R = ⟦RECORD⟧ a: ARRAY 65535 OF BOOLEAN; b, c: INTEGER END; VAR r: R; BEGIN r := 1 END M.", "TypeTooLarge"),
     # calls
     ("MODULE M; PROCEDURE P(x: INTEGER); END P; BEGIN ⟦P⟧; ⟦P⟧(1, 2); P(3); ⟦P⟧(TRUE, FALSE) END M.", *["ArgumentCount"] * 3),
     ("MODULE M; BEGIN ⟦Read⟧; ⟦Write⟧(); ⟦WriteLn⟧(1); WriteLn; WriteLn() END M.", *["ArgumentCount"] * 3),
@@ -169,6 +172,17 @@ def well_typed():
     ]
     for text in texts:
         ends(on_file("check", text), "", 0)
+
+
+@test("check: a comment that isn't closed, and numbers that are too large", "check")
+def scanning():
+    ends(on_file("check", "MODULE M;\n(* (* *) END M."), "1:0: OpenComment: comment not closed\n", 1)
+    ends(on_file("check", "MODULE M; CONST c = 2147483648; END M."), "0:20: NumberTooLarge: number too large\n", 1)
+    ends(
+        on_file("check", "MODULE M;\nCONST c = 002147483648; d = 2147483647; (* 😀 END M."),
+        "1:10: NumberTooLarge: number too large\n1:40: OpenComment: comment not closed\n",
+        1,
+    )
 
 
 @test("check: scanning and syntax are told first", "check")

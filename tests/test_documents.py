@@ -1,5 +1,5 @@
 """Documents and what is published of them: opens, changes, closes, versions, faults of scanning."""
-from harness import answer, did_change, did_close, did_open, holds, initialize, notice, published, request, same, serve
+from harness import answer, did_change, did_close, did_open, error, holds, initialize, notice, place, published, request, same, serve
 from harness import Server, extent, frames, told, test
 from features import BUILT, capabilities
 
@@ -152,6 +152,33 @@ def nothing():
         notice("textDocument/didSave", {"textDocument": {"uri": "file:///m"}}),
     ]
     same(talk(*notes), [])
+
+
+AT_START = {"position": place(0, 0), "textDocument": {"uri": "file:///m"}}
+
+
+@test("documents: one out of step sends nothing and refuses hover, until a whole text comes", "hover")
+def hover_out_of_step():
+    broken = notice("textDocument/didChange", {"textDocument": {"uri": "file:///m", "version": 2}})
+    hover = request(3, "textDocument/hover", AT_START)
+    bad = published([told("BadChar", "bad character", "0:0-0:1")], version=3)
+    found = talk(did_open(MODULE), broken, hover, did_change("$", version=3))
+    same(found, [published([]), error(3, -32803, "out of step"), bad])
+    same(found[1], '{"error":{"code":-32803,"message":"out of step"},"id":3,"jsonrpc":"2.0"}')
+
+
+@test("documents: hover of one that was never opened", "hover")
+def hover_unopened():
+    hover = request("h", "textDocument/hover", AT_START)
+    same(talk(hover), [error("h", -32803, "unopened")])
+    same(talk(did_open(MODULE, uri="file:///n"), hover)[1:], [error("h", -32803, "unopened")], "beside another one")
+
+
+@test("documents: a close of one out of step takes the diagnostics back")
+def closed_out_of_step():
+    broken = notice("textDocument/didChange", {"textDocument": {"uri": "file:///m", "version": 2}})
+    found = talk(did_open("$"), broken, did_close(), did_close(), did_change(MODULE, version=3))
+    same(found[1:], [published([], version=None)])
 
 
 @test("documents: a close takes the diagnostics back, once, and without a version")

@@ -262,12 +262,24 @@ def longest():
     ends(on_file("rename", text, "0", "14", "xy"), "", 1, "refused: TooLong\n")
 
 
-@test("rename: keeps the run", "rename", "run")
+@test("rename: up to the longest text, through `serve`", "rename")
+def longest_served():
+    text, places = "MODULE M; VAR x: INTEGER; END M.".ljust(1048576), ["0:14-0:15"]
+    through_serve([(text, 0, 14, "y", places), (text, 0, 14, "xy", "TooLong"), (text[:-1], 0, 14, "xy", places)])
+
+
+@test("rename: keeps the run", "rename", "rename fields", "run")
 def same_run():
-    for text, line, character, new, wanted in RENAMES:
+    for text, _, _, new, wanted in [*RENAMES, *FIELD_RENAMES]:
         if not isinstance(wanted, str):
-            after = edited(text, wanted, new)
-            same(on_file("run", after).out, on_file("run", text).out, after)
+            before = on_file("run", text)
+            ends(on_file("run", edited(text, wanted, new)), before.out, before.status, before.err)
+
+
+@test("rename: a field under each new name prints the same", "rename fields", "rename command", "run")
+def field_runs():
+    for new in ("c", "r"):
+        ends(on_file("run", on_file("rename", RECORDS, "3", "8", new).out), " 3", 0)
 
 
 @test("rename: command lines, and places far off", "rename command")
@@ -283,6 +295,12 @@ LEAST = """MODULE M;
 CONST c = -2147483647 - 1;
 VAR x: INTEGER;
 BEGIN x := 0 + c; Write(x) END M.
+"""
+FIVE = "MODULE M; CONST c = -5; BEGIN Write(c DIV 3) END M."
+SHADOWED = """MODULE M;
+CONST on = TRUE;
+PROCEDURE P; VAR TRUE, b: BOOLEAN; BEGIN b := on END P;
+BEGIN P END M.
 """
 
 
@@ -338,8 +356,7 @@ def inline_values():
     same(actions(text, 0, uses[0])["Inline here"], [(extent(f"0:{uses[0]}-0:{uses[0] + 1}"), "(-5)")])
     at = text.index("t THEN")
     same(actions(text, 0, at)["Inline here"], [(extent(f"0:{at}-0:{at + 1}"), "TRUE")])
-    shadowed = "MODULE M;\nCONST on = TRUE;\nPROCEDURE P; VAR TRUE, b: BOOLEAN; BEGIN b := on END P;\nBEGIN P END M.\n"
-    same(actions(shadowed, 2, 46), {}, "shadowed")
+    same(actions(SHADOWED, 2, 46), {}, "shadowed")
     comment = "MODULE M; CONST c (* five *) = 5; BEGIN Write(c) END M."
     same([*actions(comment, 0, comment.index("c)"))], ["Inline here"], "a comment in the declaration")
     deep = "MODULE M; CONST c = -1; VAR x: INTEGER; BEGIN x := " + "(" * 100 + "c" + ")" * 100 + " END M."
@@ -414,6 +431,26 @@ def inline_runs():
                 same([it["range"] for it in edits if it["newText"]], [extent(it) for it in wanted], f"{title} at {it} of {plain}")
                 same({it["newText"] for it in edits}, {written} if title == "Inline here" else {written, ""}, plain)
                 ends(on_file("run", patched(plain, edits)), out, 0)
+
+
+def inlinings(text, line, character):
+    """The texts that the actions at a place make."""
+    found = actions(text, line, character)
+    return {title: patched(text, [{"newText": new, "range": it} for it, new in edits]) for title, edits in found.items()}
+
+
+@test("inline: negative values print the same before, after `here` and after `everywhere`", "inline", "run")
+def inline_negative():
+    rows = [
+        (LEAST, 3, 15, "0 + c", "0 + (-2147483647 - 1)", "c = -2147483647 - 1;", " -2147483648"),
+        (FIVE, 0, 36, "c DIV 3", "(-5) DIV 3", "c = -5;", " -2"),
+    ]
+    for text, line, character, use, written, declared, out in rows:
+        here = text.replace(use, written)
+        found = inlinings(text, line, character)
+        same(found, {"Inline here": here, "Inline everywhere": here.replace(declared, "")}, text)
+        for it in (text, *found.values()):
+            ends(on_file("run", it), out, 0)
 
 
 @test("inline: a constant that is never used is taken out", "inline")
@@ -517,3 +554,27 @@ def options():
         same("result" in ask({"tabSize": 18446744073709551615, "insertSpaces": True, "x": 1}), True)
         server.tell(did_open("MODULE M", URI))
         same(ask({"tabSize": 2, "insertSpaces": True}).get("error"), {"code": -32803, "message": "ill-typed"})
+
+
+def short_statements(longer):
+    """A module on one line whose layout by 16 spaces has 1,048,573 bytes, and one more for each of the longer statements."""
+    return "MODULE M;BEGIN " + "Write(1);" * longer + "WriteLn;" * (41942 - longer) + "END M."
+
+
+def length_after(text, edits):
+    """How many bytes a text on one line, of one byte each character, has with these edits."""
+    size = lambda it: it["range"]["end"]["character"] - it["range"]["start"]["character"]
+    return len(text) + sum(len(it["newText"]) - size(it) for it in edits)
+
+
+@test("format: up to the longest layout", "format")
+def longest_layout():
+    params = {"options": {"insertSpaces": True, "tabSize": 16}, "textDocument": {"uri": URI}}
+    with Server() as server:
+        text = short_statements(3)
+        same(server.tell(did_open(text, URI)), [], "what is told of the text")
+        found = server.ask("textDocument/formatting", params)
+        same(length_after(text, found["result"]), 1048576, "the layout's length")
+        same(server.tell(did_open(short_statements(4), URI)), [], "what is told of the longer text")
+        found = server.ask("textDocument/formatting", params)
+        same(found, {"error": {"code": -32803, "message": "TooLong"}, "id": 3, "jsonrpc": "2.0"})

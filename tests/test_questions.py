@@ -100,6 +100,17 @@ def ill_typed():
         same(server.references(0, 7, True), [])
 
 
+@test("questions: each place of a text that isn't well-typed", "questions", "hover")
+def ill_typed_places():
+    with Asked("MODULE M") as server:
+        for character in range(9):
+            for what in ("hover", "definition"):
+                same(server.result(what, 0, character), None, f"{what} at 0:{character}")
+            for include in (True, False):
+                found = server.result("references", 0, character, context={"includeDeclaration": include})
+                same(found, [], f"references at 0:{character}")
+
+
 @test("questions: positions that can't be read, and positions far off", "questions")
 def positions():
     bad = {"code": -32602, "message": "bad params"}
@@ -158,6 +169,14 @@ def hovers():
         "2:20-2:27": "predeclared INTEGER",
     }
     with Asked(NAMES) as server:
+        shows(server, wanted)
+
+
+@test("questions: hover of a constant that is FALSE", "hover")
+def hover_false():
+    text = "MODULE M; CONST c = FALSE; d = 1 > 2; BEGIN IF c OR d THEN WriteLn END END M."
+    wanted = {"0:16-0:17": "CONST c = FALSE", "0:27-0:28": "CONST d = FALSE", "0:47-0:48": "CONST c = FALSE"}
+    with Asked(text) as server:
         shows(server, wanted)
 
 

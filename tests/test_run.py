@@ -1,5 +1,6 @@
 """`ob0 run`: outputs, the seven ends, bounds, input, statuses."""
 from harness import ends, on_file, run, same, test
+from test_edits import FIVE, LEAST, NESTED, OUTER, RECORDS, SHADOWED, edited
 
 COUNT = """MODULE M;
 VAR n: INTEGER;
@@ -41,22 +42,41 @@ def body(statements, variables="x, y: INTEGER; b: BOOLEAN"):
     return f"MODULE M; VAR {variables}; BEGIN {statements} END M."
 
 
+def four_runs(text):
+    """Holds COUNT, or that text with other names, to its ends under four inputs and bounds."""
+    ran(text, "", "InputEnd")
+    ran(text, "\n\n\n", "TurnBound", "7", 0, 3)
+    ran(text, "\n\n", "CallBound", "2", 0, 3)
+    ran(text, "\n\n 0", "", "2", 1, 3)
+
+
 @test("run: input, turns and calls under bounds", "run")
 def bounds():
-    ran(COUNT, "", "InputEnd")
-    ran(COUNT, "\n\n\n", "TurnBound", "7", 0, 3)
-    ran(COUNT, "\n\n", "CallBound", "2", 0, 3)
-    ran(COUNT, "\n\n 0", "", "2", 1, 3)
+    four_runs(COUNT)
     ran(CALLS, " 2 1", "", "", 3)
     ran(CALLS, " 2 1", "CallBound", "", 2)
     ran(CALLS, " 2 1")
 
 
+@test("run: a module with a WHILE that `rename` gave another name has the same four runs", "run", "rename command")
+def renamed_runs():
+    found = on_file("rename", COUNT, "1", "4", "k")
+    ends(found, edited(COUNT, ["1:4-1:5", "2:25-2:26", "3:11-3:12", "3:21-3:22", "3:30-3:31", "3:35-3:36"], "k"), 0)
+    four_runs(found.out)
+
+
+@test("run: fields of one name in two records, constants below 0, and TRUE declared anew", "run")
+def before_edits():
+    ran(RECORDS, " 3")
+    ran(LEAST, " -2147483648")
+    ran(FIVE, " -2")
+    ran(SHADOWED, "")
+
+
 @test("run: names that hide others, procedures that stand later", "run")
 def scopes():
-    ran("MODULE M;\nVAR x: INTEGER;\nPROCEDURE P;\nVAR y: INTEGER;\nBEGIN y := 1; x := y END P;\nBEGIN P; Write(x) END M.\n", " 1")
-    outer = "MODULE M;\nVAR Q: INTEGER;\nPROCEDURE A;\nPROCEDURE P; BEGIN Q := 7 END P;\nPROCEDURE R; BEGIN Write(2) END R;\nBEGIN P; R END A;\n"
-    ran(outer + "BEGIN A; Write(Q) END M.\n", " 2 7")
+    ran(NESTED, " 1")
+    ran(OUTER, " 2 7")
     ran(ACTIVATIONS, " 0 2 4", "", "", 4)
     ran(ACTIVATIONS, "", "CallBound", "", 3)
 

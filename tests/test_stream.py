@@ -148,6 +148,11 @@ def taken_heads():
         same((found.out, found.err, found.status), (NO_MESSAGE, b"", 1), name)
 
 
+@test("stream: a head in small letters, with a further field, in the first conversation")
+def other_spelling():
+    ended(run(["serve"], INPUT[: BORDERS[3]] + b"content-length:33 \r\nX-a: b\r\n\r\n" + IN[3]), OUTPUT, 0)
+
+
 @test("stream: 4,095 bytes with no empty line, and the end")
 def almost_a_bad_head():
     ended(serve(b"a" * 4095), b"", 3, b"fault: Truncated\n")
