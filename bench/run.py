@@ -2,10 +2,11 @@
 """Times bin/ob0 and prints what it finds; nothing fails by time.
 
   bench/run.py [WORD..]   the measurements whose names hold one of the words; with no word all of them"""
+import ctypes
 import os
 import re
-import select
 import shutil
+import signal
 import subprocess
 import sys
 import tempfile
@@ -42,18 +43,48 @@ def megabytes(count):
     return f"{count / MIB:.1f} MiB"
 
 
+def peak_until_now(pid):
+    """The peak memory of a process, 0 where it has none any more."""
+    try:
+        with open(f"/proc/{pid}/status", encoding="ascii", errors="replace") as file:
+            found = re.search(r"VmHWM:\s+(\d+)", file.read())
+    except OSError:
+        return 0
+    return int(found[1]) * 1024 if found else 0
+
+
 def watch(pid, peak):
     """Keeps the peak memory of a process, which it looks at each millisecond (its parent's would be counted by wait4)."""
-    try:
-        while True:
-            with open(f"/proc/{pid}/status", encoding="ascii", errors="replace") as file:
-                found = re.search(r"VmHWM:\s+(\d+)", file.read())
-            if not found:
-                return
-            peak[0] = int(found[1]) * 1024
-            time.sleep(0.001)
-    except OSError:
-        pass
+    while found := peak_until_now(pid):
+        peak[0] = found
+        time.sleep(0.001)
+
+
+LIBRARY = ctypes.CDLL(None)
+TRACE_ME, TRACE_GO_ON, TRACE_OPTIONS, TRACE_EXIT, EXITS = 0, 7, 0x4200, 0x40, 6  # (the numbers of ptrace)
+
+
+def trace(what, pid=0, given=0):
+    LIBRARY.ptrace(what, pid, ctypes.c_void_p(0), ctypes.c_void_p(given))
+
+
+def peak_of(words, given, cwd):
+    """The peak memory of a run, held at its end and looked at there: for runs that are too short to be watched. 0 where this
+    system lets nobody hold a process."""
+    given.seek(0)
+    how = {"stdin": given, "stdout": subprocess.DEVNULL, "stderr": subprocess.DEVNULL, "cwd": cwd}
+    process = subprocess.Popen(words, preexec_fn=lambda: trace(TRACE_ME), **how)
+    peak = 0
+    while os.WIFSTOPPED(status := os.waitpid(process.pid, 0)[1]):
+        passed = os.WSTOPSIG(status)
+        if status >> 8 == signal.SIGTRAP | EXITS << 8:
+            peak, passed = peak_until_now(process.pid), 0
+        elif passed == signal.SIGTRAP:
+            trace(TRACE_OPTIONS, process.pid, TRACE_EXIT)
+            passed = 0
+        trace(TRACE_GO_ON, process.pid, passed)
+    process.returncode = status
+    return peak
 
 
 class Timed:
@@ -76,7 +107,7 @@ class Timed:
             watcher.join()
             out.seek(0)
             self.out = out.read()
-        self.memory = peak[0]
+            self.memory = max(peak[0], peak_of(words, file, cwd) if self.seconds < 0.1 else 0)
 
 
 def best(count, run):
@@ -120,17 +151,28 @@ def opened(text, times):
     return max(found.processor - nothing.processor, 1e-4) / times, found.memory
 
 
+def ratios(what, rows):
+    """Prints how time on a processor and peak memory grew from the first to the last of some rows of a text's length, seconds
+    and memory, and both by the growth of the length."""
+    (small, first, low), (large, last, high) = rows[0], rows[-1]
+    grew = large / small
+    said(f"{what}: time grew by {last / first:.1f} where the text grew by {grew:.1f}", f"ratio {last / first / grew:.2f}")
+    if low:
+        said(f"{what}: peak memory grew by {high / low:.1f} there", f"ratio {high / low / grew:.2f}")
+    else:
+        said(f"{what}: peak memory", "not seen: the shortest run ended before")
+
+
 def growth(what, sizes, make, each):
-    """Prints time on a processor, bytes a second and memory for growing sizes, and the ratio of the last to the first, by size."""
+    """Prints time on a processor, bytes a second and memory for growing sizes, and the ratios of the last to the first, by size."""
     rows = []
     for size in sizes:
         text = make(size)
         seconds, memory = each(text, size)
-        rows.append((len(text), seconds))
+        rows.append((len(text), seconds, memory))
         speed = f"{len(text) / seconds / 1e6:7.2f} MB/s"
         said(f"{what} {size:,}: {len(text):,} bytes", f"{seconds * 1000:9.2f} ms  {speed}  {megabytes(memory)}")
-    (small, first), (large, last) = rows[0], rows[-1]
-    said(f"{what.rstrip(',')}: time grew by {last / first:.1f} where the text grew by {large / small:.1f}", f"ratio {last / first / (large / small):.2f}")
+    ratios(what.rstrip(","), rows)
 
 
 @measure("serve: what an open costs, from 10 KB to 1 MiB")
@@ -141,50 +183,71 @@ def growing():
     growth("module on one line of", sizes, lambda size: corpus.module(size, on_line=True), each)
 
 
+class Talk:
+    """A server in conversation, one message at a time; what comes back is awaited and not read as JSON."""
+
+    def __init__(self, text):
+        self.process = subprocess.Popen([BINARY, "serve"], stdin=subprocess.PIPE, stdout=subprocess.PIPE, bufsize=0)
+        self.held = bytearray()
+        self.after(initialize())
+        self.after(did_open(text))
+
+    def __enter__(self):
+        return self
+
+    def __exit__(self, *why):
+        with self.process:
+            for message in (SHUTDOWN, EXIT):
+                self.send(frame(message))
+            self.process.stdin.close()
+            self.process.wait()
+
+    def send(self, given):
+        given = memoryview(given)
+        while given:
+            given = given[self.process.stdin.write(given) :]
+
+    def more(self):
+        came = os.read(self.process.stdout.fileno(), MIB)
+        if not came:
+            raise EOFError("the server ended in the middle of a conversation")
+        self.held += came
+
+    def take(self):
+        """The content of the next message."""
+        while (head := self.held.find(b"\r\n\r\n")) < 0:
+            self.more()
+        start = head + 4
+        end = start + int(self.held[:head].partition(b": ")[2])
+        while len(self.held) < end:
+            self.more()
+        content = bytes(self.held[start:end])
+        del self.held[:end]
+        return content
+
+    def after(self, message):
+        """The seconds from a message's first byte to the last one of what comes then, and that."""
+        given = frame(message)
+        start = time.monotonic()
+        self.send(given)
+        content = self.take()
+        return time.monotonic() - start, content
+
+
+def spread(taken):
+    """The least, the middle and the most of some seconds, as milliseconds."""
+    taken = sorted(taken)
+    return ", ".join(f"{1000 * taken[at]:.1f}" for at in (0, len(taken) // 2, -1))
+
+
 @measure("serve: from a keystroke to the diagnostics, on 1 MiB")
 def keystroke():
     said("the change is sent as", "a range" if BUILT["changes"] else "a whole text")
     for name, on_line in (("on many lines", False), ("on one line", True)):
-        taken = keystrokes(corpus.module(MIB - 1000, on_line=on_line))
-        said(f"{name}: milliseconds, least, middle, most", ", ".join(f"{1000 * taken[at]:.1f}" for at in (0, len(taken) // 2, -1)))
-
-
-def keystrokes(text):
-    """The seconds from each of 20 changes of a letter until its diagnostics are there, in order of size."""
-    with subprocess.Popen([BINARY, "serve"], stdin=subprocess.PIPE, stdout=subprocess.PIPE, bufsize=0) as process:
-        held = b""
-
-        def send(message):
-            given = memoryview(frame(message))
-            while given:
-                given = given[process.stdin.write(given) :]
-
-        def take():
-            nonlocal held
-            while True:
-                head, empty, rest = held.partition(b"\r\n\r\n")
-                if empty and len(rest) >= int(head.partition(b": ")[2]):
-                    held = rest[int(head.partition(b": ")[2]) :]
-                    return
-                select.select([process.stdout], [], [])
-                held += os.read(process.stdout.fileno(), MIB)
-
-        send(initialize())
-        take()
-        send(did_open(text))
-        take()
-        taken = []
-        for version in range(2, 22):
-            change = letter_at(text, version)
-            start = time.monotonic()
-            send(change)
-            take()
-            taken.append(time.monotonic() - start)
-        for message in (SHUTDOWN, EXIT):
-            send(message)
-        process.stdin.close()
-        process.wait()
-    return sorted(taken)
+        text = corpus.module(MIB - 1000, on_line=on_line)
+        with Talk(text) as talk:
+            taken = [talk.after(letter_at(text, version))[0] for version in range(2, 22)]
+        said(f"{name}: milliseconds, least, middle, most", spread(taken))
 
 
 def on_file(words, text, given=b"", times=3):
@@ -209,10 +272,9 @@ def parsed():
             if scanned.status != 1 or both.status != 1:
                 said("NOTE: a fault was expected of each", f"status {scanned.status}, {both.status}")
             seconds = max(both.processor - scanned.processor, 1e-4)
-            rows.append((len(text), seconds))
+            rows.append((len(text), seconds, both.memory))
             said(f"{len(text):,} bytes, {'on one line' if how else 'on many lines'}", f"parse {len(text) / seconds / 1e6:.1f} MB/s; scan and parse {both.processor * 1000:.1f} ms, {megabytes(both.memory)}; scan alone {scanned.processor * 1000:.1f} ms, {megabytes(scanned.memory)}")
-        (small, first), (large, last) = rows[0], rows[-1]
-        said(f"parse: time grew by {last / first:.1f} where the text grew by {large / small:.1f}", f"ratio {last / first / (large / small):.2f}")
+        ratios("parse", rows)
 
     beside([10000, 100000, MIB - 1000])
     beside([100000, MIB - 1000], on_line=True)
@@ -271,6 +333,26 @@ def renamed():
     each = lambda text, size: asked(text, "rename", {"newName": "y", "position": place(0, 18)}, b'"newText":"y"', size + 1)
     for name, on_line in USES:
         growth(f"rename {name},", [10000, 100000], lambda size, on_line=on_line: corpus.uses(size, on_line), each)
+
+
+@measure("rename: from the request to the end of its answer, on 1 MiB", "rename")
+def rename_answered():
+    """By the clock, with the document open: a name that stands in a module here and there, and one that is all of the text."""
+
+    def whole(name, text, line, character, old, new):
+        question = request(5, "textDocument/rename", {"newName": new, "position": place(line, character), "textDocument": {"uri": "file:///m"}})
+        count = len(re.findall(rf"\b{old}\b", text))
+        with Talk(text) as talk:
+            answers = [talk.after(question) for _ in range(5)]
+        said(f"{name}: {len(text):,} bytes, {count:,} places", f"{len(answers[0][1]):,} bytes answered; milliseconds, least, middle, most: {spread(it for it, _ in answers)}")
+        found = {content.count(b'"newText":"%s"' % new.encode()) for _, content in answers}
+        if found != {count}:
+            said("NOTE: another answer was expected", f"{sorted(found)} edits, {answers[0][1][:200].decode(errors='replace')}")
+
+    whole("a module", corpus.module(MIB), 2, 2, "base", "root")
+    for name, on_line in USES:
+        most = (MIB - len(corpus.uses(1, on_line))) // (len(corpus.uses(2, on_line)) - len(corpus.uses(1, on_line)))
+        whole(f"uses {name}", corpus.uses(most, on_line).ljust(MIB), 0, 18, "x", "y")
 
 
 @measure("rename: a field with 10,000 and 100,000 uses", "rename fields")

@@ -11,7 +11,7 @@ import tempfile
 import harness
 from features import BUILT
 from harness import Failed, Skipped, TOP, ends, extent, install, on_file, same, test
-from test_edits import CALLS, LEAST, RECORDS, edited
+from test_edits import CALLS, LEAST, NESTED, OUTER, RECORDS, edited
 
 EDITORS = os.path.join(TOP, "tests", "editors")
 ENDED = {"code": 0, "signal": 0}
@@ -217,51 +217,123 @@ def emacs_looking():
         same(in_emacs("looking", text, places=[it[0] for it in seen]), [*looked(seen), ("ended", 0)])
 
 
-def renamed(text, places, new):
-    return [("opened", []), ("renamed", []), ("text", edited(text, places, new))]
+def keeps_the_run(before, after, out, given=b""):
+    """Holds a text, and what an editor made of it, to one run: on this input each prints this and ends with status 0."""
+    for text in (before, after):
+        ends(on_file("run", text, given=given), out, 0)
 
 
-@test("Neovim: a rename is applied", "rename")
-def neovim_rename():
-    same(in_neovim("rename", CALLS, place=[2, 47], name="G"), [*renamed(CALLS, PLACES, "G"), ("ended", ENDED)])
-
-
-@test("Emacs: a rename is applied", "rename")
-def emacs_rename():
-    same(in_emacs("rename", CALLS, place=[2, 47], name="G"), [*renamed(CALLS, PLACES, "G"), ("ended", 0)])
-
-
+# a text, a place in it, the new name there, the places that change, what the text prints before and after
+RENAMED = [
+    (CALLS, [2, 47], "G", PLACES, " 2 1"),
+    (NESTED, [1, 4], "z", ["1:4-1:5", "4:14-4:15", "5:15-5:16"], " 1"),
+    (OUTER, [4, 10], "Q", ["4:10-4:11", "4:32-4:33", "5:9-5:10"], " 2 7"),
+]
 FIELDS = ["1:16-1:17", "3:8-3:9", "3:33-3:34"]
+FIELDS_RENAMED = [
+    (RECORDS, [3, 8], "r", FIELDS, " 3"),
+    (RECORDS, [1, 16], "c", FIELDS, " 3"),
+]
+
+
+def renames(editor, ended, rows):
+    for text, place, new, places, out in rows:
+        found = editor("rename", text, place=place, name=new)
+        steps = [("opened", []), ("renamed", []), ("text", edited(text, places, new)), ("ended", ended)]
+        same(found, steps, f"{new} at {place}")
+        keeps_the_run(text, dict(found)["text"], out)
+
+
+@test("Neovim: a rename is applied, and keeps the run", "rename", "run")
+def neovim_rename():
+    renames(in_neovim, ENDED, RENAMED)
+
+
+@test("Emacs: a rename is applied, and keeps the run", "rename", "run")
+def emacs_rename():
+    renames(in_emacs, 0, RENAMED)
 
 
 @test("Neovim: a rename of a record's field is applied, and keeps the run", "rename fields", "run")
 def neovim_rename_field():
-    for place in ([3, 8], [1, 16]):
-        found = in_neovim("rename", RECORDS, place=place, name="r")
-        same(found, [*renamed(RECORDS, FIELDS, "r"), ("ended", ENDED)], f"at {place}")
-        ends(on_file("run", dict(found)["text"]), " 3", 0)
+    renames(in_neovim, ENDED, FIELDS_RENAMED)
 
 
 @test("Emacs: a rename of a record's field is applied, and keeps the run", "rename fields", "run")
 def emacs_rename_field():
-    found = in_emacs("rename", RECORDS, place=[3, 8], name="r")
-    same(found, [*renamed(RECORDS, FIELDS, "r"), ("ended", 0)])
-    ends(on_file("run", dict(found)["text"]), " 3", 0)
+    renames(in_emacs, 0, FIELDS_RENAMED)
 
 
-# a text, a place in it, the action that is chosen, what is offered, the text after it
+LEAST_HERE = LEAST.replace("+ c", "+ (-2147483647 - 1)")
+LEAST_EVERYWHERE = LEAST_HERE.replace("c = -2147483647 - 1;", "")
+FIVE = "MODULE M;\nCONST c = -5;\nBEGIN Write(c DIV 3) END M.\n"
+FIVE_HERE = FIVE.replace("c DIV", "(-5) DIV")
+
+# a text, a place in it, the action that is chosen, what is offered, the text after it, what the text prints before and after
 ACTED = [
-    (LEAST, [3, 15], "Inline here", 2, LEAST.replace("+ c", "+ (-2147483647 - 1)")),
-    (LEAST, [3, 15], "Inline everywhere", 2, LEAST.replace("+ c", "+ (-2147483647 - 1)").replace("c = -2147483647 - 1;", "")),
-    (LEAST, [1, 6], "Inline everywhere", 1, LEAST.replace("+ c", "+ (-2147483647 - 1)").replace("c = -2147483647 - 1;", "")),
+    (LEAST, [3, 15], "Inline here", 2, LEAST_HERE, " -2147483648"),
+    (LEAST, [3, 15], "Inline everywhere", 2, LEAST_EVERYWHERE, " -2147483648"),
+    (LEAST, [1, 6], "Inline everywhere", 1, LEAST_EVERYWHERE, " -2147483648"),
+    (FIVE, [2, 12], "Inline here", 2, FIVE_HERE, " -2"),
+    (FIVE, [2, 12], "Inline everywhere", 2, FIVE_HERE.replace("c = -5;", ""), " -2"),
 ]
 
 
 @test("Neovim: both ways to inline a constant are offered and applied, and keep the run", "inline", "run")
 def neovim_inline():
-    for text, place, title, count, wanted_text in ACTED:
+    for text, place, title, count, wanted_text, out in ACTED:
         found = in_neovim("acting", text, place=place, title=title)
         offered = ["Inline here", "Inline everywhere"][2 - count :]
         steps = [("opened", []), ("acted", []), ("offered", offered), ("text", wanted_text), ("ended", ENDED)]
         same(found, steps, f"{title} at {place}")
-        ends(on_file("run", dict(found)["text"]), on_file("run", text).out, 0)
+        keeps_the_run(text, dict(found)["text"], out)
+
+
+# the width of a level, whether it is spaces, a text, its layout, an input, what the text prints on that before and after
+FORMATTED = [
+    (
+        2,
+        True,
+        "MODULE M;VAR x:INTEGER;BEGIN x:=-1;IF x<0 THEN Write(x)(* a (* b *) c *)END;WriteLn END M.(* end *)",
+        "MODULE M;\nVAR\n  x: INTEGER;\nBEGIN\n  x := -1;\n  IF x < 0 THEN\n    Write(x) (* a (* b *) c *)\n  END;\n  WriteLn\n"
+        "END M. (* end *)\n",
+        b"",
+        " -1\n",
+    ),
+    (
+        4,
+        False,
+        "MODULE M;CONST a=1;b=-a;TYPE T=RECORD x,y:INTEGER END;PROCEDURE P(VAR t:T;n:INTEGER);"
+        "BEGIN t.x:=-n+t.y;WHILE ~(n=0)DO P(t,n-1)END END P;END M.",
+        "MODULE M;\nCONST\n\ta = 1;\n\tb = -a;\nTYPE\n\tT = RECORD x, y: INTEGER END;\n\tPROCEDURE P(VAR t: T; n: INTEGER);\n"
+        "\tBEGIN\n\t\tt.x := -n + t.y;\n\t\tWHILE ~(n = 0) DO\n\t\t\tP(t, n - 1)\n\t\tEND\n\tEND P;\nEND M.\n",
+        b"",
+        "",
+    ),
+    (
+        2,
+        True,
+        "MODULE M;\nVAR n: INTEGER;\nBEGIN Read(n); REPEAT Write(n); n := n - 1 UNTIL n <= 0 END M.\n",
+        "MODULE M;\nVAR\n  n: INTEGER;\nBEGIN\n  Read(n);\n  REPEAT\n    Write(n);\n    n := n - 1\n  UNTIL n <= 0\nEND M.\n",
+        b"2",
+        " 2 1",
+    ),
+]
+
+
+def formats(editor, ended):
+    for size, spaces, text, wanted, given, out in FORMATTED:
+        found = editor("format", text, size=size, spaces=spaces)
+        once = [("opened", []), ("formatted", []), ("text", wanted)]
+        same(found, [*once, ("left to do", []), ("changes", 0), ("text again", wanted), ("ended", ended)], wanted)
+        keeps_the_run(text, dict(found)["text"], out, given)
+
+
+@test("Neovim: a text is laid out, once more changes nothing, and the run is kept", "format", "run")
+def neovim_format():
+    formats(in_neovim, ENDED)
+
+
+@test("Emacs: a text is laid out, once more changes nothing, and the run is kept", "format", "run")
+def emacs_format():
+    formats(in_emacs, 0)

@@ -106,11 +106,29 @@
     (xref-find-definitions "LSP identifier at point.")
     (ob0-tell "jumped" (vector (1- (line-number-at-pos)) (current-column)))))
 
+(defun ob0-text ()
+  "The text of the buffer."
+  (buffer-substring-no-properties (point-min) (point-max)))
+
 (defun ob0-rename ()
   "A rename as Emacs asks for it and applies it."
   (apply #'ob0-goto (alist-get 'place ob0-given))
   (ob0-tell "renamed" (ob0-after (lambda () (eglot-rename (alist-get 'name ob0-given)))))
-  (ob0-tell "text" (buffer-substring-no-properties (point-min) (point-max))))
+  (ob0-tell "text" (ob0-text)))
+
+(defun ob0-format ()
+  "A layout as Emacs asks for it and applies it, the server's own answer after that, and the same once more."
+  (setq indent-tabs-mode (eq (alist-get 'spaces ob0-given) :false)
+        tab-width (alist-get 'size ob0-given))
+  (ob0-tell "formatted" (ob0-after #'eglot-format-buffer))
+  (ob0-tell "text" (ob0-text))
+  (ob0-tell "left to do"
+            (ob0-ask :textDocument/formatting
+                     :options `(:tabSize ,tab-width :insertSpaces ,(if indent-tabs-mode :json-false t))))
+  (let ((tick (buffer-chars-modified-tick)))
+    (eglot-format-buffer)
+    (ob0-tell "changes" (- (buffer-chars-modified-tick) tick)))
+  (ob0-tell "text again" (ob0-text)))
 
 (defun ob0-end (server)
   "Shuts the SERVER down as eglot does, and waits for its end."

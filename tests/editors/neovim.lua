@@ -112,8 +112,9 @@ local function listed()
   return found
 end
 
+-- The text as the server has it: with a line ending behind the last line where the file has one there.
 local function text()
-  return table.concat(vim.api.nvim_buf_get_lines(0, 0, -1, true), "\n") .. "\n"
+  return table.concat(vim.api.nvim_buf_get_lines(0, 0, -1, true), "\n") .. (vim.bo.eol and "\n" or "")
 end
 
 -- The answer to a request at a place, as the server gave it.
@@ -210,6 +211,29 @@ function steps.acting()
   end))
   tell("offered", offered)
   tell("text", text())
+end
+
+-- Lays the text out by the editor's own command, which waits for the answer.
+local function lay_out()
+  if vim.lsp.buf.format then
+    vim.lsp.buf.format({ timeout_ms = 20000 })
+  else
+    vim.lsp.buf.formatting_sync(nil, 20000)
+  end
+end
+
+-- A layout as the editor asks for it and applies it, the server's own answer after that, and the same once more.
+function steps.format(client)
+  tell("opened", diagnosed(0))
+  vim.bo.expandtab = given.spaces
+  vim.bo.tabstop, vim.bo.shiftwidth, vim.bo.softtabstop = given.size, given.size, given.size
+  tell("formatted", after(lay_out))
+  tell("text", text())
+  tell("left to do", asked(client, "textDocument/formatting", 0, 0, vim.lsp.util.make_formatting_params()))
+  local tick = vim.api.nvim_buf_get_changedtick(0)
+  lay_out()
+  tell("changes", vim.api.nvim_buf_get_changedtick(0) - tick)
+  tell("text again", text())
 end
 
 local function run()
