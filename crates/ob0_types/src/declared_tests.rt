@@ -29,12 +29,35 @@ fn constants_by_their_ordinals(rt: HostRuntime) -> Result<(), Fail> {
     Ok(())
 }
 
+/// A record, an array, a procedure with two parameters: the declarations 7 to 11.
+const DECLARED: &str =
+    "MODULE M; TYPE R = RECORD x, y: BOOLEAN END; VAR a: ARRAY 3 OF INTEGER; PROCEDURE P(VAR r: R; n: INTEGER); BEGIN END P; END M.";
+
+#[test]
+fn shapes_by_their_ordinals(rt: HostRuntime) -> Result<(), Fail> {
+    let alloc = rt.alloc();
+    let tokens = scan(alloc, DECLARED)?;
+    let module = parse(alloc, &tokens)?;
+    let resolved = resolve(alloc, &module)?;
+    let checked = check(alloc, &resolved)?;
+    let module = checked.well_typed().ok_or("well-typed")?;
+    match module.shape(8).ok_or("the array")? {
+        Parts::Array(array) => assert_eq!(rt; array.length, 3),
+        _ => return Err("an array")?,
+    }
+    match module.shape(10).ok_or("the parameter")? {
+        Parts::Record(record) => assert_eq!(rt; record.fields.as_slice().len(), 2),
+        _ => return Err("a record")?,
+    }
+    assert!(rt; module.shape(9).is_none());
+    assert!(rt; module.shape(12).is_none());
+    Ok(())
+}
+
 #[test]
 fn types_by_their_ordinals(rt: HostRuntime) -> Result<(), Fail> {
     let alloc = rt.alloc();
-    let text =
-        "MODULE M; TYPE R = RECORD x, y: BOOLEAN END; VAR a: ARRAY 3 OF INTEGER; PROCEDURE P(VAR r: R; n: INTEGER); BEGIN END P; END M.";
-    let tokens = scan(alloc, text)?;
+    let tokens = scan(alloc, DECLARED)?;
     let module = parse(alloc, &tokens)?;
     let resolved = resolve(alloc, &module)?;
     let checked = check(alloc, &resolved)?;
@@ -61,16 +84,6 @@ fn types_by_their_ordinals(rt: HostRuntime) -> Result<(), Fail> {
         }
         _ => return Err("a procedure")?,
     }
-    match module.shape(8).ok_or("the array")? {
-        Parts::Array(array) => assert_eq!(rt; array.length, 3),
-        _ => return Err("an array")?,
-    }
-    match module.shape(10).ok_or("the parameter")? {
-        Parts::Record(record) => assert_eq!(rt; record.fields.as_slice().len(), 2),
-        _ => return Err("a record")?,
-    }
-    assert!(rt; module.shape(9).is_none());
-    assert!(rt; module.shape(12).is_none());
     assert_eq!(rt; known.declared_type(9), None);
     assert_eq!(rt; known.declared_type(10), Some(record));
     assert_eq!(rt; known.declared_type(11), Some(TypeId::Integer));
