@@ -1,5 +1,6 @@
 -- The statuses with which a command on a file ends.
-use Rattle.std.specs.Prelude.{ℕ}
+use Rattle.std.specs.Prelude.{◌≡◌, ◌⊎◌, ℕ, List}
+use Rattle.std.specs.Str.{IsUtf8}
 use Rattle.ob0_run.specs.declared.running.End.{End}
 use Rattle.ob0_run.specs.declared.running.End.TheVariants as end
 use Rattle.ob0_commands.specs.declared.faults.Fault.{Fault}
@@ -12,6 +13,18 @@ status_of fault.Utf8 = 4
 status_of fault.Input = 4
 status_of fault.Write = 4
 status_of fault.Memory = 5
+
+-- why printing gives up: the output can't be written, or memory was refused
+abbrev pub StopsPrinting : Fault → Type 0
+StopsPrinting f = (f ≡ fault.Write) ⊎ (f ≡ fault.Memory)
+
+-- why nothing is told of a file: its bytes are no UTF-8, or what is wrong with it can't be printed
+abbrev pub StopsTelling : List ℕ → Fault → Type 0
+StopsTelling file f = ((f ≡ fault.Utf8) × ¬ (IsUtf8 file)) ⊎ StopsPrinting f
+
+-- why reading gives up: the device can't be read, which has a name of its own, or memory was refused
+abbrev pub StopsReading : Fault → Fault → Type 0
+StopsReading name f = (f ≡ name) ⊎ (f ≡ fault.Memory)
 
 -- 0 for a run that reaches the end of the module's body, else 1
 abbrev pub status_at : End → ℕ

@@ -1,8 +1,9 @@
 //! Telling what is wrong with a file.
 
-ghost use Rattle.std.specs.Prelude.{◌≡◌, ◌<◌, ◌++◌, [], IfOk, MatchOption, OnOk, codes, length, map, string_bytes};
+ghost use Rattle.std.specs.Prelude.{◌≡◌, ◌<◌, ◌++◌, [], IfOk, MatchOption, OnOk, IfErr, codes, length, map, string_bytes};
 ghost use Rattle.std.specs.Io.KnownBytes.{Appends};
 ghost use Rattle.ob0_commands.specs.Printed.{TellsWrong, complaint_lines, line_at, lines_at};
+ghost use Rattle.ob0_commands.specs.Statuses.{StopsPrinting, StopsTelling};
 ghost use Rattle.ob0_scan.specs.Scanned.{max_text};
 ghost use Rattle.ob0_session.specs.Diagnosed.{Tells, complaint_in};
 
@@ -37,7 +38,8 @@ pub fn check<'f, O: Write>(
     file: &'f [u8],
     out: &mut O,
 ) -> Result<Option<&'f str>, Fault>
-    ensures { IfOk result (λ found. MatchOption found (TellsWrong file.entry.now (O.contents out.old) (O.contents out.new)) (λ text. (text.now ≡ file.entry.now) × Tells file.entry.now [] × (out.new ≡ out.old))) }
+    ensures found { IfOk result (λ found. MatchOption found (TellsWrong file.entry.now (O.contents out.old) (O.contents out.new)) (λ text. (text.now ≡ file.entry.now) × Tells file.entry.now [] × (out.new ≡ out.old))) }
+    ensures fault { IfErr result (StopsTelling file.entry.now) }
 {
     let Some(text) = text_of(file, out)? else {
         return Ok(None);
@@ -52,7 +54,8 @@ pub fn check<'f, O: Write>(
 
 /// The text of a file that isn't too long; else that is printed.
 pub fn text_of<'f, O: Write>(file: &'f [u8], out: &mut O) -> Result<Option<&'f str>, Fault>
-    ensures { IfOk result (λ found. MatchOption found ((max_text < length file.entry.now) × Appends (O.contents out.old) (O.contents out.new) (codes "0:0: TooLong: text too long\n")) (λ text. (text.now ≡ file.entry.now) × (out.new ≡ out.old))) }
+    ensures found { IfOk result (λ found. MatchOption found ((max_text < length file.entry.now) × Appends (O.contents out.old) (O.contents out.new) (codes "0:0: TooLong: text too long\n")) (λ text. (text.now ≡ file.entry.now) × (out.new ≡ out.old))) }
+    ensures fault { IfErr result (StopsTelling file.entry.now) }
 {
     if file.len() >= MAX_FILE {
         print(out, "0:0: TooLong: text too long\n")?;
@@ -71,7 +74,8 @@ pub fn print_diagnoses<O: Write>(
     told: &[Diagnosis],
     out: &mut O,
 ) -> Result<(), Fault>
-    ensures { OnOk result (Appends (O.contents out.old) (O.contents out.new) (complaint_lines text.now (map complaint_in told.now))) }
+    ensures printed { OnOk result (Appends (O.contents out.old) (O.contents out.new) (complaint_lines text.now (map complaint_in told.now))) }
+    ensures fault { IfErr result StopsPrinting }
 {
     print(out, lines_of(alloc, text, told)?.as_str())
 }

@@ -1,9 +1,11 @@
 //! The numbers of an input.
 
-ghost use Rattle.std.specs.Prelude.{◌≡◌, ◌≤◌, IfOk, IfSome, length};
+ghost use Rattle.std.specs.Prelude.{◌≡◌, ◌≤◌, IfOk, IfErr, IfSome, length};
 ghost use Rattle.std.specs.List.{position_or_len};
 ghost use Rattle.ob0_scan.specs.Classes.{is_space};
 ghost use Rattle.ob0_commands.specs.Numbers.{WritesNumber, WritesNumbers};
+ghost use Rattle.ob0_commands.specs.Statuses.{StopsReading};
+ghost use Rattle.ob0_commands.specs.declared.faults.Fault.TheVariants as faults;
 
 use crate::faults::Fault;
 use crate::reading::read_input;
@@ -12,7 +14,8 @@ use std::io::Read;
 
 /// Reads the numbers of the input: whole numbers of 32 bits, digits with an optional `-` before them, between white space.
 pub fn read_numbers<R: Read>(alloc: Global, input: &mut R) -> Result<Vec<i32>, Fault>
-    ensures { IfOk result (λ numbers. IfSome (R.remaining input.old) (λ text. WritesNumbers text numbers.items)) }
+    ensures numbers { IfOk result (λ numbers. IfSome (R.remaining input.old) (λ text. WritesNumbers text numbers.items)) }
+    ensures fault { IfErr result (StopsReading faults.Input) }
 {
     let text = read_input(alloc, input)?;
     match numbers_in(alloc, text.as_slice())? {

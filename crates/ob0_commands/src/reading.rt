@@ -1,7 +1,9 @@
 //! Reading a file and the input.
 
-ghost use Rattle.std.specs.Prelude.{◌≡◌, ◌≤◌, ◌<◌, IfOk, length};
+ghost use Rattle.std.specs.Prelude.{◌≡◌, ◌≤◌, ◌<◌, IfOk, IfErr, length};
 ghost use Rattle.std.specs.Io.KnownBytes.{Consumes, IsAtEnd};
+ghost use Rattle.ob0_commands.specs.Statuses.{StopsReading};
+ghost use Rattle.ob0_commands.specs.declared.faults.Fault.TheVariants as faults;
 
 use crate::faults::Fault;
 use std::alloc::Global;
@@ -20,6 +22,7 @@ pub fn read_file<R: Read>(alloc: Global, file: &mut R) -> Result<Vec<u8>, Fault>
     ensures bound { IfOk result (λ bytes. length bytes.items ≤ 1048577) }
     ensures taken { IfOk result (λ bytes. Consumes (R.remaining file.old) (R.remaining file.new) bytes.items) }
     ensures end { IfOk result (λ bytes. length bytes.items < 1048577 → IsAtEnd (R.remaining file.new)) }
+    ensures fault { IfErr result (StopsReading faults.File) }
 {
     read_up_to(alloc, file, MAX_FILE, Fault::File)
 }
@@ -29,6 +32,7 @@ pub fn read_input<R: Read>(alloc: Global, input: &mut R) -> Result<Vec<u8>, Faul
     ensures bound { IfOk result (λ bytes. length bytes.items ≤ 16777216) }
     ensures taken { IfOk result (λ bytes. Consumes (R.remaining input.old) (R.remaining input.new) bytes.items) }
     ensures end { IfOk result (λ bytes. IsAtEnd (R.remaining input.new)) }
+    ensures fault { IfErr result (StopsReading faults.Input) }
 {
     let bytes = read_up_to(alloc, input, MAX_INPUT + 1, Fault::Input)?;
     if bytes.len() > MAX_INPUT {
@@ -47,6 +51,7 @@ fn read_up_to<R: Read>(
     ensures bound { IfOk result (λ bytes. length bytes.items ≤ most) }
     ensures taken { IfOk result (λ bytes. Consumes (R.remaining reader.old) (R.remaining reader.new) bytes.items) }
     ensures end { IfOk result (λ bytes. length bytes.items < most → IsAtEnd (R.remaining reader.new)) }
+    ensures stops { IfErr result (StopsReading fault) }
 {
     let mut bytes = Vec::new(alloc);
     let mut piece = [0u8; PIECE_SIZE];

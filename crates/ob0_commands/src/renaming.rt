@@ -1,7 +1,8 @@
 //! Another name in a file's text.
 
-ghost use Rattle.std.specs.Prelude.{◌≡◌, IfOk};
+ghost use Rattle.std.specs.Prelude.{◌≡◌, IfOk, IfErr};
 ghost use Rattle.ob0_commands.specs.Renamed.{IsRefusal, PrintsEdited, PrintsNoName, PrintsRenamed};
+ghost use Rattle.ob0_commands.specs.Statuses.{StopsPrinting};
 
 use crate::checking::{print_diagnoses, text_of};
 use crate::faults::{Fault, tell_fault};
@@ -81,6 +82,7 @@ pub fn print_edited<T: TextStore, O: Write, E: Write>(
 ) -> Result<u8, Fault>
     ensures edited { IfOk result (λ status. status ≡ 0 → PrintsEdited (T.unit_of store.now) (T.content store.now) edits (O.contents out.old) (O.contents out.new)) }
     ensures refused { IfOk result (λ status. status ≡ 1 → IsRefusal edits × (O.contents out.new ≡ O.contents out.old)) }
+    ensures fault { IfErr result StopsPrinting }
 {
     match edits {
         Ok(edits) => match patch(alloc, store, edits.as_slice()) {

@@ -1,6 +1,6 @@
 //! Running a file's module: its input, and what a run puts out.
 
-ghost use Rattle.std.specs.Prelude.{◌≡◌, ◌++◌, [], IfOk, OnOk, option_map, string_bytes};
+ghost use Rattle.std.specs.Prelude.{◌≡◌, ◌++◌, [], IfOk, IfErr, OnOk, option_map, string_bytes};
 ghost use Rattle.std.specs.Io.KnownBytes.{Appends};
 ghost use Rattle.ob0_tree.specs.Parsed.{named_tree_of};
 ghost use Rattle.ob0_run.specs.Outcomes.{run_of};
@@ -8,7 +8,7 @@ ghost use Rattle.ob0_run.specs.Runs.{run};
 ghost use Rattle.ob0_session.specs.Diagnosed.{Tells};
 ghost use Rattle.ob0_run.specs.States.{item_of, items_out};
 ghost use Rattle.ob0_commands.specs.Printed.{end_line, output_text, written_text};
-ghost use Rattle.ob0_commands.specs.Statuses.{status_at};
+ghost use Rattle.ob0_commands.specs.Statuses.{StopsPrinting, status_at};
 ghost use Rattle.ob0_commands.specs.TextRuns.{PrintsDone, PrintsOther, RunsAs};
 
 use crate::checking::check;
@@ -131,6 +131,7 @@ pub fn print_outcome<O: Write, E: Write>(
 ) -> Result<u8, Fault>
     ensures printed { OnOk result (Appends (O.contents out.old) (O.contents out.new) (output_text (items_out output.now))) }
     ensures status { IfOk result (λ status. status ≡ status_at end) }
+    ensures fault { IfErr result StopsPrinting }
 {
     print(out, text_of(alloc, output)?.as_str())?;
     match line_of(end) {

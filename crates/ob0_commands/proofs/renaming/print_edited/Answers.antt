@@ -7,4 +7,5 @@ returns g c =
     record {
       edited = λ no. absurd (omega (arith, no));
       refused = λ one. (subst IsRefusal (sym c.in-Err.is) tt, refl);
+      fault = tt;
     }

@@ -5,7 +5,7 @@ use Rattle.ob0_commands.proofs.renaming.rename_file.Goals as goal
 
 pub returns-clause-other : goal.returns-clause-other
 returns-clause-other g c =
-    let here = rw c.in-Some.is at c.in_ok-text.ensures in
+    let here = rw c.in-Some.is at c.in_ok-text.ensures.found in
     let after = g.O.Write.contents c.rename_in_text.new.out in
     IfOk-weaker c.rename_in_text.result _ _ (λ status h one.
     subst (λ (t : List ℕ). PrintsNoName t c.args.position c.args.new.now (g.O.Write.contents c.args.out.now) after) here.0

@@ -20,4 +20,4 @@ returns-in-Answered-clause-other g c =
 pub returns-clause-other : goal.returns-clause-other
 returns-clause-other g c =
     λ one. inl (ill_typed _ _ c.args.text.now c.args.position c.args.new.now c.in_ok-outcome.field-0 c.in-IllTyped.told c.as_slice.result.now (g.O.Write.contents c.args.out.now) (g.O.Write.contents c.print_diagnoses.new.out)
-    c.in_ok-store.ensures.content c.utf8.text c.as_slice.ensures.value c.in-IllTyped.is c.in_ok-outcome.ensures c.in_ok-print_diagnoses-in-IllTyped.ensures)
+    c.in_ok-store.ensures.content c.utf8.text c.as_slice.ensures.value c.in-IllTyped.is c.in_ok-outcome.ensures c.in_ok-print_diagnoses-in-IllTyped.ensures.printed)
