@@ -244,25 +244,15 @@ def renames(editor, ended, rows):
         keeps_the_run(text, dict(found)["text"], out)
 
 
-@test("Neovim: a rename is applied, and keeps the run", "rename", "run")
-def neovim_rename():
-    renames(in_neovim, ENDED, RENAMED)
+def rename_tests():
+    """In each editor, of names and of fields."""
+    for name, editor, ended in ("Neovim", in_neovim, ENDED), ("Emacs", in_emacs, 0):
+        for what, needs, rows in ("", "rename", RENAMED), (" of a record's field", "rename fields", FIELDS_RENAMED):
+            take = test(f"{name}: a rename{what} is applied, and keeps the run", needs, "run")
+            take(functools.partial(renames, editor, ended, rows))
 
 
-@test("Emacs: a rename is applied, and keeps the run", "rename", "run")
-def emacs_rename():
-    renames(in_emacs, 0, RENAMED)
-
-
-@test("Neovim: a rename of a record's field is applied, and keeps the run", "rename fields", "run")
-def neovim_rename_field():
-    renames(in_neovim, ENDED, FIELDS_RENAMED)
-
-
-@test("Emacs: a rename of a record's field is applied, and keeps the run", "rename fields", "run")
-def emacs_rename_field():
-    renames(in_emacs, 0, FIELDS_RENAMED)
-
+rename_tests()
 
 LEAST_HERE = LEAST.replace("+ c", "+ (-2147483647 - 1)")
 LEAST_EVERYWHERE = LEAST_HERE.replace("c = -2147483647 - 1;", "")

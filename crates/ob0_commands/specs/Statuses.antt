@@ -22,7 +22,7 @@ StopsPrinting f = (f ≡ fault.Write) ⊎ (f ≡ fault.Memory)
 abbrev pub StopsTelling : List ℕ → Fault → Type 0
 StopsTelling file f = ((f ≡ fault.Utf8) × ¬ (IsUtf8 file)) ⊎ StopsPrinting f
 
--- why reading gives up: the device can't be read, which has a name of its own, or memory was refused
+-- why reading gives up: what is read can't be read, or isn't what it has to be, for which it has one name; or memory was refused
 abbrev pub StopsReading : Fault → Fault → Type 0
 StopsReading name f = (f ≡ name) ⊎ (f ≡ fault.Memory)
 

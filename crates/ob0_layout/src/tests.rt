@@ -115,7 +115,7 @@ fn is_too_long(alloc: Global, assignments: usize) -> Result<bool, Fail> {
 
 #[test]
 fn layouts_past_the_limit_are_refused(rt: HostRuntime) -> Result<(), Fail> {
-    // a line of an assignment has 16 bytes in the layout, and the rest 73
+    // in the layout a line of an assignment has 16 bytes, and all else less than 100
     assert!(rt; !is_too_long(rt.alloc(), 65_500)?);
     assert!(rt; is_too_long(rt.alloc(), 65_600)?);
     Ok(())

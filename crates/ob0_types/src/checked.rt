@@ -225,7 +225,8 @@ impl<'c, 't> WellTyped<'c, 't> {
     }
 
     /// The type of a declaration with its parts, by its ordinal: of a type, of a variable or parameter, and of a constant.
-    /// None for a procedure, and for a number that no declaration has. What the types of the parts are, `known` tells.
+    /// None for a procedure, and for a number that no declaration has. To go on to the types of the parts, begin with
+    /// `Known::declared_type` and `Known::parts`: they promise of which table these are.
     pub fn shape(&self, declaration: usize) -> Option<Parts<'c, 't>>
         ensures { IsShapeOf (named_tree_of self.now.module_read) declaration result }
     {
