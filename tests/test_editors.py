@@ -9,7 +9,6 @@ import subprocess
 import tempfile
 
 import harness
-from features import BUILT
 from harness import Failed, Skipped, TOP, ends, extent, install, on_file, same, test
 from test_edits import CALLS, LEAST, NESTED, OUTER, RECORDS, edited
 
@@ -96,13 +95,13 @@ def while_typing():
             found = [[0, at + 4, 0, at + 5, "Syntax", "expected END"]]
         elif count in (6, 7):
             found = [[0, end, 0, end + 3, "Syntax", "expected expression"]]
-        elif count in (3, 4) and BUILT["types"]:
+        elif count in (3, 4):
             found = [[0, name, 0, name + 1, "WrongKind", "wrong kind of name"]]
         wanted_steps.append((f"typed {letter}", found))
     return [*wanted_steps, ("ended", ENDED)]
 
 
-@test("Neovim: a syntax fault comes and goes while a statement is typed", "syntax")
+@test("Neovim: a syntax fault comes and goes while a statement is typed")
 def neovim_typing():
     same(in_neovim("typing", TYPED), while_typing())
 
@@ -153,12 +152,12 @@ def as_emacs_shows():
     return found
 
 
-@test("Neovim: the diagnostics of a faulty module, and none of the mended one", "types")
+@test("Neovim: the diagnostics of a faulty module, and none of the mended one")
 def neovim_types():
     same(in_neovim("mending", FAULTY, mended=MENDED), [("opened", as_neovim_shows()), ("mended", []), ("ended", ENDED)])
 
 
-@test("Emacs: the diagnostics of a faulty module, and none of the mended one", "types")
+@test("Emacs: the diagnostics of a faulty module, and none of the mended one")
 def emacs_types():
     same(in_emacs("mending", FAULTY, mended=MENDED), [("opened", as_emacs_shows()), ("mended", []), ("ended", 0)])
 
@@ -176,12 +175,12 @@ REFERENCES = [{"range": extent(it), "uri": "file:///m.mod"} for it in PLACES]
 ANSWERED = [("opened", []), ("hover", HOVER), ("definition", DEFINITION), ("references", REFERENCES)]
 
 
-@test("Neovim: hover, definition and references, as the server answers them", "questions", "hover")
+@test("Neovim: hover, definition and references, as the server answers them")
 def neovim_questions():
     same(in_neovim("questions", CALLS), [*ANSWERED, ("ended", ENDED)])
 
 
-@test("Emacs: hover, definition and references, as the server answers them", "questions", "hover")
+@test("Emacs: hover, definition and references, as the server answers them")
 def emacs_questions():
     same(in_emacs("questions", CALLS), [*ANSWERED, ("ended", 0)])
 
@@ -205,13 +204,13 @@ def looked(seen):
     return found
 
 
-@test("Neovim: what its own hover, list of references and go to definition show", "questions", "hover", "fields")
+@test("Neovim: what its own hover, list of references and go to definition show")
 def neovim_looking():
     for text, seen in ((CALLS, CALLS_SEEN), (RECORDS, RECORDS_SEEN)):
         same(in_neovim("looking", text, places=[it[0] for it in seen]), [*looked(seen), ("ended", ENDED)])
 
 
-@test("Emacs: what its own hover, list of references and go to definition show", "questions", "hover", "fields")
+@test("Emacs: what its own hover, list of references and go to definition show")
 def emacs_looking():
     for text, seen in ((CALLS, CALLS_SEEN), (RECORDS, RECORDS_SEEN)):
         same(in_emacs("looking", text, places=[it[0] for it in seen]), [*looked(seen), ("ended", 0)])
@@ -248,7 +247,7 @@ def rename_tests():
     """In each editor, of names and of fields."""
     for name, editor, ended in ("Neovim", in_neovim, ENDED), ("Emacs", in_emacs, 0):
         for what, needs, rows in ("", "rename", RENAMED), (" of a record's field", "rename fields", FIELDS_RENAMED):
-            take = test(f"{name}: a rename{what} is applied, and keeps the run", needs, "run")
+            take = test(f"{name}: a rename{what} is applied, and keeps the run")
             take(functools.partial(renames, editor, ended, rows))
 
 
@@ -269,7 +268,7 @@ ACTED = [
 ]
 
 
-@test("Neovim: both ways to inline a constant are offered and applied, and keep the run", "inline", "run")
+@test("Neovim: both ways to inline a constant are offered and applied, and keep the run")
 def neovim_inline():
     for text, place, title, count, wanted_text, out in ACTED:
         found = in_neovim("acting", text, place=place, title=title)
@@ -319,11 +318,11 @@ def formats(editor, ended):
         keeps_the_run(text, dict(found)["text"], out, given)
 
 
-@test("Neovim: a text is laid out, once more changes nothing, and the run is kept", "format", "run")
+@test("Neovim: a text is laid out, once more changes nothing, and the run is kept")
 def neovim_format():
     formats(in_neovim, ENDED)
 
 
-@test("Emacs: a text is laid out, once more changes nothing, and the run is kept", "format", "run")
+@test("Emacs: a text is laid out, once more changes nothing, and the run is kept")
 def emacs_format():
     formats(in_emacs, 0)
