@@ -213,6 +213,16 @@ def emacs_types():
     same(in_emacs("mending", FAULTY, mended=MENDED), [("opened", as_emacs_shows()), ("mended", []), ("ended", 0)])
 
 
+@test("lsp-mode: the diagnostics of a faulty module, and none of the mended one")
+def lsp_mode_types():
+    same(in_lsp_mode("mending", FAULTY, mended=MENDED), [("opened", as_neovim_shows()), ("mended", [])])
+
+
+@test("Vim: the diagnostics of a faulty module, and none of the mended one")
+def vim_types():
+    same(in_vim("mending", FAULTY, mended=MENDED), [("opened", as_neovim_shows()), ("mended", [])])
+
+
 @test("Emacs: a bad character comes and goes, and the server ends cleanly")
 def emacs_scanning():
     bad = [[16, 17, " [BadChar]: bad character"]]
@@ -267,6 +277,20 @@ def emacs_looking():
         same(in_emacs("looking", text, places=[it[0] for it in seen]), [*looked(seen), ("ended", 0)])
 
 
+@test("lsp-mode: what its own hover, list of references and go to definition show")
+def lsp_mode_looking():
+    for text, seen in ((CALLS, CALLS_SEEN), (RECORDS, RECORDS_SEEN)):
+        # (it asks for the places without the declaration)
+        seen = [(place, shown, [it for it in listed if it != declared], declared) for place, shown, listed, declared in seen]
+        same(in_lsp_mode("looking", text, places=[it[0] for it in seen]), looked(seen))
+
+
+@test("Vim: what ALE's hover, list of references and go to definition show")
+def vim_looking():
+    for text, seen in ((CALLS, CALLS_SEEN), (RECORDS, RECORDS_SEEN)):
+        same(in_vim("looking", text, places=[it[0] for it in seen]), looked(seen))
+
+
 def keeps_the_run(before, after, out, given=b""):
     """Holds a text, and what an editor made of it, to one run: on this input each prints this and ends with status 0."""
     for text in (before, after):
@@ -286,23 +310,31 @@ FIELDS_RENAMED = [
 ]
 
 
-def renames(editor, ended, rows):
+def renames(editor, end, rows):
     for text, place, new, places, out in rows:
         found = editor("rename", text, place=place, name=new)
-        steps = [("opened", []), ("renamed", []), ("text", edited(text, places, new)), ("ended", ended)]
+        steps = [("opened", []), ("renamed", []), ("text", edited(text, places, new)), *end]
         same(found, steps, f"{new} at {place}")
         keeps_the_run(text, dict(found)["text"], out)
 
 
-def rename_tests():
-    """In each editor, of names and of fields."""
-    for name, editor, ended in ("Neovim", in_neovim, ENDED), ("Emacs", in_emacs, 0):
-        for what, needs, rows in ("", "rename", RENAMED), (" of a record's field", "rename fields", FIELDS_RENAMED):
-            take = test(f"{name}: a rename{what} is applied, and keeps the run")
-            take(functools.partial(renames, editor, ended, rows))
+# the editors that rename, what they are started by, and what they say at last
+CLIENTS = [
+    ("Neovim", in_neovim, [("ended", ENDED)]),
+    ("Emacs", in_emacs, [("ended", 0)]),
+    ("lsp-mode", in_lsp_mode, []),
+    ("Vim", in_vim, []),
+]
 
 
-rename_tests()
+def in_each(what, clients, function, *more):
+    """A test of this name for each of these editors."""
+    for name, editor, end in clients:
+        test(f"{name}: {what}")(functools.partial(function, editor, end, *more))
+
+
+in_each("a rename is applied, and keeps the run", CLIENTS, renames, RENAMED)
+in_each("a rename of a record's field is applied, and keeps the run", CLIENTS, renames, FIELDS_RENAMED)
 
 LEAST_HERE = LEAST.replace("+ c", "+ (-2147483647 - 1)")
 LEAST_EVERYWHERE = LEAST_HERE.replace("c = -2147483647 - 1;", "")
@@ -319,15 +351,16 @@ ACTED = [
 ]
 
 
-@test("Neovim: both ways to inline a constant are offered and applied, and keep the run")
-def neovim_inline():
+def inlines(editor, end):
     for text, place, title, count, wanted_text, out in ACTED:
-        found = in_neovim("acting", text, place=place, title=title)
+        found = editor("acting", text, place=place, title=title)
         offered = ["Inline here", "Inline everywhere"][2 - count :]
-        steps = [("opened", []), ("acted", []), ("offered", offered), ("text", wanted_text), ("ended", ENDED)]
+        steps = [("opened", []), ("acted", []), ("offered", offered), ("text", wanted_text), *end]
         same(found, steps, f"{title} at {place}")
         keeps_the_run(text, dict(found)["text"], out)
 
+
+in_each("both ways to inline a constant are offered and applied, and keep the run", CLIENTS, inlines)
 
 # the width of a level, whether it is spaces, a text, its layout, an input, what the text prints on that before and after
 FORMATTED = [
@@ -361,19 +394,21 @@ FORMATTED = [
 ]
 
 
-def formats(editor, ended):
+def formats(editor, end):
     for size, spaces, text, wanted, given, out in FORMATTED:
         found = editor("format", text, size=size, spaces=spaces)
         once = [("opened", []), ("formatted", []), ("text", wanted)]
-        same(found, [*once, ("left to do", []), ("changes", 0), ("text again", wanted), ("ended", ended)], wanted)
+        same(found, [*once, ("left to do", []), ("changes", 0), ("text again", wanted), *end], wanted)
         keeps_the_run(text, dict(found)["text"], out, given)
 
 
-@test("Neovim: a text is laid out, once more changes nothing, and the run is kept")
-def neovim_format():
-    formats(in_neovim, ENDED)
+in_each("a text is laid out, once more changes nothing, and the run is kept", CLIENTS[:2], formats)
 
 
-@test("Emacs: a text is laid out, once more changes nothing, and the run is kept")
-def emacs_format():
-    formats(in_emacs, 0)
+@test("lsp-mode: a text is laid out, and the run is kept")
+def lsp_mode_format():
+    for size, spaces, text, wanted, given, out in FORMATTED:
+        if (size, spaces) == (2, True):  # (what ob0-mode asks for)
+            found = in_lsp_mode("format", text)
+            same(found, [("opened", []), ("formatted", []), ("text", wanted)], wanted)
+            keeps_the_run(text, dict(found)["text"], out, given)
