@@ -265,6 +265,11 @@ def looked(seen):
     return found
 
 
+def without_declarations(seen):
+    """The same for a client that asks for references without the declaration."""
+    return [(place, shown, [it for it in listed if it != declared], declared) for place, shown, listed, declared in seen]
+
+
 @test("Neovim: what its own hover, list of references and go to definition show")
 def neovim_looking():
     for text, seen in ((CALLS, CALLS_SEEN), (RECORDS, RECORDS_SEEN)):
@@ -280,15 +285,13 @@ def emacs_looking():
 @test("lsp-mode: what its own hover, list of references and go to definition show")
 def lsp_mode_looking():
     for text, seen in ((CALLS, CALLS_SEEN), (RECORDS, RECORDS_SEEN)):
-        # (it asks for the places without the declaration)
-        seen = [(place, shown, [it for it in listed if it != declared], declared) for place, shown, listed, declared in seen]
-        same(in_lsp_mode("looking", text, places=[it[0] for it in seen]), looked(seen))
+        same(in_lsp_mode("looking", text, places=[it[0] for it in seen]), looked(without_declarations(seen)))
 
 
 @test("Vim: what ALE's hover, list of references and go to definition show")
 def vim_looking():
     for text, seen in ((CALLS, CALLS_SEEN), (RECORDS, RECORDS_SEEN)):
-        same(in_vim("looking", text, places=[it[0] for it in seen]), looked(seen))
+        same(in_vim("looking", text, places=[it[0] for it in seen]), looked(without_declarations(seen)))
 
 
 def keeps_the_run(before, after, out, given=b""):

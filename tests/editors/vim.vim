@@ -2,7 +2,8 @@
 " Variables: OB0_FILE (the file to edit), OB0_REPORT (where the findings go, a line of JSON each), OB0_STEPS (the name of a
 " list of steps below); what a list of steps needs besides is in OB0_GIVEN, as JSON.
 scriptencoding utf-8
-set nomore noswapfile nobackup nowritebackup
+" (messages that wait for a key would wait for ever)
+set nomore shortmess+=aoOtT cmdheight=5 noswapfile nobackup nowritebackup
 let s:given = json_decode($OB0_GIVEN)
 let s:shown = ''
 let s:offered = []
