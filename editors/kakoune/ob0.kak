@@ -5,7 +5,7 @@ hook global BufCreate .*\.ob0 %{ set-option buffer filetype ob0 }
 # (the endings .mod and .Mod belong to others too: such a file is taken only if its first word is MODULE, behind comments)
 hook global BufCreate .*\.(mod|Mod) %{ try %{
     evaluate-commands -draft %{
-        execute-keys '%s\A\s*(\(\*(?:[^*]|\*+[^*)])*\*+\)\s*)*MODULE\b<ret>'
+        execute-keys '%s\A(?:\s|\(\*(?:.|\n)*?\*\)|\*\))*MODULE\s+[A-Za-z]<ret>'
         set-option buffer filetype ob0
     }
 } }
