@@ -7,6 +7,7 @@ import functools
 import json
 import os
 import pty
+import re
 import select
 import shutil
 import signal
@@ -301,8 +302,24 @@ def keeps_the_run(before, after, out, given=b""):
         ends(on_file("run", text, given=given), out, 0)
 
 
+def example(name):
+    """An example and what it prints."""
+    with open(os.path.join(TOP, "examples", f"{name}.mod"), encoding="utf-8") as text, open(os.path.join(TOP, "examples", f"{name}.out"), encoding="utf-8") as out:
+        return text.read(), out.read()
+
+
+NESTED_EXAMPLE, NESTED_PRINTS = example("Nested")
+INNER = [
+    f"{line}:{it.start()}-{line}:{it.end()}"
+    for line, text in enumerate(NESTED_EXAMPLE.split("\n"))
+    if "(*" not in text
+    for it in re.finditer(r"\bInner\b", text)
+]
+COLLATZ, COLLATZ_PRINTS = example("Collatz")
+
 # a text, a place in it, the new name there, the places that change, what the text prints before and after
 RENAMED = [
+    (NESTED_EXAMPLE, [6, 14], "Add", INNER, NESTED_PRINTS),
     (CALLS, [2, 47], "G", PLACES, " 2 1"),
     (NESTED, [1, 4], "z", ["1:4-1:5", "4:14-4:15", "5:15-5:16"], " 1"),
     (OUTER, [4, 10], "Q", ["4:10-4:11", "4:32-4:33", "5:9-5:10"], " 2 7"),
@@ -368,6 +385,8 @@ in_each("both ways to inline a constant are offered and applied, and keep the ru
 
 # the width of a level, whether it is spaces, a text, its layout, an input, what the text prints on that before and after
 FORMATTED = [
+    # (an example, all on one line, is laid out as it is in its file)
+    (2, True, " ".join(COLLATZ.split()), COLLATZ, b"15", COLLATZ_PRINTS),
     (
         2,
         True,
