@@ -5,14 +5,14 @@ use Rattle.ob0_scope.specs.DeclaredOnce.{group_fields, groups_fields}
 use Rattle.ob0_scope.specs.Mapping.{with_names}
 use Rattle.ob0_scope.specs.Names.{Name, same_name}
 use Rattle.ob0_scope.specs.Parts.{further_names, names_listed}
-use Rattle.ob0_types.specs.Arguments.{arguments_listed, further_arguments}
-use Rattle.ob0_types.specs.Expressions.{Object, a_constant, a_procedure, a_standard, a_type, a_variable}
-use Rattle.ob0_types.specs.Typing.{add_type, array_length, complement_type, constant_value, denoted, denoted_group, denoted_groups, depth, designated, element_type, field_type, group_constructors, multiply_type, object_type, relation_type, scalars, shape_of_field, sign_type, type_at, type_of, type_of_addends, type_of_factor, type_of_multipliers, type_of_name, type_of_simple, type_of_term, value_type, with_fields, within_limits}
-use Rattle.ob0_types.specs.WellTyped.{Formal, Mode, Signature, Typed, agree, argument_fits, arguments_fit, by_place, by_value, condition_fits, else_fits, elsifs_fit, sequence_fits, signature_of, statement_fits, statements_fit, variable_type}
+use Rattle.ob0_typing.specs.Arguments.{arguments_listed, further_arguments}
+use Rattle.ob0_typing.specs.Expressions.{Object, a_constant, a_procedure, a_standard, a_type, a_variable}
+use Rattle.ob0_typing.specs.Typing.{add_type, array_length, complement_type, constant_value, denoted, denoted_group, denoted_groups, depth, designated, element_type, field_type, group_constructors, multiply_type, object_type, relation_type, scalars, shape_of_field, sign_type, type_at, type_of, type_of_addends, type_of_factor, type_of_multipliers, type_of_name, type_of_simple, type_of_term, value_type, with_fields, within_limits}
+use Rattle.ob0_typing.specs.WellTyped.{Formal, Mode, Signature, Typed, agree, argument_fits, arguments_fit, by_place, by_value, condition_fits, else_fits, elsifs_fit, sequence_fits, signature_of, statement_fits, statements_fit, variable_type}
 use Rattle.ob0_values.specs.Values.{FieldShapes, Shape, Value, array_shape, boolean_shape, elements, integer_shape, members, next_field_shape, no_field_shape, number, record_shape, truth}
-use Rattle.ob0_run.proofs.Sound.{of_some, some-gives}
-use Rattle.ob0_run.proofs.SoundCalls.{some-inverse}
-use Rattle.ob0_run.proofs.SoundStatements.{agree-true, both_true, call-typed, same_name-true, variable-typed}
+use Rattle.ob0_semantics.proofs.Sound.{of_some, some-gives}
+use Rattle.ob0_semantics.proofs.SoundCalls.{some-inverse}
+use Rattle.ob0_semantics.proofs.SoundStatements.{agree-true, both_true, call-typed, same_name-true, variable-typed}
 use Rattle.ob0_fields.specs.Fields.{FieldNames, record_of, refield, refield_group, refield_groups, refield_type}
 use Rattle.ob0_fields.specs.Renaming.{RecordFields, records_in_group, records_in_groups, records_in_type}
 use Rattle.ob0_fields.proofs.Apart.{named}

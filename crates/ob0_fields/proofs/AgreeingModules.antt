@@ -3,15 +3,15 @@ use Rattle.std.proofs.Common.{◌≡◌, ℕ, ◌+◌, true, false, ◌&&◌, Li
 use Rattle.ob0_tree.specs.Tree.{Tree, begins, block, body, constant, declares, declares_constant, declares_procedure, declares_type, declares_types, declares_variable, declares_variables, end, formals, further_section, has_body, is_module, item, items, maybe, module_text, more, no_formals, none, one, procedure, section, some_formals, then_section, type_name, type_names, value_section, variable, variable_section, variables}
 use Rattle.ob0_scope.specs.Names.{Name, as_names, same_name}
 use Rattle.ob0_scope.specs.Parts.{formal_sections, names_listed, procedure_formals, procedure_name, section_constants, section_names, section_type, section_types, section_variables}
-use Rattle.ob0_types.specs.Declarations.{after_formals, after_types, after_variables, declare_constants, declare_first, declare_types, formals_constructors, procedure_constructors}
-use Rattle.ob0_types.specs.Environments.{from_binding, meanings, newest, outermost}
-use Rattle.ob0_types.specs.Expressions.{Object, a_constant, a_type, a_variable}
-use Rattle.ob0_types.specs.Typing.{constant_value, constructors, denoted}
-use Rattle.ob0_types.specs.WellTyped.{Mode, TypeEnvironment, TypedParameter, Signature, bind_names, bind_typed, block_fits, body_fits, declare_typed, fits_over, heading, procedure_fits, procedures_fit, section_mode, typed_parameters}
+use Rattle.ob0_typing.specs.Declarations.{after_formals, after_types, after_variables, declare_constants, declare_first, declare_types, formals_constructors, procedure_constructors}
+use Rattle.ob0_typing.specs.Environments.{from_binding, meanings, newest, outermost}
+use Rattle.ob0_typing.specs.Expressions.{Object, a_constant, a_type, a_variable}
+use Rattle.ob0_typing.specs.Typing.{constant_value, constructors, denoted}
+use Rattle.ob0_typing.specs.WellTyped.{Mode, TypeEnvironment, TypedParameter, Signature, bind_names, bind_typed, block_fits, body_fits, declare_typed, fits_over, heading, procedure_fits, procedures_fit, section_mode, typed_parameters}
 use Rattle.ob0_values.specs.Values.{Shape}
-use Rattle.ob0_run.proofs.Sound.{some-gives}
-use Rattle.ob0_run.proofs.SoundCalls.{hold-true, some-inverse}
-use Rattle.ob0_run.proofs.SoundStatements.{both_true}
+use Rattle.ob0_semantics.proofs.Sound.{some-gives}
+use Rattle.ob0_semantics.proofs.SoundCalls.{hold-true, some-inverse}
+use Rattle.ob0_semantics.proofs.SoundStatements.{both_true}
 use Rattle.ob0_fields.specs.Fields.{FieldNames, behind_procedures, refield, refield_block, refield_formals, refield_procedure, refield_procedures, refield_section, refield_sections, refield_type_section, refield_types, refield_variable_section, refield_variables, refielded}
 use Rattle.ob0_fields.specs.Renaming.{records, records_in_block, records_in_procedure, records_in_procedures, records_in_sections, records_in_type, records_in_types, records_in_variables}
 use Rattle.ob0_fields.proofs.AgreeingFields.{NamesStand, ObjectAgrees, OptionAgrees, RecordsAgree, ShapeAgrees, denoted-agrees, records-split, sequence-alike, type-alike}

@@ -5,8 +5,8 @@ use Rattle.std.proofs.lemmas.Slice.Eq.{bytes_eq-Decides}
 use Rattle.ob0_tree.specs.Tree.{Tree, module_text}
 use Rattle.ob0_scope.specs.Names.{Name, same_name}
 use Rattle.ob0_scope.specs.Scopes.{same_ordinal}
-use Rattle.ob0_types.specs.WellTyped.{WellTyped}
-use Rattle.ob0_run.specs.EditLaws.{SameRuns}
+use Rattle.ob0_typing.specs.WellTyped.{WellTyped}
+use Rattle.ob0_semantics.specs.EditLaws.{SameRuns}
 use Rattle.ob0_fields.specs.Fields.{FieldNames, refielded}
 use Rattle.ob0_fields.specs.FieldLaws.{FreeFieldKeepsModules, KeepsApart}
 use Rattle.ob0_fields.specs.Renaming.{FieldFree, RecordFields, field_renamed, names_another_field, one_renamed, records}

@@ -8,7 +8,7 @@ use Rattle.ob0_tree.specs.declared.tree.AddOperator.{AddOperator}
 use Rattle.ob0_tree.specs.declared.tree.AddOperator.TheVariants as add_operator
 use Rattle.ob0_tree.specs.declared.tree.MultiplyOperator.{MultiplyOperator}
 use Rattle.ob0_tree.specs.declared.tree.MultiplyOperator.TheVariants as multiply_operator
-use Rattle.ob0_types.specs.Expressions.{element_step}
+use Rattle.ob0_typing.specs.Expressions.{element_step}
 use Rattle.ob0_values.specs.Values.{Index, Outcome, Overflow, Step, Stuck, Value, add, add_is_settled, at_index, compare_numbers, count_values, divided_by, elements, ends, fits, gives, in_range, multiply, multiply_is_settled, negated, number, or_stuck, quotient, relate, remainder, same_truth, signed, truth, ◌>>=◌}
 use Rattle.ob0_fields.specs.Fields.{FieldNames}
 use Rattle.ob0_fields.proofs.Values.{Finds, count_values-by, step_by, tagged, to_index, value_by}

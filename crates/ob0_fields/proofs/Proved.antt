@@ -1,8 +1,8 @@
 -- The proofs of the laws of fields written anew.
 use Rattle.std.proofs.Common.{IsTrue, sym, refl, ap, ◌∙◌, subst}
 use Rattle.ob0_scope.specs.Names.{as_names}
-use Rattle.ob0_types.specs.WellTyped.{WellTyped}
-use Rattle.ob0_run.specs.Runs.{run, run_over}
+use Rattle.ob0_typing.specs.WellTyped.{WellTyped}
+use Rattle.ob0_semantics.specs.Runs.{run, run_over}
 use Rattle.ob0_fields.specs.FieldLaws.{KeepsApart, RefieldingKeepsModules}
 use Rattle.ob0_fields.proofs.RefieldedModules.{refielding_keeps_fitting-holds}
 use Rattle.ob0_fields.proofs.RefieldedOnce.{declared_once-refield, refielded-bare}

@@ -4,13 +4,13 @@ use Rattle.std.proofs.lemmas.List.{length-map, map-append}
 use Rattle.ob0_tree.specs.Tree.{Tree, block, body, constant, constants, declares, declares_constant, declares_type, declares_variable, end, expression, further_section, has_body, item, items, maybe, more, procedure, then_section, type_name, type_names, variable, variables, written_type}
 use Rattle.ob0_scope.specs.Names.{Name, as_names, same_name}
 use Rattle.ob0_scope.specs.Parts.{names_listed, procedure_formals, procedure_name, section_constants, section_type, section_types, section_variables}
-use Rattle.ob0_types.specs.Declarations.{after_types, after_variables, declare_constants, declare_types, procedure_constructors}
-use Rattle.ob0_types.specs.Environments.{from_binding, meanings, newest}
-use Rattle.ob0_types.specs.Expressions.{Object, a_constant, a_procedure, a_standard, a_type, a_variable}
-use Rattle.ob0_types.specs.Typing.{constant_of, constant_value, constructors, denoted, type_of_name}
-use Rattle.ob0_types.specs.WellTyped.{Mode, TypeEnvironment, bind_typed, by_place, by_value}
+use Rattle.ob0_typing.specs.Declarations.{after_types, after_variables, declare_constants, declare_types, procedure_constructors}
+use Rattle.ob0_typing.specs.Environments.{from_binding, meanings, newest}
+use Rattle.ob0_typing.specs.Expressions.{Object, a_constant, a_procedure, a_standard, a_type, a_variable}
+use Rattle.ob0_typing.specs.Typing.{constant_of, constant_value, constructors, denoted, type_of_name}
+use Rattle.ob0_typing.specs.WellTyped.{Mode, TypeEnvironment, bind_typed, by_place, by_value}
 use Rattle.ob0_values.specs.Values.{FieldShapes, Shape, Store, Value, array_shape, boolean_shape, copies, elements, initial, initial_members, integer_shape, members, next_field_shape, next_member, next_value, no_field_shape, record_shape}
-use Rattle.ob0_run.specs.Runs.{Activation, Code, Frame, Parameter, allocate, bind_parameter, bind_parameters, declare_block, declare_procedures, declare_variables, formal_modes, parameters, passing, statement_meanings, with_procedures}
+use Rattle.ob0_semantics.specs.Runs.{Activation, Code, Frame, Parameter, allocate, bind_parameter, bind_parameters, declare_block, declare_procedures, declare_variables, formal_modes, parameters, passing, statement_meanings, with_procedures}
 use Rattle.ob0_fields.specs.Fields.{FieldNames, behind_heading, behind_variables, parameters_of, refield_block, refield_procedure, refield_procedures, refield_sections, refield_type, refield_types, refield_variables}
 use Rattle.ob0_fields.proofs.Apart.{fields_by, named, shape_by}
 use Rattle.ob0_fields.proofs.RefieldedExecution.{Given, Modes, argument_by, place_given, value_given}

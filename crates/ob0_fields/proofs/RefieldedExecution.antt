@@ -2,12 +2,12 @@
 use Rattle.std.proofs.Common.{◌≡◌, ℕ, zero, suc, ◌-◌, List, [], ◌∷◌, map, ℤ, ◌⊎◌, inl, inr, true, false, Some, None, Option, option_map, sym, refl, ap, subst₂}
 use Rattle.ob0_tree.specs.Tree.{Tree, assigns, branches, calls, else_branch, else_part, elsif_branch, elsif_part, empty, end, expression, further_statement, items, maybe, more, none, one, repeat_loop, runs, selector, sequence, statement, then_statement, while_loop}
 use Rattle.ob0_scope.specs.Names.{Name}
-use Rattle.ob0_types.specs.Arguments.{arguments_listed}
-use Rattle.ob0_types.specs.Expressions.{designate, evaluate, reads, writes, writes_line}
-use Rattle.ob0_types.specs.Typing.{designated, object_type}
-use Rattle.ob0_types.specs.WellTyped.{Mode, Typed, by_place, by_value}
+use Rattle.ob0_typing.specs.Arguments.{arguments_listed}
+use Rattle.ob0_typing.specs.Expressions.{designate, evaluate, reads, writes, writes_line}
+use Rattle.ob0_typing.specs.Typing.{designated, object_type}
+use Rattle.ob0_typing.specs.WellTyped.{Mode, Typed, by_place, by_value}
 use Rattle.ob0_values.specs.Values.{Outcome, Store, Stuck, TurnBound, Value, elements, ends, gives, members, number, or_stuck, truth, write_place, ◌>>=◌}
-use Rattle.ob0_run.specs.Runs.{Argument, Calls, Progress, State, choose, evaluate_argument, evaluate_arguments, execute, execute_all, execute_else, execute_elsifs, execute_further, go_on, line_out, modes_of, number_out, perform, place_argument, put_out, read_number, running, stopped, store_at, turns, turns_until, use_in, value_argument}
+use Rattle.ob0_semantics.specs.Runs.{Argument, Calls, Progress, State, choose, evaluate_argument, evaluate_arguments, execute, execute_all, execute_else, execute_elsifs, execute_further, go_on, line_out, modes_of, number_out, perform, place_argument, put_out, read_number, running, stopped, store_at, turns, turns_until, use_in, value_argument}
 use Rattle.ob0_fields.specs.Fields.{FieldNames, refield}
 use Rattle.ob0_fields.specs.FieldLaws.{KeepsApart}
 use Rattle.ob0_fields.proofs.Outcomes.{Follows, ValuesFollow, follows-then, or_stuck-follows}

@@ -7,10 +7,10 @@ use Rattle.ob0_scope.specs.Mapping.{with_names}
 use Rattle.ob0_scope.specs.Names.{Name, as_names, same_name}
 use Rattle.ob0_scope.specs.Parts.{constant_names, formal_names, formal_sections, further_names, named_types, names_listed, section_constants, section_type, section_types, section_variables, variable_names}
 use Rattle.ob0_scope.proofs.SameNames.{with_names-id}
-use Rattle.ob0_types.specs.Declarations.{after_formals, after_types, after_variables, procedure_constructors}
-use Rattle.ob0_types.specs.Environments.{meanings, outermost}
-use Rattle.ob0_types.specs.Typing.{constructors, group_constructors, object_type}
-use Rattle.ob0_types.specs.WellTyped.{TypeEnvironment, Typed, bind_typed}
+use Rattle.ob0_typing.specs.Declarations.{after_formals, after_types, after_variables, procedure_constructors}
+use Rattle.ob0_typing.specs.Environments.{meanings, outermost}
+use Rattle.ob0_typing.specs.Typing.{constructors, group_constructors, object_type}
+use Rattle.ob0_typing.specs.WellTyped.{TypeEnvironment, Typed, bind_typed}
 use Rattle.ob0_values.specs.Values.{Shape}
 use Rattle.ob0_fields.specs.Fields.{FieldNames, behind, behind_heading, behind_procedures, behind_variables, parameters_of, refield, refield_block, refield_formals, refield_group, refield_groups, refield_procedure, refield_procedures, refield_section, refield_sections, refield_type, refield_type_section, refield_types, refield_variable_section, refield_variables, refielded}
 use Rattle.ob0_fields.specs.FieldLaws.{KeepsApart}

@@ -4,13 +4,13 @@ use Rattle.std.proofs.lemmas.List.{length-map, take-map}
 use Rattle.ob0_tree.specs.Tree.{Tree, begins, block, body, declares, declares_procedure, formals, has_body, is_module, item, maybe, module_text, none, one, procedure}
 use Rattle.ob0_scope.specs.Names.{Name, as_names}
 use Rattle.ob0_scope.specs.Parts.{block_procedures, block_statements, formal_sections}
-use Rattle.ob0_types.specs.Declarations.{after_variables, formals_constructors}
-use Rattle.ob0_types.specs.Environments.{meanings, outermost}
-use Rattle.ob0_types.specs.Expressions.{reads, writes, writes_line}
-use Rattle.ob0_types.specs.WellTyped.{TypeEnvironment, Typed, fits_over}
+use Rattle.ob0_typing.specs.Declarations.{after_variables, formals_constructors}
+use Rattle.ob0_typing.specs.Environments.{meanings, outermost}
+use Rattle.ob0_typing.specs.Expressions.{reads, writes, writes_line}
+use Rattle.ob0_typing.specs.WellTyped.{TypeEnvironment, Typed, fits_over}
 use Rattle.ob0_values.specs.Values.{Stuck, boolean_shape, integer_shape}
-use Rattle.ob0_run.specs.Runs.{Activation, Calls, Frame, Progress, State, activate, bind_parameters, call, declare_block, execute_all, execute_body, finished, give_up, in_frame, parameters, run_over, running, stopped}
-use Rattle.ob0_run.proofs.SoundCalls.{fitting-run}
+use Rattle.ob0_semantics.specs.Runs.{Activation, Calls, Frame, Progress, State, activate, bind_parameters, call, declare_block, execute_all, execute_body, finished, give_up, in_frame, parameters, run_over, running, stopped}
+use Rattle.ob0_semantics.proofs.SoundCalls.{fitting-run}
 use Rattle.ob0_fields.specs.Fields.{FieldNames, behind_procedures, behind_variables, refield, refield_block, refielded}
 use Rattle.ob0_fields.specs.FieldLaws.{KeepsApart}
 use Rattle.ob0_fields.proofs.RefieldedActivations.{FramesBoth, Scene, Stage, bind_parameters-both, both-then, declare_block-both, env_as, frame_by, from_binding-as, meanings-as, parameters-refield, scene_from, things_in}

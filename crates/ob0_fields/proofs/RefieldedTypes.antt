@@ -5,10 +5,10 @@ use Rattle.ob0_scope.specs.Mapping.{with_names}
 use Rattle.ob0_scope.specs.Names.{Name}
 use Rattle.ob0_scope.specs.Parts.{further_names, names_listed}
 use Rattle.ob0_scope.proofs.SameNames.{with_names-id}
-use Rattle.ob0_types.specs.Expressions.{Object}
-use Rattle.ob0_types.specs.Typing.{add_type, array_length, complement_type, constant_of, constant_value, constructors, denoted, denoted_group, denoted_groups, element_type, field_type, group_constructors, groups_constructors, multiply_type, object_type, relation_type, sign_type, type_at, type_of, type_of_addends, type_of_factor, type_of_multipliers, type_of_name, type_of_simple, type_of_term, with_fields, within_limits}
-use Rattle.ob0_types.specs.WellTyped.{Signature}
-use Rattle.ob0_types.proofs.TypeNaturality.{constant_value-map}
+use Rattle.ob0_typing.specs.Expressions.{Object}
+use Rattle.ob0_typing.specs.Typing.{add_type, array_length, complement_type, constant_of, constant_value, constructors, denoted, denoted_group, denoted_groups, element_type, field_type, group_constructors, groups_constructors, multiply_type, object_type, relation_type, sign_type, type_at, type_of, type_of_addends, type_of_factor, type_of_multipliers, type_of_name, type_of_simple, type_of_term, with_fields, within_limits}
+use Rattle.ob0_typing.specs.WellTyped.{Signature}
+use Rattle.ob0_typing.proofs.TypeNaturality.{constant_value-map}
 use Rattle.ob0_values.specs.Values.{FieldShapes, Shape, array_shape, integer_shape, record_shape}
 use Rattle.ob0_fields.specs.Fields.{FieldNames, refield, refield_group, refield_groups, refield_type}
 use Rattle.ob0_fields.specs.FieldLaws.{KeepsApart}

@@ -5,8 +5,8 @@ use Rattle.ob0_tree.specs.declared.tree.AddOperator.TheVariants as add_operator
 use Rattle.ob0_scope.specs.Names.{Name}
 use Rattle.ob0_scope.proofs.WorkedTrees as worked
 use Rattle.ob0_scope.proofs.WorkedTrees.{alone}
-use Rattle.ob0_types.specs.Declarations.{declare_first}
-use Rattle.ob0_types.specs.WellTyped.{declare_typed, typed_parameters}
+use Rattle.ob0_typing.specs.Declarations.{declare_first}
+use Rattle.ob0_typing.specs.WellTyped.{declare_typed, typed_parameters}
 use Rattle.ob0_fields.specs.Renaming.{FieldFree, field_renamed, is_duplicate_field, records}
 
 -- TYPE R = RECORD a, b: INTEGER END; VAR r: R; s: RECORD a: INTEGER END; a: INTEGER; BEGIN r.a := 1; s.a := 2; a := r.a + s.a; Write(a) END M.

@@ -2,8 +2,8 @@
 use Rattle.std.specs.Prelude.{◌≡◌, ℕ, Some}
 use Rattle.ob0_tree.specs.Tree.{Tree, module_text}
 use Rattle.ob0_scope.specs.Names.{Name, as_names, same_name}
-use Rattle.ob0_types.specs.WellTyped.{WellTyped, fits_over}
-use Rattle.ob0_run.specs.EditLaws.{SameRuns}
+use Rattle.ob0_typing.specs.WellTyped.{WellTyped, fits_over}
+use Rattle.ob0_semantics.specs.EditLaws.{SameRuns}
 use Rattle.ob0_fields.specs.Fields.{FieldNames, refielded}
 use Rattle.ob0_fields.specs.Renaming.{FieldFree, field_renamed}
 

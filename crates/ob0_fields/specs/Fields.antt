@@ -4,10 +4,10 @@ use Rattle.ob0_tree.specs.Tree.{Item, Sort, Tree, adds, array_type, assigns, beg
 use Rattle.ob0_scope.specs.Mapping.{with_names}
 use Rattle.ob0_scope.specs.Names.{Name, as_names}
 use Rattle.ob0_scope.specs.Parts.{block_variables, procedure_formals, procedure_name, section_type}
-use Rattle.ob0_types.specs.Declarations.{after_formals, after_types, after_variables, declare_first, procedure_constructors}
-use Rattle.ob0_types.specs.Environments.{meanings, outermost}
-use Rattle.ob0_types.specs.Typing.{constructors, element_type, field_type, group_constructors, object_type}
-use Rattle.ob0_types.specs.WellTyped.{TypeEnvironment, Typed, TypedParameter, bind_typed, declare_typed, heading, typed_parameters}
+use Rattle.ob0_typing.specs.Declarations.{after_formals, after_types, after_variables, declare_first, procedure_constructors}
+use Rattle.ob0_typing.specs.Environments.{meanings, outermost}
+use Rattle.ob0_typing.specs.Typing.{constructors, element_type, field_type, group_constructors, object_type}
+use Rattle.ob0_typing.specs.WellTyped.{TypeEnvironment, Typed, TypedParameter, bind_typed, declare_typed, heading, typed_parameters}
 use Rattle.ob0_values.specs.Values.{Shape, array_shape, boolean_shape, integer_shape, record_shape}
 
 -- how a field is written: a function of the ordinal of its record, None where no record is known, and of its name

@@ -6,8 +6,8 @@ use Rattle.ob0_scope.specs.DeclaredOnce.{group_fields, groups_fields}
 use Rattle.ob0_scope.specs.Names.{Name, same_name}
 use Rattle.ob0_scope.specs.Parts.{formal_sections, module_block, section_type, section_types, section_variables}
 use Rattle.ob0_scope.specs.Scopes.{same_ordinal}
-use Rattle.ob0_types.specs.Declarations.{after_formals, after_types, after_variables, procedure_constructors}
-use Rattle.ob0_types.specs.Typing.{constructors, group_constructors}
+use Rattle.ob0_typing.specs.Declarations.{after_formals, after_types, after_variables, procedure_constructors}
+use Rattle.ob0_typing.specs.Typing.{constructors, group_constructors}
 use Rattle.ob0_fields.specs.Fields.{FieldNames, refielded}
 
 -- the field f of the record r is written as `new`

@@ -7,8 +7,6 @@ mod identifiers;
 pub mod laws;
 mod owners;
 mod owning;
-#[cfg(test)]
-mod tests;
 
 pub use identifiers::{declaring_field, field_identifiers, field_tokens};
 pub use owners::field_owners;

@@ -3,7 +3,7 @@
 ghost use Rattle.std.specs.Prelude.{◌≡◌, option_map, option_and_then, pos};
 ghost use Rattle.ob0_scope.specs.Names.{label_text};
 ghost use Rattle.ob0_tree.specs.Places.{value_at};
-ghost use Rattle.ob0_types.specs.Expressions.{value_of};
+ghost use Rattle.ob0_typing.specs.Expressions.{value_of};
 ghost use Rattle.ob0_values.specs.Stored.{given, store_of};
 ghost use Rattle.ob0_run.specs.Scenes.{Answers, label_in, meant_by, object_of, ordinal_in, stop_of};
 

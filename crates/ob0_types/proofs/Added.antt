@@ -5,11 +5,11 @@ use Rattle.std.proofs.lemmas.List.Elements.{All-push}
 use Rattle.ob0_values.specs.Values.{FieldShapes, Shape, next_field_shape, no_field_shape}
 use Rattle.ob0_scope.specs.Names.{label_text}
 use Rattle.ob0_scope.specs.Resolution.{Resolution}
-use Rattle.ob0_types.specs.declared.known.Field.{Field}
-use Rattle.ob0_types.specs.declared.types.TypeId.{TypeId}
+use Rattle.ob0_symbols.specs.declared.known.Field.{Field}
+use Rattle.ob0_symbols.specs.declared.types.TypeId.{TypeId}
 use Rattle.ob0_types.specs.DenotedTables.{AreAdded, fields_named, joined}
 use Rattle.ob0_types.specs.InLabels.{label_in}
-use Rattle.ob0_types.specs.Tables.{IsMade, fields_shape, type_shape}
+use Rattle.ob0_symbols.specs.Tables.{IsMade, fields_shape, type_shape}
 
 pub joined-assoc : (a b c : FieldShapes) → joined (joined a b) c ≡ joined a (joined b c)
 joined-assoc no_field_shape b c = refl

@@ -10,22 +10,22 @@ use Rattle.ob0_scope.proofs.Ordinals.{after_names-append, declare_names-append, 
 use Rattle.ob0_scope.proofs.Relabelled.{constants-section, formals-section, names-relabel, types-section, variables-section}
 use Rattle.ob0_types.specs.Bindings.{block_bindings, declared_object, for_some, object_bound, procedure_bindings, procedures_bindings, since}
 use Rattle.ob0_types.specs.Checking.{declare_block, declare_procedure}
-use Rattle.ob0_types.specs.ConstantValues.{Known, known_object, no_constant, predeclared_known, value_among, value_in_block, value_in_procedure, value_in_procedures, value_of_constant}
-use Rattle.ob0_types.specs.Declarations.{after_types, after_variables, declare_constants, declare_first, declare_types, formals_constructors, procedure_constructors}
-use Rattle.ob0_types.specs.Environments.{from_binding, meanings, newest, outermost}
-use Rattle.ob0_types.specs.Expressions.{Object, a_constant, a_procedure, a_standard, a_type, a_variable}
-use Rattle.ob0_types.specs.Typing.{constant_of, constant_value, constructors, denoted}
-use Rattle.ob0_types.specs.WellTyped.{Signature, TypeEnvironment, TypedParameter, WellTyped, bind_names, bind_typed, block_fits, declare_typed, fits_over, heading, hold, procedure_fits, procedures_fit, typed_parameters}
+use Rattle.ob0_typing.specs.ConstantValues.{Known, known_object, no_constant, predeclared_known, value_among, value_in_block, value_in_procedure, value_in_procedures, value_of_constant}
+use Rattle.ob0_typing.specs.Declarations.{after_types, after_variables, declare_constants, declare_first, declare_types, formals_constructors, procedure_constructors}
+use Rattle.ob0_typing.specs.Environments.{from_binding, meanings, newest, outermost}
+use Rattle.ob0_typing.specs.Expressions.{Object, a_constant, a_procedure, a_standard, a_type, a_variable}
+use Rattle.ob0_typing.specs.Typing.{constant_of, constant_value, constructors, denoted}
+use Rattle.ob0_typing.specs.WellTyped.{Signature, TypeEnvironment, TypedParameter, WellTyped, bind_names, bind_typed, block_fits, declare_typed, fits_over, heading, hold, procedure_fits, procedures_fit, typed_parameters}
 use Rattle.ob0_values.specs.Values.{Shape, Value}
-use Rattle.ob0_types.proofs.Agreeing.{Agree, HoldsOf}
+use Rattle.ob0_typing.proofs.Agreeing.{Agree, HoldsOf}
 use Rattle.ob0_types.proofs.Agreement.{newest-if}
-use Rattle.ob0_types.proofs.EditedParts.{bind_names-append}
+use Rattle.ob0_typing.proofs.EditedParts.{bind_names-append}
 use Rattle.ob0_types.proofs.KeptProcedures.{headed_bindings, newest-append, or_else, since-append}
-use Rattle.ob0_types.proofs.Literals.{some_inverse}
-use Rattle.ob0_types.proofs.Proved.{fits_by_ordinal-holds}
-use Rattle.ob0_types.proofs.TypedElsewhere.{then_some}
-use Rattle.ob0_types.proofs.TypeNaturality.{constant_value-map}
-use Rattle.ob0_types.proofs.TypesByOrdinal.{TypeNoted, TypedBelow, TypedBelow-weaken, TypedWithin, bind_names-by_ordinal, bind_typed-by_ordinal, label_typed, label_typed-formals, noted_names, noted_parameters, parameters_typed, typed_by_name, typed_by_ordinal, typed_label, typed_meanings-agree, typed_names, typed_outermost, typed_scope}
+use Rattle.ob0_typing.proofs.Literals.{some_inverse}
+use Rattle.ob0_typing.proofs.Proved.{fits_by_ordinal-holds}
+use Rattle.ob0_typing.proofs.TypedElsewhere.{then_some}
+use Rattle.ob0_typing.proofs.TypeNaturality.{constant_value-map}
+use Rattle.ob0_typing.proofs.TypesByOrdinal.{TypeNoted, TypedBelow, TypedBelow-weaken, TypedWithin, bind_names-by_ordinal, bind_typed-by_ordinal, label_typed, label_typed-formals, noted_names, noted_parameters, parameters_typed, typed_by_name, typed_by_ordinal, typed_label, typed_meanings-agree, typed_names, typed_outermost, typed_scope}
 
 abbrev pub worth : TypeEnvironment Label → ℕ → Option Value
 worth env d = constant_of (object_bound env d)

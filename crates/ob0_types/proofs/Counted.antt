@@ -6,9 +6,9 @@ use Rattle.ob0_tree.specs.declared.tree.Names as tree_names
 use Rattle.ob0_scope.specs.Names.{Label}
 use Rattle.ob0_scope.specs.Parts.{formal_sections, further_names, names_listed, section_constants, section_type, section_types, section_variables}
 use Rattle.ob0_scope.specs.Resolution.{Resolution}
-use Rattle.ob0_types.specs.Declarations.{block_constructors, formals_constructors, procedure_constructors, procedures_constructors, types_constructors, variables_constructors}
+use Rattle.ob0_typing.specs.Declarations.{block_constructors, formals_constructors, procedure_constructors, procedures_constructors, types_constructors, variables_constructors}
 use Rattle.ob0_types.specs.InLabels.{in_labels, label_in}
-use Rattle.ob0_types.specs.Typing.{constructors, group_constructors, groups_constructors}
+use Rattle.ob0_typing.specs.Typing.{constructors, group_constructors, groups_constructors}
 
 module _ (f : ℕ → Label) (g : ℕ → ℕ) where
   mutual

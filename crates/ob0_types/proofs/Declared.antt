@@ -7,20 +7,20 @@ use Rattle.ob0_tree.specs.View.{names_of}
 use Rattle.ob0_scope.specs.Names.{Label, as_labels}
 use Rattle.ob0_scope.specs.Parts.{names_listed}
 use Rattle.ob0_scope.specs.Resolution.{Resolution}
-use Rattle.ob0_types.specs.declared.known.Object as declaration
-use Rattle.ob0_types.specs.declared.known.Object.TheVariants as kind
-use Rattle.ob0_types.specs.declared.types.TypeId.{TypeId}
+use Rattle.ob0_symbols.specs.declared.known.Object as declaration
+use Rattle.ob0_symbols.specs.declared.known.Object.TheVariants as kind
+use Rattle.ob0_symbols.specs.declared.types.TypeId.{TypeId}
 use Rattle.ob0_types.specs.declared.walk.Parameter.{Parameter}
 use Rattle.ob0_types.specs.declared.walk.Typed.{Typed}
 use Rattle.ob0_types.specs.Checking.{Agrees, Declares, Follows, Keeps, Walking, parameter_in}
-use Rattle.ob0_types.specs.Declarations.{declare_constants, declare_types}
-use Rattle.ob0_types.specs.Environments.{meanings}
-use Rattle.ob0_types.specs.Expressions.{Object, a_constant, a_type, a_variable}
+use Rattle.ob0_typing.specs.Declarations.{declare_constants, declare_types}
+use Rattle.ob0_typing.specs.Environments.{meanings}
+use Rattle.ob0_typing.specs.Expressions.{Object, a_constant, a_type, a_variable}
 use Rattle.ob0_types.specs.InLabels.{in_labels, label_in}
-use Rattle.ob0_types.specs.KnownTables.{Tables, known_meaning, shapes_of}
-use Rattle.ob0_types.specs.Tables.{IsMade, object_in, type_shape}
-use Rattle.ob0_types.specs.Typing.{constant_value, constructors, denoted}
-use Rattle.ob0_types.specs.WellTyped.{Signature, TypeEnvironment, bind_names, bind_typed, declare_typed}
+use Rattle.ob0_symbols.specs.KnownTables.{Tables, known_meaning, shapes_of}
+use Rattle.ob0_symbols.specs.Tables.{IsMade, object_in, type_shape}
+use Rattle.ob0_typing.specs.Typing.{constant_value, constructors, denoted}
+use Rattle.ob0_typing.specs.WellTyped.{Signature, TypeEnvironment, bind_names, bind_typed, declare_typed}
 use Rattle.ob0_values.specs.declared.scalar.Scalar.{Scalar}
 use Rattle.ob0_values.specs.Scalars.{scalar_value}
 use Rattle.ob0_values.specs.Values.{Shape}

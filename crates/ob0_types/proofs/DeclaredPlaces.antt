@@ -11,16 +11,16 @@ use Rattle.ob0_scope.proofs.Ordinals.{le-after_names, le-after_block, le-after_p
 use Rattle.ob0_types.specs.Bindings.{block_bindings, for_some, object_bound, procedures_bindings}
 use Rattle.ob0_types.specs.Bodies.{BodyAt, DeclarationsStand, block_bodies, procedures_bodies}
 use Rattle.ob0_types.specs.Checking.{declare_block}
-use Rattle.ob0_types.specs.ConstantValues.{Known, no_constant}
-use Rattle.ob0_types.specs.Declarations.{after_variables, formals_constructors, procedure_constructors}
-use Rattle.ob0_types.specs.Environments.{outermost}
-use Rattle.ob0_types.specs.Expressions.{Object}
-use Rattle.ob0_types.specs.WellTyped.{Signature, TypeEnvironment, TypedParameter, WellTyped, bind_names, bind_typed, block_fits, fits_over, heading, procedures_fit, typed_parameters}
+use Rattle.ob0_typing.specs.ConstantValues.{Known, no_constant}
+use Rattle.ob0_typing.specs.Declarations.{after_variables, formals_constructors, procedure_constructors}
+use Rattle.ob0_typing.specs.Environments.{outermost}
+use Rattle.ob0_typing.specs.Expressions.{Object}
+use Rattle.ob0_typing.specs.WellTyped.{Signature, TypeEnvironment, TypedParameter, WellTyped, bind_names, bind_typed, block_fits, fits_over, heading, procedures_fit, typed_parameters}
 use Rattle.ob0_values.specs.Values.{Shape}
 use Rattle.ob0_types.proofs.ConstantsDeclared.{Binds, Entered, FitParts, Knows, Opened, binds-append, binds-wider, block-listed, block-opened, block-parts, block-worths, bound-elsewhere, bound-first, knows-all, all_known, opened-above, opened-binds, opened-grown, opened-since, outermost-binds, predeclared-below, procedure-entered, procedure-parts, procedures-listed, procedures-worths}
 use Rattle.ob0_types.proofs.KeptProcedures.{bind_typed-append}
-use Rattle.ob0_types.proofs.Proved.{fits_by_ordinal-holds}
-use Rattle.ob0_types.proofs.TypesByOrdinal.{TypeNoted, TypedBelow, TypedBelow-weaken, typed_by_ordinal, typed_outermost, typed_scope}
+use Rattle.ob0_typing.proofs.Proved.{fits_by_ordinal-holds}
+use Rattle.ob0_typing.proofs.TypesByOrdinal.{TypeNoted, TypedBelow, TypedBelow-weaken, typed_by_ordinal, typed_outermost, typed_scope}
 
 -- what an environment has, a list of bindings has too
 abbrev Stands : TypeEnvironment Label → TypeEnvironment Label → Type 0

@@ -7,14 +7,14 @@ use Rattle.ob0_tree.specs.View.{expression_of, further_fields_of_group, items_of
 use Rattle.ob0_scope.specs.Names.{Label}
 use Rattle.ob0_scope.specs.Resolution.{Resolution}
 use Rattle.ob0_types.specs.declared.denoting.Denoted.{Denoted}
-use Rattle.ob0_types.specs.declared.known.Field.{Field}
-use Rattle.ob0_types.specs.declared.types.TypeId.{TypeId}
+use Rattle.ob0_symbols.specs.declared.known.Field.{Field}
+use Rattle.ob0_symbols.specs.declared.types.TypeId.{TypeId}
 use Rattle.ob0_types.specs.DenotedTables.{Denotes, Grown, array_in}
 use Rattle.ob0_types.specs.InLabels.{in_labels, label_in}
-use Rattle.ob0_types.specs.KnownTables.{Tables, known_meaning, label_object, shapes_of}
-use Rattle.ob0_types.specs.Tables.{IsMade, fields_shape, type_shape}
-use Rattle.ob0_types.specs.Typing.{array_length, constant_value, constructors, denoted, denoted_groups, type_of_name, within_limits}
-use Rattle.ob0_types.specs.WellTyped.{Typed}
+use Rattle.ob0_symbols.specs.KnownTables.{Tables, known_meaning, label_object, shapes_of}
+use Rattle.ob0_symbols.specs.Tables.{IsMade, fields_shape, type_shape}
+use Rattle.ob0_typing.specs.Typing.{array_length, constant_value, constructors, denoted, denoted_groups, type_of_name, within_limits}
+use Rattle.ob0_typing.specs.WellTyped.{Typed}
 use Rattle.ob0_types.proofs.Gathered.{Gathered, counted_ends, gathered_ends, grown-refl, grown-trans, record-counted, record-denoted}
 use Rattle.ob0_types.proofs.Judged.{then-assoc}
 use Rattle.ob0_values.specs.Values.{Shape, array_shape, record_shape}

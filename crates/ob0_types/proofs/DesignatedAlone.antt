@@ -8,7 +8,7 @@ use Rattle.ob0_tree.specs.declared.tree.Multiplier.{Multiplier}
 use Rattle.ob0_tree.specs.declared.tree.Sign.{Sign}
 use Rattle.ob0_scope.specs.Names.{Label}
 use Rattle.ob0_scope.specs.Resolution.{Resolution}
-use Rattle.ob0_types.specs.Typing.{designated}
+use Rattle.ob0_typing.specs.Typing.{designated}
 use Rattle.ob0_types.specs.FittingParts.{designated_factor, designated_simple, designated_term}
 use Rattle.ob0_types.specs.InLabels.{in_labels, label_in}
 

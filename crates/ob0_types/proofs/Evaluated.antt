@@ -8,11 +8,11 @@ use Rattle.ob0_scope.specs.Resolution.{Resolution}
 use Rattle.ob0_tree.specs.View.{items_of, selector_of}
 use Rattle.ob0_tree.specs.declared.tree.Selector.{Selector}
 use Rattle.ob0_types.specs.InLabels.{in_labels}
-use Rattle.ob0_types.specs.KnownTables.{Tables, label_object}
+use Rattle.ob0_symbols.specs.KnownTables.{Tables, label_object}
 use Rattle.ob0_types.specs.Constants.{constants_in, value_added, value_multiplied}
-use Rattle.ob0_types.specs.Expressions.{Meanings, a_constant, element_step, evaluate, evaluate_addends, evaluate_factor, evaluate_multipliers, evaluate_simple, evaluate_term, follow, value_of}
-use Rattle.ob0_types.specs.Selected.{both}
-use Rattle.ob0_types.specs.Typing.{constant_of, given_value}
+use Rattle.ob0_typing.specs.Expressions.{Meanings, a_constant, element_step, evaluate, evaluate_addends, evaluate_factor, evaluate_multipliers, evaluate_simple, evaluate_term, follow, value_of}
+use Rattle.ob0_typing.specs.Selected.{both}
+use Rattle.ob0_typing.specs.Typing.{constant_of, given_value}
 use Rattle.ob0_types.proofs.Chains.{IsChain}
 use Rattle.ob0_types.proofs.Judged.{then-assoc}
 use Rattle.ob0_values.specs.Scalars.{scalar_value}

@@ -7,17 +7,17 @@ use Rattle.ob0_tree.specs.declared.tree.Expression.{Expression}
 use Rattle.ob0_tree.specs.declared.tree.Statement.{Statement}
 use Rattle.ob0_scope.specs.Names.{Label}
 use Rattle.ob0_scope.specs.Resolution.{Resolution}
-use Rattle.ob0_types.specs.declared.known.Formal as formal
-use Rattle.ob0_types.specs.Arguments.{arguments_listed, further_arguments}
+use Rattle.ob0_symbols.specs.declared.known.Formal as formal
+use Rattle.ob0_typing.specs.Arguments.{arguments_listed, further_arguments}
 use Rattle.ob0_types.specs.Constants.{variable_of}
-use Rattle.ob0_types.specs.Expressions.{Object, a_constant, a_procedure, a_standard, a_type, a_variable}
+use Rattle.ob0_typing.specs.Expressions.{Object, a_constant, a_procedure, a_standard, a_type, a_variable}
 use Rattle.ob0_types.specs.FittingParts.{all_in_labels}
 use Rattle.ob0_types.specs.InLabels.{in_labels, meaning_in, where_only}
-use Rattle.ob0_types.specs.KnownTables.{Tables, label_object}
-use Rattle.ob0_types.specs.Tables.{formal_in, mode_of, type_shape}
-use Rattle.ob0_types.specs.Typing.{designated, type_at, type_of}
-use Rattle.ob0_types.specs.WellTyped.{Signature, Typed, agree, argument_fits, arguments_fit, by_place, by_value, call_fits, condition_fits, else_fits, elsifs_fit, sequence_fits, signature_of, statement_fits, statements_fit, variable_type}
-use Rattle.ob0_types.proofs.AllFit.{IsEach, IsPairwise, and-assoc}
+use Rattle.ob0_symbols.specs.KnownTables.{Tables, label_object}
+use Rattle.ob0_symbols.specs.Tables.{formal_in, mode_of, type_shape}
+use Rattle.ob0_typing.specs.Typing.{designated, type_at, type_of}
+use Rattle.ob0_typing.specs.WellTyped.{Signature, Typed, agree, argument_fits, arguments_fit, by_place, by_value, call_fits, condition_fits, else_fits, elsifs_fit, sequence_fits, signature_of, statement_fits, statements_fit, variable_type}
+use Rattle.ob0_typing.proofs.AllFit.{IsEach, IsPairwise, and-assoc}
 use Rattle.ob0_values.specs.Values.{Shape}
 
 -- what may be assigned to, by what its name stands for

@@ -10,17 +10,17 @@ use Rattle.ob0_tree.specs.Places.{value_at}
 use Rattle.ob0_scope.specs.Names.{Label, label_text}
 use Rattle.ob0_scope.specs.Parts.{further_names, names_listed}
 use Rattle.ob0_scope.specs.Resolution.{Resolution}
-use Rattle.ob0_types.specs.declared.known.Field.{Field}
-use Rattle.ob0_types.specs.declared.types.TypeId.{TypeId}
+use Rattle.ob0_symbols.specs.declared.known.Field.{Field}
+use Rattle.ob0_symbols.specs.declared.types.TypeId.{TypeId}
 use Rattle.ob0_types.specs.DenotedTables.{AreAdded, Grown, fields_named, joined}
 use Rattle.ob0_types.specs.InLabels.{in_labels, label_in}
-use Rattle.ob0_types.specs.KnownTables.{Tables, known_meaning, shapes_of}
-use Rattle.ob0_types.specs.Tables.{IsMade, fields_shape, type_shape}
-use Rattle.ob0_types.specs.Typing.{constructors, denoted, denoted_group, denoted_groups, group_constructors, groups_constructors, with_fields, within_limits}
-use Rattle.ob0_types.specs.WellTyped.{Typed}
+use Rattle.ob0_symbols.specs.KnownTables.{Tables, known_meaning, shapes_of}
+use Rattle.ob0_symbols.specs.Tables.{IsMade, fields_shape, type_shape}
+use Rattle.ob0_typing.specs.Typing.{constructors, denoted, denoted_group, denoted_groups, group_constructors, groups_constructors, with_fields, within_limits}
+use Rattle.ob0_typing.specs.WellTyped.{Typed}
 use Rattle.ob0_types.proofs.Added.{joined-assoc, joined-nothing}
 use Rattle.ob0_types.proofs.Judged.{then-assoc}
-use Rattle.ob0_types.proofs.Tables.{IsMade-more, fields_shape-more, length-table}
+use Rattle.ob0_symbols.proofs.Tables.{IsMade-more, fields_shape-more, length-table}
 use Rattle.ob0_values.specs.Values.{FieldShapes, Shape, next_field_shape, no_field_shape, record_shape}
 
 -- tables that grow

@@ -7,26 +7,26 @@ use Rattle.ob0_tree.specs.View.{items_of}
 use Rattle.ob0_scope.specs.Names.{Label, as_labels, declared}
 use Rattle.ob0_scope.specs.Parts.{names_listed, section_constants, section_types, section_variables}
 use Rattle.ob0_scope.specs.Resolution.{Resolution}
-use Rattle.ob0_types.specs.declared.known.Entry.{Entry}
-use Rattle.ob0_types.specs.declared.known.Object as declaration
-use Rattle.ob0_types.specs.declared.known.Object.TheVariants as kind
+use Rattle.ob0_symbols.specs.declared.known.Entry.{Entry}
+use Rattle.ob0_symbols.specs.declared.known.Object as declaration
+use Rattle.ob0_symbols.specs.declared.known.Object.TheVariants as kind
 use Rattle.ob0_types.specs.declared.walk.Typed.{Typed}
 use Rattle.ob0_types.specs.Checking.{Agrees, Declares, Grows, Keeps, Leaves, Walking, declare_block}
-use Rattle.ob0_types.specs.Declarations.{declare_constants, declare_types, types_constructors}
-use Rattle.ob0_types.specs.Environments.{from_binding}
-use Rattle.ob0_types.specs.Expressions.{Object, a_constant, a_type, a_variable}
+use Rattle.ob0_typing.specs.Declarations.{declare_constants, declare_types, types_constructors}
+use Rattle.ob0_typing.specs.Environments.{from_binding}
+use Rattle.ob0_typing.specs.Expressions.{Object, a_constant, a_type, a_variable}
 use Rattle.ob0_types.specs.InLabels.{in_labels, label_in}
-use Rattle.ob0_types.specs.KnownTables.{AreTables, EntryIsMade, Tables, declared_in, known_meaning, put_at, shapes_of}
-use Rattle.ob0_types.specs.Tables.{object_in, type_shape}
-use Rattle.ob0_types.specs.Typing.{constant_value}
-use Rattle.ob0_types.specs.WellTyped.{Signature, TypeEnvironment, bind_names, declare_typed}
+use Rattle.ob0_symbols.specs.KnownTables.{AreTables, EntryIsMade, Tables, declared_in, known_meaning, put_at, shapes_of}
+use Rattle.ob0_symbols.specs.Tables.{object_in, type_shape}
+use Rattle.ob0_typing.specs.Typing.{constant_value}
+use Rattle.ob0_typing.specs.WellTyped.{Signature, TypeEnvironment, bind_names, declare_typed}
 use Rattle.ob0_values.specs.declared.scalar.Scalar.{Scalar}
 use Rattle.ob0_values.specs.Scalars.{scalar_value}
 use Rattle.ob0_values.specs.Values.{Shape}
 use Rattle.ob0_types.proofs.Agreement.{newest-if, object_in-more}
 use Rattle.ob0_types.proofs.Declared.{Behind, Binding, value_of}
 use Rattle.ob0_types.proofs.Procedures.{declared_parts}
-use Rattle.ob0_types.proofs.Tables.{length-table}
+use Rattle.ob0_symbols.proofs.Tables.{length-table}
 use Rattle.ob0_types.proofs.Walked.{Giving, IsWalk, constant_is, split, type_is, variable_is}
 
 -- a declaration at its ordinal

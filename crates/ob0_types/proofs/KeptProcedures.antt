@@ -14,19 +14,19 @@ use Rattle.ob0_tree.proofs.Viewed.{block_parts}
 use Rattle.ob0_scope.specs.Names.{Label, as_labels, declared}
 use Rattle.ob0_scope.specs.Parts.{block_types, block_variables, formal_sections, names_listed, procedure_name, section_types, section_variables}
 use Rattle.ob0_scope.specs.Resolution.{Resolution}
-use Rattle.ob0_types.specs.declared.known.Formal as formal
-use Rattle.ob0_types.specs.declared.known.Object.TheVariants as kind
+use Rattle.ob0_symbols.specs.declared.known.Formal as formal
+use Rattle.ob0_symbols.specs.declared.known.Object.TheVariants as kind
 use Rattle.ob0_types.specs.declared.walk.Parameter.{Parameter}
 use Rattle.ob0_types.specs.declared.walk.Typed.{Typed}
 use Rattle.ob0_types.specs.Checking.{Agrees, Declares, DeclaresHeading, Follows, Grows, Heading, Keeps, KeepsAll, KeepsHeading, KeepsParameters, Walking, declare_block, parameter_in, parameters_in, parameters_of}
 use Rattle.ob0_types.specs.Bindings.{block_bindings, for_some, procedure_bindings, procedures_bindings, since}
-use Rattle.ob0_types.specs.Declarations.{after_variables, formals_constructors, procedure_constructors, types_constructors, variables_constructors}
-use Rattle.ob0_types.specs.Environments.{from_binding, newest, outermost}
-use Rattle.ob0_types.specs.Expressions.{Object, a_procedure, a_variable}
+use Rattle.ob0_typing.specs.Declarations.{after_variables, formals_constructors, procedure_constructors, types_constructors, variables_constructors}
+use Rattle.ob0_typing.specs.Environments.{from_binding, newest, outermost}
+use Rattle.ob0_typing.specs.Expressions.{Object, a_procedure, a_variable}
 use Rattle.ob0_types.specs.InLabels.{in_labels, label_in}
-use Rattle.ob0_types.specs.KnownTables.{Tables, declared_in, predeclared, shapes_of}
-use Rattle.ob0_types.specs.Tables.{IsMade, formal_in, type_shape}
-use Rattle.ob0_types.specs.WellTyped.{Formal, Signature, TypeEnvironment, TypedParameter, bind_names, bind_typed, heading, typed_parameters}
+use Rattle.ob0_symbols.specs.KnownTables.{Tables, declared_in, predeclared, shapes_of}
+use Rattle.ob0_symbols.specs.Tables.{IsMade, formal_in, type_shape}
+use Rattle.ob0_typing.specs.WellTyped.{Formal, Signature, TypeEnvironment, TypedParameter, bind_names, bind_typed, heading, typed_parameters}
 use Rattle.ob0_values.specs.Values.{Shape}
 use Rattle.ob0_types.proofs.Agreement.{follows_on, newest-if, past}
 use Rattle.ob0_types.proofs.Counted.{counted_procedure, counted_types, counted_variables, labels_listed, types_mapped, variables_mapped}

@@ -12,17 +12,17 @@ use Rattle.ob0_tree.proofs.Viewed.{block_parts, procedure_made}
 use Rattle.ob0_scope.specs.Names.{Label, as_labels}
 use Rattle.ob0_scope.specs.Parts.{block_types, block_variables, formal_sections, procedure_formals, procedure_name, section_constants, section_types, section_variables}
 use Rattle.ob0_scope.specs.Resolution.{Resolution}
-use Rattle.ob0_types.specs.declared.known.Formal as formal
-use Rattle.ob0_types.specs.declared.known.Object.TheVariants as kind
-use Rattle.ob0_types.specs.declared.known.Shadowed.{Shadowed}
+use Rattle.ob0_symbols.specs.declared.known.Formal as formal
+use Rattle.ob0_symbols.specs.declared.known.Object.TheVariants as kind
+use Rattle.ob0_symbols.specs.declared.known.Shadowed.{Shadowed}
 use Rattle.ob0_types.specs.declared.walk.Parameter.{Parameter}
 use Rattle.ob0_types.specs.Checking.{Agrees, Decides, Declares, DeclaresHeading, DeclaresSections, Follows, Heading, Walking, declare_block, declare_procedure, parameter_in, parameters_of}
-use Rattle.ob0_types.specs.Declarations.{block_constructors, declare_constants, declare_first, declare_types, formals_constructors, procedure_constructors, procedures_constructors, types_constructors, variables_constructors}
-use Rattle.ob0_types.specs.Expressions.{a_procedure}
+use Rattle.ob0_typing.specs.Declarations.{block_constructors, declare_constants, declare_first, declare_types, formals_constructors, procedure_constructors, procedures_constructors, types_constructors, variables_constructors}
+use Rattle.ob0_typing.specs.Expressions.{a_procedure}
 use Rattle.ob0_types.specs.InLabels.{in_labels, label_in}
-use Rattle.ob0_types.specs.KnownTables.{AreTables, before_all, seen_object, shapes_of}
-use Rattle.ob0_types.specs.Tables.{formal_in}
-use Rattle.ob0_types.specs.WellTyped.{TypeEnvironment, TypedParameter, bind_typed, block_fits, body_fits, declare_typed, heading, hold, procedure_fits, procedures_fit, typed_parameters}
+use Rattle.ob0_symbols.specs.KnownTables.{AreTables, before_all, seen_object, shapes_of}
+use Rattle.ob0_symbols.specs.Tables.{formal_in}
+use Rattle.ob0_typing.specs.WellTyped.{TypeEnvironment, TypedParameter, bind_typed, block_fits, body_fits, declare_typed, heading, hold, procedure_fits, procedures_fit, typed_parameters}
 use Rattle.ob0_values.specs.Values.{Shape}
 use Rattle.ob0_types.proofs.Agreement.{agrees_same, follows_more, follows_on}
 use Rattle.ob0_types.proofs.Counted.{counted_formals, counted_procedure, counted_types, counted_variables, sections_mapped, types_mapped, variables_mapped}

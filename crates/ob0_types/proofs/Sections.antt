@@ -9,23 +9,23 @@ use Rattle.ob0_tree.specs.Places.{value_at}
 use Rattle.ob0_scope.specs.Names.{Label, as_labels}
 use Rattle.ob0_scope.specs.Parts.{formal_sections, names_listed, section_names, section_type}
 use Rattle.ob0_scope.specs.Resolution.{Resolution}
-use Rattle.ob0_types.specs.declared.known.Formal as formal
+use Rattle.ob0_symbols.specs.declared.known.Formal as formal
 use Rattle.ob0_types.specs.declared.walk.Parameter.{Parameter}
 use Rattle.ob0_types.specs.declared.walk.Typed.{Typed}
 use Rattle.ob0_types.specs.Checking.{Agrees, DeclaresSection, DeclaresSections, Follows, Heading, Walking, parameter_in, parameters_in, parameters_of, typed_section}
-use Rattle.ob0_types.specs.Declarations.{formals_constructors}
-use Rattle.ob0_types.specs.Environments.{meanings}
-use Rattle.ob0_types.specs.Expressions.{a_variable}
+use Rattle.ob0_typing.specs.Declarations.{formals_constructors}
+use Rattle.ob0_typing.specs.Environments.{meanings}
+use Rattle.ob0_typing.specs.Expressions.{a_variable}
 use Rattle.ob0_types.specs.InLabels.{in_labels, label_in}
-use Rattle.ob0_types.specs.KnownTables.{shapes_of}
-use Rattle.ob0_types.specs.Tables.{IsMade, formal_in, mode_of, type_shape}
-use Rattle.ob0_types.specs.Typing.{constructors, denoted}
-use Rattle.ob0_types.specs.WellTyped.{TypeEnvironment, TypedParameter, bind_names, section_mode, typed_parameters}
+use Rattle.ob0_symbols.specs.KnownTables.{shapes_of}
+use Rattle.ob0_symbols.specs.Tables.{IsMade, formal_in, mode_of, type_shape}
+use Rattle.ob0_typing.specs.Typing.{constructors, denoted}
+use Rattle.ob0_typing.specs.WellTyped.{TypeEnvironment, TypedParameter, bind_names, section_mode, typed_parameters}
 use Rattle.ob0_values.specs.Values.{Shape}
 use Rattle.ob0_types.proofs.Agreement.{follows_itself, follows_on}
 use Rattle.ob0_types.proofs.Counted.{counted_formals, counted_section, labels_listed}
 use Rattle.ob0_types.proofs.Declared.{Behind}
-use Rattle.ob0_types.proofs.Tables.{IsMade-more, length-table, type_shape-more}
+use Rattle.ob0_symbols.proofs.Tables.{IsMade-more, length-table, type_shape-more}
 
 -- later tables keep the parameters
 parameters-more : (r : Resolution) (shapes later : List Shape) (ps : List Parameter) → All (λ (p : Parameter). IsMade (length shapes) p.formal.of) ps → map (parameter_in r (shapes ++ later)) ps ≡ map (parameter_in r shapes) ps

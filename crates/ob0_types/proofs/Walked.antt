@@ -6,12 +6,12 @@ use Rattle.ob0_tree.specs.View.{items_of}
 use Rattle.ob0_scope.specs.Names.{Label, as_labels}
 use Rattle.ob0_scope.specs.Resolution.{Resolution}
 use Rattle.ob0_types.specs.Checking.{Agrees, Declares, Follows, Walking}
-use Rattle.ob0_types.specs.Declarations.{declare_constants, declare_types, types_constructors, variables_constructors}
-use Rattle.ob0_types.specs.Environments.{meanings}
-use Rattle.ob0_types.specs.Expressions.{a_constant, a_type, a_variable}
+use Rattle.ob0_typing.specs.Declarations.{declare_constants, declare_types, types_constructors, variables_constructors}
+use Rattle.ob0_typing.specs.Environments.{meanings}
+use Rattle.ob0_typing.specs.Expressions.{a_constant, a_type, a_variable}
 use Rattle.ob0_types.specs.InLabels.{in_labels, label_in}
-use Rattle.ob0_types.specs.Typing.{constant_value, constructors, denoted}
-use Rattle.ob0_types.specs.WellTyped.{TypeEnvironment, bind_names, declare_typed}
+use Rattle.ob0_typing.specs.Typing.{constant_value, constructors, denoted}
+use Rattle.ob0_typing.specs.WellTyped.{TypeEnvironment, bind_names, declare_typed}
 use Rattle.ob0_scope.specs.Parts.{names_listed}
 use Rattle.ob0_values.specs.Values.{Shape, Value}
 use Rattle.ob0_types.proofs.Agreement.{follows_itself, follows_on}

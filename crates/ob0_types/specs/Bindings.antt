@@ -5,11 +5,11 @@ use Rattle.ob0_scope.specs.Names.{Label, Name, Naming, as_labels, declared}
 use Rattle.ob0_scope.specs.Parts.{formal_sections, module_block}
 use Rattle.ob0_scope.specs.Scopes.{numbered}
 use Rattle.ob0_types.specs.Checking.{declare_block, declare_procedure}
-use Rattle.ob0_types.specs.Declarations.{after_variables, formals_constructors, procedure_constructors}
-use Rattle.ob0_types.specs.Environments.{from_binding, newest, outermost}
-use Rattle.ob0_types.specs.Expressions.{Object, a_constant, a_type, a_variable}
-use Rattle.ob0_types.specs.Typing.{value_type}
-use Rattle.ob0_types.specs.WellTyped.{Signature, TypeEnvironment, bind_typed, heading, typed_parameters}
+use Rattle.ob0_typing.specs.Declarations.{after_variables, formals_constructors, procedure_constructors}
+use Rattle.ob0_typing.specs.Environments.{from_binding, newest, outermost}
+use Rattle.ob0_typing.specs.Expressions.{Object, a_constant, a_type, a_variable}
+use Rattle.ob0_typing.specs.Typing.{value_type}
+use Rattle.ob0_typing.specs.WellTyped.{Signature, TypeEnvironment, bind_typed, heading, typed_parameters}
 use Rattle.ob0_values.specs.Values.{Shape}
 
 -- what an environment has in front of the one before
@@ -52,10 +52,3 @@ object_bound bindings k = newest (from_binding as_labels bindings (declared k))
 -- what the declaration of an ordinal is: in the numbered tree its name is the ordinal, and this is what it is bound to
 abbrev pub declared_object : Tree Name module_text → ℕ → Option (Object Shape Signature)
 declared_object m k = object_bound (module_bindings as_labels (numbered m)) k
-
--- the type of a type's name, of a variable or parameter, and of a constant; a procedure has none
-abbrev pub type_declared : {P : Type 0} → Option (Object Shape P) → Option Shape
-type_declared (Some (a_type s)) = Some s
-type_declared (Some (a_variable s)) = Some s
-type_declared (Some (a_constant v)) = value_type v
-type_declared _ = None

@@ -6,10 +6,10 @@ use Rattle.ob0_scope.specs.Parts.{formal_sections, module_block, procedure_forma
 use Rattle.ob0_scope.specs.Scopes.{numbered}
 use Rattle.ob0_types.specs.Bindings.{declared_object, for_some, object_bound}
 use Rattle.ob0_types.specs.Checking.{declare_block}
-use Rattle.ob0_types.specs.Declarations.{after_variables, formals_constructors, procedure_constructors}
-use Rattle.ob0_types.specs.Environments.{outermost}
-use Rattle.ob0_types.specs.Expressions.{Object}
-use Rattle.ob0_types.specs.WellTyped.{Signature, TypeEnvironment, WellTyped, bind_typed, heading, typed_parameters}
+use Rattle.ob0_typing.specs.Declarations.{after_variables, formals_constructors, procedure_constructors}
+use Rattle.ob0_typing.specs.Environments.{outermost}
+use Rattle.ob0_typing.specs.Expressions.{Object}
+use Rattle.ob0_typing.specs.WellTyped.{Signature, TypeEnvironment, WellTyped, bind_typed, heading, typed_parameters}
 use Rattle.ob0_values.specs.Values.{Shape}
 
 -- what is checked, and the environment there

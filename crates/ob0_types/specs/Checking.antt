@@ -4,16 +4,16 @@ use Rattle.ob0_tree.specs.Tree.{Tree, block, further_section, item, items, proce
 use Rattle.ob0_scope.specs.Names.{Label, Naming, as_labels, declared}
 use Rattle.ob0_scope.specs.Parts.{block_variables, procedure_formals, procedure_name, section_names, section_type}
 use Rattle.ob0_scope.specs.Resolution.{Resolution}
-use Rattle.ob0_types.specs.declared.known.Shadowed.{Shadowed}
+use Rattle.ob0_symbols.specs.declared.known.Shadowed.{Shadowed}
 use Rattle.ob0_types.specs.declared.walk.Parameter.{Parameter}
-use Rattle.ob0_types.specs.Declarations.{after_types, declare_first, formals_constructors}
-use Rattle.ob0_types.specs.Environments.{from_binding, meanings, newest}
-use Rattle.ob0_types.specs.Expressions.{a_variable}
+use Rattle.ob0_typing.specs.Declarations.{after_types, declare_first, formals_constructors}
+use Rattle.ob0_typing.specs.Environments.{from_binding, meanings, newest}
+use Rattle.ob0_typing.specs.Expressions.{a_variable}
 use Rattle.ob0_types.specs.InLabels.{label_in}
-use Rattle.ob0_types.specs.KnownTables.{Tables, before_all, declared_in, known_meaning, seen_object, shapes_of}
-use Rattle.ob0_types.specs.Tables.{formal_in}
-use Rattle.ob0_types.specs.Typing.{constructors, denoted, ◌>>=◌}
-use Rattle.ob0_types.specs.WellTyped.{TypeEnvironment, TypedParameter, bind_names, bind_typed, declare_typed, heading, procedure_fits, section_mode, typed_parameters}
+use Rattle.ob0_symbols.specs.KnownTables.{Tables, before_all, declared_in, known_meaning, seen_object, shapes_of}
+use Rattle.ob0_symbols.specs.Tables.{formal_in}
+use Rattle.ob0_typing.specs.Typing.{constructors, denoted, ◌>>=◌}
+use Rattle.ob0_typing.specs.WellTyped.{TypeEnvironment, TypedParameter, bind_names, bind_typed, declare_typed, heading, procedure_fits, section_mode, typed_parameters}
 use Rattle.ob0_values.specs.Values.{Shape}
 
 -- what names stand for in an environment is what is in sight

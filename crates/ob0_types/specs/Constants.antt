@@ -4,9 +4,9 @@ use Rattle.ob0_tree.specs.declared.tree.AddOperator.{AddOperator}
 use Rattle.ob0_tree.specs.declared.tree.MultiplyOperator.{MultiplyOperator}
 use Rattle.ob0_tree.specs.Tree.{Tree, addend, adds, item, multiplier, multiplies}
 use Rattle.ob0_scope.specs.Names.{Label}
-use Rattle.ob0_types.specs.Expressions.{Meanings, Object, a_variable, evaluate_factor, evaluate_term}
-use Rattle.ob0_types.specs.KnownTables.{Tables, known_meaning}
-use Rattle.ob0_types.specs.Typing.{constants_only, given_value}
+use Rattle.ob0_typing.specs.Expressions.{Meanings, Object, a_variable, evaluate_factor, evaluate_term}
+use Rattle.ob0_symbols.specs.KnownTables.{Tables, known_meaning}
+use Rattle.ob0_typing.specs.Typing.{constants_only, given_value}
 use Rattle.ob0_values.specs.Values.{Place, Shape, Value, add, add_is_settled, multiply, multiply_is_settled}
 
 -- the type of a variable or parameter
@@ -17,13 +17,6 @@ variable_of _ = None
 -- what names stand for where a constant expression is evaluated
 abbrev pub constants_in : Tables → Meanings Label Place (Unit {0})
 constants_in t = constants_only (known_meaning t)
-
--- an operation, which needs no right operand where the left one settles it
-abbrev pub sum_value : AddOperator → Option Value → Value → Option Value
-sum_value o right x = cond (add_is_settled o x) (Some x) (option_and_then (λ y. given_value (add o x y)) right)
-
-abbrev pub product_value : MultiplyOperator → Option Value → Value → Option Value
-product_value o right x = cond (multiply_is_settled o x) (Some x) (option_and_then (λ y. given_value (multiply o x y)) right)
 
 -- the value behind one more operand
 abbrev pub value_added : Meanings Label Place (Unit {0}) → Value → Tree Label (item addend) → Option Value

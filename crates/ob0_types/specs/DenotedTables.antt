@@ -6,12 +6,12 @@ use Rattle.ob0_tree.specs.View.{expression_of, type_of}
 use Rattle.ob0_scope.specs.Names.{label_text}
 use Rattle.ob0_scope.specs.Resolution.{Resolution}
 use Rattle.ob0_types.specs.declared.denoting.Denoted.{Denoted}
-use Rattle.ob0_types.specs.declared.known.Field.{Field}
-use Rattle.ob0_types.specs.declared.types.TypeId.{TypeId}
+use Rattle.ob0_symbols.specs.declared.known.Field.{Field}
+use Rattle.ob0_symbols.specs.declared.types.TypeId.{TypeId}
 use Rattle.ob0_types.specs.InLabels.{in_labels, label_in}
-use Rattle.ob0_types.specs.KnownTables.{Tables, known_meaning, shapes_of}
-use Rattle.ob0_types.specs.Tables.{IsMade, fields_shape, type_shape}
-use Rattle.ob0_types.specs.Typing.{constructors, denoted, with_fields}
+use Rattle.ob0_symbols.specs.KnownTables.{Tables, known_meaning, shapes_of}
+use Rattle.ob0_symbols.specs.Tables.{IsMade, fields_shape, type_shape}
+use Rattle.ob0_typing.specs.Typing.{constructors, denoted, with_fields}
 use Rattle.ob0_values.specs.Values.{FieldShapes, Shape, next_field_shape, no_field_shape}
 
 -- a table with more shapes, and as before but for them: names stand for what they stood for

@@ -7,11 +7,11 @@ use Rattle.ob0_tree.specs.declared.tree.Expression.{Expression}
 use Rattle.ob0_scope.specs.Names.{Label}
 use Rattle.ob0_scope.specs.Resolution.{Resolution}
 use Rattle.ob0_types.specs.InLabels.{in_labels, label_in}
-use Rattle.ob0_types.specs.Selected.{selectors_in}
-use Rattle.ob0_types.specs.Tables.{made_shape, no_shape}
-use Rattle.ob0_types.specs.declared.known.Shape.TheVariants as made
-use Rattle.ob0_types.specs.declared.sameness.Parts.{Parts}
-use Rattle.ob0_types.specs.declared.sameness.Parts.TheVariants as parts
+use Rattle.ob0_typing.specs.Selected.{selectors_in}
+use Rattle.ob0_symbols.specs.Tables.{made_shape, no_shape}
+use Rattle.ob0_symbols.specs.declared.known.Shape.TheVariants as made
+use Rattle.ob0_symbols.specs.declared.sameness.Parts.{Parts}
+use Rattle.ob0_symbols.specs.declared.sameness.Parts.TheVariants as parts
 use Rattle.ob0_values.specs.Values.{Shape, boolean_shape, integer_shape}
 
 -- a designator's name and its selectors
@@ -37,11 +37,3 @@ designated_simple _ = None
 -- several expressions, in order
 abbrev pub all_in_labels : Resolution → List Expression → List (Tree Label expression)
 all_in_labels r es = map (λ e. in_labels r (expression_of e)) es
-
--- the shape of a type with its parts
-abbrev pub parts_shape : List Shape → Parts → Shape
-parts_shape shapes parts.Integer = integer_shape
-parts_shape shapes parts.Boolean = boolean_shape
-parts_shape shapes (parts.Array a) = made_shape shapes (made.Array a)
-parts_shape shapes (parts.Record r) = made_shape shapes (made.Record r.now)
-parts_shape shapes parts.Faulty = no_shape

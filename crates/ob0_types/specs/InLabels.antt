@@ -4,10 +4,10 @@ use Rattle.ob0_tree.specs.Tree.{Sort, Tree, mapped}
 use Rattle.ob0_tree.specs.Places.{value_at}
 use Rattle.ob0_scope.specs.Names.{Label, label_text}
 use Rattle.ob0_scope.specs.Resolution.{Resolution, label_at}
-use Rattle.ob0_types.specs.Expressions.{Object, a_constant}
-use Rattle.ob0_types.specs.Typing.{constant_of}
-use Rattle.ob0_types.specs.WellTyped.{Signature, Typed}
-use Rattle.ob0_types.specs.KnownTables.{Tables, label_object}
+use Rattle.ob0_typing.specs.Expressions.{Object, a_constant}
+use Rattle.ob0_typing.specs.Typing.{constant_of}
+use Rattle.ob0_typing.specs.WellTyped.{Signature, Typed}
+use Rattle.ob0_symbols.specs.KnownTables.{Tables, label_object}
 use Rattle.ob0_values.specs.Values.{Shape}
 
 abbrev pub label_in : Resolution → ℕ → Label

@@ -7,11 +7,11 @@ ghost use Rattle.ob0_scope.specs.Names.{as_labels};
 ghost use Rattle.ob0_types.specs.Bindings.{module_bindings};
 ghost use Rattle.ob0_types.specs.Checking.{Keeps};
 ghost use Rattle.ob0_types.specs.InLabels.{in_labels};
-ghost use Rattle.ob0_types.specs.WellTyped.{fits_over};
+ghost use Rattle.ob0_typing.specs.WellTyped.{fits_over};
 
-use crate::known::{Formal, Known, Object};
+use ob0_symbols::known::{Formal, Known, Object};
 use crate::names::Names;
-use crate::types::TypeId;
+use ob0_symbols::types::TypeId;
 use crate::walk::{Parameter, Typed, Walk};
 use ob0_scope::resolved::Resolved;
 use ob0_tree::tree::{
@@ -33,7 +33,7 @@ impl<'t> Model for Headed<'t> {
     ghost use Rattle.std.specs.Coded.{codes};
     ghost use Rattle.ob0_tree.specs.contracts.tree.Block as block_contract;
     ghost use Rattle.ob0_types.specs.Checking.{Heading};
-    ghost use Rattle.ob0_types.specs.Tables.{IsMade};
+    ghost use Rattle.ob0_symbols.specs.Tables.{IsMade};
 
     ghost Value = { Heading };
 
@@ -52,13 +52,13 @@ impl<'t> Walk<'t> {
     ghost use Rattle.ob0_scope.specs.Parts.{block_types, block_variables, formal_sections, names_listed, procedure_name, section_constants, section_types, section_variables};
     ghost use Rattle.ob0_types.specs.Bindings.{block_bindings, procedure_bindings};
     ghost use Rattle.ob0_types.specs.Checking.{Agrees, Decides, Declares, DeclaresHeading, DeclaresSections, Follows, Grows, Keeps, KeepsAll, KeepsHeading, KeepsParameters, declare_block, declare_procedure, parameters_in};
-    ghost use Rattle.ob0_types.specs.Declarations.{block_constructors, declare_constants, declare_types, procedure_constructors, types_constructors, variables_constructors};
-    ghost use Rattle.ob0_types.specs.Expressions.{a_variable};
+    ghost use Rattle.ob0_typing.specs.Declarations.{block_constructors, declare_constants, declare_types, procedure_constructors, types_constructors, variables_constructors};
+    ghost use Rattle.ob0_typing.specs.Expressions.{a_variable};
     ghost use Rattle.ob0_types.specs.InLabels.{in_labels};
-    ghost use Rattle.ob0_types.specs.KnownTables.{shapes_of};
-    ghost use Rattle.ob0_types.specs.Tables.{IsMade, type_shape};
-    ghost use Rattle.ob0_types.specs.Typing.{constructors};
-    ghost use Rattle.ob0_types.specs.WellTyped.{TypeEnvironment, bind_names, bind_typed, block_fits, body_fits, declare_typed};
+    ghost use Rattle.ob0_symbols.specs.KnownTables.{shapes_of};
+    ghost use Rattle.ob0_symbols.specs.Tables.{IsMade, type_shape};
+    ghost use Rattle.ob0_typing.specs.Typing.{constructors};
+    ghost use Rattle.ob0_typing.specs.WellTyped.{TypeEnvironment, bind_names, bind_typed, block_fits, body_fits, declare_typed};
 
     /// A constant is known behind its right side.
     fn constant(self, c: &Constant) -> Result<Option<Walk<'t>>, AllocError>
@@ -334,7 +334,7 @@ impl<'t> Headed<'t> {
     ghost use Rattle.ob0_tree.specs.View.{section_of};
     ghost use Rattle.ob0_scope.specs.Names.{Label};
     ghost use Rattle.ob0_types.specs.Checking.{DeclaresSection, Keeps, parameters_of};
-    ghost use Rattle.ob0_types.specs.WellTyped.{TypeEnvironment, bind_typed};
+    ghost use Rattle.ob0_typing.specs.WellTyped.{TypeEnvironment, bind_typed};
     ghost use Rattle.ob0_types.specs.InLabels.{in_labels};
 
     /// Parameters of one type.

@@ -6,100 +6,20 @@ ghost use Rattle.ob0_tree.specs.View.{designator_of, expression_of, factor_of, s
 ghost use Rattle.ob0_tree.specs.Places.{value_at};
 ghost use Rattle.ob0_values.specs.Scalars.{scalar_value};
 ghost use Rattle.ob0_values.specs.Values as values;
-ghost use Rattle.ob0_types.specs.Constants.{product_value, sum_value};
-ghost use Rattle.ob0_types.specs.Selected.{both};
-ghost use Rattle.ob0_types.specs.Typing.{given_value};
+ghost use Rattle.ob0_typing.specs.Typing.{given_value};
 
-use crate::names::{Names, number_at};
-use ob0_tree::tree::{
-    AddOperator, Designator, Expression, Factor, MultiplyOperator, Relation, Sign, Simple, Term,
-};
-use ob0_values::scalar::{
-    Scalar, add, add_is_settled, multiply, multiply_is_settled, negated, relate, signed,
-};
-
-pub(crate) fn related(
-    relation: Relation,
-    left: Option<Scalar>,
-    right: Option<Scalar>,
-) -> Option<Scalar>
-    ensures { option_map scalar_value result ≡ both (λ x y. given_value (values.relate relation x y)) (option_map scalar_value left) (option_map scalar_value right) }
-{
-    match left {
-        None => None,
-        Some(left) => match right {
-            None => None,
-            Some(right) => relate(relation, left, right).ok(),
-        },
-    }
-}
-
-pub(crate) fn with_sign(sign: Option<Sign>, operand: Option<Scalar>) -> Option<Scalar>
-    ensures { option_map scalar_value result ≡ option_and_then (λ x. given_value (values.signed sign x)) (option_map scalar_value operand) }
-{
-    match operand {
-        None => None,
-        Some(operand) => signed(sign, operand).ok(),
-    }
-}
-
-pub(crate) fn complement(operand: Option<Scalar>) -> Option<Scalar>
-    ensures { option_map scalar_value result ≡ option_and_then (λ x. given_value (values.negated x)) (option_map scalar_value operand) }
-{
-    match operand {
-        None => None,
-        Some(operand) => negated(operand).ok(),
-    }
-}
-
-pub(crate) fn added(
-    operator: AddOperator,
-    left: Option<Scalar>,
-    right: Option<Scalar>,
-) -> Option<Scalar>
-    ensures { option_map scalar_value result ≡ option_and_then (sum_value operator (option_map scalar_value right)) (option_map scalar_value left) }
-{
-    match left {
-        None => None,
-        Some(left) => {
-            if add_is_settled(operator, left) {
-                return Some(left);
-            }
-            match right {
-                None => None,
-                Some(right) => add(operator, left, right).ok(),
-            }
-        }
-    }
-}
-
-pub(crate) fn multiplied(
-    operator: MultiplyOperator,
-    left: Option<Scalar>,
-    right: Option<Scalar>,
-) -> Option<Scalar>
-    ensures { option_map scalar_value result ≡ option_and_then (product_value operator (option_map scalar_value right)) (option_map scalar_value left) }
-{
-    match left {
-        None => None,
-        Some(left) => {
-            if multiply_is_settled(operator, left) {
-                return Some(left);
-            }
-            match right {
-                None => None,
-                Some(right) => multiply(operator, left, right).ok(),
-            }
-        }
-    }
-}
+use crate::names::Names;
+use ob0_symbols::written::number_at;
+use ob0_tree::tree::{Designator, Expression, Factor, Simple, Term};
+use ob0_symbols::operators::{added, complement, multiplied, related, with_sign};
+use ob0_values::scalar::Scalar;
 
 impl<'a, 't> Names<'a, 't> {
-    ghost use Rattle.ob0_types.specs.KnownTables.{known_meaning};
+    ghost use Rattle.ob0_symbols.specs.KnownTables.{known_meaning};
     ghost use Rattle.ob0_types.specs.InLabels.{in_labels};
     ghost use Rattle.ob0_types.specs.Constants.{constants_in};
-    ghost use Rattle.ob0_types.specs.Expressions.{evaluate, evaluate_factor, evaluate_simple, evaluate_term};
-    ghost use Rattle.ob0_types.specs.Typing.{constant_value};
+    ghost use Rattle.ob0_typing.specs.Expressions.{evaluate, evaluate_factor, evaluate_simple, evaluate_term};
+    ghost use Rattle.ob0_typing.specs.Typing.{constant_value};
 
     /// The value of a constant expression: it has a type, and its evaluation has no fault.
     pub fn constant_value(&self, e: &Expression) -> Option<Scalar>

@@ -4,17 +4,17 @@ ghost use Rattle.std.specs.Prelude.{◌≡◌, option_and_then, option_map};
 ghost use Rattle.ob0_tree.specs.View.{designator_of, expression_of, factor_of, selector_of, simple_of, term_of};
 
 use crate::names::Names;
-use crate::types::{TypeId, added, complement, multiplied, related, with_sign};
+use ob0_symbols::types::{TypeId, added, complement, multiplied, related, with_sign};
 use ob0_tree::tree::{Designator, Expression, Factor, Selector, Simple, Term};
 
 impl<'a, 't> Names<'a, 't> {
-    ghost use Rattle.ob0_types.specs.KnownTables.{label_object, shapes_of};
+    ghost use Rattle.ob0_symbols.specs.KnownTables.{label_object, shapes_of};
     ghost use Rattle.ob0_types.specs.Constants.{variable_of};
     ghost use Rattle.ob0_tree.specs.declared.tree.Designator.{out-Designator};
     ghost use Rattle.ob0_types.specs.InLabels.{in_labels, label_in, meaning_in};
-    ghost use Rattle.ob0_types.specs.Tables.{type_shape};
-    ghost use Rattle.ob0_types.specs.Typing.{element_type, field_type, type_at, type_of, type_of_factor, type_of_simple, type_of_term};
-    ghost use Rattle.ob0_types.specs.Selected.{both, selectors_in, type_selected};
+    ghost use Rattle.ob0_symbols.specs.Tables.{type_shape};
+    ghost use Rattle.ob0_typing.specs.Typing.{element_type, field_type, type_at, type_of, type_of_factor, type_of_simple, type_of_term};
+    ghost use Rattle.ob0_typing.specs.Selected.{both, selectors_in, type_selected};
 
     /// The type of an expression.
     #[cycle(expressions)]

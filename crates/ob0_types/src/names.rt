@@ -1,49 +1,13 @@
-//! What names stand for at a place, and how tokens are written.
+//! What names stand for at a place.
 
-ghost use Rattle.std.specs.Prelude.{◌≡◌, ◌≤◌, Some, length, option_and_then, option_map, pos, IfSome};
-ghost use Rattle.ob0_tree.specs.Places.{text_at, value_at, value_of};
+ghost use Rattle.std.specs.Prelude.{◌≡◌, Some, length, option_and_then, option_map, IfSome};
+ghost use Rattle.ob0_tree.specs.Places.{text_at};
 
-use crate::known::{Known, Object};
-use crate::types::{TypeId, scalar_type};
-use ob0_scan::{TokenKind, Tokens};
+use ob0_symbols::known::{Known, Object};
+use ob0_symbols::types::{TypeId, scalar_type};
 use ob0_scope::resolved::Resolved;
+use ob0_symbols::written::text_at;
 use ob0_values::scalar::Scalar;
-
-/// How a token is written. Nothing where there is no such token.
-pub fn text_at(tokens: &Tokens, token: usize) -> &str
-    ensures { result.now ≡ text_at tokens.now token }
-{
-    if token < tokens.tokens().len() {
-        tokens.token_text(token)
-    } else {
-        ""
-    }
-}
-
-/// The number that a token is, and 0 for every other token.
-pub fn number_at(tokens: &Tokens, token: usize) -> i32
-    ensures { result ≡ pos (value_at tokens.now token) }
-{
-    let _scanned = tokens.text();
-    let tokens = tokens.tokens();
-    if token < tokens.len() {
-        number_of(tokens[token].kind)
-    } else {
-        0
-    }
-}
-
-fn number_of(kind: TokenKind) -> i32
-    requires { value_of kind ≤ 2147483647 }
-    ensures { result ≡ pos (value_of kind) }
-{
-    match kind {
-        TokenKind::Integer(value) => value as i32,
-        TokenKind::Identifier => 0,
-        TokenKind::Reserved(_) => 0,
-        TokenKind::Symbol(_) => 0,
-    }
-}
 
 /// What names stand for: what is known, and which declaration each name is bound to. In a constant expression they
 /// stand for constants alone.
@@ -56,11 +20,11 @@ pub struct Names<'a, 't> {
 
 impl<'a, 't> Names<'a, 't> {
     ghost use Rattle.ob0_scope.specs.Names.{label_text};
-    ghost use Rattle.ob0_types.specs.Expressions.{a_constant, a_type, a_variable};
-    ghost use Rattle.ob0_types.specs.KnownTables.{label_object, shapes_of};
+    ghost use Rattle.ob0_typing.specs.Expressions.{a_constant, a_type, a_variable};
+    ghost use Rattle.ob0_symbols.specs.KnownTables.{label_object, shapes_of};
     ghost use Rattle.ob0_types.specs.InLabels.{label_in, meaning_in, where_only};
-    ghost use Rattle.ob0_types.specs.Tables.{object_in, type_shape, ObjectIsMade, IsMade};
-    ghost use Rattle.ob0_types.specs.Typing.{constant_of, object_type, type_of_name};
+    ghost use Rattle.ob0_symbols.specs.Tables.{object_in, type_shape, ObjectIsMade, IsMade};
+    ghost use Rattle.ob0_typing.specs.Typing.{constant_of, object_type, type_of_name};
     ghost use Rattle.ob0_types.specs.Constants.{variable_of};
     ghost use Rattle.ob0_values.specs.Scalars.{scalar_value};
 

@@ -1,8 +1,8 @@
 //! A module on its way through the checker: what is known and in sight, and what was in sight before each binding.
 
 use crate::denoting::denote;
-use crate::known::{Formal, Known, Object, Shadowed};
-use crate::types::TypeId;
+use ob0_symbols::known::{Formal, Known, Object, Shadowed};
+use ob0_symbols::types::TypeId;
 use ob0_scope::resolved::Resolved;
 use ob0_tree::tree::WrittenType;
 use std::alloc::{AllocError, Global};
@@ -31,7 +31,7 @@ impl<'t> Model for Walk<'t> {
     ghost use Rattle.std.specs.Coded.{codes};
     ghost use Rattle.ob0_tree.specs.contracts.tree.Block as block_contract;
     ghost use Rattle.ob0_types.specs.Checking.{Walking};
-    ghost use Rattle.ob0_types.specs.KnownTables.{CanBePutBack};
+    ghost use Rattle.ob0_symbols.specs.KnownTables.{CanBePutBack};
 
     ghost Value = { Walking };
 
@@ -53,13 +53,13 @@ impl<'t> Walk<'t> {
     ghost use Rattle.std.specs.Prelude.{◌≡◌, ℕ, ◌+◌, ◌++◌, ◌∷◌, List, Some, length, option_map, IfOk, IfSome};
     ghost use Rattle.ob0_tree.specs.View.{type_of};
     ghost use Rattle.ob0_types.specs.Checking.{Agrees, Follows, Keeps};
-    ghost use Rattle.ob0_types.specs.Environments.{meanings};
-    ghost use Rattle.ob0_types.specs.Expressions as meaning;
+    ghost use Rattle.ob0_typing.specs.Environments.{meanings};
+    ghost use Rattle.ob0_typing.specs.Expressions as meaning;
     ghost use Rattle.ob0_types.specs.InLabels.{in_labels, label_in};
-    ghost use Rattle.ob0_types.specs.KnownTables.{AreTables, before_all, declared_in, predeclared, seen_object, shapes_of};
-    ghost use Rattle.ob0_types.specs.Tables.{IsMade, ObjectIsMade, object_in, type_shape};
-    ghost use Rattle.ob0_types.specs.Typing.{constructors, denoted};
-    ghost use Rattle.ob0_types.specs.WellTyped.{Signature, TypeEnvironment};
+    ghost use Rattle.ob0_symbols.specs.KnownTables.{AreTables, before_all, declared_in, predeclared, seen_object, shapes_of};
+    ghost use Rattle.ob0_symbols.specs.Tables.{IsMade, ObjectIsMade, object_in, type_shape};
+    ghost use Rattle.ob0_typing.specs.Typing.{constructors, denoted};
+    ghost use Rattle.ob0_typing.specs.WellTyped.{Signature, TypeEnvironment};
     ghost use Rattle.ob0_scope.specs.Names.{as_labels, Label};
     ghost use Rattle.ob0_values.specs.Values.{Shape};
 

@@ -3,10 +3,10 @@ use Rattle.ob0_tree.specs.declared.tree.Block.{Block}
 use Rattle.ob0_tree.specs.View.{block_of}
 use Rattle.ob0_scope.specs.Names.{as_labels}
 use Rattle.ob0_types.specs.Checking.{Agrees, Decides, Keeps, KeepsAll}
-use Rattle.ob0_types.specs.Declarations.{block_constructors}
-use Rattle.ob0_types.specs.Environments.{outermost}
+use Rattle.ob0_typing.specs.Declarations.{block_constructors}
+use Rattle.ob0_typing.specs.Environments.{outermost}
 use Rattle.ob0_types.specs.InLabels.{in_labels}
-use Rattle.ob0_types.specs.WellTyped.{block_fits, fits_over}
+use Rattle.ob0_typing.specs.WellTyped.{block_fits, fits_over}
 use Rattle.ob0_types.proofs.Agreement.{agrees_outermost}
 use Rattle.ob0_types.specs.Bindings.{block_bindings}
 use Rattle.ob0_types.proofs.KeptProcedures.{keeps_outermost}

@@ -2,8 +2,8 @@ use Rattle.std.proofs.Common.{IfOk, IfSome, length, option_map, Some, None, refl
 use Rattle.ob0_tree.specs.View.{record_listed, type_of}
 use Rattle.ob0_tree.proofs.Viewed.{record_made}
 use Rattle.ob0_types.specs.DenotedTables.{Denotes, Grown}
-use Rattle.ob0_types.specs.KnownTables.{shapes_of}
-use Rattle.ob0_types.specs.Tables.{IsMade, type_shape}
+use Rattle.ob0_symbols.specs.KnownTables.{shapes_of}
+use Rattle.ob0_symbols.specs.Tables.{IsMade, type_shape}
 use Rattle.ob0_types.proofs.DenotedParts.{array_denotes, array_has_no_element, array_has_no_length, denotes_as, gathered_as, record_denotes, record_fails}
 use Rattle.ob0_types.proofs.Gathered.{gathered_empty, gathered_fails, gathered_listed, grown-trans}
 use Rattle.ob0_types.proofs.denoting.+denoting.Goals.{denote_record-in-Empty, denote_record-in-Listed+in_ok-found-in-Listed+in-Some-2+in_ok-add_fields-in-Listed}

@@ -1,6 +1,6 @@
 use Rattle.std.proofs.Common.{ap, ◌∙◌, arith}
 use Rattle.ob0_tree.specs.Parsed.{named_tree_of}
-use Rattle.ob0_types.specs.Typing.{constant_of}
+use Rattle.ob0_typing.specs.Typing.{constant_of}
 use Rattle.ob0_types.proofs.ConstantsDeclared.{constant-declared, predeclared-none}
 use Rattle.ob0_types.proofs.checked.WellTyped.constant.Goals as goal
 

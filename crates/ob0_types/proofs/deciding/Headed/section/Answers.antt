@@ -2,11 +2,11 @@ use Rattle.std.proofs.Common.{◌∷◌, length, Some, None, sym, ap, subst, ari
 use Rattle.ob0_tree.specs.View.{section_of, type_of}
 use Rattle.ob0_types.specs.Checking.{DeclaresSection, Heading, Keeps, parameters_of}
 use Rattle.ob0_types.specs.InLabels.{in_labels}
-use Rattle.ob0_types.specs.Tables.{IsMade}
+use Rattle.ob0_symbols.specs.Tables.{IsMade}
 use Rattle.ob0_types.proofs.Declared.{Behind}
 use Rattle.ob0_types.proofs.Sections.{section_made, section_none, section_some}
 use Rattle.ob0_scope.specs.Names.{Label}
-use Rattle.ob0_types.specs.WellTyped.{TypeEnvironment, bind_typed}
+use Rattle.ob0_typing.specs.WellTyped.{TypeEnvironment, bind_typed}
 use Rattle.ob0_types.proofs.KeptProcedures.{section_keeps}
 use Rattle.ob0_types.proofs.deciding.Headed.section.Goals as goal
 

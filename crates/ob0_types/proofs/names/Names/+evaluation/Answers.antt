@@ -6,14 +6,15 @@ use Rattle.ob0_tree.specs.declared.tree.Expression.{out-Expression}
 use Rattle.ob0_tree.specs.declared.tree.Simple.{out-Simple}
 use Rattle.ob0_tree.specs.declared.tree.Term.{out-Term}
 use Rattle.ob0_tree.specs.View.{items_of, addend_of, multiplier_of, term_of, factor_of, simple_of}
-use Rattle.ob0_types.specs.Constants.{constants_in, product_value, sum_value, value_added}
-use Rattle.ob0_types.specs.Expressions.{evaluate, evaluate_addends, evaluate_factor, evaluate_multipliers, evaluate_simple, evaluate_term}
+use Rattle.ob0_types.specs.Constants.{constants_in, value_added}
+use Rattle.ob0_symbols.specs.Operators.{product_value, sum_value}
+use Rattle.ob0_typing.specs.Expressions.{evaluate, evaluate_addends, evaluate_factor, evaluate_multipliers, evaluate_simple, evaluate_term}
 use Rattle.ob0_types.specs.InLabels.{in_labels}
-use Rattle.ob0_types.specs.Selected.{both}
-use Rattle.ob0_types.specs.Typing.{given_value}
+use Rattle.ob0_typing.specs.Selected.{both}
+use Rattle.ob0_typing.specs.Typing.{given_value}
 use Rattle.ob0_types.proofs.Chains.{chain_ends, chain_goes_on}
 use Rattle.ob0_types.proofs.Evaluated.{added_values_chain, alone_valued, multiplied_values_chain, negation_valued, related_valued, simple_valued, term_valued}
-use Rattle.ob0_types.proofs.TreeParts.{addend_parts, expression_alone, expression_related}
+use Rattle.ob0_typing.proofs.TreeParts.{addend_parts, expression_alone, expression_related}
 use Rattle.ob0_values.specs.Scalars.{scalar_value}
 use Rattle.ob0_values.specs.Values.{negated, relate, signed}
 use Rattle.ob0_types.proofs.names.Names.+evaluation.Goals as goal

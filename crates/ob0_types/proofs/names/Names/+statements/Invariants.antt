@@ -1,7 +1,7 @@
 use Rattle.ob0_tree.specs.View.{elsif_of, items_of, sequence_listed}
 use Rattle.ob0_types.specs.InLabels.{in_labels, meaning_in}
-use Rattle.ob0_types.specs.WellTyped.{elsifs_fit, sequence_fits}
-use Rattle.ob0_types.proofs.AllFit.{FitSoFar}
+use Rattle.ob0_typing.specs.WellTyped.{elsifs_fit, sequence_fits}
+use Rattle.ob0_typing.proofs.AllFit.{FitSoFar}
 use Rattle.ob0_types.proofs.names.Names.+statements.Given as goal
 
 abbrev pub invariant-sequence_fits-loop-s : goal.invariant-sequence_fits-loop-s

@@ -1,9 +1,9 @@
 use Rattle.std.proofs.Common.{Some, sym, ap, ◌∙◌}
 use Rattle.ob0_tree.specs.View.{expression_of}
 use Rattle.ob0_types.specs.InLabels.{in_labels, meaning_in}
-use Rattle.ob0_types.specs.KnownTables.{shapes_of}
-use Rattle.ob0_types.specs.Tables.{type_shape}
-use Rattle.ob0_types.specs.WellTyped.{agree}
+use Rattle.ob0_symbols.specs.KnownTables.{shapes_of}
+use Rattle.ob0_symbols.specs.Tables.{type_shape}
+use Rattle.ob0_typing.specs.WellTyped.{agree}
 use Rattle.ob0_types.proofs.FittingStatements.{placed_fits, valued_fits}
 use Rattle.ob0_types.proofs.names.Names.argument_fits.Goals as goal
 

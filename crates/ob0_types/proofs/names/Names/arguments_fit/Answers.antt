@@ -2,10 +2,10 @@ use Rattle.std.proofs.Common.{◌≡◌, ◌+◌, [], ◌∷◌, ◌++◌, lengt
 use Rattle.std.proofs.lemmas.Slice.Zip.{zip_end, zip_turn}
 use Rattle.ob0_types.specs.FittingParts.{all_in_labels}
 use Rattle.ob0_types.specs.InLabels.{meaning_in}
-use Rattle.ob0_types.specs.KnownTables.{shapes_of}
-use Rattle.ob0_types.specs.Tables.{formal_in}
-use Rattle.ob0_types.specs.WellTyped.{arguments_fit}
-use Rattle.ob0_types.proofs.AllFit.{PairSoFar, pairs_differ, pairs_end, pairs_go_on, pairs_stop}
+use Rattle.ob0_symbols.specs.KnownTables.{shapes_of}
+use Rattle.ob0_symbols.specs.Tables.{formal_in}
+use Rattle.ob0_typing.specs.WellTyped.{arguments_fit}
+use Rattle.ob0_typing.proofs.AllFit.{PairSoFar, pairs_differ, pairs_end, pairs_go_on, pairs_stop}
 use Rattle.ob0_types.proofs.FittingStatements.{argument_pairs}
 use Rattle.ob0_types.proofs.names.Names.arguments_fit.Goals as goal
 

@@ -1,10 +1,10 @@
 use Rattle.std.proofs.Common.{length, map}
 use Rattle.ob0_types.specs.FittingParts.{all_in_labels}
 use Rattle.ob0_types.specs.InLabels.{meaning_in}
-use Rattle.ob0_types.specs.KnownTables.{shapes_of}
-use Rattle.ob0_types.specs.Tables.{formal_in}
-use Rattle.ob0_types.specs.WellTyped.{arguments_fit}
-use Rattle.ob0_types.proofs.AllFit.{PairSoFar}
+use Rattle.ob0_symbols.specs.KnownTables.{shapes_of}
+use Rattle.ob0_symbols.specs.Tables.{formal_in}
+use Rattle.ob0_typing.specs.WellTyped.{arguments_fit}
+use Rattle.ob0_typing.proofs.AllFit.{PairSoFar}
 use Rattle.ob0_types.proofs.names.Names.arguments_fit.Given as goal
 
 abbrev pub invariant-loop-formal : goal.invariant-loop-formal

@@ -1,11 +1,11 @@
 use Rattle.std.proofs.Common.{map, [], sym, ap, ◌∙◌}
 use Rattle.ob0_tree.specs.View.{arguments_of}
-use Rattle.ob0_types.specs.Arguments.{arguments_listed}
+use Rattle.ob0_typing.specs.Arguments.{arguments_listed}
 use Rattle.ob0_types.specs.FittingParts.{all_in_labels}
 use Rattle.ob0_types.specs.InLabels.{in_labels, label_in, meaning_in}
-use Rattle.ob0_types.specs.KnownTables.{shapes_of}
-use Rattle.ob0_types.specs.Tables.{formal_in}
-use Rattle.ob0_types.specs.WellTyped.{call_fits, signature_of}
+use Rattle.ob0_symbols.specs.KnownTables.{shapes_of}
+use Rattle.ob0_symbols.specs.Tables.{formal_in}
+use Rattle.ob0_typing.specs.WellTyped.{call_fits, signature_of}
 use Rattle.ob0_types.proofs.FittingStatements.{all_listed, called_fits, none_fits, nothing_given, some_fits}
 use Rattle.ob0_types.proofs.names.Names.call_fits.Goals as goal
 

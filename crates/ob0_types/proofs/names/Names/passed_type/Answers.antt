@@ -1,7 +1,7 @@
 use Rattle.std.proofs.Common.{option_map, sym, ap, ◌∙◌}
 use Rattle.ob0_tree.specs.View.{expression_of}
 use Rattle.ob0_types.specs.InLabels.{meaning_in}
-use Rattle.ob0_types.specs.WellTyped.{variable_type}
+use Rattle.ob0_typing.specs.WellTyped.{variable_type}
 use Rattle.ob0_types.proofs.DesignatedAlone.{labelled_designator, parts_in}
 use Rattle.ob0_types.proofs.FittingStatements.{none_passed}
 use Rattle.ob0_types.proofs.names.Names.passed_type.Goals as goal

@@ -5,9 +5,9 @@ use Rattle.ob0_tree.specs.View.{block_of, body_of, procedure_of}
 use Rattle.ob0_scope.specs.Names.{Label, as_labels}
 use Rattle.ob0_scope.specs.Parts.{procedure_name}
 use Rattle.ob0_types.specs.Checking.{Agrees, Decides, Declares, DeclaresHeading, Grows, Heading, Keeps, KeepsAll, KeepsHeading, declare_block, parameters_in}
-use Rattle.ob0_types.specs.Declarations.{block_constructors, procedure_constructors, procedures_constructors}
+use Rattle.ob0_typing.specs.Declarations.{block_constructors, procedure_constructors, procedures_constructors}
 use Rattle.ob0_types.specs.InLabels.{in_labels}
-use Rattle.ob0_types.specs.WellTyped.{TypeEnvironment, bind_typed, block_fits}
+use Rattle.ob0_typing.specs.WellTyped.{TypeEnvironment, bind_typed, block_fits}
 use Rattle.ob0_types.proofs.Agreement.{follows_on}
 use Rattle.ob0_types.proofs.Procedures.{DeclaresBlock, fitting_block, procedure_fitting, procedure_given, procedure_unfit, procedure_unheaded, procedures_left, procedures_walk, returns_to, stopped_block, undeclared_block, unfit_block}
 use Rattle.ob0_types.proofs.Walked.{walked_begins, walked_on}

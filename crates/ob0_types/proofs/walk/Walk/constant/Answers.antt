@@ -1,8 +1,8 @@
 use Rattle.std.proofs.Common.{ap, ◌∙◌}
 use Rattle.ob0_tree.specs.View.{expression_of}
 use Rattle.ob0_types.specs.InLabels.{in_labels}
-use Rattle.ob0_types.specs.KnownTables.{known_meaning}
-use Rattle.ob0_types.specs.Typing.{constant_value}
+use Rattle.ob0_symbols.specs.KnownTables.{known_meaning}
+use Rattle.ob0_typing.specs.Typing.{constant_value}
 use Rattle.ob0_types.proofs.Declared.{constant_none, constant_some}
 use Rattle.ob0_types.proofs.Kept.{constant_grows}
 use Rattle.ob0_types.proofs.walk.Walk.constant.Goals as goal

@@ -3,7 +3,7 @@ use Rattle.ob0_tree.specs.View.{constants_of, constant_of, items_of}
 use Rattle.ob0_scope.specs.Names.{as_labels}
 use Rattle.ob0_scope.specs.Parts.{section_constants}
 use Rattle.ob0_types.specs.Checking.{Declares, Grows}
-use Rattle.ob0_types.specs.Declarations.{declare_constants}
+use Rattle.ob0_typing.specs.Declarations.{declare_constants}
 use Rattle.ob0_types.specs.InLabels.{in_labels}
 use Rattle.ob0_types.proofs.Declared.{declared_nothing}
 use Rattle.ob0_types.proofs.Walked.{constants_ended}

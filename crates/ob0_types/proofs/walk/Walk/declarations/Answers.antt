@@ -6,12 +6,10 @@ use Rattle.ob0_tree.specs.View.{body_of, constants_of, items_of, procedure_of, t
 use Rattle.ob0_scope.specs.Names.{as_labels}
 use Rattle.ob0_scope.specs.Parts.{block_types, block_variables, section_constants, section_types, section_variables}
 use Rattle.ob0_types.specs.Checking.{Declares, Grows, declare_block}
-use Rattle.ob0_types.specs.Declarations.{declare_constants, declare_types, types_constructors, variables_constructors}
+use Rattle.ob0_typing.specs.Declarations.{declare_constants, declare_types, types_constructors, variables_constructors}
 use Rattle.ob0_types.specs.InLabels.{in_labels}
-use Rattle.ob0_types.specs.WellTyped.{declare_typed}
+use Rattle.ob0_typing.specs.WellTyped.{declare_typed}
 use Rattle.ob0_types.proofs.Procedures.{block_declared, block_without_constants, block_without_types, ifok_map}
-use Rattle.ob0_types.specs.WellTyped.{declare_typed}
-use Rattle.ob0_tree.specs.Tree.{declares, has_body}
 use Rattle.ob0_types.proofs.Kept.{block_grows, some_map}
 use Rattle.ob0_types.proofs.walk.Walk.declarations.Goals as goal
 

@@ -2,9 +2,9 @@ use Rattle.std.proofs.Common.{option_map, sym, ap, ◌∙◌, subst}
 use Rattle.ob0_tree.specs.View.{type_of}
 use Rattle.ob0_types.specs.declared.denoting.Denoted.{Denoted}
 use Rattle.ob0_types.specs.InLabels.{in_labels}
-use Rattle.ob0_types.specs.KnownTables.{known_meaning, shapes_of}
-use Rattle.ob0_types.specs.Tables.{type_shape}
-use Rattle.ob0_types.specs.Typing.{denoted}
+use Rattle.ob0_symbols.specs.KnownTables.{known_meaning, shapes_of}
+use Rattle.ob0_symbols.specs.Tables.{type_shape}
+use Rattle.ob0_typing.specs.Typing.{denoted}
 use Rattle.ob0_types.specs.Checking.{Keeps}
 use Rattle.ob0_types.proofs.Kept.{keeps_more}
 use Rattle.ob0_types.proofs.walk.Walk.denote.Goals as goal

@@ -3,11 +3,11 @@ use Rattle.std.proofs.lemmas.List.Elements.{All-map}
 use Rattle.ob0_tree.specs.declared.tree.Procedure.{out-Procedure}
 use Rattle.ob0_tree.specs.View.{formals_of}
 use Rattle.ob0_scope.specs.Parts.{formal_sections}
-use Rattle.ob0_types.specs.declared.known.Formal as formal
+use Rattle.ob0_symbols.specs.declared.known.Formal as formal
 use Rattle.ob0_types.specs.declared.walk.Parameter.{Parameter}
 use Rattle.ob0_types.specs.Checking.{DeclaresSections, Heading, KeepsParameters}
 use Rattle.ob0_types.specs.InLabels.{in_labels}
-use Rattle.ob0_types.specs.Tables.{IsMade}
+use Rattle.ob0_symbols.specs.Tables.{IsMade}
 use Rattle.ob0_types.proofs.Procedures.{heading_none, heading_some, returns_to}
 use Rattle.ob0_types.proofs.KeptProcedures.{heading_keeps}
 use Rattle.ob0_types.proofs.walk.Walk.heading.Goals as goal

@@ -3,7 +3,7 @@ use Rattle.ob0_tree.specs.View.{section_of}
 use Rattle.ob0_types.specs.Checking.{DeclaresSection, Keeps, KeepsParameters, parameters_of}
 use Rattle.ob0_types.specs.InLabels.{in_labels}
 use Rattle.ob0_scope.specs.Names.{Label}
-use Rattle.ob0_types.specs.WellTyped.{TypeEnvironment, bind_typed}
+use Rattle.ob0_typing.specs.WellTyped.{TypeEnvironment, bind_typed}
 use Rattle.ob0_types.proofs.Sections.{Typing, typing_begins, typing_ends, typing_on, typing_stops}
 use Rattle.ob0_types.proofs.walk.Walk.sections.Goals as goal
 

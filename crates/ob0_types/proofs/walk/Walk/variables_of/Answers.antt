@@ -3,9 +3,9 @@ use Rattle.ob0_tree.specs.View.{variables_of, variable_of, items_of}
 use Rattle.ob0_scope.specs.Names.{as_labels}
 use Rattle.ob0_scope.specs.Parts.{section_variables}
 use Rattle.ob0_types.specs.Checking.{Declares, Grows}
-use Rattle.ob0_types.specs.Declarations.{variables_constructors}
+use Rattle.ob0_typing.specs.Declarations.{variables_constructors}
 use Rattle.ob0_types.specs.InLabels.{in_labels}
-use Rattle.ob0_types.specs.WellTyped.{declare_typed}
+use Rattle.ob0_typing.specs.WellTyped.{declare_typed}
 use Rattle.ob0_types.proofs.Declared.{declared_nothing}
 use Rattle.ob0_types.proofs.Walked.{variables_ended}
 use Rattle.ob0_types.proofs.Kept.{grows_nothing}

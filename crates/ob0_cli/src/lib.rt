@@ -1,0 +1,6 @@
+//! The command line.
+#![tactic(auto)]
+
+mod command;
+
+pub use command::{CommandFault, CommandLine, command};
