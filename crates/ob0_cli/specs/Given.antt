@@ -7,10 +7,10 @@ use Rattle.clap.specs.Lexer.{without_minus}
 use Rattle.clap.specs.Values.{IsSignedIn, IsUnsignedIn}
 use Rattle.clap.specs.Words.{Row, Text, fault_of, first_of, one_of, subcommand_of}
 use Rattle.ob0_cli.specs.Lines.{ob0_app}
-use Rattle.ob0_cli.specs.declared.command.CommandLine.{CommandLine}
-use Rattle.ob0_cli.specs.declared.command.CommandLine.TheVariants.{Serve, Check, Run, Rename}
-use Rattle.ob0_cli.specs.declared.command.CommandFault.{CommandFault}
-use Rattle.ob0_cli.specs.declared.command.CommandFault.TheVariants.{Refused, Memory}
+use Rattle.ob0_cli.specs.declared.line.CommandLine.{CommandLine}
+use Rattle.ob0_cli.specs.declared.line.CommandLine.TheVariants.{Serve, Check, Run, Rename}
+use Rattle.ob0_cli.specs.declared.line.CommandFault.{CommandFault}
+use Rattle.ob0_cli.specs.declared.line.CommandFault.TheVariants.{Refused, Memory}
 
 -- a subcommand, with what was found for its arguments
 abbrev pub Found : Type 0

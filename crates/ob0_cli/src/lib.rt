@@ -1,6 +1,6 @@
 //! The command line.
 #![tactic(auto)]
 
-mod command;
+mod line;
 
-pub use command::{CommandFault, CommandLine, command};
+pub use line::{CommandFault, CommandLine, command};

@@ -4,7 +4,7 @@ use Rattle.clap.specs.Words.{App, Text, fault_of}
 use Rattle.ob0_cli.specs.Given.{Found, IsReadFrom}
 use Rattle.ob0_cli.specs.Lines.{ob0_app}
 use Rattle.ob0_cli.proofs.Named.{parsed, simple_and_free}
-use Rattle.ob0_cli.proofs.command.command.Goals as goal
+use Rattle.ob0_cli.proofs.line.command.Goals as goal
 
 pub line_of-requires : goal.line_of-requires
 line_of-requires c =

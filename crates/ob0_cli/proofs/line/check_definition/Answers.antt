@@ -1,7 +1,7 @@
 use Rattle.std.proofs.Common.{◌≡◌, ◌∙◌, codes, rules, ap₂}
 use Rattle.std.proofs.lemmas.Result.{IfOk-weaker}
 use Rattle.clap.specs.Words.{app_of, new_app, with_rule}
-use Rattle.ob0_cli.proofs.command.check_definition.Goals as goal
+use Rattle.ob0_cli.proofs.line.check_definition.Goals as goal
 
 pub returns : goal.returns
 returns c =

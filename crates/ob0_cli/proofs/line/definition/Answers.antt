@@ -3,7 +3,7 @@ use Rattle.std.proofs.lemmas.Result.{IfOk-weaker}
 use Rattle.clap.specs.Words.{App, app_of, with_subcommand}
 use Rattle.ob0_cli.specs.Lines as lines
 use Rattle.ob0_cli.proofs.Named.{no_globals}
-use Rattle.ob0_cli.proofs.command.definition.Goals as goal
+use Rattle.ob0_cli.proofs.line.definition.Goals as goal
 
 pub returns : goal.returns
 returns c =

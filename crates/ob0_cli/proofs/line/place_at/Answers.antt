@@ -4,7 +4,7 @@ use Rattle.clap.specs.Matches.{ReadsOne}
 use Rattle.clap.specs.Words.{found_of}
 use Rattle.clap.proofs.WalkLemmas.{one_text-rows}
 use Rattle.ob0_cli.proofs.Numbers.{place_reads}
-use Rattle.ob0_cli.proofs.command.place_at.Goals as goal
+use Rattle.ob0_cli.proofs.line.place_at.Goals as goal
 
 pub unreachable-requires : goal.unreachable-requires
 unreachable-requires c =

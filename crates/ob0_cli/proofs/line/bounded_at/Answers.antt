@@ -7,7 +7,7 @@ use Rattle.clap.specs.Words.{found_of}
 use Rattle.clap.proofs.WalkLemmas.{one_text-rows}
 use Rattle.ob0_cli.specs.Given.{most_of}
 use Rattle.ob0_cli.proofs.Numbers.{bounded_reads}
-use Rattle.ob0_cli.proofs.command.bounded_at.Goals as goal
+use Rattle.ob0_cli.proofs.line.bounded_at.Goals as goal
 
 pub unreachable-requires : goal.unreachable-requires
 unreachable-requires c =
