@@ -1,0 +1,264 @@
+#!/usr/bin/env python3
+"""Tries the wrong bodies of crates/*/must-fail and crates/*/wrong-bodies: the prover has to refuse each.
+
+  tools/wrong_bodies.py [--jobs N] [--all] [CRATE..]   all crates where none is named; --all tells the refused ones too
+
+The gate tries its own one by one. Here as many of a crate as can be stand in one check over what is kept of its proofs:
+the checker judges each function for itself. A function that only calls one that isn't proved is judged in a later
+check, and so is the second of two wrong bodies of one function. What isn't refused among others is tried alone.
+
+It works on a copy of the crate, in bin/rooms. The status is 1 where a wrong body isn't refused, or could not be tried."""
+import os
+import re
+import shutil
+import subprocess
+import sys
+import time
+
+import build
+import common
+import edits
+import reading
+from common import TOP
+
+VERDICT = re.compile(r"^(?:fn|impl|struct|enum|trait|const|static) (\S+): (proved|not proved|no proof.*)", re.M)
+PLACE = re.compile(r"^(?:\./)?((?:src|specs|proofs)/\S+?):(\d+):\d+: error", re.M)
+# (what of a reason says that the function itself was not judged)
+OF_ANOTHER = re.compile(r"it calls |it passes |a call of |it is in a cycle of calls with ")
+# (an error by which a text can't be read, so that no contract was tried)
+UNREAD = re.compile(r"is not in scope|has no field|is no name|operand is missing|expected the end|cannot continue")
+NAMES_LOST = re.compile(r"has no field|is not in scope|has no `|was not admitted|that can be named from here")
+REFUSED, PROVED, NOT_JUDGED = "refused", "PROVED", "not judged"
+
+
+class Said:
+    """What a check printed."""
+
+    def __init__(self, text, status):
+        self.text, self.status = text, status
+        self.verdicts = dict(VERDICT.findall(text))
+        self.reached = "logic=proved" in text or "logic=not-proved" in text
+
+    def is_proved(self):
+        return self.status == 0 and "\nlogic=proved " in self.text
+
+    def own(self, symbol):
+        """Whether a function is refused for what it does itself."""
+        said = self.verdicts[symbol]
+        if said.startswith("no proof"):
+            reasons = said[len("no proof:") :].split("; ")
+            return any(not OF_ANOTHER.match(it.strip()) for it in reasons)
+        return said.startswith("not proved")
+
+    def goals(self, symbol):
+        """The goals of a function that were not proved, with their places."""
+        lines = self.text.split("\n")
+        end = next((i for i, it in enumerate(lines) if it.startswith(f"fn {symbol}: ")), 0)
+        found = []
+        for line in reversed(lines[:end]):
+            if VERDICT.match(line):
+                break
+            goal = re.match(r"note: (src/\S+?:\d+):\d+: .*?\(`(\S+)`\)", line)
+            found += [f"{goal[2]} at {goal[1]}"] if goal else []
+        return found[::-1]
+
+    def proof_errors(self, symbol):
+        """The errors in the proof files of a function."""
+        folder = "proofs/" + "/".join(symbol.split("::")[1:]) + "/"
+        return [it for it in self.text.split("\n") if re.match(r"(?:\./)?" + re.escape(folder) + r"\w+\.antt:\d+:\d+: error", it)]
+
+    def why(self, symbol):
+        """What refused a function: a goal, or an error in its proof."""
+        goals, errors = self.goals(symbol), self.proof_errors(symbol)
+        if goals:
+            return goals[0]
+        if errors and all(NAMES_LOST.search(it) for it in errors):
+            return "only because its proof names what was taken away, which says little"
+        return errors[0][:120] if errors else self.verdicts[symbol][:120]
+
+
+class Room:
+    """A copy of a crate with its kept proofs, in which wrong bodies are checked."""
+
+    def __init__(self, name, named, jobs):
+        self.name, self.jobs, self.checks = name, jobs, 0
+        self.room = os.path.join(build.ROOMS, f"wrong-{name}")
+        self.folder = os.path.join(self.room, "crates", name)
+        build.furnish(self.room, name, named)
+        kept = os.path.join("out", "incremental")
+        whole = os.path.join(TOP, "crates", name, kept)
+        # (what a check keeps it writes into new files: the links leave what is kept in the crate's folder as it is)
+        shutil.copytree(whole, os.path.join(self.folder, kept), copy_function=build.link)
+
+    def check(self, chosen):
+        """Checks the crate with some wrong bodies, and leaves its sources as they were."""
+        self.checks += 1
+        before = {}
+        for edit in chosen:
+            for (path, number), text in edit.lines.items():
+                file = os.path.join(self.folder, path)
+                if file not in before:
+                    with open(file, encoding="utf-8") as it:
+                        before[file] = it.read()
+        for file, text in before.items():
+            path, lines = os.path.relpath(file, self.folder), text.split("\n")
+            for edit in chosen:
+                for (where, number), now in edit.lines.items():
+                    if where == path:
+                        lines[number - 1] = now
+            with open(file, "w", encoding="utf-8") as it:
+                it.write("\n".join(lines))
+        how = {"cwd": self.folder, "stdin": subprocess.DEVNULL, "stdout": subprocess.PIPE, "stderr": subprocess.STDOUT}
+        ran = subprocess.run(["rt", "check", "--jobs", str(self.jobs)], **how)
+        for file, text in before.items():
+            with open(file, "w", encoding="utf-8") as it:
+                it.write(text)
+        return Said(ran.stdout.decode("utf-8", errors="replace"), ran.returncode)
+
+    def leave(self):
+        shutil.rmtree(self.room, ignore_errors=True)
+
+
+def prove(name, jobs):
+    """Proves a crate where it isn't yet, with the libraries below, and says whether that went well."""
+    is_program = os.path.isfile(os.path.join(TOP, "crates", name, "src", "main.rt"))
+    words = ["rt", "check" if is_program else "lib", "--jobs", str(jobs)]
+    how = {"cwd": os.path.join(TOP, "crates", name), "stdin": subprocess.DEVNULL, "stdout": subprocess.PIPE}
+    ran = subprocess.run(words, stderr=subprocess.STDOUT, **how)
+    if ran.returncode:
+        print(ran.stdout.decode("utf-8", errors="replace")[-3000:], file=sys.stderr)
+    return ran.returncode == 0
+
+
+def together(left, cycles):
+    """Wrong bodies of different functions, of which no two have one proof: as many as can stand in one check."""
+    chosen, taken = [], set()
+    for edit in left:
+        numbers = {cycles[it] for it in edit.turned} if edit.turned else None
+        if numbers and not numbers & taken:
+            chosen.append(edit)
+            taken |= numbers
+    return chosen or left[:1]
+
+
+def unreadable(said, edit, source):
+    """The error by which the compiler or antt could not read a wrong body, if one stands in what it turns."""
+    for line in said.text.split("\n"):
+        at = PLACE.match(line)
+        if not at or at[1].startswith("proofs/") and (at[1], int(at[2])) not in edit.lines:
+            continue
+        is_source = at[1].startswith("src/")
+        whole = edit.turned or ()
+        is_inside = any(it.file == at[1] and it.first <= int(at[2]) <= it.last for it in whole)
+        plain = re.sub(r"`[^`]*`", "", line.partition("error")[2])
+        if (is_inside or (at[1], int(at[2])) in edit.lines) and (is_source or UNREAD.search(plain)):
+            return line[:160]
+    return None
+
+
+def judge(edit, said, source, alone):
+    """What a check says of one wrong body: a word and why, or None where it has to be tried again."""
+    error = unreadable(said, edit, source)
+    if error:
+        return NOT_JUDGED, f"it can't be read, so no contract was tried: {error}"
+    if not said.reached:
+        return (NOT_JUDGED, f"the check did not reach the prover: {said.text[-300:]}") if alone else None
+    symbols = [it for it in said.verdicts if edit.turned and any(f.is_named(it) for f in edit.turned)]
+    refused = [it for it in symbols if said.own(it)]
+    if refused:
+        return REFUSED, f"{refused[0].partition('::')[2]}: {said.why(refused[0])}"
+    if not alone:
+        return None
+    if said.is_proved():
+        return PROVED, "the crate is still proved with it"
+    others = [it for it in said.verdicts if said.own(it)]
+    if others:
+        return REFUSED, f"{others[0].partition('::')[2]}: {said.why(others[0])}"
+    return NOT_JUDGED, f"no function was judged: {said.text[-300:]}"
+
+
+def try_all(room, left, source, say):
+    """Tries wrong bodies, many in one check, and returns a word and a reason for each."""
+    cycles, found, alone = source.cycles(), {}, []
+    while left or alone:
+        chosen = together(left, cycles) if left else alone[:1]
+        left = [it for it in left if it not in chosen]
+        alone = [it for it in alone if it not in chosen]
+        say(f"check {room.checks + 1}: {len(chosen)} at once, {len(left) + len(alone)} left")
+        said = room.check(chosen)
+        judged = {it: judge(it, said, source, len(chosen) == 1) for it in chosen}
+        found.update({it: verdict for it, verdict in judged.items() if verdict})
+        again = [it for it, verdict in judged.items() if not verdict]
+        if again and not said.reached and len(again) == len(chosen):
+            # (one of them doesn't compile, and the compiler doesn't say which: each alone)
+            alone += again
+        elif not said.reached:
+            left = again + left
+        else:
+            # what was proved among the others is tried alone, what calls a function that was refused in a next check
+            held = [it for it in again if is_held(it, said)]
+            left += held if len(held) < len(chosen) else []
+            alone += [it for it in again if it not in held or len(held) == len(chosen)]
+    return found
+
+
+def is_held(edit, said):
+    """Whether a wrong body was not judged since its function calls one that isn't proved."""
+    symbols = [it for it in said.verdicts if edit.turned and any(f.is_named(it) for f in edit.turned)]
+    return any(said.verdicts[it] != "proved" for it in symbols)
+
+
+def try_crate(name, named, jobs, shows_all):
+    """Tries a crate's wrong bodies, prints a line for each and one for all, and returns their counts."""
+    timer = time.monotonic()
+    source = reading.Source(name)
+    all_edits = edits.edits_of(name, source)
+    if not all_edits:
+        return 0, 0, 0
+    found = {it: (NOT_JUDGED, it.why) for it in all_edits if it.why}
+    left, checks = [it for it in all_edits if not it.why], 0
+    if left and not prove(name, jobs):
+        found.update({it: (NOT_JUDGED, "the crate itself isn't proved") for it in left})
+    elif left:
+        room = Room(name, named, jobs)
+        try:
+            found.update(try_all(room, left, source, lambda text: print(f"{name}: {text}", flush=True)))
+        finally:
+            checks = room.checks
+            room.leave()
+    for edit in all_edits:
+        verdict, why = found[edit]
+        if shows_all or verdict != REFUSED:
+            print(f"  {verdict:<10}  {name}/{edit.name}: {why}")
+    counts = [sum(it[0] == word for it in found.values()) for word in (REFUSED, PROVED, NOT_JUDGED)]
+    took = int(time.monotonic() - timer)
+    line = f"{counts[0]} refused, {counts[1]} proved, {counts[2]} not judged in {checks} checks, {took} s"
+    print(f"{name}: {line}", flush=True)
+    return counts
+
+
+def main(words):
+    common.need("rt")
+    shows_all, jobs = "--all" in words, max(1, build.processors() // 2)
+    words = [it for it in words if it != "--all"]
+    if "--jobs" in words:
+        at = words.index("--jobs")
+        jobs = int(words[at + 1])
+        del words[at : at + 2]
+    named = common.libraries()
+    unknown = [it for it in words if it not in named]
+    if unknown:
+        common.stop(f"crates.txt names no crate {', '.join(unknown)}")
+    total = [0, 0, 0]
+    try:
+        for name in [it for top in named for it in common.below(top, named) if it == top]:
+            if not words or name in words:
+                total = [a + b for a, b in zip(total, try_crate(name, named, jobs, shows_all))]
+    except KeyboardInterrupt:
+        return 130
+    print(f"{total[0]} refused, {total[1]} proved, {total[2]} not judged")
+    return 1 if total[1] or total[2] else 0
+
+
+if __name__ == "__main__":
+    sys.exit(main(sys.argv[1:]))
