@@ -84,21 +84,9 @@ def users_of_constant(source, path, number):
     """The functions that name the constant on a line; none where something else than functions does."""
     for name, (file, first, last) in source.constants.items():
         if file == path and first <= number <= last:
-            using = [it for it in source.functions if not it.is_test and name in it.words]
-            inside = sum(it.words.count(name) for it in source.functions)
             whole = sum(it.text == name for words in source.words.values() for it in words)
-            brought = sum(words.count(name) for words in used(source))
-            return using if whole - inside - brought == 1 else []
+            inside = sum(it.words.count(name) for it in source.functions)
+            imported = sum(words.count(name) for words, _ in source.imports)
+            using = [it for it in source.functions if not it.is_test and name in it.words]
+            return using if whole - inside - imported == 1 else []
     return []
-
-
-def used(source):
-    """The words of each `use` of a crate's sources."""
-    for words in source.words.values():
-        texts = [it.text for it in words]
-        at = 0
-        while "use" in texts[at:]:
-            at = texts.index("use", at)
-            end = texts.index(";", at) if ";" in texts[at:] else len(texts)
-            yield texts[at:end]
-            at = end

@@ -1,4 +1,4 @@
-"""What the scripts read of a crate's sources: its functions with their places, its constants, and who calls whom.
+"""What the scripts read of a crate's sources: its functions with their places, its constants, and what it shows.
 
 The words of a source come from the toolchain (`rattle fmt --tokens`), so that contracts and comments are told from
 code."""
@@ -22,7 +22,9 @@ class Function:
         self.impl_words, self.is_test = scope.impl_words, scope.is_test
         self.name, self.is_pub, self.words = name, is_pub, [it.text for it in words]
         self.file, self.first, self.last = scope.file, words[0].line, words[-1].line
-        self.head = heading(self.words)
+        self.head, self.has_body = heading(self.words), self.words[-1] == "}"
+        cycle = re.search(r"# \[ cycle \( (\w+)", " ".join(self.head))
+        self.proof = "::".join([*self.module, f"+{cycle[1]}"]) if cycle else self.path
 
     @property
     def path(self):
@@ -58,7 +60,7 @@ class Function:
 
 class Word:
     def __init__(self, line, text):
-        self.line, self.text = line, text
+        self.line, self.text, self.is_test = line, text, False
 
 
 class Scope:
@@ -140,7 +142,7 @@ class Source:
 
     def __init__(self, crate):
         self.crate, self.functions, self.constants, self.types = crate, [], {}, {}
-        self.public_modules, self.brought_out = {()}, []
+        self.public_modules, self.brought_out, self.imports = {()}, [], []
         self.words = words_of(sources(crate))
         self.folder = os.path.join(common.TOP, "crates", crate)
         for top in ("lib.rt", "main.rt"):
@@ -169,6 +171,8 @@ class Source:
                 return
             end = item_end(words, at)
             is_test = scope.is_test or "[ test ]" in attributes or "cfg ( test )" in attributes
+            for it in words[first:end]:
+                it.is_test = is_test
             self.item(words[first:end], at - first, scope.inside(is_test=is_test), is_pub)
             at = end
 
@@ -195,8 +199,10 @@ class Source:
             self.types[name] = (scope.module, is_pub)
         elif word in ("const", "static"):
             self.constants[name] = (scope.file, words[0].line, words[-1].line)
-        elif word == "use" and is_pub:
-            self.brought_out.append((scope.module, [it.text for it in words[at + 1 : -1]]))
+        elif word == "use":
+            texts = [it.text for it in words[at + 1 : -1]]
+            self.imports.append((texts, scope.is_test))
+            self.brought_out += [(scope.module, texts)] * is_pub
 
     def block(self, words, at, scope):
         """The functions of an impl or of a trait."""
@@ -230,79 +236,22 @@ class Source:
         """Each function that other crates can call, tests left out."""
         found = []
         for it in self.functions:
-            if it.is_test or not it.is_pub:
+            if it.is_test or not it.is_pub or not it.has_body:
                 continue
             if not it.owner:
                 is_seen = self.is_public(it.module, it.name)
-            elif it.trait and it.trait not in self.types and not it.trait.startswith("Question"):
-                is_seen = False  # (a trait of std: nobody calls it by this type's name)
             else:
+                # (a method of a trait of another library is called by that library's name for it)
+                is_own = not it.trait or it.trait in self.types
                 at, is_pub = self.types.get(it.owner, (it.module, False))
-                is_seen = is_pub and self.is_public(at, it.owner)
-            found += [it] * bool(is_seen)
+                is_seen = is_own and is_pub and self.is_public(at, it.owner)
+            found += [it] * is_seen
         return found
 
-    def called_by(self, function):
-        """The functions of this crate that the words of one may call, by their names."""
-        found, words = set(), function.words[len(function.head) :]
-        for at, it in enumerate(words):
-            named = self.by_name.get(it, ()) if it.isidentifier() else ()
-            before = words[at - 1] if at else ""
-            holder = words[at - 3] if before == ":" and at > 2 else words[at - 2] if at > 1 else ""
-            if before == ".":
-                meant = [other for other in named if other.takes_self]
-                own = [other for other in meant if other.owner == function.owner] if holder == "self" else []
-            elif before == ":":
-                meant = [other for other in named if other.trait or holder in ("Self", other.owner, *other.module[-1:], "self", "super")]
-                own = [other for other in meant if other.owner == (function.owner if holder == "Self" else holder)]
-            else:
-                meant = [other for other in named if not other.owner]
-                own = [other for other in meant if other.module == function.module]
-            found.update(own or meant)
-        return found
-
-    @property
-    def by_name(self):
-        if not hasattr(self, "_by_name"):
-            self._by_name = {}
-            for it in self.functions:
-                if not it.is_test:
-                    self._by_name.setdefault(it.name, []).append(it)
-        return self._by_name
-
-    def cycles(self):
-        """For each function a number, the same for two that call each other: these have one proof."""
-        calls = {it: self.called_by(it) for it in self.functions}
-        order, seen = [], set()
-
-        def visit(start, edges, into):
-            stack = [(start, iter(edges[start]))]
-            seen.add(start)
-            while stack:
-                at, rest = stack[-1]
-                following = next((it for it in rest if it not in seen), None)
-                if following is None:
-                    stack.pop()
-                    into.append(at)
-                else:
-                    seen.add(following)
-                    stack.append((following, iter(edges[following])))
-
-        for it in self.functions:
-            if it not in seen:
-                visit(it, calls, order)
-        callers = {it: set() for it in self.functions}
-        for it, below in calls.items():
-            for other in below:
-                callers[other].add(it)
-        number = {}
-        seen = set()
-        for it in reversed(order):
-            if it not in seen:
-                group = []
-                visit(it, callers, group)
-                number.update({one: len(number) for one in group})
-        return number
+    def proved_with(self, functions):
+        """The functions that have one proof with some: functions that call each other have one."""
+        proofs = {it.proof for it in functions}
+        return [it for it in self.functions if it.proof in proofs]
 
 
 def close_angle(words):

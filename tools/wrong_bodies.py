@@ -22,7 +22,7 @@ import reading
 from common import TOP
 
 VERDICT = re.compile(r"^(?:fn|impl|struct|enum|trait|const|static) (\S+): (proved|not proved|no proof.*)", re.M)
-PLACE = re.compile(r"^(?:\./)?((?:src|specs|proofs)/\S+?):(\d+):\d+: error", re.M)
+ERROR = re.compile(r"(?:\./)?((?:src|specs|proofs)/\S+?):(\d+):\d+: error(?:\[\w+\])?: (?:(`[^`]*`): )?(.*)")
 # (what of a reason says that the function itself was not judged)
 OF_ANOTHER = re.compile(r"it calls |it passes |a call of |it is in a cycle of calls with ")
 # (an error by which a text can't be read, so that no contract was tried)
@@ -62,14 +62,14 @@ class Said:
             found += [f"{goal[2]} at {goal[1]}"] if goal else []
         return found[::-1]
 
-    def proof_errors(self, symbol):
-        """The errors in the proof files of a function."""
-        folder = "proofs/" + "/".join(symbol.split("::")[1:]) + "/"
-        return [it for it in self.text.split("\n") if re.match(r"(?:\./)?" + re.escape(folder) + r"\w+\.antt:\d+:\d+: error", it)]
+    def proof_errors(self, proof):
+        """The errors in the files of a proof."""
+        start = "proofs/" + proof.replace("::", "/") + "/"
+        return [it for it in self.text.split("\n") if ERROR.match(it) and ERROR.match(it)[1].startswith(start)]
 
-    def why(self, symbol):
+    def why(self, symbol, proof):
         """What refused a function: a goal, or an error in its proof."""
-        goals, errors = self.goals(symbol), self.proof_errors(symbol)
+        goals, errors = self.goals(symbol), self.proof_errors(proof)
         if goals:
             return goals[0]
         if errors and all(NAMES_LOST.search(it) for it in errors):
@@ -130,58 +130,60 @@ def prove(name, jobs):
     return ran.returncode == 0
 
 
-def together(left, cycles):
+def together(left):
     """Wrong bodies of different functions, of which no two have one proof: as many as can stand in one check."""
     chosen, taken = [], set()
     for edit in left:
-        numbers = {cycles[it] for it in edit.turned} if edit.turned else None
-        if numbers and not numbers & taken:
+        proofs = {it.proof for it in edit.turned or ()}
+        if proofs and not proofs & taken:
             chosen.append(edit)
-            taken |= numbers
+            taken |= proofs
     return chosen or left[:1]
 
 
-def unreadable(said, edit, source):
+def unreadable(said, edit):
     """The error by which the compiler or antt could not read a wrong body, if one stands in what it turns."""
     for line in said.text.split("\n"):
-        at = PLACE.match(line)
-        if not at or at[1].startswith("proofs/") and (at[1], int(at[2])) not in edit.lines:
+        at = ERROR.match(line)
+        if not at:
             continue
-        is_source = at[1].startswith("src/")
-        whole = edit.turned or ()
-        is_inside = any(it.file == at[1] and it.first <= int(at[2]) <= it.last for it in whole)
-        plain = re.sub(r"`[^`]*`", "", line.partition("error")[2])
-        if (is_inside or (at[1], int(at[2])) in edit.lines) and (is_source or UNREAD.search(plain)):
+        place = at[1], int(at[2])
+        if place not in edit.lines and not any(it.file == at[1] and it.first <= place[1] <= it.last for it in edit.turned or ()):
+            continue
+        # (an error that names a goal is a refusal, unless the goal itself can't be read)
+        if not at[3] or UNREAD.search(re.sub(r"`[^`]*`", "", at[4])):
             return line[:160]
     return None
 
 
+def verdicts_of(edit, said, source):
+    """The names under which the check judged what a wrong body turns, each with the proof that it belongs to."""
+    turned = source.proved_with(edit.turned or ())
+    return {it: f.proof for it in said.verdicts for f in turned if f.is_named(it)}
+
+
 def judge(edit, said, source, alone):
     """What a check says of one wrong body: a word and why, or None where it has to be tried again."""
-    error = unreadable(said, edit, source)
+    error = unreadable(said, edit)
     if error:
         return NOT_JUDGED, f"it can't be read, so no contract was tried: {error}"
     if not said.reached:
         return (NOT_JUDGED, f"the check did not reach the prover: {said.text[-300:]}") if alone else None
-    symbols = [it for it in said.verdicts if edit.turned and any(f.is_named(it) for f in edit.turned)]
-    refused = [it for it in symbols if said.own(it)]
-    if refused:
-        return REFUSED, f"{refused[0].partition('::')[2]}: {said.why(refused[0])}"
-    if not alone:
-        return None
-    if said.is_proved():
-        return PROVED, "the crate is still proved with it"
-    others = [it for it in said.verdicts if said.own(it)]
-    if others:
-        return REFUSED, f"{others[0].partition('::')[2]}: {said.why(others[0])}"
-    return NOT_JUDGED, f"no function was judged: {said.text[-300:]}"
+    refused = [(it, proof) for it, proof in verdicts_of(edit, said, source).items() if said.own(it)]
+    if not refused and alone:
+        if said.is_proved():
+            return PROVED, "the crate is still proved with it"
+        refused = [(it, "") for it in said.verdicts if said.own(it)]
+        if not refused:
+            return NOT_JUDGED, f"no function was judged: {said.text[-300:]}"
+    return (REFUSED, f"{refused[0][0].partition('::')[2]}: {said.why(*refused[0])}") if refused else None
 
 
 def try_all(room, left, source, say):
     """Tries wrong bodies, many in one check, and returns a word and a reason for each."""
-    cycles, found, alone = source.cycles(), {}, []
+    found, alone = {}, []
     while left or alone:
-        chosen = together(left, cycles) if left else alone[:1]
+        chosen = together(left) if left else alone[:1]
         left = [it for it in left if it not in chosen]
         alone = [it for it in alone if it not in chosen]
         say(f"check {room.checks + 1}: {len(chosen)} at once, {len(left) + len(alone)} left")
@@ -196,16 +198,15 @@ def try_all(room, left, source, say):
             left = again + left
         else:
             # what was proved among the others is tried alone, what calls a function that was refused in a next check
-            held = [it for it in again if is_held(it, said)]
+            held = [it for it in again if is_held(it, said, source)]
             left += held if len(held) < len(chosen) else []
             alone += [it for it in again if it not in held or len(held) == len(chosen)]
     return found
 
 
-def is_held(edit, said):
+def is_held(edit, said, source):
     """Whether a wrong body was not judged since its function calls one that isn't proved."""
-    symbols = [it for it in said.verdicts if edit.turned and any(f.is_named(it) for f in edit.turned)]
-    return any(said.verdicts[it] != "proved" for it in symbols)
+    return any(said.verdicts[it] != "proved" for it in verdicts_of(edit, said, source))
 
 
 def try_crate(name, named, jobs, shows_all):
@@ -251,9 +252,8 @@ def main(words):
         common.stop(f"crates.txt names no crate {', '.join(unknown)}")
     total = [0, 0, 0]
     try:
-        for name in [it for top in named for it in common.below(top, named) if it == top]:
-            if not words or name in words:
-                total = [a + b for a, b in zip(total, try_crate(name, named, jobs, shows_all))]
+        for name in words or named:
+            total = [a + b for a, b in zip(total, try_crate(name, named, jobs, shows_all))]
     except KeyboardInterrupt:
         return 130
     print(f"{total[0]} refused, {total[1]} proved, {total[2]} not judged")
