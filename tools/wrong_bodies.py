@@ -1,7 +1,8 @@
 #!/usr/bin/env python3
 """Tries the wrong bodies of crates/*/must-fail and crates/*/wrong-bodies: the prover has to refuse each.
 
-  tools/wrong_bodies.py [--jobs N] [--all] [CRATE..]   all crates where none is named; --all tells the refused ones too
+  tools/wrong_bodies.py [--jobs N] [--quiet] [CRATE..]   all crates where none is named; with --quiet no refused one is told
+  tools/wrong_bodies.py CRATE/WORD..                     those of a crate with this word in their path
 
 The gate tries its own one by one. Here as many of a crate as can be stand in one check over what is kept of its proofs:
 the checker judges each function for itself. A function that only calls one that isn't proved is judged in a later
@@ -22,7 +23,7 @@ import reading
 from common import TOP
 
 VERDICT = re.compile(r"^(?:fn|impl|struct|enum|trait|const|static) (\S+): (proved|not proved|no proof.*)", re.M)
-ERROR = re.compile(r"(?:\./)?((?:src|specs|proofs)/\S+?):(\d+):\d+: error(?:\[\w+\])?: (?:(`[^`]*`): )?(.*)")
+ERROR = re.compile(r"(?:\./)?((?:src|specs|proofs)/\S+?):(\d+):\d+: error(?:\[[\w-]+\])?: (?:(`[^`]*`): )?(.*)")
 # (what of a reason says that the function itself was not judged)
 OF_ANOTHER = re.compile(r"it calls |it passes |a call of |it is in a cycle of calls with ")
 # (an error by which a text can't be read, so that no contract was tried)
@@ -181,26 +182,24 @@ def judge(edit, said, source, alone):
 
 def try_all(room, left, source, say):
     """Tries wrong bodies, many in one check, and returns a word and a reason for each."""
-    found, alone = {}, []
-    while left or alone:
-        chosen = together(left) if left else alone[:1]
+    found, groups = {}, []
+    while left or groups:
+        chosen = groups.pop() if groups else together(left)
         left = [it for it in left if it not in chosen]
-        alone = [it for it in alone if it not in chosen]
-        say(f"check {room.checks + 1}: {len(chosen)} at once, {len(left) + len(alone)} left")
+        say(f"check {room.checks + 1}: {len(chosen)} at once, {len(left) + sum(map(len, groups))} left")
         said = room.check(chosen)
         judged = {it: judge(it, said, source, len(chosen) == 1) for it in chosen}
         found.update({it: verdict for it, verdict in judged.items() if verdict})
         again = [it for it, verdict in judged.items() if not verdict]
-        if again and not said.reached and len(again) == len(chosen):
-            # (one of them doesn't compile, and the compiler doesn't say which: each alone)
-            alone += again
-        elif not said.reached:
-            left = again + left
+        if not said.reached:
+            # (where the compiler doesn't say which of them it can't read, each half is tried)
+            middle = len(again) // 2 if len(again) == len(chosen) else 0
+            groups += [it for it in (again[:middle], again[middle:]) if it]
         else:
-            # what was proved among the others is tried alone, what calls a function that was refused in a next check
-            held = [it for it in again if is_held(it, said, source)]
-            left += held if len(held) < len(chosen) else []
-            alone += [it for it in again if it not in held or len(held) == len(chosen)]
+            # what calls a function that was refused is judged in a later check, what was proved is tried alone
+            held = [it for it in again if len(again) < len(chosen) and is_held(it, said, source)]
+            left += held
+            groups += [[it] for it in again if it not in held]
     return found
 
 
@@ -209,11 +208,11 @@ def is_held(edit, said, source):
     return any(said.verdicts[it] != "proved" for it in verdicts_of(edit, said, source))
 
 
-def try_crate(name, named, jobs, shows_all):
+def try_crate(name, word, named, jobs, is_quiet):
     """Tries a crate's wrong bodies, prints a line for each and one for all, and returns their counts."""
     timer = time.monotonic()
     source = reading.Source(name)
-    all_edits = edits.edits_of(name, source)
+    all_edits = [it for it in edits.edits_of(name, source) if word in it.name]
     if not all_edits:
         return 0, 0, 0
     found = {it: (NOT_JUDGED, it.why) for it in all_edits if it.why}
@@ -229,7 +228,7 @@ def try_crate(name, named, jobs, shows_all):
             room.leave()
     for edit in all_edits:
         verdict, why = found[edit]
-        if shows_all or verdict != REFUSED:
+        if not is_quiet or verdict != REFUSED:
             print(f"  {verdict:<10}  {name}/{edit.name}: {why}")
     counts = [sum(it[0] == word for it in found.values()) for word in (REFUSED, PROVED, NOT_JUDGED)]
     took = int(time.monotonic() - timer)
@@ -240,20 +239,21 @@ def try_crate(name, named, jobs, shows_all):
 
 def main(words):
     common.need("rt")
-    shows_all, jobs = "--all" in words, max(1, build.processors() // 2)
-    words = [it for it in words if it != "--all"]
+    is_quiet, jobs = "--quiet" in words, max(1, build.processors() // 2)
+    words = [it for it in words if it != "--quiet"]
     if "--jobs" in words:
         at = words.index("--jobs")
         jobs = int(words[at + 1])
         del words[at : at + 2]
     named = common.libraries()
-    unknown = [it for it in words if it not in named]
+    chosen = [it.partition("/")[::2] for it in words] or [(it, "") for it in named]
+    unknown = [name for name, _ in chosen if name not in named]
     if unknown:
         common.stop(f"crates.txt names no crate {', '.join(unknown)}")
     total = [0, 0, 0]
     try:
-        for name in words or named:
-            total = [a + b for a, b in zip(total, try_crate(name, named, jobs, shows_all))]
+        for name, word in chosen:
+            total = [a + b for a, b in zip(total, try_crate(name, word, named, jobs, is_quiet))]
     except KeyboardInterrupt:
         return 130
     print(f"{total[0]} refused, {total[1]} proved, {total[2]} not judged")
