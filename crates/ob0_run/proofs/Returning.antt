@@ -15,7 +15,7 @@ use Rattle.ob0_scope.specs.Scopes.{as_label}
 use Rattle.ob0_typing.specs.Declarations.{after_formals, formals_constructors}
 use Rattle.ob0_typing.specs.Environments.{from_binding, newest}
 use Rattle.ob0_typing.specs.Expressions.{Object, a_constant, a_procedure, a_standard, a_type, a_variable}
-use Rattle.ob0_types.proofs.Counted.{counted_formals, sections_mapped}
+use Rattle.ob0_checker.proofs.Counted.{counted_formals, sections_mapped}
 use Rattle.ob0_values.specs.Stored.{store_of, value_of}
 use Rattle.ob0_values.specs.Values.{CallBound, Place, Stuck}
 use Rattle.std.specs.declared.vec.Vec.{Vec}

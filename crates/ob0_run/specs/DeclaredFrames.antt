@@ -6,7 +6,7 @@ use Rattle.ob0_tree.specs.View.{names_of, type_of}
 use Rattle.ob0_scope.specs.Names.{Label, as_labels, label_text}
 use Rattle.ob0_scope.specs.Parts.{names_listed}
 use Rattle.ob0_typing.specs.Declarations.{declare_constants, declare_types}
-use Rattle.ob0_types.specs.DenotedTables.{joined}
+use Rattle.ob0_checker.specs.DenotedTables.{joined}
 use Rattle.ob0_typing.specs.Environments.{meanings}
 use Rattle.ob0_typing.specs.Expressions.{Meanings, Object, a_constant, a_procedure, a_type}
 use Rattle.ob0_typing.specs.Typing.{constant_value, constants_only, denoted, with_fields}

@@ -27,7 +27,7 @@ pub struct Names<'r, 't> {
 }
 
 /// What a run puts out.
-#[derive(Clone, Copy, Debug, PartialEq, Eq)]
+#[derive(Clone, Copy, PartialEq, Eq)]
 pub enum Item {
     Number(i32),
     Line,

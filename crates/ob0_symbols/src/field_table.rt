@@ -14,14 +14,14 @@ use std::collections::BTreeMap;
 use std::marker::Model;
 
 /// A field that is the first of its name: its place and its type.
-#[derive(Clone, Copy, Debug)]
+#[derive(Clone, Copy)]
 struct First {
     place: usize,
     of: TypeId,
 }
 
 /// Fields in order, with the first of each name.
-#[derive(Debug, Drop)]
+#[derive(Drop)]
 pub struct FieldTable<'t> {
     fields: Vec<Field<'t>>,
     first_of: BTreeMap<&'t str, First>,

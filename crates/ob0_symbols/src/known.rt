@@ -19,21 +19,21 @@ pub const MOST_SCALARS: usize = 65536;
 pub const MOST_DEPTH: usize = 100;
 
 /// A field of a record.
-#[derive(Clone, Copy, Debug)]
+#[derive(Clone, Copy)]
 pub struct Field<'t> {
     pub name: &'t str,
     pub of: TypeId,
 }
 
 /// A field of a record: which of the ARRAY and RECORD of the text the record is, and which of its fields, each from 0 on.
-#[derive(Clone, Copy, Debug, PartialEq, Eq)]
+#[derive(Clone, Copy, PartialEq, Eq)]
 pub struct FieldOf {
     pub ordinal: usize,
     pub index: usize,
 }
 
 /// `ARRAY length OF element`, made by the constructor with this ordinal in the text.
-#[derive(Clone, Copy, Debug)]
+#[derive(Clone, Copy)]
 pub struct ArrayShape {
     pub ordinal: usize,
     pub length: usize,
@@ -43,7 +43,7 @@ pub struct ArrayShape {
 }
 
 /// `RECORD fields END`, made by the constructor with this ordinal in the text.
-#[derive(Debug, Drop)]
+#[derive(Drop)]
 pub struct RecordShape<'t> {
     pub ordinal: usize,
     pub fields: FieldTable<'t>,
@@ -52,7 +52,7 @@ pub struct RecordShape<'t> {
 }
 
 /// What a type is.
-#[derive(Debug, Drop)]
+#[derive(Drop)]
 pub enum Shape<'t> {
     Integer,
     Boolean,
@@ -61,14 +61,14 @@ pub enum Shape<'t> {
 }
 
 /// A formal parameter: passed by its place, as VAR, or by its value.
-#[derive(Clone, Copy, Debug)]
+#[derive(Clone, Copy)]
 pub struct Formal {
     pub by_place: bool,
     pub of: TypeId,
 }
 
 /// The standard procedures.
-#[derive(Clone, Copy, Debug, PartialEq, Eq)]
+#[derive(Clone, Copy, PartialEq, Eq)]
 pub enum Standard {
     Read,
     Write,
@@ -76,7 +76,7 @@ pub enum Standard {
 }
 
 /// What a declaration is.
-#[derive(Debug, Drop)]
+#[derive(Drop)]
 pub enum Object {
     /// A type, by its name.
     Named(TypeId),
@@ -89,7 +89,7 @@ pub enum Object {
 }
 
 /// What is in sight at an ordinal.
-#[derive(Debug, Drop)]
+#[derive(Drop)]
 enum Sight {
     Nothing,
     /// What was declared there last.
@@ -99,21 +99,21 @@ enum Sight {
 }
 
 /// What was declared last at an ordinal, in sight or not.
-#[derive(Debug, Drop)]
+#[derive(Drop)]
 struct Entry {
     object: Object,
     sight: Sight,
 }
 
 /// What was in sight at an ordinal before it was bound to something else.
-#[derive(Debug, Drop)]
+#[derive(Drop)]
 pub struct Shadowed {
     pub ordinal: usize,
     pub before: Option<Object>,
 }
 
 /// The shapes of the types made so far, and the declarations so far by their ordinals, each in sight or not.
-#[derive(Debug, Drop)]
+#[derive(Drop)]
 pub struct Known<'t> {
     shapes: Vec<Shape<'t>>,
     entries: Vec<Entry>,

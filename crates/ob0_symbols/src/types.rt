@@ -13,7 +13,7 @@ use ob0_tree::tree::{AddOperator, MultiplyOperator, Relation, Sign};
 use ob0_values::scalar::Scalar;
 
 /// A type: INTEGER, BOOLEAN, or the place of an array or record in the table of shapes.
-#[derive(Clone, Copy, Debug, PartialEq, Eq)]
+#[derive(Clone, Copy, PartialEq, Eq)]
 pub enum TypeId {
     Integer,
     Boolean,

@@ -3,7 +3,7 @@ use Rattle.std.specs.Prelude.{◌≡◌, ℕ, Option, option_map}
 use Rattle.ob0_tree.specs.Tree.{Tree, module_text}
 use Rattle.ob0_scope.specs.Names.{Name}
 use Rattle.ob0_symbols.specs.declared.sameness.Parts.{Parts}
-use Rattle.ob0_types.specs.Bindings.{declared_object}
+use Rattle.ob0_checker.specs.Bindings.{declared_object}
 use Rattle.ob0_typing.specs.Typing.{type_declared}
 use Rattle.ob0_types.specs.CheckedModules.{HoldsDeclarations}
 use Rattle.ob0_symbols.specs.Parts.{parts_shape}

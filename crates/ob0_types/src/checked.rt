@@ -5,7 +5,7 @@ ghost use Rattle.ob0_types.specs.CheckedModules.{IsTold};
 ghost use Rattle.std.specs.List.{filter, list_any};
 ghost use Rattle.std.specs.Prelude.{◌≡◌, ◌≤◌, ◌&&◌, ◌++◌, [], length, not, IfOk, OnOk, MatchOption};
 
-use crate::deciding::decide;
+use ob0_checker::decide;
 use ob0_symbols::known::Known;
 use ob0_typing::laws::fits_by_ordinal;
 use ob0_symbols::sameness::Parts;
