@@ -62,64 +62,63 @@ const EVERYTHING: Client = Client {
     takes_document_changes: true,
 };
 
+fn said_of(client: Client) -> &'static str {
+    if client == NOTHING {
+        "of a client that can nothing"
+    } else if client == EVERYTHING {
+        "of a client that can everything"
+    } else {
+        "of a client that can something"
+    }
+}
+
+fn said_by(indent: Indent) -> &'static str {
+    match indent {
+        Indent::Tab => "layout by tabs",
+        Indent::Spaces(1) => "layout by 1",
+        Indent::Spaces(4) => "layout by 4",
+        Indent::Spaces(16) => "layout by 16",
+        Indent::Spaces(_) => "layout by more",
+    }
+}
+
 /// In a word what a call asks for.
-fn word_of(call: Call) -> &'static str {
+fn word_of(call: &Call) -> &'static str {
     match call {
-        Call::Initialize(client) if client == NOTHING => "of a client that can nothing",
-        Call::Initialize(client) if client == EVERYTHING => "of a client that can everything",
-        Call::Initialize(_) => "of a client that can something",
+        Call::Initialize(client) => said_of(*client),
         Call::Shutdown => "shutdown",
-        Call::Hover(_) => "hover",
-        Call::Definition(_) => "definition",
+        Call::Hover(_place) => "hover",
+        Call::Definition(_place) => "definition",
         Call::References {
-            place: _,
-            include_declaration: true,
-        } => "references and the declaration",
-        Call::References {
-            place: _,
-            include_declaration: false,
-        } => "references",
-        Call::PrepareRename(_) => "prepare a rename",
-        Call::Rename {
-            place: _,
-            new_name: _,
-        } => "rename",
-        Call::CodeAction {
-            uri: _,
-            range: _,
-            only: None,
-        } => "actions",
-        Call::CodeAction {
-            uri: _,
-            range: _,
-            only: Some(kinds),
+            place: _place,
+            include_declaration,
         } => {
-            if kinds.len() == 2 {
-                "actions of two kinds"
+            if *include_declaration {
+                "references and the declaration"
             } else {
-                "actions of other kinds"
+                "references"
             }
         }
-        Call::Formatting {
-            uri: _,
-            indent: Indent::Tab,
-        } => "layout by tabs",
-        Call::Formatting {
-            uri: _,
-            indent: Indent::Spaces(1),
-        } => "layout by 1",
-        Call::Formatting {
-            uri: _,
-            indent: Indent::Spaces(4),
-        } => "layout by 4",
-        Call::Formatting {
-            uri: _,
-            indent: Indent::Spaces(16),
-        } => "layout by 16",
-        Call::Formatting {
-            uri: _,
-            indent: Indent::Spaces(_),
-        } => "layout by more",
+        Call::PrepareRename(_place) => "prepare a rename",
+        Call::Rename {
+            place: _place,
+            new_name: _name,
+        } => "rename",
+        Call::CodeAction {
+            uri: _uri,
+            range: _range,
+            only,
+        } => match only {
+            None => "actions",
+            Some(kinds) => {
+                if kinds.len() == 2 {
+                    "actions of two kinds"
+                } else {
+                    "actions of other kinds"
+                }
+            }
+        },
+        Call::Formatting { uri: _uri, indent } => said_by(*indent),
     }
 }
 
@@ -127,7 +126,7 @@ fn word_of(call: Call) -> &'static str {
 fn asked(alloc: Global, method: &str, params: &str) -> &'static str {
     match Value::from_str(alloc, params) {
         Ok(params) => match request(alloc, method, &params) {
-            Ok(call) => word_of(call),
+            Ok(call) => word_of(&call),
             Err(fault) => fault.text(),
         },
         Err(_) => "no value",
