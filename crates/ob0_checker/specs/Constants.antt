@@ -5,6 +5,7 @@ use Rattle.ob0_tree.specs.declared.tree.MultiplyOperator.{MultiplyOperator}
 use Rattle.ob0_tree.specs.Tree.{Tree, addend, adds, item, multiplier, multiplies}
 use Rattle.ob0_scope.specs.Names.{Label}
 use Rattle.ob0_typing.specs.Expressions.{Meanings, Object, a_variable, evaluate_factor, evaluate_term}
+use Rattle.ob0_symbols.specs.Operators.{product_value, sum_value}
 use Rattle.ob0_symbols.specs.KnownTables.{Tables, known_meaning}
 use Rattle.ob0_typing.specs.Typing.{constants_only, given_value}
 use Rattle.ob0_values.specs.Values.{Place, Shape, Value, add, add_is_settled, multiply, multiply_is_settled}

@@ -77,7 +77,7 @@ impl<'a, 't> Names<'a, 't> {
     }
 
     #[cycle(evaluation)]
-    #[tactic(auto, unfolding(crate::specs::Expressions::evaluate))]
+    #[tactic(auto, unfolding(ob0_typing::specs::Expressions::evaluate))]
     fn evaluate_factor(&self, f: &Factor) -> Option<Scalar>
         ensures { option_map scalar_value result ≡ given_value (evaluate_factor (constants_in self.now.known.now) [] (in_labels self.now.resolved.now (factor_of f.now))) }
     {

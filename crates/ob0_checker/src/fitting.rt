@@ -83,14 +83,14 @@ impl<'a, 't> Names<'a, 't> {
     }
 
     /// Whether an expression is a condition.
-    #[tactic(auto, unfolding(crate::specs::WellTyped::condition_fits))]
+    #[tactic(auto, unfolding(ob0_typing::specs::WellTyped::condition_fits))]
     fn condition_fits(&self, e: &Expression) -> bool
         ensures { result ≡ condition_fits (meaning_in self.now.known.now self.now.only_constants) (in_labels self.now.resolved.now (expression_of e.now)) }
     {
         self.agree(Some(TypeId::Boolean), self.type_of(e))
     }
 
-    #[tactic(auto, unfolding(crate::specs::WellTyped::statement_fits))]
+    #[tactic(auto, unfolding(ob0_typing::specs::WellTyped::statement_fits))]
     fn assignment_fits(&self, a: &Assignment) -> bool
         ensures { result ≡ statement_fits (meaning_in self.now.known.now self.now.only_constants) (in_labels self.now.resolved.now (assignment_of a.now)) }
     {

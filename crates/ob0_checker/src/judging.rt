@@ -18,7 +18,7 @@ impl<'a, 't> Names<'a, 't> {
 
     /// The type of an expression.
     #[cycle(expressions)]
-    #[tactic(auto, unfolding(crate::specs::Typing::type_of, crate::specs::Selected::type_selected))]
+    #[tactic(auto, unfolding(ob0_typing::specs::Typing::type_of, ob0_typing::specs::Selected::type_selected))]
     pub fn type_of(&self, e: &Expression) -> Option<TypeId>
         ensures { option_map (type_shape (shapes_of self.now.known.now)) result ≡ type_of (meaning_in self.now.known.now self.now.only_constants) (in_labels self.now.resolved.now (expression_of e.now)) }
     {
@@ -33,7 +33,7 @@ impl<'a, 't> Names<'a, 't> {
     }
 
     #[cycle(expressions)]
-    #[tactic(auto, unfolding(crate::specs::Typing::type_of, crate::specs::Selected::type_selected))]
+    #[tactic(auto, unfolding(ob0_typing::specs::Typing::type_of, ob0_typing::specs::Selected::type_selected))]
     fn type_of_simple(&self, s: &Simple) -> Option<TypeId>
         ensures { option_map (type_shape (shapes_of self.now.known.now)) result ≡ type_of_simple (meaning_in self.now.known.now self.now.only_constants) (in_labels self.now.resolved.now (simple_of s.now)) }
     {
@@ -45,7 +45,7 @@ impl<'a, 't> Names<'a, 't> {
     }
 
     #[cycle(expressions)]
-    #[tactic(auto, unfolding(crate::specs::Typing::type_of, crate::specs::Selected::type_selected))]
+    #[tactic(auto, unfolding(ob0_typing::specs::Typing::type_of, ob0_typing::specs::Selected::type_selected))]
     fn type_of_term(&self, t: &Term) -> Option<TypeId>
         ensures { option_map (type_shape (shapes_of self.now.known.now)) result ≡ type_of_term (meaning_in self.now.known.now self.now.only_constants) (in_labels self.now.resolved.now (term_of t.now)) }
     {
@@ -61,7 +61,7 @@ impl<'a, 't> Names<'a, 't> {
     }
 
     #[cycle(expressions)]
-    #[tactic(auto, unfolding(crate::specs::Typing::type_of, crate::specs::Selected::type_selected))]
+    #[tactic(auto, unfolding(ob0_typing::specs::Typing::type_of, ob0_typing::specs::Selected::type_selected))]
     fn type_of_factor(&self, f: &Factor) -> Option<TypeId>
         ensures { option_map (type_shape (shapes_of self.now.known.now)) result ≡ type_of_factor (meaning_in self.now.known.now self.now.only_constants) (in_labels self.now.resolved.now (factor_of f.now)) }
     {
@@ -75,7 +75,7 @@ impl<'a, 't> Names<'a, 't> {
 
     /// The type at the end of a designator's selectors.
     #[cycle(expressions)]
-    #[tactic(auto, unfolding(crate::specs::Typing::type_of, crate::specs::Selected::type_selected))]
+    #[tactic(auto, unfolding(ob0_typing::specs::Typing::type_of, ob0_typing::specs::Selected::type_selected))]
     fn type_behind(&self, base: Option<TypeId>, d: &Designator) -> Option<TypeId>
         ensures { option_map (type_shape (shapes_of self.now.known.now)) result ≡ option_and_then (λ s. type_at (meaning_in self.now.known.now self.now.only_constants) s (in_labels self.now.resolved.now (selectors_in d.now))) (option_map (type_shape (shapes_of self.now.known.now)) base) }
     {
@@ -87,7 +87,7 @@ impl<'a, 't> Names<'a, 't> {
     }
 
     #[cycle(expressions)]
-    #[tactic(auto, unfolding(crate::specs::Typing::type_of, crate::specs::Selected::type_selected))]
+    #[tactic(auto, unfolding(ob0_typing::specs::Typing::type_of, ob0_typing::specs::Selected::type_selected))]
     fn type_selected(&self, base: Option<TypeId>, s: &Selector) -> Option<TypeId>
         ensures { option_map (type_shape (shapes_of self.now.known.now)) result ≡ option_and_then (λ s'. type_selected (meaning_in self.now.known.now self.now.only_constants) s' (in_labels self.now.resolved.now (selector_of s.now))) (option_map (type_shape (shapes_of self.now.known.now)) base) }
     {

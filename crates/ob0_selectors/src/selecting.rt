@@ -25,7 +25,7 @@ use ob0_symbols::types::{TypeId, scalar_type};
 use std::alloc::AllocError;
 
 /// A selector that is a name: the token of its identifier, the field that it selects, and the field's type.
-#[derive(Clone, Copy, Debug)]
+#[derive(Clone, Copy)]
 pub struct Selection {
     pub token: usize,
     pub field: FieldOf,
