@@ -1,8 +1,6 @@
 //! Messages from outside: what they mean, and which are none; and the bytes of answers.
 
-use ob0_rpc::{
-    Call, Client, Id, Incoming, Note, RpcFault, error, notice, notification, read, request, result,
-};
+use ob0_rpc::{Call, Client, Id, Incoming, RpcFault, error, notification, read, request, result};
 use ob0_text::Indent;
 use serde_json::Value;
 use std::alloc::Global;
@@ -20,30 +18,32 @@ fn kind_of(alloc: Global, content: &str) -> &'static str {
     }
 }
 
+const CONTENTS: [(&str, &str); 14] = [
+    ("", "not JSON"),
+    ("{", "not JSON"),
+    ("[]", "not a message"),
+    ("{}", "not a message"),
+    ("{\"method\":null}", "not a message"),
+    ("{\"id\":null,\"method\":\"m\"}", "not a message"),
+    ("{\"id\":1.5,\"method\":\"m\"}", "not a message"),
+    ("{\"id\":-0,\"method\":\"m\"}", "not a message"),
+    ("{\"id\":1e2,\"method\":\"m\"}", "not a message"),
+    (
+        "{\"id\":18446744073709551616,\"method\":\"m\"}",
+        "not a message",
+    ),
+    (
+        "{\"id\":18446744073709551615,\"method\":\"m\"}",
+        "greatest request",
+    ),
+    ("{\"id\":\"\",\"method\":\"m\"}", "request"),
+    ("{\"method\":\"m\",\"params\":[]}", "notice"),
+    ("{\"error\":{},\"id\":1}", "ignored"),
+];
+
 #[test]
 fn contents_are_told_apart(rt: HostRuntime) {
-    for (content, kind) in [
-        ("", "not JSON"),
-        ("{", "not JSON"),
-        ("[]", "not a message"),
-        ("{}", "not a message"),
-        ("{\"method\":null}", "not a message"),
-        ("{\"id\":null,\"method\":\"m\"}", "not a message"),
-        ("{\"id\":1.5,\"method\":\"m\"}", "not a message"),
-        ("{\"id\":-0,\"method\":\"m\"}", "not a message"),
-        ("{\"id\":1e2,\"method\":\"m\"}", "not a message"),
-        (
-            "{\"id\":18446744073709551616,\"method\":\"m\"}",
-            "not a message",
-        ),
-        (
-            "{\"id\":18446744073709551615,\"method\":\"m\"}",
-            "greatest request",
-        ),
-        ("{\"id\":\"\",\"method\":\"m\"}", "request"),
-        ("{\"method\":\"m\",\"params\":[]}", "notice"),
-        ("{\"error\":{},\"id\":1}", "ignored"),
-    ] {
+    for (content, kind) in CONTENTS {
         assert!(rt; kind_of(rt.alloc(), content) == kind, "{content}");
     }
 }
@@ -135,184 +135,114 @@ fn asked(alloc: Global, method: &str, params: &str) -> &'static str {
 
 const PLACE: &str = "{\"position\":{\"character\":2,\"line\":1},\"textDocument\":{\"uri\":\"u\"}}";
 
+const REQUESTS: [(&str, &str, &str); 28] = [
+    ("initialize", "null", "bad params"),
+    ("initialize", "{}", "of a client that can nothing"),
+    (
+        "initialize",
+        "{\"capabilities\":7}",
+        "of a client that can nothing",
+    ),
+    (
+        "initialize",
+        "{\"capabilities\":{\"general\":{\"positionEncodings\":[\"utf-32\"]},\"textDocument\":{\"codeAction\":{\"codeActionLiteralSupport\":true},\"rename\":{\"prepareSupport\":1}}}}",
+        "of a client that can nothing",
+    ),
+    (
+        "initialize",
+        "{\"capabilities\":{\"general\":{\"positionEncodings\":[null,\"utf-8\"]},\"textDocument\":{\"codeAction\":{\"codeActionLiteralSupport\":{}},\"rename\":{\"prepareSupport\":true}},\"workspace\":{\"workspaceEdit\":{\"documentChanges\":true}}}}",
+        "of a client that can everything",
+    ),
+    ("shutdown", "null", "shutdown"),
+    ("exit", "{}", "unknown method"),
+    ("textDocument/hover", PLACE, "hover"),
+    ("textDocument/definition", PLACE, "definition"),
+    ("textDocument/prepareRename", PLACE, "prepare a rename"),
+    ("textDocument/hover", "{}", "bad params"),
+    (
+        "textDocument/hover",
+        "{\"position\":{\"character\":1.0,\"line\":0},\"textDocument\":{\"uri\":\"u\"}}",
+        "bad params",
+    ),
+    (
+        "textDocument/hover",
+        "{\"position\":{\"character\":0,\"line\":-1},\"textDocument\":{\"uri\":\"u\"}}",
+        "bad params",
+    ),
+    (
+        "textDocument/hover",
+        "{\"position\":{\"character\":-0,\"line\":0},\"textDocument\":{\"uri\":\"u\"}}",
+        "bad params",
+    ),
+    (
+        "textDocument/hover",
+        "{\"position\":{\"character\":0,\"line\":18446744073709551616},\"textDocument\":{\"uri\":\"u\"}}",
+        "bad params",
+    ),
+    (
+        "textDocument/references",
+        "{\"context\":{\"includeDeclaration\":true},\"position\":{\"character\":0,\"line\":18446744073709551615},\"textDocument\":{\"uri\":\"u\"}}",
+        "references and the declaration",
+    ),
+    ("textDocument/references", PLACE, "bad params"),
+    (
+        "textDocument/rename",
+        "{\"newName\":\"x\",\"position\":{\"character\":0,\"line\":0},\"textDocument\":{\"uri\":\"u\"}}",
+        "rename",
+    ),
+    ("textDocument/rename", PLACE, "bad params"),
+    (
+        "textDocument/codeAction",
+        "{\"range\":{\"end\":{\"character\":0,\"line\":0},\"start\":{\"character\":0,\"line\":0}},\"textDocument\":{\"uri\":\"u\"}}",
+        "bad params",
+    ),
+    (
+        "textDocument/codeAction",
+        "{\"context\":{\"only\":[null]},\"range\":{\"end\":{\"character\":0,\"line\":0},\"start\":{\"character\":0,\"line\":0}},\"textDocument\":{\"uri\":\"u\"}}",
+        "bad params",
+    ),
+    (
+        "textDocument/codeAction",
+        "{\"context\":{\"only\":null},\"range\":{\"end\":{\"character\":0,\"line\":0},\"start\":{\"character\":0,\"line\":0}},\"textDocument\":{\"uri\":\"u\"}}",
+        "actions",
+    ),
+    (
+        "textDocument/codeAction",
+        "{\"context\":{\"only\":[\"\",\"refactor\"]},\"range\":{\"end\":{\"character\":0,\"line\":0},\"start\":{\"character\":0,\"line\":0}},\"textDocument\":{\"uri\":\"u\"}}",
+        "actions of two kinds",
+    ),
+    (
+        "textDocument/formatting",
+        "{\"options\":{\"insertSpaces\":true,\"tabSize\":0},\"textDocument\":{\"uri\":\"u\"}}",
+        "layout by 1",
+    ),
+    (
+        "textDocument/formatting",
+        "{\"options\":{\"insertSpaces\":true,\"tabSize\":4},\"textDocument\":{\"uri\":\"u\"}}",
+        "layout by 4",
+    ),
+    (
+        "textDocument/formatting",
+        "{\"options\":{\"insertSpaces\":true,\"tabSize\":18446744073709551615},\"textDocument\":{\"uri\":\"u\"}}",
+        "layout by 16",
+    ),
+    (
+        "textDocument/formatting",
+        "{\"options\":{\"insertSpaces\":false,\"tabSize\":4},\"textDocument\":{\"uri\":\"u\"}}",
+        "layout by tabs",
+    ),
+    (
+        "textDocument/formatting",
+        "{\"options\":{\"insertSpaces\":true,\"tabSize\":-1},\"textDocument\":{\"uri\":\"u\"}}",
+        "bad params",
+    ),
+];
+
 #[test]
 fn requests_are_told_apart(rt: HostRuntime) {
-    for (method, params, word) in [
-        ("initialize", "null", "bad params"),
-        ("initialize", "{}", "of a client that can nothing"),
-        (
-            "initialize",
-            "{\"capabilities\":7}",
-            "of a client that can nothing",
-        ),
-        (
-            "initialize",
-            "{\"capabilities\":{\"general\":{\"positionEncodings\":[\"utf-32\"]},\"textDocument\":{\"codeAction\":{\"codeActionLiteralSupport\":true},\"rename\":{\"prepareSupport\":1}}}}",
-            "of a client that can nothing",
-        ),
-        (
-            "initialize",
-            "{\"capabilities\":{\"general\":{\"positionEncodings\":[null,\"utf-8\"]},\"textDocument\":{\"codeAction\":{\"codeActionLiteralSupport\":{}},\"rename\":{\"prepareSupport\":true}},\"workspace\":{\"workspaceEdit\":{\"documentChanges\":true}}}}",
-            "of a client that can everything",
-        ),
-        ("shutdown", "null", "shutdown"),
-        ("exit", "{}", "unknown method"),
-        ("textDocument/hover", PLACE, "hover"),
-        ("textDocument/definition", PLACE, "definition"),
-        ("textDocument/prepareRename", PLACE, "prepare a rename"),
-        ("textDocument/hover", "{}", "bad params"),
-        (
-            "textDocument/hover",
-            "{\"position\":{\"character\":1.0,\"line\":0},\"textDocument\":{\"uri\":\"u\"}}",
-            "bad params",
-        ),
-        (
-            "textDocument/hover",
-            "{\"position\":{\"character\":0,\"line\":-1},\"textDocument\":{\"uri\":\"u\"}}",
-            "bad params",
-        ),
-        (
-            "textDocument/hover",
-            "{\"position\":{\"character\":-0,\"line\":0},\"textDocument\":{\"uri\":\"u\"}}",
-            "bad params",
-        ),
-        (
-            "textDocument/hover",
-            "{\"position\":{\"character\":0,\"line\":18446744073709551616},\"textDocument\":{\"uri\":\"u\"}}",
-            "bad params",
-        ),
-        (
-            "textDocument/references",
-            "{\"context\":{\"includeDeclaration\":true},\"position\":{\"character\":0,\"line\":18446744073709551615},\"textDocument\":{\"uri\":\"u\"}}",
-            "references and the declaration",
-        ),
-        ("textDocument/references", PLACE, "bad params"),
-        (
-            "textDocument/rename",
-            "{\"newName\":\"x\",\"position\":{\"character\":0,\"line\":0},\"textDocument\":{\"uri\":\"u\"}}",
-            "rename",
-        ),
-        ("textDocument/rename", PLACE, "bad params"),
-        (
-            "textDocument/codeAction",
-            "{\"range\":{\"end\":{\"character\":0,\"line\":0},\"start\":{\"character\":0,\"line\":0}},\"textDocument\":{\"uri\":\"u\"}}",
-            "bad params",
-        ),
-        (
-            "textDocument/codeAction",
-            "{\"context\":{\"only\":[null]},\"range\":{\"end\":{\"character\":0,\"line\":0},\"start\":{\"character\":0,\"line\":0}},\"textDocument\":{\"uri\":\"u\"}}",
-            "bad params",
-        ),
-        (
-            "textDocument/codeAction",
-            "{\"context\":{\"only\":null},\"range\":{\"end\":{\"character\":0,\"line\":0},\"start\":{\"character\":0,\"line\":0}},\"textDocument\":{\"uri\":\"u\"}}",
-            "actions",
-        ),
-        (
-            "textDocument/codeAction",
-            "{\"context\":{\"only\":[\"\",\"refactor\"]},\"range\":{\"end\":{\"character\":0,\"line\":0},\"start\":{\"character\":0,\"line\":0}},\"textDocument\":{\"uri\":\"u\"}}",
-            "actions of two kinds",
-        ),
-        (
-            "textDocument/formatting",
-            "{\"options\":{\"insertSpaces\":true,\"tabSize\":0},\"textDocument\":{\"uri\":\"u\"}}",
-            "layout by 1",
-        ),
-        (
-            "textDocument/formatting",
-            "{\"options\":{\"insertSpaces\":true,\"tabSize\":4},\"textDocument\":{\"uri\":\"u\"}}",
-            "layout by 4",
-        ),
-        (
-            "textDocument/formatting",
-            "{\"options\":{\"insertSpaces\":true,\"tabSize\":18446744073709551615},\"textDocument\":{\"uri\":\"u\"}}",
-            "layout by 16",
-        ),
-        (
-            "textDocument/formatting",
-            "{\"options\":{\"insertSpaces\":false,\"tabSize\":4},\"textDocument\":{\"uri\":\"u\"}}",
-            "layout by tabs",
-        ),
-        (
-            "textDocument/formatting",
-            "{\"options\":{\"insertSpaces\":true,\"tabSize\":-1},\"textDocument\":{\"uri\":\"u\"}}",
-            "bad params",
-        ),
-    ] {
+    for (method, params, word) in REQUESTS {
         assert!(rt;
             asked(rt.alloc(), method, params) == word,
-            "{method} {params}"
-        );
-    }
-}
-
-/// In a word what a notification tells.
-fn told(alloc: Global, method: &str, params: &str) -> &'static str {
-    match Value::from_str(alloc, params) {
-        Ok(params) => match notice(alloc, method, &params) {
-            Ok(Note::Exit) => "exit",
-            Ok(
-                Note::Open {
-                    uri: _,
-                    version: _,
-                    text: _,
-                },
-            ) => "open",
-            Ok(
-                Note::Change {
-                    uri: _,
-                    version: _,
-                    changes: _,
-                },
-            ) => "change",
-            Ok(Note::Close { uri: _ }) => "close",
-            Ok(Note::Unreadable { uri: Some(_) }) => "not to be read, of a document",
-            Ok(Note::Unreadable { uri: None }) => "not to be read",
-            Ok(Note::Other) => "other",
-            Err(fault) => fault.text(),
-        },
-        Err(_) => "no value",
-    }
-}
-
-#[test]
-fn notifications_are_told_apart(rt: HostRuntime) {
-    for (method, params, word) in [
-        ("exit", "null", "exit"),
-        ("initialized", "{}", "other"),
-        (
-            "textDocument/didOpen",
-            "{\"textDocument\":{\"text\":\"\",\"uri\":\"u\",\"version\":1}}",
-            "open",
-        ),
-        (
-            "textDocument/didOpen",
-            "{\"textDocument\":{\"text\":\"\",\"uri\":\"u\",\"version\":1.0}}",
-            "not to be read, of a document",
-        ),
-        (
-            "textDocument/didOpen",
-            "{\"textDocument\":{\"version\":1}}",
-            "not to be read",
-        ),
-        (
-            "textDocument/didChange",
-            "{\"contentChanges\":[{\"text\":\"a\"}],\"textDocument\":{\"uri\":\"u\",\"version\":1}}",
-            "change",
-        ),
-        (
-            "textDocument/didChange",
-            "{\"contentChanges\":[{\"text\":\"a\"},null],\"textDocument\":{\"uri\":\"u\",\"version\":1}}",
-            "not to be read, of a document",
-        ),
-        (
-            "textDocument/didClose",
-            "{\"textDocument\":{\"uri\":\"u\"}}",
-            "close",
-        ),
-    ] {
-        assert!(rt;
-            told(rt.alloc(), method, params) == word,
             "{method} {params}"
         );
     }
