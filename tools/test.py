@@ -36,10 +36,10 @@ def stream(words, **named):
 
 
 def at_once():
-    """How many checks the gate makes side by side: one a processor, and one for each 5 GB of memory. A check takes 1 to
-    2.5 GB; left to itself `rt ci` reckons three times that, and lets large crates wait for each other's edits."""
+    """How many checks the gate makes side by side: one a processor, and one for each 3.5 GB of memory. A check takes 1 to
+    3 GB; left to itself `rt ci` reckons three times that, and lets large crates wait for each other's edits."""
     memory = os.sysconf("SC_PAGE_SIZE") * os.sysconf("SC_PHYS_PAGES")
-    return max(1, min(len(os.sched_getaffinity(0)), memory // 5_000_000_000))
+    return max(1, min(len(os.sched_getaffinity(0)), memory // 3_500_000_000))
 
 
 def gate():

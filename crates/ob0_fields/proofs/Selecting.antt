@@ -11,12 +11,12 @@ use Rattle.ob0_typing.specs.WellTyped.{Formal, Mode, Signature, TypeEnvironment,
 use Rattle.ob0_values.specs.Values.{FieldShapes, Shape, array_shape, boolean_shape, integer_shape, next_field_shape, no_field_shape, record_shape}
 use Rattle.ob0_semantics.proofs.Sound.{some-gives}
 use Rattle.ob0_semantics.proofs.SoundStatements.{agree-true, both_true, call-typed, variable-typed}
-use Rattle.ob0_fields.specs.Fields.{record_of}
+use Rattle.ob0_field_laws.specs.Fields.{record_of}
 use Rattle.ob0_fields.specs.Owned.{owned, owner}
-use Rattle.ob0_fields.proofs.AgreeingFields.{designated-typed}
-use Rattle.ob0_fields.proofs.Apart.{named}
+use Rattle.ob0_field_laws.proofs.AgreeingFields.{designated-typed}
+use Rattle.ob0_field_laws.proofs.Apart.{named}
 use Rattle.ob0_fields.proofs.OwnedStatements.{recorded}
-use Rattle.ob0_fields.proofs.RefieldedModules.{stands_in}
+use Rattle.ob0_field_laws.proofs.RefieldedModules.{stands_in}
 
 place-found : (fs : FieldShapes) (x : Name) (u : Shape) → shape_of_field fs x ≡ Some u → (i : ℕ) × (place_of_field fs x ≡ Some i)
 place-found no_field_shape x u h = absurd (cc)

@@ -16,7 +16,7 @@ use Rattle.ob0_symbols.specs.FieldPlaces.{field_selected}
 use Rattle.ob0_typing.specs.Typing.{constructors, element_type, field_type, group_constructors, object_type}
 use Rattle.ob0_typing.specs.WellTyped.{Signature}
 use Rattle.ob0_values.specs.Values.{Shape, integer_shape}
-use Rattle.ob0_fields.specs.Owners.{AreOwners}
+use Rattle.ob0_field_laws.specs.Owners.{AreOwners}
 
 -- identifiers none of which is a field
 abbrev pub unowned_among : List (Role × ℕ) → List (ℕ × Option ℕ)

@@ -1,4 +1,4 @@
-//! The fields of records under other names: definitions, and laws over them.
+//! The identifiers of the fields of a module, and which record each belongs to.
 #![tactic(auto)]
 
 mod declared;
