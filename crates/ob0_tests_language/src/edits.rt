@@ -29,14 +29,19 @@ fn made(
 
 const NESTED: &str =
     "MODULE M;\nVAR x: INTEGER;\nPROCEDURE P;\nVAR y: INTEGER;\nBEGIN y := 1; x := y END P;\nBEGIN P; Write(x) END M.";
+
 const BLOCKS: &str =
     "MODULE M;\nVAR Q: INTEGER;\nPROCEDURE A;\nPROCEDURE P; BEGIN Q := 7 END P;\nPROCEDURE R; BEGIN Write(2) END R;\nBEGIN P; R END A;\nBEGIN A; Write(Q) END M.";
+
 const RECURSIVE: &str =
     "MODULE M;\nPROCEDURE F(n: INTEGER);\nBEGIN IF n > 0 THEN Write(n); F(n - 1) END END F;\nBEGIN F(2) END M.";
+
 const FIELDS: &str =
     "MODULE M;\nTYPE R = RECORD a, b: INTEGER END;\nVAR r: R; s: RECORD a: INTEGER END; a: INTEGER;\nBEGIN r.a := 1; s.a := 2; a := r.a + s.a; Write(a) END M.";
+
 const PARTS: &str =
     "MODULE M;\nTYPE P = RECORD x, y: INTEGER END;\nVAR q: ARRAY 2 OF RECORD x: P; n: RECORD x: INTEGER END END;\nBEGIN q[0].x.x := 1; q[q[0].x.x].n.x := 2; q[1].x.y := 3 END M.";
+
 const LOCAL: &str =
     "MODULE M;\nTYPE R = RECORD a: INTEGER END;\nVAR r: R;\nPROCEDURE P(VAR r: R; s: RECORD a: INTEGER END);\nTYPE R = RECORD b, a: INTEGER END;\nVAR t: R;\nBEGIN r.a := s.a; t.a := t.b END P;\nBEGIN r.a := 1 END M.";
 
@@ -136,12 +141,16 @@ fn renamed(alloc: Global, text: &str, place: Position, new: &str) -> Result<Stri
 fn names_and_fields_are_renamed(rt: HostRuntime) -> Result<(), Fail> {
     for (text, line, character, new, wanted) in RENAMED {
         let found = renamed(rt.alloc(), text, Position { line, character }, new)?;
-        assert!(rt; found.as_str() == wanted, "{found} by {new} at {line}:{character}");
+        assert!(rt;
+            found.as_str() == wanted,
+            "{found} by {new} at {line}:{character}"
+        );
     }
     Ok(())
 }
 
 /// The text with a constant inlined, or why it isn't.
+#[derive(Drop)]
 struct Inlined {
     place: Position,
     everywhere: bool,
@@ -165,9 +174,12 @@ impl Question for Inlined {
 
 const LEAST: &str =
     "MODULE M;\nCONST c = -2147483647 - 1;\nVAR x: INTEGER;\nBEGIN x := 0 + c; Write(x) END M.";
+
 const SHADOWED: &str =
     "MODULE M;\nCONST on = TRUE;\nPROCEDURE P; VAR TRUE, b: BOOLEAN; BEGIN b := on END P;\nBEGIN P END M.";
+
 const COMMENTED: &str = "MODULE M; CONST c (* five *) = 5; (* on *) BEGIN Write(c) END M.";
+
 const SEVERAL: &str =
     "MODULE M; CONST a = 9; c = -5; d = c; BEGIN Write(a - c); Write(c DIV 3) END M.";
 
@@ -262,6 +274,7 @@ fn constants_are_inlined(rt: HostRuntime) -> Result<(), Fail> {
 }
 
 /// The text laid out.
+#[derive(Drop)]
 struct LaidOut {
     indent: Indent,
 }

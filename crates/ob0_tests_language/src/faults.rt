@@ -20,19 +20,28 @@ const ROWS: [(&str, &str); 40] = [
     // Syntax: the place of the token, and what is expected there.
     ("MODULE M; BEGIN x = 1 END M.", "Syntax 18-19; expected END"),
     ("MODULE M; BEGIN x[0] END M.", "Syntax 21-24; expected :="),
-    ("MODULE M; VAR x INTEGER; END M.", "Syntax 16-23; expected :"),
+    (
+        "MODULE M; VAR x INTEGER; END M.",
+        "Syntax 16-23; expected :",
+    ),
     ("MODULE M; VAR x: ; END M.", "Syntax 17-18; expected type"),
     ("MODULE M; END M. x", "Syntax 17-18; expected end of text"),
     ("MODULE M; BEGIN WriteLn END M", "Syntax 29-29; expected ."),
     ("", "Syntax 0-0; expected MODULE"),
-    ("MODULE M; VAR UNTIL: INTEGER; END M.", "Syntax 14-19; expected END"),
+    (
+        "MODULE M; VAR UNTIL: INTEGER; END M.",
+        "Syntax 14-19; expected END",
+    ),
     (
         "MODULE M; BEGIN x := a - -5 END M.",
         "Syntax 25-26; expected expression",
     ),
     ("MODULE 3; END M.", "Syntax 7-8; expected identifier"),
     // Names.
-    ("MODULE M; PROCEDURE P(a: P); END P; END M.", "Undeclared 25-26; "),
+    (
+        "MODULE M; PROCEDURE P(a: P); END P; END M.",
+        "Undeclared 25-26; ",
+    ),
     ("MODULE M; CONST k = k; END M.", "Undeclared 20-21; "),
     (
         "MODULE M; PROCEDURE P; BEGIN Q END P; PROCEDURE Q; END Q; END M.",
@@ -56,19 +65,31 @@ const ROWS: [(&str, &str); 40] = [
         "MODULE M; VAR a: ARRAY 3 OF INTEGER; b: ARRAY 3 OF INTEGER; BEGIN a := b END M.",
         "TypeMismatch 71-72; ",
     ),
-    ("MODULE M; VAR a, b: ARRAY 3 OF INTEGER; BEGIN a := b END M.", ""),
+    (
+        "MODULE M; VAR a, b: ARRAY 3 OF INTEGER; BEGIN a := b END M.",
+        "",
+    ),
     (
         "MODULE M; TYPE T = ARRAY 3 OF INTEGER; VAR a: T; b: T; BEGIN a := b END M.",
         "",
     ),
-    ("MODULE M; VAR a: ARRAY 256 OF ARRAY 256 OF INTEGER; END M.", ""),
+    (
+        "MODULE M; VAR a: ARRAY 256 OF ARRAY 256 OF INTEGER; END M.",
+        "",
+    ),
     (
         "MODULE M; VAR a: ARRAY 256 OF ARRAY 257 OF INTEGER; END M.",
         "TypeTooLarge 17-22; ",
     ),
     ("MODULE M; VAR a: ARRAY 65536 OF INTEGER; END M.", ""),
-    ("MODULE M; VAR a: ARRAY 65537 OF INTEGER; END M.", "ArrayLength 23-28; "),
-    ("MODULE M; VAR a: ARRAY 0 OF INTEGER; END M.", "ArrayLength 23-24; "),
+    (
+        "MODULE M; VAR a: ARRAY 65537 OF INTEGER; END M.",
+        "ArrayLength 23-28; ",
+    ),
+    (
+        "MODULE M; VAR a: ARRAY 0 OF INTEGER; END M.",
+        "ArrayLength 23-24; ",
+    ),
     (
         "MODULE M; VAR b: BOOLEAN; BEGIN b := TRUE + FALSE END M.",
         "TypeMismatch 37-41; ",
@@ -77,7 +98,10 @@ const ROWS: [(&str, &str); 40] = [
         "MODULE M; VAR b: BOOLEAN; BEGIN b := 1 = TRUE END M.",
         "TypeMismatch 41-45; ",
     ),
-    ("MODULE M; VAR b: BOOLEAN; BEGIN b := u + 1 END M.", "Undeclared 37-38; "),
+    (
+        "MODULE M; VAR b: BOOLEAN; BEGIN b := u + 1 END M.",
+        "Undeclared 37-38; ",
+    ),
     (
         "MODULE M; VAR a: ARRAY 2 OF INTEGER; BEGIN a[TRUE] := TRUE END M.",
         "TypeMismatch 45-49; ",

@@ -11,6 +11,7 @@ use std::process::Abort;
 use std::test::Fail;
 
 /// What is said of the name at a place, by its byte.
+#[derive(Drop)]
 struct NameAt {
     offset: usize,
 }
@@ -66,24 +67,65 @@ fn push_spans(
 
 const RECURSIVE: &str =
     "MODULE M;\nPROCEDURE F(n: INTEGER);\nBEGIN IF n > 0 THEN Write(n); F(n - 1) END END F;\nBEGIN F(2) END M.";
+
 const FIELDS: &str =
     "MODULE M;\nTYPE R = RECORD a, b: INTEGER END;\nVAR r: R; s: RECORD a: INTEGER END; a: INTEGER;\nBEGIN r.a := 1; s.a := 2; a := r.a + s.a; Write(a) END M.";
 
 const ROWS: [(&str, usize, &str); 14] = [
-    (RECURSIVE, 20, "7 from 20-21, at 65-66 82-83 91-92, shown at 20-21: PROCEDURE F(n: INTEGER)"),
-    (RECURSIVE, 21, "7 from 20-21, at 65-66 82-83 91-92, shown at 20-21: PROCEDURE F(n: INTEGER)"),
-    (RECURSIVE, 82, "7 from 20-21, at 65-66 82-83 91-92, shown at 82-83: PROCEDURE F(n: INTEGER)"),
-    (RECURSIVE, 83, "7 from 20-21, at 65-66 82-83 91-92, shown at 82-83: PROCEDURE F(n: INTEGER)"),
-    (RECURSIVE, 60, "predeclared, at 55-60, shown at 55-60: predeclared Write"),
+    (
+        RECURSIVE,
+        20,
+        "7 from 20-21, at 65-66 82-83 91-92, shown at 20-21: PROCEDURE F(n: INTEGER)",
+    ),
+    (
+        RECURSIVE,
+        21,
+        "7 from 20-21, at 65-66 82-83 91-92, shown at 20-21: PROCEDURE F(n: INTEGER)",
+    ),
+    (
+        RECURSIVE,
+        82,
+        "7 from 20-21, at 65-66 82-83 91-92, shown at 82-83: PROCEDURE F(n: INTEGER)",
+    ),
+    (
+        RECURSIVE,
+        83,
+        "7 from 20-21, at 65-66 82-83 91-92, shown at 82-83: PROCEDURE F(n: INTEGER)",
+    ),
+    (
+        RECURSIVE,
+        60,
+        "predeclared, at 55-60, shown at 55-60: predeclared Write",
+    ),
     (RECURSIVE, 0, "nothing"),
     (RECURSIVE, 7, "nothing"),
     (RECURSIVE, 34, "nothing"),
     (RECURSIVE, 104, "nothing"),
-    (FIELDS, 26, "0.0 from 26-27, at 101-102 126-127, shown at 26-27: FIELD a: INTEGER"),
-    (FIELDS, 101, "0.0 from 26-27, at 101-102 126-127, shown at 101-102: FIELD a: INTEGER"),
-    (FIELDS, 29, "0.1 from 29-30, at, shown at 29-30: FIELD b: INTEGER"),
-    (FIELDS, 81, "10 from 81-82, at 119-120 141-142, shown at 81-82: VAR a: INTEGER"),
-    (FIELDS, 99, "8 from 49-50, at 99-100 124-125, shown at 99-100: VAR r: RECORD with 2 fields"),
+    (
+        FIELDS,
+        26,
+        "0.0 from 26-27, at 101-102 126-127, shown at 26-27: FIELD a: INTEGER",
+    ),
+    (
+        FIELDS,
+        101,
+        "0.0 from 26-27, at 101-102 126-127, shown at 101-102: FIELD a: INTEGER",
+    ),
+    (
+        FIELDS,
+        29,
+        "0.1 from 29-30, at, shown at 29-30: FIELD b: INTEGER",
+    ),
+    (
+        FIELDS,
+        81,
+        "10 from 81-82, at 119-120 141-142, shown at 81-82: VAR a: INTEGER",
+    ),
+    (
+        FIELDS,
+        99,
+        "8 from 49-50, at 99-100 124-125, shown at 99-100: VAR r: RECORD with 2 fields",
+    ),
 ];
 
 #[test]
@@ -96,6 +138,7 @@ fn names_and_fields_are_told_of(rt: HostRuntime) -> Result<(), Fail> {
 }
 
 /// What is shown of a module's names, a line for each identifier that something is shown of.
+#[derive(Drop)]
 struct Shown;
 
 impl Question for Shown {
@@ -122,8 +165,8 @@ impl Question for Shown {
 
 const KINDS: &str =
     "MODULE M; CONST c = -3; on = TRUE; TYPE R = RECORD x, y: BOOLEAN END; A = ARRAY 2 OF R; VAR a: ARRAY 3 OF A; r: R; PROCEDURE P(a, b: A; VAR c: BOOLEAN); VAR r: INTEGER; BEGIN r := 1; c := a[0].x END P; PROCEDURE Q; BEGIN r.x := on; P(a[0], a[c + 3], r.x) END Q; BEGIN Q END M.";
-const KINDS_SHOWN: &str =
-    "CONST c = -3
+
+const KINDS_SHOWN: &str = "CONST c = -3
 CONST on = TRUE
 predeclared TRUE
 TYPE R = RECORD with 2 fields
@@ -166,8 +209,8 @@ PROCEDURE Q()
 // Records within arrays, records and parameters, and a type that is declared anew.
 const PARTS: &str =
     "MODULE M; TYPE A = ARRAY 2 OF RECORD x: BOOLEAN END; PROCEDURE P(VAR p, q: RECORD x: A; y, z: RECORD x: INTEGER END END); TYPE A = INTEGER; VAR v: RECORD x: A END; BEGIN p.y.x := v.x END P; END M.";
-const PARTS_SHOWN: &str =
-    "TYPE A = ARRAY 2 OF RECORD with 1 fields
+
+const PARTS_SHOWN: &str = "TYPE A = ARRAY 2 OF RECORD with 1 fields
 FIELD x: BOOLEAN
 predeclared BOOLEAN
 PROCEDURE P(VAR p: RECORD with 3 fields; VAR q: RECORD with 3 fields)

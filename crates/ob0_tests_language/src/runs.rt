@@ -10,6 +10,7 @@ use std::process::Abort;
 use std::test::Fail;
 
 /// What a run puts out, a line as `/`, and how it ends.
+#[derive(Drop)]
 struct RunOf<'a> {
     input: &'a [i32],
     calls: u32,
@@ -53,16 +54,22 @@ fn name_of(end: End) -> &'static str {
 
 const SHADOWED: &str =
     "MODULE M;\nVAR Q: INTEGER;\nPROCEDURE A;\nPROCEDURE P; BEGIN Q := 7 END P;\nPROCEDURE R; BEGIN Write(2) END R;\nBEGIN P; R END A;\nBEGIN A; Write(Q) END M.";
+
 const RECURSIVE: &str =
     "MODULE M;\nPROCEDURE F(n: INTEGER);\nBEGIN IF n > 0 THEN Write(n); F(n - 1) END END F;\nBEGIN F(2) END M.";
+
 const WHILE: &str =
     "MODULE M;\nVAR n: INTEGER;\nPROCEDURE P; BEGIN Write(n) END P;\nBEGIN Read(n); WHILE n > 0 DO n := n - 1; WriteLn END; P END M.";
+
 const REPEAT: &str =
     "MODULE M;\nVAR n: INTEGER;\nBEGIN Read(n); REPEAT Write(n); n := n - 1 UNTIL n <= 0 END M.";
+
 const ALIASES: &str =
     "MODULE M;\nVAR a: ARRAY 2 OF INTEGER; i: INTEGER;\nPROCEDURE S(VAR p: INTEGER; q: INTEGER; VAR r: INTEGER);\nBEGIN i := 1; p := q + 1; r := p * 10; Write(q) END S;\nBEGIN i := 0; S(a[i], a[i], a[i]); Write(a[0]); Write(a[1]); S(i, i, i); Write(i); a[i] := 0 END M.";
+
 const ACTIVATIONS: &str =
     "MODULE M;\nPROCEDURE P(n: INTEGER);\nVAR k: INTEGER;\nPROCEDURE Q; BEGIN k := k + n END Q;\nBEGIN IF n > 0 THEN P(n - 1) END; Q; Q; Write(k) END P;\nBEGIN P(2) END M.";
+
 const RECORDS: &str =
     "MODULE M;\nTYPE P = RECORD x, y: INTEGER; on: BOOLEAN END;\nVAR p, q: P; ps: ARRAY 2 OF P;\nPROCEDURE Set(VAR r: P; s: P); BEGIN r.x := 5; Write(s.x); s.x := 9 END Set;\nBEGIN p.x := 1; q := p; q.x := 2; Set(p, p); Write(p.x); Write(q.x); ps[1] := p; Write(ps[1].x + ps[0].y); IF ~ps[0].on THEN WriteLn END END M.";
 
@@ -75,7 +82,13 @@ const ROWS: [(&str, &[i32], u32, u32, &str); 25] = [
         100_000,
         " -2 -3 2; Divisor",
     ),
-    ("MODULE M; BEGIN Write(7 MOD (-2)) END M.", &[], 0, 0, "; Divisor"),
+    (
+        "MODULE M; BEGIN Write(7 MOD (-2)) END M.",
+        &[],
+        0,
+        0,
+        "; Divisor",
+    ),
     (
         "MODULE M; BEGIN Write(2147483647); Write(2147483647 + 1) END M.",
         &[],
@@ -83,7 +96,13 @@ const ROWS: [(&str, &[i32], u32, u32, &str); 25] = [
         0,
         " 2147483647; Overflow",
     ),
-    ("MODULE M; BEGIN Write(-(-2147483647 - 1)) END M.", &[], 0, 0, "; Overflow"),
+    (
+        "MODULE M; BEGIN Write(-(-2147483647 - 1)) END M.",
+        &[],
+        0,
+        0,
+        "; Overflow",
+    ),
     (
         "MODULE M;\nVAR x: INTEGER;\nPROCEDURE P;\nVAR y: INTEGER;\nBEGIN y := 1; x := y END P;\nBEGIN P; Write(x) END M.",
         &[],
@@ -134,7 +153,15 @@ const ROWS: [(&str, &[i32], u32, u32, &str); 25] = [
 #[test]
 fn worked_modules_are_run(rt: HostRuntime) -> Result<(), Fail> {
     for (text, input, calls, turns, wanted) in ROWS {
-        let found = said(rt.alloc(), text, &RunOf { input, calls, turns })?;
+        let found = said(
+            rt.alloc(),
+            text,
+            &RunOf {
+                input,
+                calls,
+                turns,
+            },
+        )?;
         assert!(rt; found.as_str() == wanted, "{found} by {text}");
     }
     Ok(())
