@@ -46,7 +46,7 @@ const LOCAL: &str =
     "MODULE M;\nTYPE R = RECORD a: INTEGER END;\nVAR r: R;\nPROCEDURE P(VAR r: R; s: RECORD a: INTEGER END);\nTYPE R = RECORD b, a: INTEGER END;\nVAR t: R;\nBEGIN r.a := s.a; t.a := t.b END P;\nBEGIN r.a := 1 END M.";
 
 /// A text, a place, a new name, and the text then.
-const RENAMED: [(&str, u64, u64, &str, &str); 26] = [
+static RENAMED: &[(&str, u64, u64, &str, &str)] = &[
     (
         RECURSIVE,
         2,
@@ -139,7 +139,8 @@ fn renamed(alloc: Global, text: &str, place: Position, new: &str) -> Result<Stri
 
 #[test]
 fn names_and_fields_are_renamed(rt: HostRuntime) -> Result<(), Fail> {
-    for (text, line, character, new, wanted) in RENAMED {
+    for row in RENAMED {
+        let (text, line, character, new, wanted) = *row;
         let found = renamed(rt.alloc(), text, Position { line, character }, new)?;
         assert!(rt;
             found.as_str() == wanted,
@@ -184,7 +185,7 @@ const SEVERAL: &str =
     "MODULE M; CONST a = 9; c = -5; d = c; BEGIN Write(a - c); Write(c DIV 3) END M.";
 
 /// A text, a place, whether everywhere, and the text then.
-const INLINED: [(&str, u64, u64, bool, &str); 16] = [
+static INLINED: &[(&str, u64, u64, bool, &str)] = &[
     (
         LEAST,
         3,
@@ -265,7 +266,8 @@ const INLINED: [(&str, u64, u64, bool, &str); 16] = [
 
 #[test]
 fn constants_are_inlined(rt: HostRuntime) -> Result<(), Fail> {
-    for (text, line, character, everywhere, wanted) in INLINED {
+    for row in INLINED {
+        let (text, line, character, everywhere, wanted) = *row;
         let place = Position { line, character };
         let found = said(rt.alloc(), text, &Inlined { place, everywhere })?;
         assert!(rt; found.as_str() == wanted, "{found} at {line}:{character}");
@@ -291,7 +293,7 @@ impl Question for LaidOut {
     }
 }
 
-const LAID_OUT: [(&str, Indent, &str); 6] = [
+static LAID_OUT: &[(&str, Indent, &str)] = &[
     (
         "MODULE M;VAR x:INTEGER;BEGIN x:=-1;IF x<0 THEN Write(x)(* a (* b *) c *)END;WriteLn END M.(* end *)",
         Indent::Spaces(2),
@@ -326,7 +328,8 @@ const LAID_OUT: [(&str, Indent, &str); 6] = [
 
 #[test]
 fn texts_are_laid_out_once(rt: HostRuntime) -> Result<(), Fail> {
-    for (text, indent, wanted) in LAID_OUT {
+    for row in LAID_OUT {
+        let (text, indent, wanted) = *row;
         let found = said(rt.alloc(), text, &LaidOut { indent })?;
         assert!(rt; found.as_str() == wanted, "{found}");
         let again = said(rt.alloc(), wanted, &LaidOut { indent })?;

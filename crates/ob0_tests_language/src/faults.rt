@@ -6,7 +6,7 @@ use ob0_analysis::diagnose;
 use std::process::Abort;
 use std::test::Fail;
 
-const ROWS: [(&str, &str); 40] = [
+static ROWS: &[(&str, &str)] = &[
     ("MODULE M; END M.", ""),
     (
         "MODULE M; VAR n: INTEGER; BEGIN Read(n); REPEAT Write(n); n := n - 1 UNTIL n <= 0 END M.",
@@ -146,7 +146,8 @@ const ROWS: [(&str, &str); 40] = [
 
 #[test]
 fn the_faults_of_worked_texts_are_told(rt: HostRuntime) -> Result<(), Fail> {
-    for (text, wanted) in ROWS {
+    for row in ROWS {
+        let (text, wanted) = *row;
         let faults = diagnose(rt.alloc(), text)?;
         let found = told(rt.alloc(), faults.as_slice())?;
         assert!(rt; found.as_str() == wanted, "{found} in {text}");

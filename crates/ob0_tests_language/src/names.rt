@@ -23,30 +23,53 @@ impl Question for NameAt {
 
     /// What it is a name of, where that is declared, where it is named, and what is shown of it.
     fn answer(&self, alloc: Global, module: &WellTyped<'_, '_>) -> Result<String, AllocError> {
-        let Some(found) = at(alloc, module, self.offset)? else {
-            return String::from_str(alloc, "nothing");
-        };
-        let mut out = of(alloc, found.of)?;
-        if let Some(declared) = definition(alloc, module, self.offset)? {
-            push_spans(alloc, &mut out, " from", &[declared])?;
-        }
-        let named = references(alloc, module, self.offset, false)?;
-        push_spans(alloc, &mut out, ", at", named.as_slice())?;
-        if let Some(shown) = hover(alloc, module, self.offset)? {
-            push_spans(alloc, &mut out, ", shown at", &[shown.span])?;
-            out.push_str(": ")?;
-            out.push_str(shown.text.as_str())?;
+        let mut out = String::new(alloc);
+        if let Some(found) = at(alloc, module, self.offset)? {
+            push_of(alloc, &mut out, found.of)?;
+            push_places(alloc, &mut out, module, self.offset)?;
+            push_shown(alloc, &mut out, module, self.offset)?;
         }
         Ok(out)
     }
 }
 
-fn of(alloc: Global, of: Of) -> Result<String, AllocError> {
-    match of {
-        Of::Declared(ordinal) => format!(in alloc; "{ordinal}"),
-        Of::Predeclared => String::from_str(alloc, "predeclared"),
-        Of::Field { ordinal, index } => format!(in alloc; "{ordinal}.{index}"),
+fn push_of(alloc: Global, out: &mut String, of: Of) -> Result<(), AllocError> {
+    let word = match of {
+        Of::Declared(ordinal) => format!(in alloc; "{ordinal}")?,
+        Of::Predeclared => String::from_str(alloc, "predeclared")?,
+        Of::Field { ordinal, index } => format!(in alloc; "{ordinal}.{index}")?,
+    };
+    out.push_str(word.as_str())
+}
+
+/// Adds where a name is declared, and where else it is named.
+fn push_places(
+    alloc: Global,
+    out: &mut String,
+    module: &WellTyped<'_, '_>,
+    offset: usize,
+) -> Result<(), AllocError> {
+    if let Some(declared) = definition(alloc, module, offset)? {
+        push_spans(alloc, out, " from", &[declared])?;
     }
+    let named = references(alloc, module, offset, false)?;
+    push_spans(alloc, out, ", at", named.as_slice())
+}
+
+/// Adds what is shown of a name, and where.
+fn push_shown(
+    alloc: Global,
+    out: &mut String,
+    module: &WellTyped<'_, '_>,
+    offset: usize,
+) -> Result<(), AllocError> {
+    if let Some(shown) = hover(alloc, module, offset)? {
+        push_spans(alloc, out, ", shown at", &[shown.span])?;
+        let text = shown.text.as_str();
+        let text = format!(in alloc; ": {text}")?;
+        out.push_str(text.as_str())?;
+    }
+    Ok(())
 }
 
 /// Adds where spans stand.
@@ -71,7 +94,7 @@ const RECURSIVE: &str =
 const FIELDS: &str =
     "MODULE M;\nTYPE R = RECORD a, b: INTEGER END;\nVAR r: R; s: RECORD a: INTEGER END; a: INTEGER;\nBEGIN r.a := 1; s.a := 2; a := r.a + s.a; Write(a) END M.";
 
-const ROWS: [(&str, usize, &str); 14] = [
+static ROWS: &[(&str, usize, &str)] = &[
     (
         RECURSIVE,
         20,
@@ -97,10 +120,10 @@ const ROWS: [(&str, usize, &str); 14] = [
         60,
         "predeclared, at 55-60, shown at 55-60: predeclared Write",
     ),
-    (RECURSIVE, 0, "nothing"),
-    (RECURSIVE, 7, "nothing"),
-    (RECURSIVE, 34, "nothing"),
-    (RECURSIVE, 104, "nothing"),
+    (RECURSIVE, 0, ""),
+    (RECURSIVE, 7, ""),
+    (RECURSIVE, 34, ""),
+    (RECURSIVE, 104, ""),
     (
         FIELDS,
         26,
@@ -130,7 +153,8 @@ const ROWS: [(&str, usize, &str); 14] = [
 
 #[test]
 fn names_and_fields_are_told_of(rt: HostRuntime) -> Result<(), Fail> {
-    for (text, offset, wanted) in ROWS {
+    for row in ROWS {
+        let (text, offset, wanted) = *row;
         let found = said(rt.alloc(), text, &NameAt { offset })?;
         assert!(rt; found.as_str() == wanted, "{found} at {offset}");
     }
@@ -235,9 +259,12 @@ FIELD x: INTEGER
 PROCEDURE P(VAR p: RECORD with 3 fields; VAR q: RECORD with 3 fields)
 ";
 
+static SHOWN: &[(&str, &str)] = &[(KINDS, KINDS_SHOWN), (PARTS, PARTS_SHOWN)];
+
 #[test]
 fn each_kind_of_name_is_shown(rt: HostRuntime) -> Result<(), Fail> {
-    for (text, wanted) in [(KINDS, KINDS_SHOWN), (PARTS, PARTS_SHOWN)] {
+    for row in SHOWN {
+        let (text, wanted) = *row;
         let found = said(rt.alloc(), text, &Shown)?;
         assert!(rt; found.as_str() == wanted, "{found}");
     }
@@ -247,8 +274,11 @@ fn each_kind_of_name_is_shown(rt: HostRuntime) -> Result<(), Fail> {
 // To be run with each allocation refused in turn.
 #[test]
 fn a_refused_allocation_changes_no_answer(rt: HostRuntime) {
-    match said(rt.alloc(), KINDS, &Shown) {
-        Ok(found) => assert!(rt; found.as_str() == KINDS_SHOWN, "{found}"),
-        Err(_refused) => {}
+    for row in SHOWN {
+        let (text, wanted) = *row;
+        match said(rt.alloc(), text, &Shown) {
+            Ok(found) => assert!(rt; found.as_str() == wanted, "{found}"),
+            Err(_refused) => {}
+        }
     }
 }

@@ -24,19 +24,27 @@ impl<'a> Question for RunOf<'a> {
 
     fn answer(&self, alloc: Global, module: &WellTyped<'_, '_>) -> Result<String, AllocError> {
         let outcome = run(alloc, module, self.input, self.calls, self.turns)?;
-        let mut out = String::new(alloc);
-        for item in &outcome.output {
-            match item {
-                Item::Number(number) => {
-                    let digits = format!(in alloc; " {number}")?;
-                    out.push_str(digits.as_str())?;
-                }
-                Item::Line => out.push('/')?,
-            }
+        shown(alloc, outcome.output.as_slice(), outcome.end)
+    }
+}
+
+fn shown(alloc: Global, output: &[Item], end: End) -> Result<String, AllocError> {
+    let mut out = String::new(alloc);
+    for item in output {
+        push_item(alloc, &mut out, *item)?;
+    }
+    out.push_str("; ")?;
+    out.push_str(name_of(end))?;
+    Ok(out)
+}
+
+fn push_item(alloc: Global, out: &mut String, item: Item) -> Result<(), AllocError> {
+    match item {
+        Item::Number(number) => {
+            let digits = format!(in alloc; " {number}")?;
+            out.push_str(digits.as_str())
         }
-        out.push_str("; ")?;
-        out.push_str(name_of(outcome.end))?;
-        Ok(out)
+        Item::Line => out.push('/'),
     }
 }
 
@@ -74,7 +82,7 @@ const RECORDS: &str =
     "MODULE M;\nTYPE P = RECORD x, y: INTEGER; on: BOOLEAN END;\nVAR p, q: P; ps: ARRAY 2 OF P;\nPROCEDURE Set(VAR r: P; s: P); BEGIN r.x := 5; Write(s.x); s.x := 9 END Set;\nBEGIN p.x := 1; q := p; q.x := 2; Set(p, p); Write(p.x); Write(q.x); ps[1] := p; Write(ps[1].x + ps[0].y); IF ~ps[0].on THEN WriteLn END END M.";
 
 /// A text, its input, how many calls may be open and how many turns a loop may make, and what is shown.
-const ROWS: [(&str, &[i32], u32, u32, &str); 25] = [
+static ROWS: &[(&str, &[i32], u32, u32, &str)] = &[
     (
         "MODULE M; BEGIN Write(-7 DIV 3); Write((-7) DIV 3); Write((-7) MOD 3); Write(1 MOD 0) END M.",
         &[],
@@ -152,16 +160,14 @@ const ROWS: [(&str, &[i32], u32, u32, &str); 25] = [
 
 #[test]
 fn worked_modules_are_run(rt: HostRuntime) -> Result<(), Fail> {
-    for (text, input, calls, turns, wanted) in ROWS {
-        let found = said(
-            rt.alloc(),
-            text,
-            &RunOf {
-                input,
-                calls,
-                turns,
-            },
-        )?;
+    for row in ROWS {
+        let (text, input, calls, turns, wanted) = *row;
+        let question = RunOf {
+            input,
+            calls,
+            turns,
+        };
+        let found = said(rt.alloc(), text, &question)?;
         assert!(rt; found.as_str() == wanted, "{found} by {text}");
     }
     Ok(())
@@ -170,13 +176,16 @@ fn worked_modules_are_run(rt: HostRuntime) -> Result<(), Fail> {
 // To be run with each allocation refused in turn.
 #[test]
 fn a_refused_allocation_changes_no_run(rt: HostRuntime) {
-    let bounds = RunOf {
-        input: &[],
-        calls: 1,
-        turns: 0,
-    };
-    match said(rt.alloc(), RECORDS, &bounds) {
-        Ok(found) => assert!(rt; found.as_str() == " 1 5 2 5/; Done", "{found}"),
-        Err(_refused) => {}
+    for row in ROWS {
+        let (text, input, calls, turns, wanted) = *row;
+        let question = RunOf {
+            input,
+            calls,
+            turns,
+        };
+        match said(rt.alloc(), text, &question) {
+            Ok(found) => assert!(rt; found.as_str() == wanted, "{found} by {text}"),
+            Err(_refused) => {}
+        }
     }
 }

@@ -18,7 +18,7 @@ fn kind_of(alloc: Global, content: &str) -> &'static str {
     }
 }
 
-const CONTENTS: [(&str, &str); 14] = [
+static CONTENTS: &[(&str, &str)] = &[
     ("", "not JSON"),
     ("{", "not JSON"),
     ("[]", "not a message"),
@@ -43,7 +43,8 @@ const CONTENTS: [(&str, &str); 14] = [
 
 #[test]
 fn contents_are_told_apart(rt: HostRuntime) {
-    for (content, kind) in CONTENTS {
+    for row in CONTENTS {
+        let (content, kind) = *row;
         assert!(rt; kind_of(rt.alloc(), content) == kind, "{content}");
     }
 }
@@ -135,7 +136,7 @@ fn asked(alloc: Global, method: &str, params: &str) -> &'static str {
 
 const PLACE: &str = "{\"position\":{\"character\":2,\"line\":1},\"textDocument\":{\"uri\":\"u\"}}";
 
-const REQUESTS: [(&str, &str, &str); 28] = [
+static REQUESTS: &[(&str, &str, &str)] = &[
     ("initialize", "null", "bad params"),
     ("initialize", "{}", "of a client that can nothing"),
     (
@@ -240,7 +241,8 @@ const REQUESTS: [(&str, &str, &str); 28] = [
 
 #[test]
 fn requests_are_told_apart(rt: HostRuntime) {
-    for (method, params, word) in REQUESTS {
+    for row in REQUESTS {
+        let (method, params, word) = *row;
         assert!(rt;
             asked(rt.alloc(), method, params) == word,
             "{method} {params}"

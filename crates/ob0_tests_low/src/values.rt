@@ -12,7 +12,7 @@ const DIVIDE: MultiplyOperator = MultiplyOperator::Divide;
 
 const MODULO: MultiplyOperator = MultiplyOperator::Modulo;
 
-const PRODUCTS: [(MultiplyOperator, i32, i32, Result<Scalar, Fault>); 4] = [
+static PRODUCTS: &[(MultiplyOperator, i32, i32, Result<Scalar, Fault>)] = &[
     (DIVIDE, -7, 3, Ok(Scalar::Number(-3))),
     (MODULO, -7, 3, Ok(Scalar::Number(2))),
     (MODULO, 1, 0, Err(Fault::Divisor)),
@@ -23,7 +23,7 @@ const ADD: AddOperator = AddOperator::Add;
 
 const SUBTRACT: AddOperator = AddOperator::Subtract;
 
-const SUMS: [(AddOperator, i32, i32, Result<Scalar, Fault>); 3] = [
+static SUMS: &[(AddOperator, i32, i32, Result<Scalar, Fault>)] = &[
     (ADD, i32::MAX, 1, Err(Fault::Overflow)),
     (SUBTRACT, i32::MIN, 1, Err(Fault::Overflow)),
     (SUBTRACT, -2147483647, 1, Ok(Scalar::Number(i32::MIN))),
@@ -35,11 +35,13 @@ const NO: Scalar = Scalar::Truth(false);
 
 #[test]
 fn numbers_and_truth_values_are_reckoned_with(rt: HostRuntime) {
-    for (operator, left, right, wanted) in PRODUCTS {
+    for row in PRODUCTS {
+        let (operator, left, right, wanted) = *row;
         let found = multiply(operator, number(left), number(right));
         assert!(rt; found == wanted, "{left} and {right}");
     }
-    for (operator, left, right, wanted) in SUMS {
+    for row in SUMS {
+        let (operator, left, right, wanted) = *row;
         let found = add(operator, number(left), number(right));
         assert!(rt; found == wanted, "{left} and {right}");
     }

@@ -69,71 +69,74 @@ fn at(line: u64, character: u64) -> Position {
     Position { line, character }
 }
 
-/// The text that comes with an act.
-fn text_of(act: Act) -> &'static str {
-    match act {
-        Act::Open(text) => text,
-        Act::Write(_line, _start, _end, text) => text,
-        Act::Rename(_line, _character, name) => name,
-        _ => "",
-    }
+fn named(alloc: Global) -> Result<String, AllocError> {
+    String::from_str(alloc, "u")
 }
 
-/// What an act changes.
-fn changes_of(alloc: Global, act: Act, text: &str) -> Result<Vec<Change>, AllocError> {
+/// Another text in place of what is at these characters of a line.
+fn changes(
+    alloc: Global,
+    line: u64,
+    start: u64,
+    end: u64,
+    text: &str,
+) -> Result<Vec<Change>, AllocError> {
+    let range = Range {
+        start: at(line, start),
+        end: at(line, end),
+    };
+    let text = String::from_str(alloc, text)?;
     let mut changes = Vec::new(alloc);
-    if let Act::Write(line, start, end, _text) = act {
-        let text = String::from_str(alloc, text)?;
-        let range = Range {
-            start: at(line, start),
-            end: at(line, end),
-        };
-        changes.push(Change {
-            range: Some(range),
-            text,
-        })?;
-    }
+    changes.push(Change {
+        range: Some(range),
+        text,
+    })?;
     Ok(changes)
 }
 
-/// What an act asks of the server, if it asks something.
-fn ask_of(act: Act, name: String) -> Option<Ask> {
+fn event_of(alloc: Global, act: Act) -> Result<Event, AllocError> {
     match act {
-        Act::Rename(line, character, _name) => Some(Ask::Rename {
-            position: at(line, character),
-            name,
+        Act::Open(text) => Ok(Event::OpenDoc {
+            uri: named(alloc)?,
+            text: String::from_str(alloc, text)?,
         }),
-        Act::InlineHere(line, character) => Some(Ask::InlineHere {
-            position: at(line, character),
+        Act::Touch => Ok(Event::ChangeDoc {
+            uri: named(alloc)?,
+            changes: Vec::new(alloc),
         }),
-        Act::InlineAll(line, character) => Some(Ask::InlineAll {
-            position: at(line, character),
+        Act::Write(line, start, end, text) => Ok(Event::ChangeDoc {
+            uri: named(alloc)?,
+            changes: changes(alloc, line, start, end, text)?,
         }),
-        Act::Format => Some(Ask::Format {
-            indent: Indent::Spaces(2),
+        Act::Close => Ok(Event::CloseDoc { uri: named(alloc)? }),
+        Act::Serve => Ok(Event::Serve),
+        Act::Take => Ok(Event::Take),
+        Act::Apply(k) => Ok(Event::Apply { k }),
+        Act::Discard(k) => Ok(Event::Discard { k }),
+        asking => Ok(Event::Ask {
+            uri: named(alloc)?,
+            ask: ask_of(alloc, asking)?,
         }),
-        _ => None,
     }
 }
 
-fn event_of(alloc: Global, act: Act) -> Result<Event, AllocError> {
-    let changes = changes_of(alloc, act, text_of(act))?;
-    let text = String::from_str(alloc, text_of(act))?;
-    let uri = String::from_str(alloc, "u")?;
-    Ok(match act {
-        Act::Open(_text) => Event::OpenDoc { uri, text },
-        Act::Touch => Event::ChangeDoc { uri, changes },
-        Act::Write(_line, _start, _end, _text) => Event::ChangeDoc { uri, changes },
-        Act::Close => Event::CloseDoc { uri },
-        Act::Serve => Event::Serve,
-        Act::Take => Event::Take,
-        Act::Apply(k) => Event::Apply { k },
-        Act::Discard(k) => Event::Discard { k },
-        other => match ask_of(other, text) {
-            Some(ask) => Event::Ask { uri, ask },
-            None => Event::Take,
-        },
-    })
+/// What the other acts ask of the server.
+fn ask_of(alloc: Global, act: Act) -> Result<Ask, AllocError> {
+    match act {
+        Act::Rename(line, character, name) => Ok(Ask::Rename {
+            position: at(line, character),
+            name: String::from_str(alloc, name)?,
+        }),
+        Act::InlineHere(line, character) => Ok(Ask::InlineHere {
+            position: at(line, character),
+        }),
+        Act::InlineAll(line, character) => Ok(Ask::InlineAll {
+            position: at(line, character),
+        }),
+        _ => Ok(Ask::Format {
+            indent: Indent::Spaces(2),
+        }),
+    }
 }
 
 fn sight_of(seen: &Seen) -> Sight {

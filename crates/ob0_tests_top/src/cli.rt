@@ -6,7 +6,7 @@ use std::process::Abort;
 
 const FILE: &str = "M.mod";
 
-const READ: [(&[&str], CommandLine<'static>); 6] = [
+static READ: &[(&[&str], CommandLine<'static>)] = &[
     (&["ob0", "serve"], CommandLine::Serve),
     (
         &["ob0", "check", "M.mod"],
@@ -49,7 +49,7 @@ const READ: [(&[&str], CommandLine<'static>); 6] = [
     ),
 ];
 
-const REFUSED: [(&[&str], i32); 14] = [
+static REFUSED: &[(&[&str], i32)] = &[
     (&["ob0"], 2),
     (&["ob0", "format"], 2),
     (&["ob0", "help"], 2),
@@ -71,7 +71,8 @@ const REFUSED: [(&[&str], i32); 14] = [
 
 #[test]
 fn lines_are_read(rt: HostRuntime) {
-    for (words, wanted) in READ {
+    for row in READ {
+        let (words, wanted) = *row;
         match command(rt.alloc(), words) {
             Ok(line) => assert!(rt; line == wanted),
             Err(_fault) => assert!(rt; false, "refused"),
@@ -81,7 +82,8 @@ fn lines_are_read(rt: HostRuntime) {
 
 #[test]
 fn refused_lines_have_their_status(rt: HostRuntime) {
-    for (words, status) in REFUSED {
+    for row in REFUSED {
+        let (words, status) = *row;
         match command(rt.alloc(), words) {
             Err(CommandFault::Refused(error)) => assert!(rt; error.exit_code() == status),
             Err(CommandFault::Memory) => assert!(rt; false, "memory"),

@@ -74,7 +74,7 @@ const DIVIDES: &[u8] =
 const ACCENTED: &[u8] = b"MODULE M; VAR x: INTEGER; (* \xC3\xA9 *) BEGIN x := x END M.";
 
 /// A command, its file, and what it prints, tells and ends with.
-const ROWS: [(Command, &[u8], (&str, &str, u8)); 15] = [
+static ROWS: &[(Command, &[u8], (&str, &str, u8))] = &[
     (
         Command::Check,
         b"MODULE M; BEGIN WriteLn END M.",
@@ -158,7 +158,8 @@ const ROWS: [(Command, &[u8], (&str, &str, u8)); 15] = [
 
 #[test]
 fn files_are_checked_run_and_renamed(rt: HostRuntime) {
-    for (command, file, wanted) in ROWS {
+    for row in ROWS {
+        let (command, file, wanted) = *row;
         assert!(rt;
             ends(rt.alloc(), command, file, u32::MAX, wanted),
             "{file:?}"
@@ -166,7 +167,7 @@ fn files_are_checked_run_and_renamed(rt: HostRuntime) {
     }
 }
 
-const EMPTY_FILE: &str = "0:0: Syntax: expected MODULE\n";
+static EMPTY_FILE: &str = "0:0: Syntax: expected MODULE\n";
 
 #[test]
 fn a_write_that_fails_is_told(rt: HostRuntime) {

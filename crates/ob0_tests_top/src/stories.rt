@@ -1,6 +1,7 @@
 //! What happens in worlds of an editor and a server: names, constants, layouts, and answers that are dropped.
 
 use crate::acts::{Act, Edited, Published, Sight, Story};
+use ob0_text::Unit;
 
 const COUNTS: &str =
     "MODULE M;\nVAR n: INTEGER;\nPROCEDURE P; BEGIN Write(n) END P;\nBEGIN Read(n); WHILE n > 0 DO n := n - 1; WriteLn END; P END M.\n";
@@ -52,7 +53,7 @@ const WIDE_USE: &str = "MODULE M;\nCONST c = -5;\nBEGIN (* 😀 *) Write(c DIV 3
 
 const WIDE_INLINED: &str = "MODULE M;\nCONST c = -5;\nBEGIN (* 😀 *) Write((-5) DIV 3) END M.\n";
 
-pub const STORIES: [Story; 15] = [
+const STORIES: &[Story] = &[
     Story {
         name: "another name is applied",
         moments: &[
@@ -400,7 +401,7 @@ pub const STORIES: [Story; 15] = [
 ];
 
 /// Characters that count differently in the two units.
-pub const WIDE_IN_UTF16: [Story; 3] = [
+const WIDE_IN_UTF16: &[Story] = &[
     Story {
         name: "another name, in UTF-16 units",
         moments: &[
@@ -469,7 +470,7 @@ pub const WIDE_IN_UTF16: [Story; 3] = [
     },
 ];
 
-pub const WIDE_IN_UTF8: [Story; 3] = [
+const WIDE_IN_UTF8: &[Story] = &[
     Story {
         name: "another name, in bytes",
         moments: &[
@@ -536,4 +537,11 @@ pub const WIDE_IN_UTF8: [Story; 3] = [
             empty: true,
         }],
     },
+];
+
+/// Units of positions, and what happens in worlds that count in them.
+pub static WORLDS: &[(Unit, &[Story])] = &[
+    (Unit::Utf16, STORIES),
+    (Unit::Utf16, WIDE_IN_UTF16),
+    (Unit::Utf8, WIDE_IN_UTF8),
 ];

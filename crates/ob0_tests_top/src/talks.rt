@@ -23,7 +23,7 @@ const SHUT_DOWN: &str = "{\"id\":2,\"jsonrpc\":\"2.0\",\"result\":null}";
 
 const HOVER: &str = "{\"id\":5,\"method\":\"textDocument/hover\"}";
 
-pub const TALKS: [Talk; 11] = [
+pub static TALKS: &[Talk] = &[
     Talk {
         name: "requests after shutdown",
         comes: &[INITIALIZE, SHUTDOWN, HOVER, EXIT, HOVER],
