@@ -4,12 +4,14 @@
 # and beside them:
 #   make build             proves and builds the program
 #   make end-to-end        the end-to-end tests alone, on bin/ob0
+#   make wrong-bodies      tries each crate's wrong bodies, all at once where that can be; CRATE="NAME.." names some
+#   make surface           the public functions, who uses them and their wrong bodies: docs/SURFACE.md
 #   make bench             times the program; nothing fails by time
 #   make install PREFIX=.. copies the program to PREFIX/bin
 PREFIX ?= /usr/local
 PYTHON ?= python3
 
-.PHONY: demo test build end-to-end bench install python
+.PHONY: demo test build end-to-end wrong-bodies surface bench install python
 
 demo: build
 	@$(PYTHON) tools/demo.py
@@ -22,6 +24,12 @@ build: python
 
 end-to-end: build
 	@$(PYTHON) tests/run.py
+
+wrong-bodies: python
+	@$(PYTHON) tools/wrong_bodies.py $(CRATE)
+
+surface: python
+	@$(PYTHON) tools/public_functions.py
 
 bench: build
 	@$(PYTHON) bench/run.py

@@ -50,6 +50,20 @@ def chain(name, named):
     return max((1 + chain(it, named) for it in named if name in named[it]), default=0)
 
 
+def furnish(room, name, named):
+    """Makes a room for a crate: its sources and those of the crates below, with their proved libraries."""
+    shutil.rmtree(room, ignore_errors=True)
+    os.makedirs(os.path.join(room, "crates"))
+    shutil.copy2(os.path.join(TOP, "HANDLES"), room)
+    common.write_list(os.path.join(room, "crates.txt"), common.below(name, named))
+    for it in common.below(name, named):
+        crate, copied = os.path.join(TOP, "crates", it), os.path.join(room, "crates", it)
+        shutil.copytree(crate, copied, ignore=shutil.ignore_patterns("out", "must-fail", "wrong-bodies"))
+        if it != name:
+            library = os.path.join("out", "rlib")
+            shutil.copytree(os.path.join(crate, library), os.path.join(copied, library), copy_function=link)
+
+
 class Work:
     """One crate that is being proved, in a room of its own."""
 
@@ -64,17 +78,8 @@ class Work:
             self.process = subprocess.Popen(words, start_new_session=True, stderr=subprocess.STDOUT, **how)
 
     def furnish(self, named):
-        """Makes the room: the sources, the libraries below, and what was kept of the crate's own proofs."""
-        shutil.rmtree(self.room, ignore_errors=True)
-        os.makedirs(os.path.join(self.room, "crates"))
-        shutil.copy2(os.path.join(TOP, "HANDLES"), self.room)
-        common.write_list(os.path.join(self.room, "crates.txt"), common.below(self.name, named))
-        for it in common.below(self.name, named):
-            crate, copied = os.path.join(TOP, "crates", it), os.path.join(self.room, "crates", it)
-            shutil.copytree(crate, copied, ignore=shutil.ignore_patterns("out", "must-fail"))
-            if it != self.name:
-                library = os.path.join("out", "rlib")
-                shutil.copytree(os.path.join(crate, library), os.path.join(copied, library), copy_function=link)
+        """Makes the room, and moves what was kept of the crate's own proofs there."""
+        furnish(self.room, self.name, named)
         if os.path.isdir(self.out):
             os.rename(self.out, self.moved)
         os.makedirs(self.moved, exist_ok=True)

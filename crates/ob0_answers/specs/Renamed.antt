@@ -18,7 +18,7 @@ use Rattle.ob0_tree.specs.Parsed.{Parsed, IsParsed, named_tree_of}
 use Rattle.ob0_scope.specs.Resolution.{Resolution}
 use Rattle.ob0_typing.specs.WellTyped.{WellTyped}
 use Rattle.ob0_rename.specs.Answers.{AreEdits, IsRefused}
-use Rattle.ob0_rename.specs.Renaming.{Renaming}
+use Rattle.ob0_rename.specs.InTexts.{IsRefusedIn, RenamesIn}
 use Rattle.ob0_analysis.specs.Analysed.{IsModuleIn}
 use Rattle.ob0_analysis.specs.Diagnosed.{IsWellTypedModule, TellsFaults, complaint_in}
 use Rattle.ob0_analysis.specs.Texts.{utf8}

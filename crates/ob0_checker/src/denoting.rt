@@ -49,7 +49,7 @@ pub fn array_length(value: Scalar) -> Option<usize>
 
 /// The type that a text denotes, where all in it fits; `next` is the ordinal of its first ARRAY or RECORD. After an
 /// error the table isn't to be used.
-pub fn denote<'t>(
+pub(crate) fn denote<'t>(
     alloc: Global,
     known: &mut Known<'t>,
     resolved: &Resolved<'t>,

@@ -59,7 +59,7 @@ fn first_of<'t>(alloc: Global, fields: &[Field<'t>]) -> Result<BTreeMap<&'t str,
 }
 
 impl<'t> FieldTable<'t> {
-    pub fn new(fields: Vec<Field<'t>>) -> Result<FieldTable<'t>, AllocError>
+    pub(crate) fn new(fields: Vec<Field<'t>>) -> Result<FieldTable<'t>, AllocError>
         ensures { IfOk result (λ t. t ≡ fields.entry.items) }
     {
         let first = first_of(*fields.allocator(), fields.as_slice())?;
@@ -76,7 +76,7 @@ impl<'t> FieldTable<'t> {
     }
 
     /// The type of the first field of this name.
-    pub fn find(&self, name: &str) -> Option<TypeId>
+    pub(crate) fn find(&self, name: &str) -> Option<TypeId>
         ensures { (shapes : List shape.Shape) → option_map (type_shape shapes) result ≡ shape_of_field (fields_shape shapes self.now) name.now }
     {
         match self.first_of.get(name) {

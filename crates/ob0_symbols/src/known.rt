@@ -183,7 +183,7 @@ impl<'t> Known<'t> {
     }
 
     /// Declares the next ordinal, and brings it in sight.
-    pub fn declare(&mut self, object: Object) -> Result<(), AllocError>
+    fn declare(&mut self, object: Object) -> Result<(), AllocError>
         requires { ObjectIsMade (length self.old.shapes) object }
         ensures shapes { OnOk result (self.new.shapes ≡ self.old.shapes) }
         ensures entries { OnOk result (self.new.entries ≡ self.old.entries ++ record { object = object; sight = sight.Last } ∷ []) }
@@ -196,7 +196,7 @@ impl<'t> Known<'t> {
     }
 
     /// Makes room for the next ordinal, out of sight.
-    pub fn reserve(&mut self) -> Result<(), AllocError>
+    fn reserve(&mut self) -> Result<(), AllocError>
         ensures shapes { OnOk result (self.new.shapes ≡ self.old.shapes) }
         ensures entries { OnOk result (self.new.entries ≡ self.old.entries ++ record { object = kind.FaultyConstant; sight = sight.Nothing } ∷ []) }
     {
@@ -436,7 +436,7 @@ impl<'t> Known<'t> {
     }
 
     /// How many scalars a type has, each number and truth being one.
-    pub fn scalars(&self, of: TypeId) -> usize
+    fn scalars(&self, of: TypeId) -> usize
         ensures { result ≡ scalars (type_shape (shapes_of self.now) of) }
     {
         match of {
@@ -465,7 +465,7 @@ impl<'t> Known<'t> {
     }
 
     /// How many arrays and records stand inside one another. What has a fault counts as one.
-    pub fn depth(&self, of: TypeId) -> usize
+    fn depth(&self, of: TypeId) -> usize
         ensures { result ≡ depth (type_shape (shapes_of self.now) of) }
     {
         match of {

@@ -24,7 +24,7 @@ pub enum TypeId {
 }
 
 /// `left + right`, `left - right`, `left OR right`.
-pub fn add_type(operator: AddOperator, left: TypeId, right: TypeId) -> Option<TypeId>
+fn add_type(operator: AddOperator, left: TypeId, right: TypeId) -> Option<TypeId>
     ensures { (shapes : List Shape) → option_map (type_shape shapes) result ≡ add_type operator (type_shape shapes left) (type_shape shapes right) }
 {
     match operator {
@@ -35,7 +35,7 @@ pub fn add_type(operator: AddOperator, left: TypeId, right: TypeId) -> Option<Ty
 }
 
 /// `left * right`, `left DIV right`, `left MOD right`, `left & right`.
-pub fn multiply_type(operator: MultiplyOperator, left: TypeId, right: TypeId) -> Option<TypeId>
+fn multiply_type(operator: MultiplyOperator, left: TypeId, right: TypeId) -> Option<TypeId>
     ensures { (shapes : List Shape) → option_map (type_shape shapes) result ≡ multiply_type operator (type_shape shapes left) (type_shape shapes right) }
 {
     match operator {
@@ -83,7 +83,7 @@ fn only_integer(operand: TypeId) -> Option<TypeId>
 }
 
 /// `~ operand`
-pub fn only_boolean(operand: TypeId) -> Option<TypeId>
+fn only_boolean(operand: TypeId) -> Option<TypeId>
     ensures { (shapes : List Shape) → option_map (type_shape shapes) result ≡ complement_type (type_shape shapes operand) }
 {
     match operand {
@@ -96,7 +96,7 @@ pub fn only_boolean(operand: TypeId) -> Option<TypeId>
 }
 
 /// `left = right` and its like.
-pub fn relation_type(relation: Relation, left: TypeId, right: TypeId) -> Option<TypeId>
+fn relation_type(relation: Relation, left: TypeId, right: TypeId) -> Option<TypeId>
     ensures { (shapes : List Shape) → option_map (type_shape shapes) result ≡ relation_type relation (type_shape shapes left) (type_shape shapes right) }
 {
     match left {
@@ -134,7 +134,7 @@ fn compared_truths(relation: Relation) -> Option<TypeId>
 }
 
 /// A term with its sign, if it has one.
-pub fn sign_type(sign: Option<Sign>, operand: TypeId) -> Option<TypeId>
+fn sign_type(sign: Option<Sign>, operand: TypeId) -> Option<TypeId>
     ensures { (shapes : List Shape) → option_map (type_shape shapes) result ≡ sign_type sign (type_shape shapes operand) }
 {
     match sign {
