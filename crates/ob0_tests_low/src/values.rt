@@ -1,112 +1,52 @@
-use crate::scalar::{Fault, Scalar, add, multiply, negated, relate, signed};
-use crate::value::{
-    Member, Place, Step, Value, copied, count, further, part, read_place, write_place,
-};
+//! Worked rows of numbers and truth values.
+
 use ob0_tree::tree::{AddOperator, MultiplyOperator, Relation, Sign};
-use std::alloc::{AllocError, Global};
-use std::test::Fail;
+use ob0_values::scalar::{Fault, Scalar, add, multiply, negated, relate, signed};
+use std::process::Abort;
+
+fn number(number: i32) -> Scalar {
+    Scalar::Number(number)
+}
+
+const DIVIDE: MultiplyOperator = MultiplyOperator::Divide;
+
+const MODULO: MultiplyOperator = MultiplyOperator::Modulo;
+
+static PRODUCTS: &[(MultiplyOperator, i32, i32, Result<Scalar, Fault>)] = &[
+    (DIVIDE, -7, 3, Ok(Scalar::Number(-3))),
+    (MODULO, -7, 3, Ok(Scalar::Number(2))),
+    (MODULO, 1, 0, Err(Fault::Divisor)),
+    (DIVIDE, 1, -7, Err(Fault::Divisor)),
+];
+
+const ADD: AddOperator = AddOperator::Add;
+
+const SUBTRACT: AddOperator = AddOperator::Subtract;
+
+static SUMS: &[(AddOperator, i32, i32, Result<Scalar, Fault>)] = &[
+    (ADD, i32::MAX, 1, Err(Fault::Overflow)),
+    (SUBTRACT, i32::MIN, 1, Err(Fault::Overflow)),
+    (SUBTRACT, -2147483647, 1, Ok(Scalar::Number(i32::MIN))),
+];
+
+const YES: Scalar = Scalar::Truth(true);
+
+const NO: Scalar = Scalar::Truth(false);
 
 #[test]
-fn division_rounds_down(rt: HostRuntime) -> Result<(), Fail> {
-    let minus_seven = Scalar::Number(-7);
-    let three = Scalar::Number(3);
-    assert_eq!(rt;
-        multiply(MultiplyOperator::Divide, minus_seven, three),
-        Ok(Scalar::Number(-3))
-    );
-    assert_eq!(rt;
-        multiply(MultiplyOperator::Modulo, minus_seven, three),
-        Ok(Scalar::Number(2))
-    );
-    let zero = Scalar::Number(0);
-    assert_eq!(rt;
-        multiply(MultiplyOperator::Modulo, Scalar::Number(1), zero),
-        Err(Fault::Divisor)
-    );
-    assert_eq!(rt;
-        multiply(MultiplyOperator::Divide, Scalar::Number(1), minus_seven),
-        Err(Fault::Divisor)
-    );
-    Ok(())
-}
-
-#[test]
-fn ends_of_the_range(rt: HostRuntime) -> Result<(), Fail> {
-    let one = Scalar::Number(1);
-    let least = Scalar::Number(i32::MIN);
-    let greatest = Scalar::Number(i32::MAX);
-    assert_eq!(rt; add(AddOperator::Add, greatest, one), Err(Fault::Overflow));
-    assert_eq!(rt;
-        add(AddOperator::Subtract, least, one),
-        Err(Fault::Overflow)
-    );
-    assert_eq!(rt;
-        add(AddOperator::Subtract, Scalar::Number(-2147483647), one),
-        Ok(least)
-    );
-    assert_eq!(rt; signed(Some(Sign::Minus), least), Err(Fault::Overflow));
-    assert_eq!(rt;
-        signed(Some(Sign::Minus), greatest),
-        Ok(Scalar::Number(-2147483647))
-    );
-    Ok(())
-}
-
-#[test]
-fn truths(rt: HostRuntime) -> Result<(), Fail> {
-    let yes = Scalar::Truth(true);
-    let no = Scalar::Truth(false);
-    assert_eq!(rt; add(AddOperator::Or, no, yes), Ok(yes));
-    assert_eq!(rt; negated(yes), Ok(no));
-    assert_eq!(rt; relate(Relation::NotEqual, yes, no), Ok(yes));
-    assert_eq!(rt; relate(Relation::Less, yes, no), Err(Fault::Operand));
-    Ok(())
-}
-
-fn pair(alloc: Global, x: i32, y: i32) -> Result<Value<'static>, AllocError> {
-    let mut items = Vec::new(alloc);
-    items.push(Value::Scalar(Scalar::Number(x)))?;
-    items.push(Value::Scalar(Scalar::Number(y)))?;
-    Ok(Value::Elements(items))
-}
-
-fn number_at<'t>(value: &Value<'t>, step: Step<'t>) -> Option<i32> {
-    match part(value, step) {
-        Some(Value::Scalar(Scalar::Number(n))) => Some(*n),
-        _ => None,
+fn numbers_and_truth_values_are_reckoned_with(rt: HostRuntime) {
+    for row in PRODUCTS {
+        let (operator, left, right, wanted) = *row;
+        let found = multiply(operator, number(left), number(right));
+        assert!(rt; found == wanted, "{left} and {right}");
     }
-}
-
-#[test]
-fn parts_of_values(rt: HostRuntime) -> Result<(), Fail> {
-    let alloc = rt.alloc();
-    let mut members = Vec::new(alloc);
-    members.push(Member {
-        name: "a",
-        value: pair(alloc, 1, 2)?,
-    })?;
-    members.push(Member {
-        name: "b",
-        value: Value::Scalar(Scalar::Truth(true)),
-    })?;
-    let mut store = Vec::new(alloc);
-    store.push(Value::Members(0, members))?;
-    let mut path = Vec::new(alloc);
-    path.push(Step::Field("a"))?;
-    let record = Place { variable: 0, path };
-    let place = further(alloc, &record, &[Step::Index(1)])?;
-    assert_eq!(rt;
-        write_place(&mut store, &place, Value::Scalar(Scalar::Number(7))),
-        true
-    );
-    let Some(array) = read_place(&store, &record) else {
-        return Err("no part".into());
-    };
-    assert_eq!(rt; count(array), Some(2));
-    assert_eq!(rt; number_at(array, Step::Index(0)), Some(1));
-    assert_eq!(rt; number_at(array, Step::Index(1)), Some(7));
-    assert_eq!(rt; number_at(array, Step::Index(2)), None);
-    let copy = copied(alloc, array)?;
-    assert_eq!(rt; number_at(&copy, Step::Index(1)), Some(7));
-    Ok(())
+    for row in SUMS {
+        let (operator, left, right, wanted) = *row;
+        let found = add(operator, number(left), number(right));
+        assert!(rt; found == wanted, "{left} and {right}");
+    }
+    assert!(rt; signed(Some(Sign::Minus), number(i32::MIN)) == Err(Fault::Overflow));
+    assert!(rt; add(AddOperator::Or, NO, YES) == Ok(YES) && negated(YES) == Ok(NO));
+    assert!(rt; relate(Relation::NotEqual, YES, NO) == Ok(YES));
+    assert!(rt; relate(Relation::Less, YES, NO) == Err(Fault::Operand));
 }
