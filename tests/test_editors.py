@@ -415,3 +415,23 @@ def lsp_mode_format():
             found = in_lsp_mode("format", text)
             same(found, [("opened", []), ("formatted", []), ("text", wanted)], wanted)
             keeps_the_run(text, dict(found)["text"], out, given)
+
+
+@test("VS Code: the extension, with stand-ins for the editor, starts the server, and its tasks check and run")
+def vscode():
+    want("Node")
+    with tempfile.TemporaryDirectory() as room:
+        own = at_home(room, "vscode")
+        file = os.path.join(room, "it's a.mod")
+        write(file, "MODULE M;\nBEGIN x := 1 END M.\n")
+        words = ["node", os.path.join(EDITORS, "vscode.js"), os.path.join(TOP, "editors", "vscode"), file]
+        status, said = run_plainly(words, own, room)
+        same(status, 0, said[-2000:])
+        found = json.loads(said)
+    same(found["published"], [["Undeclared"]], "the diagnostics")
+    same(found["ended"], 0, "the server's status")
+    same(found["language"], "oberon0", "the language")
+    same(found["registered"], found["declared"], "the commands")
+    same(found["executed"], ["check", "run"], "the tasks that the commands start")
+    same(found["tasks"], {"type": "ob0", "names": ["check", "run"]}, "the tasks")
+    same(found["matched"], [[file, "2", "7", "Undeclared", "not declared"]], "what the problem matcher finds")

@@ -179,3 +179,13 @@ def links():
         for target in re.findall(r"\]\(([^)#:]+)(?:#[^)]*)?\)", text_of(page)):
             path = os.path.join(TOP, os.path.dirname(page), target)
             holds(os.path.exists(path), f"{page} has a link to {target}")
+
+
+@test("shell: `make demo` plays its conversation with the proved program")
+def demo():
+    if not common.is_current() or os.path.abspath(harness.BINARY) != common.BINARY:
+        raise Skipped("bin/ob0 is not the proved program of these sources")
+    status, said = run_plainly(["make", "--silent", "demo"], dict(os.environ), TOP)
+    same(status, 0, said[-500:])
+    for it in "which is proved", '"newText": "Squared"', '"message": "Captures', "the server ended with status 0":
+        holds(it in said, f"no {it} in what it prints:\n{said}")

@@ -16,8 +16,9 @@ LINE = re.compile(r"^(\d+) passed, (\d+) failed$")
 RESULTS = os.path.join(TOP, "bin", "results")
 
 
-def stream(words, **named):
-    """Runs a command, shows what it says, and returns its status and the counts of its last line that has them."""
+def stream(words, timer, **named):
+    """Runs a command, shows what it says, and returns its status and the counts of its last line that has them. What `rt`
+    says of a crate has the time before it."""
     counts = None
     how = {"cwd": TOP, "stdin": subprocess.DEVNULL, "stdout": subprocess.PIPE, "stderr": subprocess.STDOUT}
     how["env"] = {**os.environ, **named}
@@ -28,6 +29,8 @@ def stream(words, **named):
             if found:
                 counts = int(found[1]), int(found[2])
                 text = f"{words[0]}: {text}" if words[0] == "rt" else f"end to end: {text}"
+            elif text.startswith("rt: ob0"):
+                text = f"[{timer}] {text}"
             print(text, end="", flush=True)
     passed, failed = counts or (0, 0)
     if process.returncode and not failed or counts is None:
@@ -42,16 +45,22 @@ def at_once():
     return max(1, min(len(os.sched_getaffinity(0)), memory // 3_500_000_000))
 
 
-def gate():
+def gate(timer):
     """The gate's counts. The program that it builds becomes bin/ob0: it is not proved a second time."""
     linked = os.path.join(TOP, "crates", "ob0", "out", "ob0")
     for old in (linked, common.BINARY):
         if os.path.exists(old):
             os.remove(old)
-    counts = stream(["rt", "ci"], RT_JOBS=os.environ.get("RT_JOBS") or str(at_once()))
+    counts = stream(["rt", "ci"], timer, RT_JOBS=os.environ.get("RT_JOBS") or str(at_once()))
     if os.path.isfile(linked):
         common.keep(linked)
     return counts
+
+
+def spent():
+    """The processors' time, in seconds, that what was run so far took."""
+    times = os.times()
+    return times.children_user + times.children_system
 
 
 def main():
@@ -63,11 +72,11 @@ def main():
     shutil.rmtree(os.path.join(TOP, "bin", "rooms"), ignore_errors=True)
     common.need("rt")
     print("== the gate", flush=True)
-    passed, failed = gate()
-    print(f"== the gate: {passed} passed, {failed} failed, {timer}", flush=True)
+    passed, failed = gate(timer)
+    print(f"== the gate: {passed} passed, {failed} failed, {timer}, of the processors {common.clock(spent())}", flush=True)
     print("== end to end", flush=True)
     if os.path.isfile(common.BINARY):
-        more, wrong = stream([sys.executable, os.path.join("tests", "run.py")])
+        more, wrong = stream([sys.executable, os.path.join("tests", "run.py")], timer)
         passed, failed = passed + more, failed + wrong
     else:
         print("the gate built no program, so no end-to-end test ran", flush=True)
@@ -75,7 +84,7 @@ def main():
     line = f"{passed} passed, {failed} failed"
     with open(RESULTS, "w", encoding="utf-8") as file:
         file.write(line + "\n")
-    print(f"== all of it took {timer}\n{line}", flush=True)
+    print(f"== all of it took {timer}, of the processors {common.clock(spent())}\n{line}", flush=True)
     return 1 if failed else 0
 
 
