@@ -4,7 +4,7 @@ docs/SURFACE.md.
 
 It fails where another crate's code uses a public function with a result, or one that writes through an argument, and
 no wrong body turns it, unless tools/surface_reasons.txt says why: lines 'crate::path::name: reason'. Uses are found by
-names, so that some may be another's of the same name. With --check nothing is written."""
+names, so that some may be another's of the same name. With --check the page isn't written."""
 import os
 import sys
 
@@ -105,6 +105,17 @@ def rows_of(crate, sources, named):
     return found
 
 
+def keep(text, only_looks):
+    """Writes the page, or says that it isn't of these sources."""
+    if not only_looks:
+        with open(PAGE, "w", encoding="utf-8") as file:
+            file.write(text)
+        return
+    with open(PAGE, encoding="utf-8") as file:
+        if file.read() != text:
+            print("docs/SURFACE.md isn't of these sources: make surface writes it")
+
+
 def main(words):
     named = common.libraries()
     order = list(dict.fromkeys(it for top in named for it in common.below(top, named)))
@@ -118,9 +129,7 @@ def main(words):
         if rows:
             table = [it.line(known) for it in rows]
             page += [f"\n## {crate}\n", "| Function | Used by | Wrong bodies |", "|---|---|---|", *table]
-    if "--check" not in words:
-        with open(PAGE, "w", encoding="utf-8") as file:
-            file.write("\n".join(page) + "\n")
+    keep("\n".join(page) + "\n", "--check" in words)
     print(f"{len(seen)} public functions in {len(order)} crates; no other crate uses {len(unused)} of them, laws not counted:")
     print("".join(f"  {it}\n" for it in unused), end="")
     stale = [it for it in known if it not in seen]
