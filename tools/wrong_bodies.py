@@ -63,14 +63,15 @@ class Said:
             found += [f"{goal[2]} at {goal[1]}"] if goal else []
         return found[::-1]
 
-    def proof_errors(self, proof):
-        """The errors in the files of a proof."""
-        start = "proofs/" + proof.replace("::", "/") + "/"
+    def proof_errors(self, symbol, proof):
+        """The errors in the files of a function's proof."""
+        at = proof if "+" in proof else symbol.partition("::")[2]
+        start = "proofs/" + at.replace("::", "/") + "/"
         return [it for it in self.text.split("\n") if ERROR.match(it) and ERROR.match(it)[1].startswith(start)]
 
     def why(self, symbol, proof):
         """What refused a function: a goal, or an error in its proof."""
-        goals, errors = self.goals(symbol), self.proof_errors(proof)
+        goals, errors = self.goals(symbol), self.proof_errors(symbol, proof)
         if goals:
             return goals[0]
         if errors and all(NAMES_LOST.search(it) for it in errors):
@@ -94,30 +95,36 @@ class Room:
     def check(self, chosen):
         """Checks the crate with some wrong bodies, and leaves its sources as they were."""
         self.checks += 1
-        before = {}
-        for edit in chosen:
-            for (path, number), text in edit.lines.items():
-                file = os.path.join(self.folder, path)
-                if file not in before:
-                    with open(file, encoding="utf-8") as it:
-                        before[file] = it.read()
-        for file, text in before.items():
-            path, lines = os.path.relpath(file, self.folder), text.split("\n")
-            for edit in chosen:
-                for (where, number), now in edit.lines.items():
-                    if where == path:
-                        lines[number - 1] = now
-            with open(file, "w", encoding="utf-8") as it:
-                it.write("\n".join(lines))
+        paths = {path for edit in chosen for path, _ in edit.lines}
+        before = {it: self.text(it) for it in paths}
+        for path, text in before.items():
+            self.write(path, with_bodies(text, path, chosen))
         how = {"cwd": self.folder, "stdin": subprocess.DEVNULL, "stdout": subprocess.PIPE, "stderr": subprocess.STDOUT}
         ran = subprocess.run(["rt", "check", "--jobs", str(self.jobs)], **how)
-        for file, text in before.items():
-            with open(file, "w", encoding="utf-8") as it:
-                it.write(text)
+        for path, text in before.items():
+            self.write(path, text)
         return Said(ran.stdout.decode("utf-8", errors="replace"), ran.returncode)
+
+    def text(self, path):
+        with open(os.path.join(self.folder, path), encoding="utf-8") as file:
+            return file.read()
+
+    def write(self, path, text):
+        with open(os.path.join(self.folder, path), "w", encoding="utf-8") as file:
+            file.write(text)
 
     def leave(self):
         shutil.rmtree(self.room, ignore_errors=True)
+
+
+def with_bodies(text, path, chosen):
+    """A file's text with the lines that some wrong bodies change in it."""
+    lines = text.split("\n")
+    for edit in chosen:
+        for (where, number), now in edit.lines.items():
+            if where == path:
+                lines[number - 1] = now
+    return "\n".join(lines)
 
 
 def prove(name, jobs):
