@@ -22,6 +22,7 @@ import edits
 import reading
 from common import TOP
 
+KEPT = os.path.join("out", "incremental")
 VERDICT = re.compile(r"^(?:fn|impl|struct|enum|trait|const|static) (\S+): (proved|not proved|no proof.*)", re.M)
 ERROR = re.compile(r"(?:\./)?((?:src|specs|proofs)/\S+?):(\d+):\d+: error(?:\[[\w-]+\])?: (?:(`[^`]*`): )?(.*)")
 # (what of a reason says that the function itself was not judged)
@@ -87,10 +88,9 @@ class Room:
         self.room = os.path.join(build.ROOMS, f"wrong-{name}")
         self.folder = os.path.join(self.room, "crates", name)
         build.furnish(self.room, name, named)
-        kept = os.path.join("out", "incremental")
-        whole = os.path.join(TOP, "crates", name, kept)
         # (what a check keeps it writes into new files: the links leave what is kept in the crate's folder as it is)
-        shutil.copytree(whole, os.path.join(self.folder, kept), copy_function=build.link)
+        whole = os.path.join(TOP, "crates", name, KEPT)
+        shutil.copytree(whole, os.path.join(self.folder, KEPT), copy_function=build.link)
 
     def check(self, chosen):
         """Checks the crate with some wrong bodies, and leaves its sources as they were."""
@@ -129,10 +129,12 @@ def with_bodies(text, path, chosen):
 
 def prove(name, jobs):
     """Proves a crate where it isn't yet, with the libraries below, and says whether that went well."""
-    is_program = os.path.isfile(os.path.join(TOP, "crates", name, "src", "main.rt"))
-    words = ["rt", "check" if is_program else "lib", "--jobs", str(jobs)]
-    how = {"cwd": os.path.join(TOP, "crates", name), "stdin": subprocess.DEVNULL, "stdout": subprocess.PIPE}
-    ran = subprocess.run(words, stderr=subprocess.STDOUT, **how)
+    folder = os.path.join(TOP, "crates", name)
+    is_kept = os.path.isdir(os.path.join(folder, KEPT)) and not os.path.isfile(os.path.join(folder, "src", "main.rt"))
+    # (where the library is up to date `rt lib` proves nothing)
+    words = ["rt", "lib" if is_kept else "check", "--jobs", str(jobs)]
+    how = {"cwd": folder, "stdin": subprocess.DEVNULL, "stdout": subprocess.PIPE, "stderr": subprocess.STDOUT}
+    ran = subprocess.run(words, **how)
     if ran.returncode:
         print(ran.stdout.decode("utf-8", errors="replace")[-3000:], file=sys.stderr)
     return ran.returncode == 0
