@@ -35,7 +35,7 @@ def reasons():
 
 
 # (methods of std have these names too)
-OF_STD = {"get", "len", "new", "next", "position", "positions", "read", "write", "flush", "replace", "to_string", "push", "insert", "find", "as_slice", "count"}
+OF_STD = set("get len new next position read write flush replace to_string push insert find as_slice count".split())
 
 
 def is_use(words, at, function):
@@ -51,7 +51,8 @@ def is_use(words, at, function):
 
 
 def uses_in(function, source):
-    """Whether a crate's code uses a function, and whether its tests do."""
+    """Whether a crate's code uses a function, and whether its tests do. A method with a name of std's is taken for used
+    only where the crate names its type; other methods of one name are not told apart."""
     if function.owner and function.name in OF_STD and not names(source, function.owner, function.trait):
         return False, False
     found = set()
@@ -86,7 +87,8 @@ class Row:
         return self.function.gives and self.code and not self.turning and self.path not in known
 
     def line(self, known):
-        users = ", ".join([*self.code, *(f"tests of {it}" for it in self.tests)]) or "nobody"
+        tests = f"only tests of {', '.join(self.tests)}" if self.tests else "nobody"
+        users = ", ".join(self.code) or tests
         turning = ", ".join(it.name.removesuffix(".edit") for it in self.turning)
         if not turning:
             turning = "law" if not self.function.gives else f"none: {known[self.path]}" if self.path in known else "none"
