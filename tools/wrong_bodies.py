@@ -186,6 +186,9 @@ def judge(edit, said, source, alone):
         refused = [(it, "") for it in said.verdicts if said.own(it)]
         if not refused:
             return NOT_JUDGED, f"no function was judged: {said.text[-300:]}"
+    uncovered = [it for it, _ in refused if "does not cover" in said.verdicts[it]]
+    if uncovered and len(uncovered) == len(refused):
+        return NOT_JUDGED, f"the checker doesn't cover such a body, so no contract was tried: {said.verdicts[uncovered[0]][:200]}"
     return (REFUSED, f"{refused[0][0].partition('::')[2]}: {said.why(*refused[0])}") if refused else None
 
 
