@@ -177,19 +177,26 @@ def judge(edit, said, source, alone):
     error = unreadable(said, edit)
     if error:
         return NOT_JUDGED, f"it can't be read, so no contract was tried: {error}"
-    if not said.reached:
-        return (NOT_JUDGED, f"the check did not reach the prover: {said.text[-300:]}") if alone else None
     refused = [(it, proof) for it, proof in verdicts_of(edit, said, source).items() if said.own(it)]
-    if not refused and alone:
-        if said.is_proved():
-            return PROVED, "the crate is still proved with it"
-        refused = [(it, "") for it in said.verdicts if said.own(it)]
-        if not refused:
-            return NOT_JUDGED, f"no function was judged: {said.text[-300:]}"
+    if refused:
+        return refusal(said, refused)
+    if not alone:
+        return None
+    if not said.reached:
+        return NOT_JUDGED, f"the check did not reach the prover: {said.text[-300:]}"
+    if said.is_proved():
+        return PROVED, "the crate is still proved with it"
+    others = [(it, "") for it in said.verdicts if said.own(it)]
+    return refusal(said, others) if others else (NOT_JUDGED, f"no function was judged: {said.text[-300:]}")
+
+
+def refusal(said, refused):
+    """What to say of functions that are refused for what they do themselves."""
     uncovered = [it for it, _ in refused if "does not cover" in said.verdicts[it]]
-    if uncovered and len(uncovered) == len(refused):
+    if len(uncovered) == len(refused):
         return NOT_JUDGED, f"the checker doesn't cover such a body, so no contract was tried: {said.verdicts[uncovered[0]][:200]}"
-    return (REFUSED, f"{refused[0][0].partition('::')[2]}: {said.why(*refused[0])}") if refused else None
+    told = next((it for it in refused if said.goals(it[0]) or said.proof_errors(*it)), refused[0])
+    return REFUSED, f"{told[0].partition('::')[2]}: {said.why(*told)}"
 
 
 def try_all(room, left, source, say):
