@@ -4,7 +4,7 @@ docs/SURFACE.md.
 
 It fails where another crate's code uses a public function with a result, or one that writes through an argument, and
 no wrong body turns it, unless tools/surface_reasons.txt says why: lines 'crate::path::name: reason'. Uses are found by
-names, so that some may be another's of the same name. With --check nothing is written."""
+names, so that some may be another's of the same name. With --check the page isn't written."""
 import os
 import sys
 
@@ -35,7 +35,7 @@ def reasons():
 
 
 # (methods of std have these names too)
-OF_STD = {"get", "len", "new", "next", "position", "positions", "read", "write", "flush", "replace", "to_string", "push", "insert", "find", "as_slice", "count"}
+OF_STD = set("get len new next position read write flush replace to_string push insert find as_slice count".split())
 
 
 def is_use(words, at, function):
@@ -51,7 +51,8 @@ def is_use(words, at, function):
 
 
 def uses_in(function, source):
-    """Whether a crate's code uses a function, and whether its tests do."""
+    """Whether a crate's code uses a function, and whether its tests do. A method with a name of std's is taken for used
+    only where the crate names its type; other methods of one name are not told apart."""
     if function.owner and function.name in OF_STD and not names(source, function.owner, function.trait):
         return False, False
     found = set()
@@ -86,7 +87,8 @@ class Row:
         return self.function.gives and self.code and not self.turning and self.path not in known
 
     def line(self, known):
-        users = ", ".join([*self.code, *(f"tests of {it}" for it in self.tests)]) or "nobody"
+        tests = f"only tests of {', '.join(self.tests)}" if self.tests else "nobody"
+        users = ", ".join(self.code) or tests
         turning = ", ".join(it.name.removesuffix(".edit") for it in self.turning)
         if not turning:
             turning = "law" if not self.function.gives else f"none: {known[self.path]}" if self.path in known else "none"
@@ -105,6 +107,17 @@ def rows_of(crate, sources, named):
     return found
 
 
+def keep(text, only_looks):
+    """Writes the page, or says that it isn't of these sources."""
+    if not only_looks:
+        with open(PAGE, "w", encoding="utf-8") as file:
+            file.write(text)
+        return
+    with open(PAGE, encoding="utf-8") as file:
+        if file.read() != text:
+            print("docs/SURFACE.md isn't of these sources: make surface writes it")
+
+
 def main(words):
     named = common.libraries()
     order = list(dict.fromkeys(it for top in named for it in common.below(top, named)))
@@ -118,9 +131,7 @@ def main(words):
         if rows:
             table = [it.line(known) for it in rows]
             page += [f"\n## {crate}\n", "| Function | Used by | Wrong bodies |", "|---|---|---|", *table]
-    if "--check" not in words:
-        with open(PAGE, "w", encoding="utf-8") as file:
-            file.write("\n".join(page) + "\n")
+    keep("\n".join(page) + "\n", "--check" in words)
     print(f"{len(seen)} public functions in {len(order)} crates; no other crate uses {len(unused)} of them, laws not counted:")
     print("".join(f"  {it}\n" for it in unused), end="")
     stale = [it for it in known if it not in seen]

@@ -5,13 +5,9 @@ code."""
 import json
 import os
 import re
-import shutil
 import subprocess
 
 import common
-
-OPENS, CLOSES = {"(": ")", "[": "]", "{": "}"}, set(")]}")
-ENDED_BY_BRACE = ("fn", "mod", "impl", "trait", "struct", "enum", "macro_rules")
 
 
 class Function:
@@ -120,11 +116,27 @@ def after(words, at):
     """The place behind a word, or behind the brackets that it opens."""
     depth = 0
     while at < len(words):
-        depth += (words[at].text in OPENS) - (words[at].text in CLOSES)
+        depth += (words[at].text in ("(", "[", "{")) - (words[at].text in (")", "]", "}"))
         at += 1
         if depth <= 0:
             break
     return at
+
+
+def past_marks(words, at):
+    """The attributes before an item, whether it is public, and the place of its first word."""
+    attributes = ""
+    while at < len(words) and words[at].text == "#":
+        start = at + 1 + (words[at + 1].text == "!")
+        attributes += " ".join(it.text for it in words[start : after(words, start)]) + "\n"
+        at = after(words, start)
+    is_pub = at < len(words) and words[at].text == "pub"
+    if is_pub:
+        is_pub = words[at + 1].text != "("
+        at = at + 1 if is_pub else after(words, at + 1)
+    while at + 1 < len(words) and words[at].text in ("const", "unsafe", "final") and words[at + 1].text in ("fn", "unsafe"):
+        at += 1
+    return attributes, is_pub, at
 
 
 def item_end(words, at):
@@ -156,17 +168,8 @@ class Source:
     def items(self, words, scope):
         at = 0
         while at < len(words):
-            first, attributes = at, ""
-            while at < len(words) and words[at].text == "#":
-                start = at + 1 + (words[at + 1].text == "!")
-                attributes += " ".join(it.text for it in words[start : after(words, start)]) + "\n"
-                at = after(words, start)
-            is_pub = at < len(words) and words[at].text == "pub"
-            if is_pub:
-                is_pub = words[at + 1].text != "("
-                at = at + 1 if is_pub else after(words, at + 1)
-            while at + 1 < len(words) and words[at].text in ("const", "unsafe", "final") and words[at + 1].text in ("fn", "unsafe"):
-                at += 1
+            first = at
+            attributes, is_pub, at = past_marks(words, at)
             if at >= len(words):
                 return
             end = item_end(words, at)
@@ -206,24 +209,19 @@ class Source:
 
     def block(self, words, at, scope):
         """The functions of an impl or of a trait."""
-        head = []
-        for it in words[at + 1 :]:
-            if it.text in ("{", "where"):
-                break
-            head.append(it.text)
-        generics = head[: close_angle(head)] if words[at].text == "impl" and head[:1] == ["<"] else []
-        head = head[len(generics) :]
         opens = next(i for i in range(at, len(words)) if words[i].text == "{")
+        head = [it.text for it in words[at + 1 : opens]]
+        head = head[: head.index("where")] if "where" in head else head
         if words[at].text == "trait":
             inner = scope.inside(owner=head[0], trait=head[0], impl_words=(head[0],))
         else:
+            generics = head[: close_angle(head)] if head[:1] == ["<"] else []
+            head = head[len(generics) :]
             cut = head.index("for") if "for" in head else None
-            of = head[cut + 1 :] if cut is not None else head
-            hidden = {"Self", "mut", "dyn", "for", *(it for it in generics if it.isidentifier())}
-            said = tuple(it for it in dict.fromkeys(head) if it.isidentifier() and it not in hidden and len(it) > 1)
-            owner = next(it for it in of if it.isidentifier())
-            trait = head[0] if cut is not None else ""
-            inner = scope.inside(owner=owner, trait=trait, impl_words=said if trait else ())
+            owner = next(it for it in head[0 if cut is None else cut + 1 :] if it.isidentifier())
+            hidden = {"mut", "dyn", "for", *generics}
+            said = tuple(it for it in dict.fromkeys(head) if it.isidentifier() and it not in hidden)
+            inner = scope.inside(owner=owner, trait="" if cut is None else head[0], impl_words=() if cut is None else said)
         self.items(words[opens + 1 : -1], inner)
 
     def is_public(self, module, name):
@@ -266,11 +264,8 @@ def close_angle(words):
 
 def brings(words, at, module, name):
     """Whether a `pub use` of a module, by its words, brings out an item of another."""
-    text = "".join(words)
-    text = re.sub(r"^(?:crate::|self::)", "", text)
-    path, _, inside = text.partition("{")
-    names = inside.rstrip("}").split(",") if inside else [path.rpartition("::")[2]]
-    path = path.rpartition("::")[0] if inside or "::" in path else ""
-    steps = tuple(it for it in path.split("::") if it)
-    is_here = steps == module or (*at, *steps) == module
-    return is_here and ("*" in names or any(re.split(r"as", it)[0] == name or it == name for it in names))
+    words = [it for it in words if it != ":"]
+    words = words[words[:1] in (["crate"], ["self"]) :]
+    cut = words.index("{") if "{" in words else len(words) - 1
+    steps, names = tuple(words[:cut]), words[cut:]
+    return (steps == module or (*at, *steps) == module) and (name in names or "*" in names)

@@ -22,6 +22,7 @@ import edits
 import reading
 from common import TOP
 
+KEPT = os.path.join("out", "incremental")
 VERDICT = re.compile(r"^(?:fn|impl|struct|enum|trait|const|static) (\S+): (proved|not proved|no proof.*)", re.M)
 ERROR = re.compile(r"(?:\./)?((?:src|specs|proofs)/\S+?):(\d+):\d+: error(?:\[[\w-]+\])?: (?:(`[^`]*`): )?(.*)")
 # (what of a reason says that the function itself was not judged)
@@ -63,14 +64,15 @@ class Said:
             found += [f"{goal[2]} at {goal[1]}"] if goal else []
         return found[::-1]
 
-    def proof_errors(self, proof):
-        """The errors in the files of a proof."""
-        start = "proofs/" + proof.replace("::", "/") + "/"
+    def proof_errors(self, symbol, proof):
+        """The errors in the files of a function's proof."""
+        at = proof if "+" in proof else symbol.partition("::")[2]
+        start = "proofs/" + at.replace("::", "/") + "/"
         return [it for it in self.text.split("\n") if ERROR.match(it) and ERROR.match(it)[1].startswith(start)]
 
     def why(self, symbol, proof):
         """What refused a function: a goal, or an error in its proof."""
-        goals, errors = self.goals(symbol), self.proof_errors(proof)
+        goals, errors = self.goals(symbol), self.proof_errors(symbol, proof)
         if goals:
             return goals[0]
         if errors and all(NAMES_LOST.search(it) for it in errors):
@@ -86,46 +88,53 @@ class Room:
         self.room = os.path.join(build.ROOMS, f"wrong-{name}")
         self.folder = os.path.join(self.room, "crates", name)
         build.furnish(self.room, name, named)
-        kept = os.path.join("out", "incremental")
-        whole = os.path.join(TOP, "crates", name, kept)
         # (what a check keeps it writes into new files: the links leave what is kept in the crate's folder as it is)
-        shutil.copytree(whole, os.path.join(self.folder, kept), copy_function=build.link)
+        whole = os.path.join(TOP, "crates", name, KEPT)
+        shutil.copytree(whole, os.path.join(self.folder, KEPT), copy_function=build.link)
 
     def check(self, chosen):
         """Checks the crate with some wrong bodies, and leaves its sources as they were."""
         self.checks += 1
-        before = {}
-        for edit in chosen:
-            for (path, number), text in edit.lines.items():
-                file = os.path.join(self.folder, path)
-                if file not in before:
-                    with open(file, encoding="utf-8") as it:
-                        before[file] = it.read()
-        for file, text in before.items():
-            path, lines = os.path.relpath(file, self.folder), text.split("\n")
-            for edit in chosen:
-                for (where, number), now in edit.lines.items():
-                    if where == path:
-                        lines[number - 1] = now
-            with open(file, "w", encoding="utf-8") as it:
-                it.write("\n".join(lines))
+        paths = {path for edit in chosen for path, _ in edit.lines}
+        before = {it: self.text(it) for it in paths}
+        for path, text in before.items():
+            self.write(path, with_bodies(text, path, chosen))
         how = {"cwd": self.folder, "stdin": subprocess.DEVNULL, "stdout": subprocess.PIPE, "stderr": subprocess.STDOUT}
         ran = subprocess.run(["rt", "check", "--jobs", str(self.jobs)], **how)
-        for file, text in before.items():
-            with open(file, "w", encoding="utf-8") as it:
-                it.write(text)
+        for path, text in before.items():
+            self.write(path, text)
         return Said(ran.stdout.decode("utf-8", errors="replace"), ran.returncode)
+
+    def text(self, path):
+        with open(os.path.join(self.folder, path), encoding="utf-8") as file:
+            return file.read()
+
+    def write(self, path, text):
+        with open(os.path.join(self.folder, path), "w", encoding="utf-8") as file:
+            file.write(text)
 
     def leave(self):
         shutil.rmtree(self.room, ignore_errors=True)
 
 
+def with_bodies(text, path, chosen):
+    """A file's text with the lines that some wrong bodies change in it."""
+    lines = text.split("\n")
+    for edit in chosen:
+        for (where, number), now in edit.lines.items():
+            if where == path:
+                lines[number - 1] = now
+    return "\n".join(lines)
+
+
 def prove(name, jobs):
     """Proves a crate where it isn't yet, with the libraries below, and says whether that went well."""
-    is_program = os.path.isfile(os.path.join(TOP, "crates", name, "src", "main.rt"))
-    words = ["rt", "check" if is_program else "lib", "--jobs", str(jobs)]
-    how = {"cwd": os.path.join(TOP, "crates", name), "stdin": subprocess.DEVNULL, "stdout": subprocess.PIPE}
-    ran = subprocess.run(words, stderr=subprocess.STDOUT, **how)
+    folder = os.path.join(TOP, "crates", name)
+    is_kept = os.path.isdir(os.path.join(folder, KEPT)) and not os.path.isfile(os.path.join(folder, "src", "main.rt"))
+    # (where the library is up to date `rt lib` proves nothing)
+    words = ["rt", "lib" if is_kept else "check", "--jobs", str(jobs)]
+    how = {"cwd": folder, "stdin": subprocess.DEVNULL, "stdout": subprocess.PIPE, "stderr": subprocess.STDOUT}
+    ran = subprocess.run(words, **how)
     if ran.returncode:
         print(ran.stdout.decode("utf-8", errors="replace")[-3000:], file=sys.stderr)
     return ran.returncode == 0
@@ -168,16 +177,26 @@ def judge(edit, said, source, alone):
     error = unreadable(said, edit)
     if error:
         return NOT_JUDGED, f"it can't be read, so no contract was tried: {error}"
-    if not said.reached:
-        return (NOT_JUDGED, f"the check did not reach the prover: {said.text[-300:]}") if alone else None
     refused = [(it, proof) for it, proof in verdicts_of(edit, said, source).items() if said.own(it)]
-    if not refused and alone:
-        if said.is_proved():
-            return PROVED, "the crate is still proved with it"
-        refused = [(it, "") for it in said.verdicts if said.own(it)]
-        if not refused:
-            return NOT_JUDGED, f"no function was judged: {said.text[-300:]}"
-    return (REFUSED, f"{refused[0][0].partition('::')[2]}: {said.why(*refused[0])}") if refused else None
+    if refused:
+        return refusal(said, refused)
+    if not alone:
+        return None
+    if not said.reached:
+        return NOT_JUDGED, f"the check did not reach the prover: {said.text[-300:]}"
+    if said.is_proved():
+        return PROVED, "the crate is still proved with it"
+    others = [(it, "") for it in said.verdicts if said.own(it)]
+    return refusal(said, others) if others else (NOT_JUDGED, f"no function was judged: {said.text[-300:]}")
+
+
+def refusal(said, refused):
+    """What to say of functions that are refused for what they do themselves."""
+    uncovered = [it for it, _ in refused if "does not cover" in said.verdicts[it]]
+    if len(uncovered) == len(refused):
+        return NOT_JUDGED, f"the checker doesn't cover such a body, so no contract was tried: {said.verdicts[uncovered[0]][:200]}"
+    told = next((it for it in refused if said.goals(it[0]) or said.proof_errors(*it)), refused[0])
+    return REFUSED, f"{told[0].partition('::')[2]}: {said.why(*told)}"
 
 
 def try_all(room, left, source, say):
