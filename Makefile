@@ -7,11 +7,13 @@
 # and beside them:
 #   make editors           installs the editors and tools that the end-to-end tests want, by apt-get
 #   make end-to-end        the end-to-end tests alone, on bin/ob0
+#   make wrong-bodies      tries each crate's wrong bodies, all at once where that can be; CRATE="NAME.." names some
+#   make surface           the public functions, who uses them and their wrong bodies: docs/SURFACE.md
 #   make bench             times the program; nothing fails by time
 PREFIX ?= /usr/local
 PYTHON ?= python3
 
-.PHONY: demo test build editors end-to-end bench install python
+.PHONY: demo test build editors end-to-end wrong-bodies surface bench install python
 
 demo: python
 	@$(PYTHON) tools/demo.py
@@ -27,6 +29,12 @@ editors: python
 
 end-to-end: build
 	@$(PYTHON) tests/run.py
+
+wrong-bodies: python
+	@$(PYTHON) tools/wrong_bodies.py $(CRATE)
+
+surface: python
+	@$(PYTHON) tools/public_functions.py
 
 bench: build
 	@$(PYTHON) bench/run.py

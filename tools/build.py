@@ -18,7 +18,6 @@ import common
 from common import TOP, BINARY
 
 STEP = 15  # seconds between two lines about a crate that takes long
-LARGE = 2000  # lines of code from which on a crate's check gets each processor
 ROOMS = os.path.join(TOP, "bin", "rooms")
 
 
@@ -35,7 +34,7 @@ def lanes():
             free = int(found[1]) // (4 << 20) if found else free
     except OSError:
         pass
-    return max(1, min(processors(), free, 3))
+    return max(1, min(processors(), free))
 
 
 def link(old, new):
@@ -46,43 +45,41 @@ def link(old, new):
         shutil.copy2(old, new)
 
 
-def lines_of(name):
-    """How many lines of code a crate has."""
-    folder = os.path.join(TOP, "crates", name, "src")
-    count = 0
-    for at, _, files in os.walk(folder):
-        for it in files:
-            with open(os.path.join(at, it), "rb") as file:
-                count += sum(1 for _ in file)
-    return count
+def chain(name, named):
+    """How many crates stand one on the other above this one, at most."""
+    return max((1 + chain(it, named) for it in named if name in named[it]), default=0)
+
+
+def furnish(room, name, named):
+    """Makes a room for a crate: its sources and those of the crates below, with their proved libraries."""
+    shutil.rmtree(room, ignore_errors=True)
+    os.makedirs(os.path.join(room, "crates"))
+    shutil.copy2(os.path.join(TOP, "HANDLES"), room)
+    common.write_list(os.path.join(room, "crates.txt"), common.below(name, named))
+    for it in common.below(name, named):
+        crate, copied = os.path.join(TOP, "crates", it), os.path.join(room, "crates", it)
+        shutil.copytree(crate, copied, ignore=shutil.ignore_patterns("out", "must-fail", "wrong-bodies"))
+        if it != name:
+            library = os.path.join("out", "rlib")
+            shutil.copytree(os.path.join(crate, library), os.path.join(copied, library), copy_function=link)
 
 
 class Work:
     """One crate that is being proved, in a room of its own."""
 
-    def __init__(self, name, named):
+    def __init__(self, name, named, jobs):
         self.name, self.room = name, os.path.join(ROOMS, name)
         self.out, self.moved = os.path.join(TOP, "crates", name, "out"), os.path.join(self.room, "crates", name, "out")
         self.furnish(named)
         self.log = os.path.join(self.moved, "build.log")
-        jobs = processors() if lines_of(name) > LARGE else max(1, processors() // 2)
         words = ["rt", "run", "--", "--help"] if name == "ob0" else ["rt", "lib", "--jobs", str(jobs)]
         with open(self.log, "wb") as out:
             how = {"cwd": os.path.join(self.room, "crates", name), "stdin": subprocess.DEVNULL, "stdout": out}
             self.process = subprocess.Popen(words, start_new_session=True, stderr=subprocess.STDOUT, **how)
 
     def furnish(self, named):
-        """Makes the room: the sources, the libraries below, and what was kept of the crate's own proofs."""
-        shutil.rmtree(self.room, ignore_errors=True)
-        os.makedirs(os.path.join(self.room, "crates"))
-        shutil.copy2(os.path.join(TOP, "HANDLES"), self.room)
-        common.write_list(os.path.join(self.room, "crates.txt"), common.below(self.name, named))
-        for it in common.below(self.name, named):
-            crate, copied = os.path.join(TOP, "crates", it), os.path.join(self.room, "crates", it)
-            shutil.copytree(crate, copied, ignore=shutil.ignore_patterns("out", "must-fail"))
-            if it != self.name:
-                library = os.path.join("out", "rlib")
-                shutil.copytree(os.path.join(crate, library), os.path.join(copied, library), copy_function=link)
+        """Makes the room, and moves what was kept of the crate's own proofs there."""
+        furnish(self.room, self.name, named)
         if os.path.isdir(self.out):
             os.rename(self.out, self.moved)
         os.makedirs(self.moved, exist_ok=True)
@@ -147,11 +144,17 @@ def prove_all(running):
 
     say(f"proving {total} crates: {' '.join(left)}")
     most, told = lanes(), time.monotonic()
+    # (what has the longest chain above it goes first)
+    heights = {name: chain(name, named) for name in left}
     while left or running:
-        for name in [it for it in left if all(low in done for low in named[it])]:
+        ready = [it for it in left if all(low in done for low in named[it])]
+        ready.sort(key=lambda it: -heights[it])
+        # (a check with more jobs takes more of the processors in all, so it gets those alone that nobody else wants)
+        jobs = max(1, processors() // max(1, min(most, len(ready) + len(running))))
+        for name in ready:
             if len(running) < most:
                 left.remove(name)
-                running[name] = Work(name, named)
+                running[name] = Work(name, named, jobs)
                 say(f"{name}: proving it; {total - len(done)} of {total} crates are left")
         time.sleep(0.2)
         for name, work in list(running.items()):

@@ -1,3 +1,1 @@
-pub mod Given
-pub mod Lines
 pub mod Statuses

@@ -1,0 +1,92 @@
+"""The wrong bodies of the crates: files of lines 'file: PATH', 'old: TEXT' and 'new: TEXT', in must-fail/ (the gate tries
+those) and in wrong-bodies/ (`make wrong-bodies` tries both)."""
+import os
+import re
+
+import common
+
+PLACES = ("must-fail", "wrong-bodies")
+
+
+class Edit:
+    """One wrong body: the lines that it changes, and the functions that these belong to."""
+
+    def __init__(self, crate, place, name):
+        self.crate, self.name = crate, f"{place}/{name}"
+        self.file = os.path.join(common.TOP, "crates", crate, place, name)
+        self.lines, self.why = changed_lines(self.file, os.path.join(common.TOP, "crates", crate))
+        self.turned = None
+
+    def find_turned(self, source):
+        """Finds the functions that it turns: None where a line belongs to none, as a type's does."""
+        self.turned = turned_by(source, self.lines)
+
+
+def edits_of(crate, source=None):
+    """A crate's wrong bodies, of both places."""
+    found = []
+    for place in PLACES:
+        folder = os.path.join(common.TOP, "crates", crate, place)
+        names = sorted(os.listdir(folder)) if os.path.isdir(folder) else []
+        found += [Edit(crate, place, it) for it in names if it.endswith(".edit")]
+    for it in found if source else []:
+        it.find_turned(source)
+    return found
+
+
+def changed_lines(file, folder):
+    """The lines that an edit changes, as {(path, number): text}, or why it can't be applied."""
+    with open(file, encoding="utf-8") as it:
+        rows = it.read().split("\n")
+    path, old, texts, before = "", None, {}, {}
+    for row in rows:
+        if row.startswith("file: "):
+            path = row[len("file: ") :].strip()
+        elif row.startswith("old: "):
+            old = row[len("old: ") :]
+        elif row.startswith("new:"):
+            if not path.startswith(("src/", "specs/", "proofs/")) or not old:
+                return {}, "a 'new:' line stands before any 'file:' or 'old:' line"
+            if path not in texts:
+                try:
+                    with open(os.path.join(folder, path), encoding="utf-8") as it:
+                        texts[path] = before[path] = it.read()
+                except OSError:
+                    return {}, f"there is no file {path}"
+            count = texts[path].count(old)
+            if count != 1:
+                return {}, f"an 'old:' text stands in {path} {count} times, and not once"
+            texts[path] = texts[path].replace(old, re.sub(r"\A ", "", row[len("new:") :]))
+            old = None
+    if not texts:
+        return {}, "it has no 'old:' and 'new:' pair"
+    found = {}
+    for path, text in texts.items():
+        for number, (was, now) in enumerate(zip(before[path].split("\n"), text.split("\n")), 1):
+            if was != now:
+                found[path, number] = now
+    return found, None if found else "it changes nothing"
+
+
+def turned_by(source, lines):
+    """The functions that stand on some lines, or None where one of the lines belongs to no function."""
+    found = set()
+    for path, number in lines:
+        here = [it for it in source.functions if it.file == path and it.first <= number <= it.last]
+        here = here or users_of_constant(source, path, number)
+        if not here:
+            return None
+        found.update(here)
+    return found
+
+
+def users_of_constant(source, path, number):
+    """The functions that name the constant on a line; none where something else than functions does."""
+    for name, (file, first, last) in source.constants.items():
+        if file == path and first <= number <= last:
+            whole = sum(it.text == name for words in source.words.values() for it in words)
+            inside = sum(it.words.count(name) for it in source.functions)
+            imported = sum(words.count(name) for words, _ in source.imports)
+            using = [it for it in source.functions if not it.is_test and name in it.words]
+            return using if whole - inside - imported == 1 else []
+    return []

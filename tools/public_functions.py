@@ -1,0 +1,148 @@
+#!/usr/bin/env python3
+"""Lists the public functions of each crate, the crates that use them and the wrong bodies that turn them, in
+docs/SURFACE.md.
+
+It fails where another crate's code uses a public function with a result, or one that writes through an argument, and
+no wrong body turns it, unless tools/surface_reasons.txt says why: lines 'crate::path::name: reason'. Uses are found by
+names, so that some may be another's of the same name. With --check the page isn't written."""
+import os
+import sys
+
+import common
+import edits
+import reading
+from common import TOP
+
+PAGE = os.path.join(TOP, "docs", "SURFACE.md")
+REASONS = os.path.join(TOP, "tools", "surface_reasons.txt")
+HEAD = """# Public functions
+
+Made by `make surface`: what each crate shows to the others, who uses it (by name), and the wrong bodies that turn it,
+which the prover refuses (`must-fail/` in the gate, `wrong-bodies/` by `make wrong-bodies`). A function with neither a
+result nor an argument that it writes is a law: its contract is all there is of it.
+"""
+
+
+def reasons():
+    """Why some functions have no wrong body, by their paths."""
+    found = {}
+    with open(REASONS, encoding="utf-8") as file:
+        for line in file:
+            path, _, why = line.strip().partition(": ")
+            if path and not path.startswith("#"):
+                found[path] = why
+    return found
+
+
+# (methods of std have these names too)
+OF_STD = set("get len new next position read write flush replace to_string push insert find as_slice count".split())
+
+
+def is_use(words, at, function):
+    """Whether the word at a place, a function's name, calls it by a path or as a method."""
+    before = words[at - 1].text if at else ""
+    behind = words[at + 1].text if at + 1 < len(words) else ""
+    holder = words[at - 3].text if before == ":" and at > 2 else ""
+    if not function.owner:
+        return holder in (function.crate, *function.module[-1:]) and behind != ":"
+    if before == "." and function.takes_self:
+        return behind in ("(", ":")
+    return holder == function.owner or bool(holder and function.trait)
+
+
+def uses_in(function, source):
+    """Whether a crate's code uses a function, and whether its tests do. A method with a name of std's is taken for used
+    only where the crate names its type; other methods of one name are not told apart."""
+    if function.owner and function.name in OF_STD and not names(source, function.owner, function.trait):
+        return False, False
+    found = set()
+    if not function.owner:
+        found = {is_test for words, is_test in source.imports if function.crate in words and function.name in words}
+    for words in source.words.values():
+        for at, it in enumerate(words):
+            if it.text == function.name and is_use(words, at, function):
+                found.add(it.is_test)
+    return False in found, True in found
+
+
+def names(source, *wanted):
+    """Whether a crate's sources have one of some words."""
+    return any(it.text in wanted for words in source.words.values() for it in words)
+
+
+def users(function, sources, above):
+    """The crates whose code uses a function, and those of which only tests do."""
+    found = {it: uses_in(function, sources[it]) for it in above}
+    return [it for it in above if found[it][0]], [it for it in above if found[it] == (False, True)]
+
+
+class Row:
+    """A public function with those who use it and the wrong bodies that turn it."""
+
+    def __init__(self, function, code, tests, turning):
+        self.function, self.code, self.tests, self.turning = function, code, tests, turning
+        self.path = f"{function.crate}::{function.path}"
+
+    def lacks(self, known):
+        return self.function.gives and self.code and not self.turning and self.path not in known
+
+    def line(self, known):
+        tests = f"only tests of {', '.join(self.tests)}" if self.tests else "nobody"
+        users = ", ".join(self.code) or tests
+        turning = ", ".join(it.name.removesuffix(".edit") for it in self.turning)
+        if not turning:
+            turning = "law" if not self.function.gives else f"none: {known[self.path]}" if self.path in known else "none"
+        return f"| `{self.function.path}` | {users} | {turning} |"
+
+
+def rows_of(crate, sources, named):
+    """A row for each public function of a crate, in the order of the sources."""
+    source = sources[crate]
+    above = [it for it in sources if it != crate and crate in common.below(it, named) and names(sources[it], crate)]
+    all_edits = edits.edits_of(crate, source)
+    found = []
+    for it in source.public_functions():
+        turning = [edit for edit in all_edits if edit.turned and it in edit.turned]
+        found.append(Row(it, *users(it, sources, above), turning))
+    return found
+
+
+def keep(text, only_looks):
+    """Writes the page, or says that it isn't of these sources."""
+    if not only_looks:
+        with open(PAGE, "w", encoding="utf-8") as file:
+            file.write(text)
+        return
+    with open(PAGE, encoding="utf-8") as file:
+        if file.read() != text:
+            print("docs/SURFACE.md isn't of these sources: make surface writes it")
+
+
+def main(words):
+    named = common.libraries()
+    order = list(dict.fromkeys(it for top in named for it in common.below(top, named)))
+    sources = {it: reading.Source(it) for it in order}
+    known, page, lacking, unused, seen = reasons(), [HEAD], [], [], set()
+    for crate in order:
+        rows = rows_of(crate, sources, named)
+        seen.update(it.path for it in rows)
+        lacking += [it.path for it in rows if it.lacks(known)]
+        unused += [it.path for it in rows if it.function.gives and not it.code and not it.tests]
+        if rows:
+            table = [it.line(known) for it in rows]
+            page += [f"\n## {crate}\n", "| Function | Used by | Wrong bodies |", "|---|---|---|", *table]
+    keep("\n".join(page) + "\n", "--check" in words)
+    print(f"{len(seen)} public functions in {len(order)} crates; no other crate uses {len(unused)} of them, laws not counted:")
+    print("".join(f"  {it}\n" for it in unused), end="")
+    stale = [it for it in known if it not in seen]
+    if stale:
+        print("tools/surface_reasons.txt names functions that aren't there:")
+        print("".join(f"  {it}\n" for it in stale), end="")
+    if lacking:
+        print(f"{len(lacking)} public functions that others use have no wrong body:")
+        print("".join(f"  {it}\n" for it in lacking), end="")
+    return 1 if lacking or stale else 0
+
+
+if __name__ == "__main__":
+    sys.exit(main(sys.argv[1:]))

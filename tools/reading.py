@@ -1,0 +1,271 @@
+"""What the scripts read of a crate's sources: its functions with their places, its constants, and what it shows.
+
+The words of a source come from the toolchain (`rattle fmt --tokens`), so that contracts and comments are told from
+code."""
+import json
+import os
+import re
+import subprocess
+
+import common
+
+
+class Function:
+    """A function of a crate: where it stands, what it belongs to, and its words."""
+
+    def __init__(self, scope, name, words, is_pub):
+        self.crate, self.module, self.owner, self.trait = scope.crate, scope.module, scope.owner, scope.trait
+        self.impl_words, self.is_test = scope.impl_words, scope.is_test
+        self.name, self.is_pub, self.words = name, is_pub, [it.text for it in words]
+        self.file, self.first, self.last = scope.file, words[0].line, words[-1].line
+        self.head, self.has_body = heading(self.words), self.words[-1] == "}"
+        cycle = re.search(r"# \[ cycle \( (\w+)", " ".join(self.head))
+        self.proof = "::".join([*self.module, f"+{cycle[1]}"]) if cycle else self.path
+
+    @property
+    def path(self):
+        """As a reader names it: module::Owner::name."""
+        return "::".join([*self.module, *([self.owner] if self.owner else []), self.name])
+
+    @property
+    def gives(self):
+        """Whether it has a result, or writes through an argument."""
+        text = " ".join(self.head)
+        result = re.search(r"- > (?!\( \)$)", text)
+        return bool(result or re.search(r"& (?:'\w+ )?mut ", text))
+
+    @property
+    def takes_self(self):
+        return bool(re.search(r"\( (?:& )?(?:'\w+ )?(?:mut )?self\b", " ".join(self.head)))
+
+    def is_named(self, symbol):
+        """Whether the checker means this function, or a closure in it, by the name of a line of its output."""
+        at = "::".join([self.crate, *self.module, ""])
+        if not symbol.startswith(at):
+            return False
+        rest = symbol[len(at) :]
+        if rest.startswith("fn::"):
+            inside = "::".join(([self.owner] if self.owner else []) + [self.name])
+            return f"{rest[4:]}::".startswith((f"{inside}::", f"{self.name}::"))
+        if not self.trait:
+            return rest == self.path[len("::".join([*self.module, ""])) :]
+        held, _, last = rest.rpartition("::")
+        plain = held.replace("_", "").lower()
+        return last == self.name and all(it.replace("_", "").lower() in plain for it in self.impl_words)
+
+
+class Word:
+    def __init__(self, line, text):
+        self.line, self.text, self.is_test = line, text, False
+
+
+class Scope:
+    """Where the reader stands in a crate."""
+
+    def __init__(self, crate, file, module, owner="", trait="", impl_words=(), is_test=False):
+        self.crate, self.file, self.module, self.owner, self.trait = crate, file, module, owner, trait
+        self.impl_words, self.is_test = impl_words, is_test
+
+    def inside(self, **changed):
+        given = {**self.__dict__, **changed}
+        return Scope(**given)
+
+
+def heading(words):
+    """The words of a function up to its body."""
+    depth = 0
+    for at, it in enumerate(words):
+        depth += (it in "([") - (it in ")]")
+        if it in "{;" and not depth and "fn" in words[:at]:
+            return words[:at]
+    return words
+
+
+def rattle():
+    return os.path.join(os.path.dirname(os.path.realpath(common.need("rt"))), "rattle")
+
+
+def words_of(files):
+    """The words of code of each file, by its path."""
+    if not files:
+        return {}
+    ran = subprocess.run([rattle(), "fmt", "--tokens", *files], stdin=subprocess.DEVNULL, stdout=subprocess.PIPE)
+    if ran.returncode:
+        common.stop(f"{files[0]} or a file beside it can't be read")
+    found, words = {}, None
+    for line in ran.stdout.decode("utf-8").split("\n"):
+        if line.startswith("file "):
+            words = found[files[int(line[5:])]] = []
+        elif line:
+            at, _, _, kind, text = line.split(" ", 4)
+            if kind in ("Code", "Literal"):
+                words.append(Word(int(at), json.loads(text)))
+    return found
+
+
+def sources(crate):
+    """The files of a crate's code."""
+    found = []
+    for at, folders, names in os.walk(os.path.join(common.TOP, "crates", crate, "src")):
+        folders.sort()
+        found += [os.path.join(at, it) for it in sorted(names) if it.endswith(".rt")]
+    return found
+
+
+def after(words, at):
+    """The place behind a word, or behind the brackets that it opens."""
+    depth = 0
+    while at < len(words):
+        depth += (words[at].text in ("(", "[", "{")) - (words[at].text in (")", "]", "}"))
+        at += 1
+        if depth <= 0:
+            break
+    return at
+
+
+def past_marks(words, at):
+    """The attributes before an item, whether it is public, and the place of its first word."""
+    attributes = ""
+    while at < len(words) and words[at].text == "#":
+        start = at + 1 + (words[at + 1].text == "!")
+        attributes += " ".join(it.text for it in words[start : after(words, start)]) + "\n"
+        at = after(words, start)
+    is_pub = at < len(words) and words[at].text == "pub"
+    if is_pub:
+        is_pub = words[at + 1].text != "("
+        at = at + 1 if is_pub else after(words, at + 1)
+    while at + 1 < len(words) and words[at].text in ("const", "unsafe", "final") and words[at + 1].text in ("fn", "unsafe"):
+        at += 1
+    return attributes, is_pub, at
+
+
+def item_end(words, at):
+    """Where the item that begins with a word like `fn` ends."""
+    while at < len(words):
+        word = words[at].text
+        at = after(words, at)
+        if word in (";", "{"):
+            break
+    return at
+
+
+class Source:
+    """A crate's functions and constants, its public paths and what its modules bring out."""
+
+    def __init__(self, crate):
+        self.crate, self.functions, self.constants, self.types = crate, [], {}, {}
+        self.public_modules, self.brought_out, self.imports = {()}, [], []
+        self.words = words_of(sources(crate))
+        self.folder = os.path.join(common.TOP, "crates", crate)
+        for top in ("lib.rt", "main.rt"):
+            self.read(os.path.join(self.folder, "src", top), Scope(crate, f"src/{top}", ()))
+
+    def read(self, path, scope):
+        words = self.words.get(path)
+        if words is not None:
+            self.items(words, scope.inside(file=os.path.relpath(path, self.folder)))
+
+    def items(self, words, scope):
+        at = 0
+        while at < len(words):
+            first = at
+            attributes, is_pub, at = past_marks(words, at)
+            if at >= len(words):
+                return
+            end = item_end(words, at)
+            is_test = scope.is_test or "[ test ]" in attributes or "cfg ( test )" in attributes
+            for it in words[first:end]:
+                it.is_test = is_test
+            self.item(words[first:end], at - first, scope.inside(is_test=is_test), is_pub)
+            at = end
+
+    def item(self, words, at, scope, is_pub):
+        """Takes one item, whose first word (behind its attributes and marks) stands at a place."""
+        word = words[at].text
+        name = words[at + 1].text if at + 1 < len(words) else ""
+        if word == "fn":
+            self.functions.append(Function(scope, name, words, is_pub or bool(scope.trait)))
+        elif word == "mod":
+            inner = scope.inside(module=(*scope.module, name))
+            if is_pub and scope.module in self.public_modules and not scope.is_test:
+                self.public_modules.add(inner.module)
+            if words[-1].text == ";":
+                base = os.path.join(self.folder, "src", *inner.module)
+                self.read(f"{base}.rt" if os.path.isfile(f"{base}.rt") else os.path.join(base, "mod.rt"), inner)
+            else:
+                self.items(words[at + 3 : -1], inner)
+        elif word in ("impl", "trait"):
+            self.block(words, at, scope)
+            if word == "trait":
+                self.types[name] = (scope.module, is_pub)
+        elif word in ("struct", "enum", "type"):
+            self.types[name] = (scope.module, is_pub)
+        elif word in ("const", "static"):
+            self.constants[name] = (scope.file, words[0].line, words[-1].line)
+        elif word == "use":
+            texts = [it.text for it in words[at + 1 : -1]]
+            self.imports.append((texts, scope.is_test))
+            self.brought_out += [(scope.module, texts)] * is_pub
+
+    def block(self, words, at, scope):
+        """The functions of an impl or of a trait."""
+        opens = next(i for i in range(at, len(words)) if words[i].text == "{")
+        head = [it.text for it in words[at + 1 : opens]]
+        head = head[: head.index("where")] if "where" in head else head
+        if words[at].text == "trait":
+            inner = scope.inside(owner=head[0], trait=head[0], impl_words=(head[0],))
+        else:
+            generics = head[: close_angle(head)] if head[:1] == ["<"] else []
+            head = head[len(generics) :]
+            cut = head.index("for") if "for" in head else None
+            owner = next(it for it in head[0 if cut is None else cut + 1 :] if it.isidentifier())
+            hidden = {"mut", "dyn", "for", *generics}
+            said = tuple(it for it in dict.fromkeys(head) if it.isidentifier() and it not in hidden)
+            inner = scope.inside(owner=owner, trait="" if cut is None else head[0], impl_words=() if cut is None else said)
+        self.items(words[opens + 1 : -1], inner)
+
+    def is_public(self, module, name):
+        """Whether other crates can name an item of a module."""
+        if module in self.public_modules:
+            return True
+        return any(brings(words, at, module, name) for at, words in self.brought_out if at in self.public_modules)
+
+    def public_functions(self):
+        """Each function that other crates can call, tests left out."""
+        found = []
+        for it in self.functions:
+            if it.is_test or not it.is_pub or not it.has_body:
+                continue
+            if not it.owner:
+                is_seen = self.is_public(it.module, it.name)
+            else:
+                # (a method of a trait of another library is called by that library's name for it)
+                is_own = not it.trait or it.trait in self.types
+                at, is_pub = self.types.get(it.owner, (it.module, False))
+                is_seen = is_own and is_pub and self.is_public(at, it.owner)
+            found += [it] * is_seen
+        return found
+
+    def proved_with(self, functions):
+        """The functions that have one proof with some: functions that call each other have one."""
+        proofs = {it.proof for it in functions}
+        return [it for it in self.functions if it.proof in proofs]
+
+
+def close_angle(words):
+    """The place behind the angle brackets that the first word opens."""
+    depth = 0
+    for at, it in enumerate(words):
+        depth += (it == "<") - (it == ">" and words[at - 1] != "-")
+        if not depth:
+            return at + 1
+    return len(words)
+
+
+def brings(words, at, module, name):
+    """Whether a `pub use` of a module, by its words, brings out an item of another."""
+    words = [it for it in words if it != ":"]
+    words = words[words[:1] in (["crate"], ["self"]) :]
+    cut = words.index("{") if "{" in words else len(words) - 1
+    steps, names = tuple(words[:cut]), words[cut:]
+    return (steps == module or (*at, *steps) == module) and (name in names or "*" in names)

@@ -1,0 +1,283 @@
+#!/usr/bin/env python3
+"""Tries the wrong bodies of crates/*/must-fail and crates/*/wrong-bodies: the prover has to refuse each.
+
+  tools/wrong_bodies.py [--jobs N] [--quiet] [CRATE..]   all crates where none is named; with --quiet no refused one is told
+  tools/wrong_bodies.py CRATE/WORD..                     those of a crate with this word in their path
+
+The gate tries its own one by one. Here as many of a crate as can be stand in one check over what is kept of its proofs:
+the checker judges each function for itself. A function that only calls one that isn't proved is judged in a later
+check, and so is the second of two wrong bodies of one function. What isn't refused among others is tried alone.
+
+It works on a copy of the crate, in bin/rooms. The status is 1 where a wrong body isn't refused, or could not be tried."""
+import os
+import re
+import shutil
+import subprocess
+import sys
+import time
+
+import build
+import common
+import edits
+import reading
+from common import TOP
+
+KEPT = os.path.join("out", "incremental")
+VERDICT = re.compile(r"^(?:fn|impl|struct|enum|trait|const|static) (\S+): (proved|not proved|no proof.*)", re.M)
+ERROR = re.compile(r"(?:\./)?((?:src|specs|proofs)/\S+?):(\d+):\d+: error(?:\[[\w-]+\])?: (?:(`[^`]*`): )?(.*)")
+# (what of a reason says that the function itself was not judged)
+OF_ANOTHER = re.compile(r"it calls |it passes |a call of |it is in a cycle of calls with ")
+# (an error by which a text can't be read, so that no contract was tried)
+UNREAD = re.compile(r"is not in scope|has no field|is no name|operand is missing|expected the end|cannot continue")
+NAMES_LOST = re.compile(r"has no field|is not in scope|has no `|was not admitted|that can be named from here")
+REFUSED, PROVED, NOT_JUDGED = "refused", "PROVED", "not judged"
+
+
+class Said:
+    """What a check printed."""
+
+    def __init__(self, text, status):
+        self.text, self.status = text, status
+        self.verdicts = dict(VERDICT.findall(text))
+        self.reached = "logic=proved" in text or "logic=not-proved" in text
+
+    def is_proved(self):
+        return self.status == 0 and "\nlogic=proved " in self.text
+
+    def own(self, symbol):
+        """Whether a function is refused for what it does itself."""
+        said = self.verdicts[symbol]
+        if said.startswith("no proof"):
+            reasons = said[len("no proof:") :].split("; ")
+            return any(not OF_ANOTHER.match(it.strip()) for it in reasons)
+        return said.startswith("not proved")
+
+    def goals(self, symbol):
+        """The goals of a function that were not proved, with their places."""
+        lines = self.text.split("\n")
+        end = next((i for i, it in enumerate(lines) if it.startswith(f"fn {symbol}: ")), 0)
+        found = []
+        for line in reversed(lines[:end]):
+            if VERDICT.match(line):
+                break
+            goal = re.match(r"note: (src/\S+?:\d+):\d+: .*?\(`(\S+)`\)", line)
+            found += [f"{goal[2]} at {goal[1]}"] if goal else []
+        return found[::-1]
+
+    def proof_errors(self, symbol, proof):
+        """The errors in the files of a function's proof."""
+        at = proof if "+" in proof else symbol.partition("::")[2]
+        start = "proofs/" + at.replace("::", "/") + "/"
+        return [it for it in self.text.split("\n") if ERROR.match(it) and ERROR.match(it)[1].startswith(start)]
+
+    def why(self, symbol, proof):
+        """What refused a function: a goal, or an error in its proof."""
+        goals, errors = self.goals(symbol), self.proof_errors(symbol, proof)
+        if goals:
+            return goals[0]
+        if errors and all(NAMES_LOST.search(it) for it in errors):
+            return "only because its proof names what was taken away, which says little"
+        return errors[0][:120] if errors else self.verdicts[symbol][:120]
+
+
+class Room:
+    """A copy of a crate with its kept proofs, in which wrong bodies are checked."""
+
+    def __init__(self, name, named, jobs):
+        self.name, self.jobs, self.checks = name, jobs, 0
+        self.room = os.path.join(build.ROOMS, f"wrong-{name}")
+        self.folder = os.path.join(self.room, "crates", name)
+        build.furnish(self.room, name, named)
+        # (what a check keeps it writes into new files: the links leave what is kept in the crate's folder as it is)
+        whole = os.path.join(TOP, "crates", name, KEPT)
+        shutil.copytree(whole, os.path.join(self.folder, KEPT), copy_function=build.link)
+
+    def check(self, chosen):
+        """Checks the crate with some wrong bodies, and leaves its sources as they were."""
+        self.checks += 1
+        paths = {path for edit in chosen for path, _ in edit.lines}
+        before = {it: self.text(it) for it in paths}
+        for path, text in before.items():
+            self.write(path, with_bodies(text, path, chosen))
+        how = {"cwd": self.folder, "stdin": subprocess.DEVNULL, "stdout": subprocess.PIPE, "stderr": subprocess.STDOUT}
+        ran = subprocess.run(["rt", "check", "--jobs", str(self.jobs)], **how)
+        for path, text in before.items():
+            self.write(path, text)
+        return Said(ran.stdout.decode("utf-8", errors="replace"), ran.returncode)
+
+    def text(self, path):
+        with open(os.path.join(self.folder, path), encoding="utf-8") as file:
+            return file.read()
+
+    def write(self, path, text):
+        with open(os.path.join(self.folder, path), "w", encoding="utf-8") as file:
+            file.write(text)
+
+    def leave(self):
+        shutil.rmtree(self.room, ignore_errors=True)
+
+
+def with_bodies(text, path, chosen):
+    """A file's text with the lines that some wrong bodies change in it."""
+    lines = text.split("\n")
+    for edit in chosen:
+        for (where, number), now in edit.lines.items():
+            if where == path:
+                lines[number - 1] = now
+    return "\n".join(lines)
+
+
+def prove(name, jobs):
+    """Proves a crate where it isn't yet, with the libraries below, and says whether that went well."""
+    folder = os.path.join(TOP, "crates", name)
+    is_kept = os.path.isdir(os.path.join(folder, KEPT)) and not os.path.isfile(os.path.join(folder, "src", "main.rt"))
+    # (where the library is up to date `rt lib` proves nothing)
+    words = ["rt", "lib" if is_kept else "check", "--jobs", str(jobs)]
+    how = {"cwd": folder, "stdin": subprocess.DEVNULL, "stdout": subprocess.PIPE, "stderr": subprocess.STDOUT}
+    ran = subprocess.run(words, **how)
+    if ran.returncode:
+        print(ran.stdout.decode("utf-8", errors="replace")[-3000:], file=sys.stderr)
+    return ran.returncode == 0
+
+
+def together(left):
+    """Wrong bodies of different functions, of which no two have one proof: as many as can stand in one check."""
+    chosen, taken = [], set()
+    for edit in left:
+        proofs = {it.proof for it in edit.turned or ()}
+        if proofs and not proofs & taken:
+            chosen.append(edit)
+            taken |= proofs
+    return chosen or left[:1]
+
+
+def unreadable(said, edit):
+    """The error by which the compiler or antt could not read a wrong body, if one stands in what it turns."""
+    for line in said.text.split("\n"):
+        at = ERROR.match(line)
+        if not at:
+            continue
+        place = at[1], int(at[2])
+        if place not in edit.lines and not any(it.file == at[1] and it.first <= place[1] <= it.last for it in edit.turned or ()):
+            continue
+        # (an error that names a goal is a refusal, unless the goal itself can't be read)
+        if not at[3] or UNREAD.search(re.sub(r"`[^`]*`", "", at[4])):
+            return line[:160]
+    return None
+
+
+def verdicts_of(edit, said, source):
+    """The names under which the check judged what a wrong body turns, each with the proof that it belongs to."""
+    turned = source.proved_with(edit.turned or ())
+    return {it: f.proof for it in said.verdicts for f in turned if f.is_named(it)}
+
+
+def judge(edit, said, source, alone):
+    """What a check says of one wrong body: a word and why, or None where it has to be tried again."""
+    error = unreadable(said, edit)
+    if error:
+        return NOT_JUDGED, f"it can't be read, so no contract was tried: {error}"
+    refused = [(it, proof) for it, proof in verdicts_of(edit, said, source).items() if said.own(it)]
+    if refused:
+        return refusal(said, refused)
+    if not alone:
+        return None
+    if not said.reached:
+        return NOT_JUDGED, f"the check did not reach the prover: {said.text[-300:]}"
+    if said.is_proved():
+        return PROVED, "the crate is still proved with it"
+    others = [(it, "") for it in said.verdicts if said.own(it)]
+    return refusal(said, others) if others else (NOT_JUDGED, f"no function was judged: {said.text[-300:]}")
+
+
+def refusal(said, refused):
+    """What to say of functions that are refused for what they do themselves."""
+    uncovered = [it for it, _ in refused if "does not cover" in said.verdicts[it]]
+    if len(uncovered) == len(refused):
+        return NOT_JUDGED, f"the checker doesn't cover such a body, so no contract was tried: {said.verdicts[uncovered[0]][:200]}"
+    told = next((it for it in refused if said.goals(it[0]) or said.proof_errors(*it)), refused[0])
+    return REFUSED, f"{told[0].partition('::')[2]}: {said.why(*told)}"
+
+
+def try_all(room, left, source, say):
+    """Tries wrong bodies, many in one check, and returns a word and a reason for each."""
+    found, groups = {}, []
+    while left or groups:
+        chosen = groups.pop() if groups else together(left)
+        left = [it for it in left if it not in chosen]
+        say(f"check {room.checks + 1}: {len(chosen)} at once, {len(left) + sum(map(len, groups))} left")
+        said = room.check(chosen)
+        judged = {it: judge(it, said, source, len(chosen) == 1) for it in chosen}
+        found.update({it: verdict for it, verdict in judged.items() if verdict})
+        again = [it for it, verdict in judged.items() if not verdict]
+        if not said.reached:
+            # (where the compiler doesn't say which of them it can't read, each half is tried)
+            middle = len(again) // 2 if len(again) == len(chosen) else 0
+            groups += [it for it in (again[:middle], again[middle:]) if it]
+        else:
+            # what calls a function that was refused is judged in a later check, what was proved is tried alone
+            held = [it for it in again if len(again) < len(chosen) and is_held(it, said, source)]
+            left += held
+            groups += [[it] for it in again if it not in held]
+    return found
+
+
+def is_held(edit, said, source):
+    """Whether a wrong body was not judged since its function calls one that isn't proved."""
+    return any(said.verdicts[it] != "proved" for it in verdicts_of(edit, said, source))
+
+
+def try_crate(name, word, named, jobs, is_quiet):
+    """Tries a crate's wrong bodies, prints a line for each and one for all, and returns their counts."""
+    timer = time.monotonic()
+    source = reading.Source(name)
+    all_edits = [it for it in edits.edits_of(name, source) if word in it.name]
+    if not all_edits:
+        return 0, 0, 0
+    found = {it: (NOT_JUDGED, it.why) for it in all_edits if it.why}
+    left, checks = [it for it in all_edits if not it.why], 0
+    if left and not prove(name, jobs):
+        found.update({it: (NOT_JUDGED, "the crate itself isn't proved") for it in left})
+    elif left:
+        room = Room(name, named, jobs)
+        try:
+            found.update(try_all(room, left, source, lambda text: print(f"{name}: {text}", flush=True)))
+        finally:
+            checks = room.checks
+            room.leave()
+    for edit in all_edits:
+        verdict, why = found[edit]
+        if not is_quiet or verdict != REFUSED:
+            print(f"  {verdict:<10}  {name}/{edit.name}: {why}")
+    counts = [sum(it[0] == word for it in found.values()) for word in (REFUSED, PROVED, NOT_JUDGED)]
+    took = int(time.monotonic() - timer)
+    line = f"{counts[0]} refused, {counts[1]} proved, {counts[2]} not judged in {checks} checks, {took} s"
+    print(f"{name}: {line}", flush=True)
+    return counts
+
+
+def main(words):
+    common.need("rt")
+    is_quiet, jobs = "--quiet" in words, max(1, build.processors() // 2)
+    words = [it for it in words if it != "--quiet"]
+    if "--jobs" in words:
+        at = words.index("--jobs")
+        jobs = int(words[at + 1])
+        del words[at : at + 2]
+    named = common.libraries()
+    chosen = [it.partition("/")[::2] for it in words] or [(it, "") for it in named]
+    unknown = [name for name, _ in chosen if name not in named]
+    if unknown:
+        common.stop(f"crates.txt names no crate {', '.join(unknown)}")
+    total = [0, 0, 0]
+    try:
+        for name, word in chosen:
+            total = [a + b for a, b in zip(total, try_crate(name, word, named, jobs, is_quiet))]
+    except KeyboardInterrupt:
+        return 130
+    print(f"{total[0]} refused, {total[1]} proved, {total[2]} not judged")
+    return 1 if total[1] or total[2] else 0
+
+
+if __name__ == "__main__":
+    sys.exit(main(sys.argv[1:]))
