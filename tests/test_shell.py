@@ -102,8 +102,9 @@ def in_zsh():
             os.execvpe("zsh", ["zsh", "-f", "-i"], environment(room))
 
         def said(until, longest):
+            """What is shown until this word was printed and zsh reads keys again (it switches bracketed paste on then)."""
             found, end = b"", time.monotonic() + longest
-            while until not in found and time.monotonic() < end:
+            while b"[?2004h" not in found.partition(until)[2] and time.monotonic() < end:
                 if select.select([terminal], [], [], 0.2)[0]:
                     found += os.read(terminal, 1 << 16)
             return found.decode(errors="replace")

@@ -19,7 +19,7 @@ local function attach(buffer)
     end,
   }
   if vim.lsp.start then -- Neovim 0.8 to 0.10: reuses the server of the folder
-    vim.lsp.start(settings)
+    vim.lsp.start(settings, { bufnr = buffer })
     return
   end
   running = running or vim.lsp.start_client(settings)
