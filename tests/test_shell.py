@@ -5,6 +5,7 @@ import pty
 import re
 import select
 import shlex
+import shutil
 import subprocess
 import tempfile
 import time
@@ -136,10 +137,15 @@ def manual():
     same((status, said), (0, ""), "mandoc -Tlint")
 
 
+def want_proved():
+    """Leaves a test out where the program isn't bin/ob0, or that isn't the proved program of these sources."""
+    if os.path.abspath(harness.BINARY) != common.BINARY or not shutil.which("rt") or not common.is_current():
+        raise Skipped("bin/ob0 is not the proved program of these sources")
+
+
 @test("shell: `make install` installs the proved program, its manual page and its completions")
 def installed():
-    if not common.is_current() or os.path.abspath(harness.BINARY) != common.BINARY:
-        raise Skipped("bin/ob0 is not the proved program of these sources")
+    want_proved()
     with tempfile.TemporaryDirectory() as room:
         words = ["make", "--silent", "install", f"DESTDIR={room}", "PREFIX=/usr"]
         status, said = run_plainly(words, dict(os.environ), TOP)
@@ -185,8 +191,7 @@ def links():
 
 @test("shell: `make demo` plays its conversation with the proved program")
 def demo():
-    if not common.is_current() or os.path.abspath(harness.BINARY) != common.BINARY:
-        raise Skipped("bin/ob0 is not the proved program of these sources")
+    want_proved()
     status, said = run_plainly(["make", "--silent", "demo"], dict(os.environ), TOP)
     same(status, 0, said[-500:])
     for it in "which is proved", '"newText": "Squared"', '"message": "Captures', "the server ended with status 0":
