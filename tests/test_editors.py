@@ -1,11 +1,13 @@
 """Real editors, without a screen, each set up by the commands and lines of its page in editors/: Neovim by its own client,
-Emacs by eglot and by lsp-mode, Vim by ALE, Kakoune by its `lint`.
+Emacs by eglot and by lsp-mode, Vim by ALE, Kate by its plugin (on a screen that nobody sees). Kakoune, which has no client, is in
+test_syntax_files.py.
 
 A test of an editor that isn't here is left out, by name; `make editors` installs them all."""
 import functools
 import json
 import os
 import pty
+import re
 import select
 import shutil
 import signal
@@ -42,15 +44,15 @@ def write(path, text):
         file.write(text)
 
 
-def play(editor, words, steps, text, given, set_up=lambda room: None, in_terminal=False, name="m.mod"):
+def play(editor, words, steps, text, given, set_up=lambda room: None, in_terminal=False, more=None):
     """What an editor found in these steps on a file with this text, with what else is given to it: pairs of a step and
     what was found."""
     with tempfile.TemporaryDirectory() as room:
         own = at_home(room, editor)
         set_up(room)
-        file, report = os.path.join(room, "work", name), os.path.join(room, "report")
+        file, report = os.path.join(room, "work", "m.mod"), os.path.join(room, "report")
         write(file, text)
-        own.update(OB0_FILE=file, OB0_REPORT=report, OB0_STEPS=steps, OB0_GIVEN=json.dumps(given))
+        own.update(OB0_FILE=file, OB0_REPORT=report, OB0_STEPS=steps, OB0_GIVEN=json.dumps(given), **(more or {}))
         status, said = (run_in_terminal if in_terminal else run_plainly)(words, own, os.path.dirname(file))
         found = []
         if os.path.isfile(report):
@@ -300,8 +302,24 @@ def keeps_the_run(before, after, out, given=b""):
         ends(on_file("run", text, given=given), out, 0)
 
 
+def example(name):
+    """An example and what it prints."""
+    with open(os.path.join(TOP, "examples", f"{name}.mod"), encoding="utf-8") as text, open(os.path.join(TOP, "examples", f"{name}.out"), encoding="utf-8") as out:
+        return text.read(), out.read()
+
+
+NESTED_EXAMPLE, NESTED_PRINTS = example("Nested")
+INNER = [
+    f"{line}:{it.start()}-{line}:{it.end()}"
+    for line, text in enumerate(NESTED_EXAMPLE.split("\n"))
+    if "(*" not in text
+    for it in re.finditer(r"\bInner\b", text)
+]
+COLLATZ, COLLATZ_PRINTS = example("Collatz")
+
 # a text, a place in it, the new name there, the places that change, what the text prints before and after
 RENAMED = [
+    (NESTED_EXAMPLE, [6, 14], "Add", INNER, NESTED_PRINTS),
     (CALLS, [2, 47], "G", PLACES, " 2 1"),
     (NESTED, [1, 4], "z", ["1:4-1:5", "4:14-4:15", "5:15-5:16"], " 1"),
     (OUTER, [4, 10], "Q", ["4:10-4:11", "4:32-4:33", "5:9-5:10"], " 2 7"),
@@ -367,6 +385,8 @@ in_each("both ways to inline a constant are offered and applied, and keep the ru
 
 # the width of a level, whether it is spaces, a text, its layout, an input, what the text prints on that before and after
 FORMATTED = [
+    # (an example, all on one line, is laid out as it is in its file)
+    (2, True, " ".join(COLLATZ.split()), COLLATZ, b"15", COLLATZ_PRINTS),
     (
         2,
         True,
@@ -435,3 +455,58 @@ def vscode():
     same(found["executed"], ["check", "run"], "the tasks that the commands start")
     same(found["tasks"], {"type": "ob0", "names": ["check", "run"]}, "the tasks")
     same(found["matched"], [[file, "2", "7", "Undeclared", "not declared"]], "what the problem matcher finds")
+
+
+def in_kate(steps, text, **given):
+    want("Kate", "Xvfb", "xauth", "openbox", "xdotool", "D-Bus")
+
+    def set_up(room):
+        """A server whose messages are kept, and Kate's plugin switched on and allowed to start it, as its user would do once."""
+        program = os.path.join(room, "bin", "ob0")
+        os.unlink(program)
+        write(program, f'#!/bin/sh\ntee "{room}/in" | "{os.path.abspath(harness.BINARY)}" "$@" | tee "{room}/out"\n')
+        os.chmod(program, 0o755)
+        write(os.path.join(room, ".config", "katerc"), f"[Kate Plugins]\nlspclientplugin=true\n\n[lspclient]\nAllowedServerCommandLines={program} serve\n")
+        own["OB0_WIRE"] = room
+
+    own = {}
+    words = ["xvfb-run", "-a", "dbus-run-session", "--", "python3", os.path.join(EDITORS, "kate.py")]
+    # (keys can come before a window takes them, where the machine has much else to do: then all is done once more)
+    for _ in range(2):
+        try:
+            return play("kate", words, steps, text, given, set_up, more=own)
+        except Failed as why:
+            print(f"Kate is tried again: {why}".splitlines()[0], flush=True)
+    return play("kate", words, steps, text, given, set_up, more=own)
+
+
+KATE_LAID_OUT = """MODULE M;
+    PROCEDURE G(n: INTEGER);
+    BEGIN
+        IF n > 0 THEN
+            Write(n);
+            G(n - 1)
+        END
+    END G;
+BEGIN
+    G(2)
+END M.
+"""
+
+
+@test("Kate: diagnostics, what is known of a name, a rename and a layout, by its keys")
+def kate_names():
+    steps = [("opened", []), ("typed", ["BadChar"]), ("undone", []), ("shown", "PROCEDURE F(n: INTEGER)")]
+    steps += [("listed", [[1, 10], [2, 30], [2, 47], [3, 6]]), ("jumped", [1, 10])]
+    steps += [("renamed", []), ("text", edited(CALLS, PLACES, "G")), ("laid out", []), ("text", KATE_LAID_OUT)]
+    same(in_kate("names", CALLS, place=[3, 7]), steps)
+    keeps_the_run(CALLS, KATE_LAID_OUT, " 2 1")
+
+
+@test("Kate: a constant is inlined, by its keys")
+def kate_inline():
+    text = "MODULE M;\nCONST k = 7;\nBEGIN Write(k) END M.\n"
+    wanted = text.replace("Write(k)", "Write(7)")
+    steps = [("opened", []), ("offered", ["Inline here", "Inline everywhere"]), ("acted", []), ("text", wanted)]
+    same(in_kate("inlining", text, place=[2, 12]), steps)
+    keeps_the_run(text, wanted, " 7")

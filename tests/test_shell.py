@@ -47,11 +47,12 @@ def environment(room):
 def commands():
     found = run(["--help"])
     listed = re.findall(r"^  (\w+)  +\w", found.out.decode().partition("Commands:")[2].partition("Options:")[0], re.M)
-    same(sorted(listed), COMMANDS, "the commands")
+    same(sorted({*listed} - {"help"}), COMMANDS, "the commands")
     page = text_of("share", "ob0.1")
     for it in COMMANDS:
         holds(re.search(rf'^\.(B|BI) "?{it}\b', page, re.M), f"the manual page has no {it}")
-        options = set(re.findall(r"--\w+", run([it, "--help"]).out.decode()))
+    for it in ["", *COMMANDS]:
+        options = set(re.findall(r"--\w+", run([*it.split(), "--help"]).out.decode()))
         holds(all(option.replace("-", "\\-") in page for option in options), f"options of {it}: {options}")
 
 

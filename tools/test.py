@@ -10,6 +10,7 @@ import subprocess
 import sys
 
 import common
+import editors
 from common import TOP
 
 LINE = re.compile(r"^(\d+) passed, (\d+) failed$")
@@ -63,6 +64,13 @@ def spent():
     return times.children_user + times.children_system
 
 
+def say_missing():
+    """Says at once which tests will be left out, for lack of which editors and tools, and how to get them."""
+    missing = [it for it in editors.TOOLS if not editors.is_here(it)]
+    if missing:
+        print(f"missing: {', '.join(missing)}. `make editors` installs them; without, the tests that want them are left out, by name", flush=True)
+
+
 def main():
     timer = common.Timer()
     os.makedirs(os.path.dirname(RESULTS), exist_ok=True)
@@ -71,6 +79,7 @@ def main():
     # (what a build that was killed left: the gate takes no source outside crates/)
     shutil.rmtree(os.path.join(TOP, "bin", "rooms"), ignore_errors=True)
     common.need("rt")
+    say_missing()
     print("== the gate", flush=True)
     passed, failed = gate(timer)
     print(f"== the gate: {passed} passed, {failed} failed, {timer}, of the processors {common.clock(spent())}", flush=True)
