@@ -12,8 +12,8 @@ ghost use Rattle.ob0_text.specs.Units.{width_of};
 ghost use Rattle.ob0_answers.specs.Actions.{AnswersActions, FindsInlinings, Inlines, IsOffered, ListsActions, action_of, action_values, actions_asked, actions_value, allows_inlining as allows, is_of_kind as of_kind, place_of as place_in, title, wants_inlining as wants};
 ghost use Rattle.ob0_answers.specs.declared.actions.Inlining.TheVariants as how;
 
-use ob0_analysis::{Asked, Question, ask};
 use crate::results::{action_value, workspace_edit};
+use ob0_analysis::{Asked, Question, ask};
 use ob0_inline::{inline_all, inline_here};
 use ob0_rpc::{Client, Id, result};
 use ob0_text::{Edit, EditRefusal, Position, Range, TextStore};

@@ -5,9 +5,8 @@ ghost use Rattle.ob0_analysis.specs.Diagnosed.{complaint_in};
 ghost use Rattle.ob0_answers.specs.Diagnostics.{Diagnoses, DiagnosticsAre, diagnostic_of};
 ghost use Rattle.ob0_answers.specs.Shapes.{Diagnostic, diagnostic_value};
 
-use ob0_analysis::diagnose;
-use ob0_analysis::Diagnosis;
 use crate::results::range_value;
+use ob0_analysis::{Diagnosis, diagnose};
 use ob0_text::{Position, TextStore};
 use serde_json::{Value, json};
 use std::alloc::{AllocError, Global};

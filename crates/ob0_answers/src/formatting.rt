@@ -8,8 +8,8 @@ ghost use Rattle.ob0_analysis.specs.Analysed.{IsModuleIn};
 ghost use Rattle.ob0_analysis.specs.Texts.{utf8};
 ghost use Rattle.ob0_answers.specs.Formatted.{AnswersFormatting, Formats};
 
-use ob0_analysis::{Asked, Question, ask};
 use crate::results::{edits_value, refused, refused_ill_typed};
+use ob0_analysis::{Asked, Question, ask};
 use ob0_layout::format;
 use ob0_layout::laws::{gaps_make_the_layout, lexemes_stay, module_stays};
 use ob0_rpc::{Id, result};

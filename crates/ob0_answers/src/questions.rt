@@ -11,8 +11,8 @@ ghost use Rattle.ob0_questions.specs.Questions.{AreReferencesAt, all_shown_at, d
 ghost use Rattle.ob0_answers.specs.Questions.{AnswersName, can_be_renamed, hover_at, renamable_in, location_at, location_in, range_at, or_null};
 ghost use Rattle.ob0_answers.specs.declared.questions.NameQuestion.TheVariants.{Hover, Definition, References, PrepareRename};
 
-use ob0_analysis::{Asked, Question, ask};
 use crate::results::{hover_value, location_value, range_value};
+use ob0_analysis::{Asked, Question, ask};
 use ob0_questions::{at, definition, hover, references};
 use ob0_refs::{Of, ranges};
 use ob0_rpc::{Id, Place, result};

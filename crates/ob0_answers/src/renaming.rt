@@ -6,8 +6,8 @@ ghost use Rattle.serde_json.specs.View.{view};
 ghost use Rattle.ob0_rpc.specs.Writing.{Writes};
 ghost use Rattle.ob0_answers.specs.Renamed.{AnswersRenaming, asked_of, edits_for_client};
 
-use ob0_analysis::Asked;
 use crate::results::{refused_because, refused_ill_typed, workspace_edit};
+use ob0_analysis::Asked;
 use ob0_rename::rename_in;
 use ob0_rpc::{Client, Id, Place, result};
 use ob0_text::{Edit, TextStore};

@@ -9,11 +9,11 @@ ghost use Rattle.ob0_checker.specs.Checking.{Keeps};
 ghost use Rattle.ob0_checker.specs.InLabels.{in_labels};
 ghost use Rattle.ob0_typing.specs.WellTyped.{fits_over};
 
-use ob0_symbols::known::{Formal, Known, Object};
 use crate::names::Names;
-use ob0_symbols::types::TypeId;
 use crate::walk::{Parameter, Typed, Walk};
 use ob0_scope::resolved::Resolved;
+use ob0_symbols::known::{Formal, Known, Object};
+use ob0_symbols::types::TypeId;
 use ob0_tree::tree::{
     Block, Constant, Names as NameList, Procedure, Section, Statement, TypeDeclaration, Variables,
     WrittenType,

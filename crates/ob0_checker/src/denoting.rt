@@ -12,10 +12,10 @@ ghost use Rattle.ob0_typing.specs.Typing.{array_length, constant_value, construc
 ghost use Rattle.ob0_values.specs.Scalars.{scalar_value};
 ghost use Rattle.ob0_values.specs.Values.{Shape};
 
-use ob0_symbols::known::{Field, Known, MOST_SCALARS};
 use crate::names::Names;
-use ob0_symbols::types::TypeId;
 use ob0_scope::resolved::Resolved;
+use ob0_symbols::known::{Field, Known, MOST_SCALARS};
+use ob0_symbols::types::TypeId;
 use ob0_tree::tree::{ArrayType, FieldList, Fields, RecordType, WrittenType};
 use ob0_values::scalar::Scalar;
 use std::alloc::{AllocError, Global};

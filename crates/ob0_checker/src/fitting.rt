@@ -12,8 +12,8 @@ ghost use Rattle.ob0_typing.specs.WellTyped.{agree, argument_fits, arguments_fit
 ghost use Rattle.ob0_values.specs.Values.{Shape};
 
 use crate::designated::designated;
-use ob0_symbols::known::{Formal, Object, Standard};
 use crate::names::Names;
+use ob0_symbols::known::{Formal, Object, Standard};
 use ob0_symbols::types::TypeId;
 use ob0_tree::tree::{Assignment, Call, Designator, Elsif, Expression, If, Statement};
 

@@ -3,9 +3,9 @@
 ghost use Rattle.std.specs.Prelude.{◌≡◌, Some, length, option_and_then, option_map, IfSome};
 ghost use Rattle.ob0_tree.specs.Places.{text_at};
 
+use ob0_scope::resolved::Resolved;
 use ob0_symbols::known::{Known, Object};
 use ob0_symbols::types::{TypeId, scalar_type};
-use ob0_scope::resolved::Resolved;
 use ob0_symbols::written::text_at;
 use ob0_values::scalar::Scalar;
 

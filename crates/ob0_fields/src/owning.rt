@@ -14,13 +14,13 @@ ghost use Rattle.ob0_fields.specs.Walk.{marked_at, meaning_in};
 
 use crate::declared::{formals, types, variables};
 use ob0_scope::resolved::Resolved;
+use ob0_symbols::known::{Known, Object};
+use ob0_symbols::types::{TypeId, scalar_type};
+use ob0_symbols::written::text_at;
 use ob0_tree::tree::{
     Assignment, Block, Call, Designator, Elsif, Expression, Factor, If, Procedure, Selector,
     Simple, Statement, Term,
 };
-use ob0_symbols::known::{Known, Object};
-use ob0_symbols::written::text_at;
-use ob0_symbols::types::{TypeId, scalar_type};
 use std::alloc::AllocError;
 
 /// Tokens of fields, each with the ordinal of its record.

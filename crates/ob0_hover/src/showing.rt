@@ -21,8 +21,8 @@ use ob0_refs::{
 use ob0_scan::Tokens;
 use ob0_scope::resolved::{PREDECLARED, Resolved};
 use ob0_symbols::known::{Formal, Known, Object};
-use ob0_symbols::written::text_at;
 use ob0_symbols::types::TypeId;
+use ob0_symbols::written::text_at;
 use std::alloc::{AllocError, Global};
 
 /// What is shown of a name. None where its declaration is nothing.

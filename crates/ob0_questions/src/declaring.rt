@@ -15,12 +15,12 @@ ghost use Rattle.ob0_questions.specs.Walk.{meaning_in, type_in, typed_in};
 
 use ob0_scope::resolved::Resolved;
 use ob0_selectors::Selection;
+use ob0_symbols::known::{FieldOf, Known};
+use ob0_symbols::types::TypeId;
+use ob0_symbols::written::text_at;
 use ob0_tree::tree::{
     Block, Fields, Names, Procedure, RecordType, Section, TypeDeclaration, Variables, WrittenType,
 };
-use ob0_symbols::known::{FieldOf, Known};
-use ob0_symbols::written::text_at;
-use ob0_symbols::types::TypeId;
 use std::alloc::{AllocError, Global};
 
 /// The identifiers that declare the fields of a module, in text order: each with its field and this field's type.

@@ -18,10 +18,10 @@ use ob0_hover::{Hover, type_text};
 use ob0_scan::Tokens;
 use ob0_scope::resolved::Resolved;
 use ob0_selectors::{Selection, selections_by};
-use ob0_types::checked::WellTyped;
 use ob0_symbols::known::Known;
-use ob0_symbols::written::text_at;
 use ob0_symbols::types::TypeId;
+use ob0_symbols::written::text_at;
+use ob0_types::checked::WellTyped;
 use std::alloc::{AllocError, Global};
 
 /// What is shown at a place, where it lies in a name or at its end: of a name as `ob0_hover::hover`, and of a field where

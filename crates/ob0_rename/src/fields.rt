@@ -20,9 +20,9 @@ use ob0_fields::laws::{duplicate_by_token, renamed_at_tokens};
 use ob0_fields::{declaring_field, field_identifiers, field_tokens};
 use ob0_scan::{Span, Tokens, is_identifier};
 use ob0_scope::resolved::Resolved;
+use ob0_symbols::written::text_at;
 use ob0_text::{Edit, EditRefusal, TextStore};
 use ob0_types::checked::WellTyped;
-use ob0_symbols::written::text_at;
 use std::alloc::{AllocError, Global};
 
 /// The field whose identifier a place is on: the identifier's token, and the ordinal of the field's record.

@@ -11,8 +11,8 @@ ghost use Rattle.ob0_selectors.specs.Walk.{selection_at, selection_in, token_and
 
 use crate::selecting::Selecting;
 use ob0_scope::resolved::Resolved;
-use ob0_types::checked::WellTyped;
 use ob0_symbols::known::Known;
+use ob0_types::checked::WellTyped;
 pub use selecting::Selection;
 use std::alloc::{AllocError, Global};
 

@@ -14,14 +14,14 @@ ghost use Rattle.ob0_selectors.specs.Selections.{noted, path_selections, selecti
 ghost use Rattle.ob0_selectors.specs.Walk.{found_in, meaning_in, selected_from, selection_in};
 
 use ob0_scope::resolved::Resolved;
+use ob0_symbols::known::{FieldOf, Known, Object};
+use ob0_symbols::types::{TypeId, scalar_type};
+use ob0_symbols::written::text_at;
 use ob0_tree::tree::{
     Assignment, Block, Call, Constant, Designator, Elsif, Expression, Factor, Fields, If,
     Procedure, RecordType, Section, Selector, Simple, Statement, Term, TypeDeclaration, Variables,
     WrittenType,
 };
-use ob0_symbols::known::{FieldOf, Known, Object};
-use ob0_symbols::written::text_at;
-use ob0_symbols::types::{TypeId, scalar_type};
 use std::alloc::AllocError;
 
 /// A selector that is a name: the token of its identifier, the field that it selects, and the field's type.

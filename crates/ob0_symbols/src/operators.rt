@@ -13,11 +13,7 @@ use ob0_values::scalar::{
     Scalar, add, add_is_settled, multiply, multiply_is_settled, negated, relate, signed,
 };
 
-pub fn related(
-    relation: Relation,
-    left: Option<Scalar>,
-    right: Option<Scalar>,
-) -> Option<Scalar>
+pub fn related(relation: Relation, left: Option<Scalar>, right: Option<Scalar>) -> Option<Scalar>
     ensures { option_map scalar_value result ≡ both (λ x y. given_value (values.relate relation x y)) (option_map scalar_value left) (option_map scalar_value right) }
 {
     match left {
@@ -47,11 +43,7 @@ pub fn complement(operand: Option<Scalar>) -> Option<Scalar>
     }
 }
 
-pub fn added(
-    operator: AddOperator,
-    left: Option<Scalar>,
-    right: Option<Scalar>,
-) -> Option<Scalar>
+pub fn added(operator: AddOperator, left: Option<Scalar>, right: Option<Scalar>) -> Option<Scalar>
     ensures { option_map scalar_value result ≡ option_and_then (sum_value operator (option_map scalar_value right)) (option_map scalar_value left) }
 {
     match left {

@@ -6,12 +6,12 @@ ghost use Rattle.std.specs.List.{filter, list_any};
 ghost use Rattle.std.specs.Prelude.{◌≡◌, ◌≤◌, ◌&&◌, ◌++◌, [], length, not, IfOk, OnOk, MatchOption};
 
 use ob0_checker::decide;
-use ob0_symbols::known::Known;
-use ob0_typing::laws::fits_by_ordinal;
-use ob0_symbols::sameness::Parts;
 use ob0_reports::tell;
 use ob0_scan::{Code, Fault, Span};
 use ob0_scope::resolved::{PREDECLARED, Resolved};
+use ob0_symbols::known::Known;
+use ob0_symbols::sameness::Parts;
+use ob0_typing::laws::fits_by_ordinal;
 use ob0_values::scalar::Scalar;
 use std::alloc::{AllocError, Global};
 use std::marker::Model;

@@ -1,8 +1,8 @@
 //! Goes through declarations in text order, and says what each is from its place on.
 
-use ob0_symbols::known::Formal;
 use crate::telling::Teller;
 use crate::telling::supposed::{Formals, Meaning};
+use ob0_symbols::known::Formal;
 use ob0_tree::tree::{Block, Constant, Names, Procedure, Section, TypeDeclaration, Variables};
 use std::alloc::AllocError;
 

@@ -1,11 +1,11 @@
 //! Tells the faults of expressions, and finds their types and the values of constant ones on the same way.
 
-use ob0_symbols::operators;
-use ob0_symbols::written::number_at;
 use crate::telling::Teller;
 use crate::telling::supposed::Meaning;
-use ob0_symbols::types::{TypeId, scalar_type};
 use ob0_scan::Code;
+use ob0_symbols::operators;
+use ob0_symbols::types::{TypeId, scalar_type};
+use ob0_symbols::written::number_at;
 use ob0_tree::tree::{
     AddOperator, Designator, Expression, Factor, MultiplyOperator, Relation, Selector, Sign,
     Simple, Term,

@@ -1,9 +1,9 @@
 //! What is supposed of types and declarations while faults are told; each may be unknown, as a whole or in parts.
 
-use ob0_symbols::known::{Formal, MOST_DEPTH, MOST_SCALARS};
 use crate::telling::Teller;
-use ob0_symbols::types::TypeId;
 use ob0_scan::Code;
+use ob0_symbols::known::{Formal, MOST_DEPTH, MOST_SCALARS};
+use ob0_symbols::types::TypeId;
 use ob0_values::scalar::Scalar;
 use std::alloc::AllocError;
 use std::collections::BTreeMap;

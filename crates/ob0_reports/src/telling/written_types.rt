@@ -1,10 +1,10 @@
 //! Tells the faults of types as they are written, and finds what is known of them.
 
-use ob0_symbols::known::MOST_SCALARS;
 use crate::telling::Teller;
 use crate::telling::supposed::{Meaning, NOTHING, Parts, Size};
-use ob0_symbols::types::TypeId;
 use ob0_scan::Code;
+use ob0_symbols::known::MOST_SCALARS;
+use ob0_symbols::types::TypeId;
 use ob0_tree::tree::{ArrayType, Expression, FieldList, Fields, Names, RecordType, WrittenType};
 use ob0_values::scalar::Scalar;
 use std::alloc::AllocError;

@@ -1,13 +1,11 @@
 ;;; Drives the server from Emacs by eglot, in batch mode.  -*- lexical-binding: t -*-
-;; Variables: OB0 (the program), OB0_FILE (the file to edit), OB0_REPORT (where the findings go, a line of JSON each),
+;; It is loaded behind an init file that sets up `ob0-mode' and eglot.
+;; Variables: OB0_FILE (the file to edit), OB0_REPORT (where the findings go, a line of JSON each),
 ;; OB0_STEPS (the name of a list of steps below); what a list of steps needs besides is in OB0_GIVEN, as JSON.
-(require 'package)
-(package-initialize)
 (require 'eglot)
 (require 'flymake)
 (require 'json)
 
-(define-derived-mode ob0-mode prog-mode "Oberon-0")
 (setq eglot-sync-connect 20
       eglot-connect-timeout 20
       eglot-autoshutdown nil
@@ -116,6 +114,20 @@
   (ob0-tell "renamed" (ob0-after (lambda () (eglot-rename (alist-get 'name ob0-given)))))
   (ob0-tell "text" (ob0-text)))
 
+;; A code action as Emacs asks for it, offers it in its list, and applies it.
+(defun ob0-acting ()
+  "A code action of the title that is given is chosen of those that are offered."
+  (apply #'ob0-goto (alist-get 'place ob0-given))
+  (let* ((offered nil)
+         (last-nonmenu-event ?x)
+         (title (alist-get 'title ob0-given))
+         (choose (lambda (_prompt items &rest _) (setq offered (mapcar #'car items)) title)))
+    (ob0-tell "acted" (ob0-after (lambda ()
+                                   (cl-letf (((symbol-function 'completing-read) choose))
+                                     (eglot-code-actions (point) (point) nil t)))))
+    (ob0-tell "offered" (vconcat offered))
+    (ob0-tell "text" (ob0-text))))
+
 (defun ob0-format ()
   "A layout as Emacs asks for it and applies it, the server's own answer after that, and the same once more."
   (setq indent-tabs-mode (eq (alist-get 'spaces ob0-given) :false)
@@ -141,10 +153,10 @@
 
 (defun ob0-run ()
   "Opens the file, starts the server on it, takes the steps and ends."
-  (add-to-list 'eglot-server-programs `(ob0-mode . (,(getenv "OB0") "serve")))
   (find-file (getenv "OB0_FILE"))
-  (ob0-mode)
-  (apply #'eglot (eglot--guess-contact))
+  (unless (eq major-mode 'ob0-mode) (error "The file was taken as %s" major-mode))
+  ;; (eglot-ensure connects after the next command)
+  (run-hooks 'post-command-hook)
   (let ((server (eglot--current-server-or-lose)))
     (ob0-await "the first diagnostics" (lambda () (> ob0-published 0)))
     (ob0-tell "opened" (ob0-shown))
