@@ -58,17 +58,17 @@ def gate(timer):
     return counts
 
 
+def spent():
+    """The processors' time, in seconds, that what was run so far took."""
+    times = os.times()
+    return times.children_user + times.children_system
+
+
 def say_missing():
     """Says at once which tests will be left out, for lack of which editors and tools, and how to get them."""
     missing = [it for it in editors.TOOLS if not editors.is_here(it)]
     if missing:
         print(f"missing: {', '.join(missing)}. `make editors` installs them; without, the tests that want them are left out, by name", flush=True)
-
-
-def spent():
-    """The processors' time, in seconds, that what was run so far took."""
-    times = os.times()
-    return times.children_user + times.children_system
 
 
 def main():

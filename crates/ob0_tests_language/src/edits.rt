@@ -1,5 +1,7 @@
 //! Renamed, inlined and laid out texts, and why edits are refused.
 
+ghost use Rattle.std.specs.Prelude.{⊤};
+
 use crate::asking::{said, told};
 use ob0_analysis::{Asked, Question};
 use ob0_inline::{inline_all, inline_here};

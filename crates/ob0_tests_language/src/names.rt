@@ -1,5 +1,7 @@
 //! What is answered of the names of worked modules, and what is shown of them.
 
+ghost use Rattle.std.specs.Prelude.{⊤};
+
 use crate::asking::said;
 use ob0_analysis::Question;
 use ob0_questions::{at, definition, hover, references};

@@ -1,5 +1,7 @@
 //! What worked modules put out, and how they end.
 
+ghost use Rattle.std.specs.Prelude.{⊤};
+
 use crate::asking::said;
 use ob0_analysis::Question;
 use ob0_run::running::{End, run};
