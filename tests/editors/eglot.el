@@ -6,8 +6,8 @@
 (require 'flymake)
 (require 'json)
 
-(setq eglot-sync-connect 20
-      eglot-connect-timeout 20
+(setq eglot-sync-connect 60
+      eglot-connect-timeout 60
       eglot-autoshutdown nil
       eglot-confirm-server-initiated-edits nil
       eglot-send-changes-idle-time 0
@@ -28,7 +28,7 @@
 
 (defun ob0-await (what holds)
   "Waits for WHAT until HOLDS gives something."
-  (with-timeout (20 (error "Waited in vain for %s" what))
+  (with-timeout (60 (error "Waited in vain for %s" what))
     (while (not (funcall holds))
       (accept-process-output nil 0.01))))
 

@@ -14,7 +14,7 @@ end
 
 -- Waits until something holds.
 local function await(what, holds)
-  if not vim.wait(20000, holds, 5) then
+  if not vim.wait(60000, holds, 5) then
     error("waited in vain for " .. what)
   end
 end
