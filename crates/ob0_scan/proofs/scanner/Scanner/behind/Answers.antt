@@ -1,0 +1,19 @@
+use Rattle.std.proofs.Common.{ℕ, [], sym, subst}
+use Rattle.ob0_scan.specs.Progress.{Progress}
+use Rattle.ob0_scan.specs.Rescanning.{last_end}
+use Rattle.ob0_scan.proofs.Steps.{progress_same}
+use Rattle.ob0_scan.proofs.Reusing.{progress_behind}
+use Rattle.ob0_scan.proofs.scanner.Scanner.behind.Goals as goal
+
+pub returns-clause-under_way : goal.returns-clause-under_way
+returns-clause-under_way c =
+    let text = c.args.text.now in
+    let tokens = c.args.front.tokens.now in
+    let comments = c.args.front.comments.now in
+    let us = c.in_ok-from_slice.field-0.items in
+    let ds = c.in_ok-from_slice-2.field-0.items in
+    let gs = c.new.result.items in
+    let end = last_end tokens comments in
+    subst (λ (n : ℕ). Progress text n us ds gs) (sym c.end.ensures)
+    (progress_same text end tokens us comments ds [] gs c.in_ok-from_slice.ensures.items c.in_ok-from_slice-2.ensures.items c.new.ensures.items
+    (progress_behind text end tokens comments c.utf8.text c.requires.inside c.requires.cut))
