@@ -200,8 +200,9 @@ pub fn rescan(
         removed,
         added,
     };
-    let kept = old.pieces().ending_before(from);
-    let mut scanner = Scanner::behind(alloc, new_text, kept)?;
+    let all = old.pieces();
+    let kept = all.ending_before(from);
+    let mut scanner = Scanner::behind(alloc, new_text, kept, all)?;
     let rest = scan_on(&mut scanner, old, change)?;
     let Scanner {
         text: _,

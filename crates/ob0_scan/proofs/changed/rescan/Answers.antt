@@ -17,17 +17,17 @@ returns-then-new_text-gt-MAX_TEXT-clause-err c =
 
 pub behind-requires-clause-inside : goal.behind-requires-clause-inside
 behind-requires-clause-inside c =
-    let cut = front_cut c.args.old.now c.pieces.ensures.scan c.args.new_text.now c.args.from c.args.removed c.args.added c.requires in
-    let tokens = c.ending_before-kept.ensures.tokens ∙ ap (front_tokens c.args.from) c.pieces.ensures.tokens in
-    let comments = c.ending_before-kept.ensures.comments ∙ ap (front_comments c.args.from) c.pieces.ensures.comments in
+    let cut = front_cut c.args.old.now c.pieces-all.ensures.scan c.args.new_text.now c.args.from c.args.removed c.args.added c.requires in
+    let tokens = c.ending_before-kept.ensures.tokens ∙ ap (front_tokens c.args.from) c.pieces-all.ensures.tokens in
+    let comments = c.ending_before-kept.ensures.comments ∙ ap (front_comments c.args.from) c.pieces-all.ensures.comments in
     subst (λ n. n ≤ length c.args.new_text.now) (sym (ap₂ last_end tokens comments)) cut.0
 
 pub behind-requires-clause-cut : goal.behind-requires-clause-cut
 behind-requires-clause-cut c =
     let new = c.args.new_text.now in
-    let cut = front_cut c.args.old.now c.pieces.ensures.scan new c.args.from c.args.removed c.args.added c.requires in
-    let tokens = c.ending_before-kept.ensures.tokens ∙ ap (front_tokens c.args.from) c.pieces.ensures.tokens in
-    let comments = c.ending_before-kept.ensures.comments ∙ ap (front_comments c.args.from) c.pieces.ensures.comments in
+    let cut = front_cut c.args.old.now c.pieces-all.ensures.scan new c.args.from c.args.removed c.args.added c.requires in
+    let tokens = c.ending_before-kept.ensures.tokens ∙ ap (front_tokens c.args.from) c.pieces-all.ensures.tokens in
+    let comments = c.ending_before-kept.ensures.comments ∙ ap (front_comments c.args.from) c.pieces-all.ensures.comments in
     subst (λ (ts : List Token). IsCutTo new (last_end ts c.ending_before-kept.result.comments.now) ts c.ending_before-kept.result.comments.now) (sym tokens)
     (subst (λ (cs : List Span). IsCutTo new (last_end (front_tokens c.args.from c.args.old.now.tokens) cs) (front_tokens c.args.from c.args.old.now.tokens) cs) (sym comments) cut.1)
 
@@ -47,7 +47,7 @@ append_tokens-requires c =
     let rest = c.in_ok-rest.rest in
     let text : t.text.now ≡ new = ap (λ (x : Bor (List ℕ)). x.now) c.in_ok-rest.ensures.text ∙ c.in_ok-scanner.ensures.text in
     let none : length t.faults.items ≡ 0 = omega (arith, eqb-true _ 0 (sym c.if-not-is_empty.ensures), t.faults.ok) in
-    let end = settled old c.pieces.ensures.scan new c.args.from c.args.removed c.args.added c.requires t rest.tokens.now rest.comments.now text c.in_ok-rest.ensures.under_way none c.if-new_text-gt-MAX_TEXT.false c.in_ok-rest.ensures.met in
+    let end = settled old c.pieces-all.ensures.scan new c.args.from c.args.removed c.args.added c.requires t rest.tokens.now rest.comments.now text c.in_ok-rest.ensures.under_way none c.if-new_text-gt-MAX_TEXT.false c.in_ok-rest.ensures.met in
     end.tokens_move
 
 pub append_comments-requires : goal.append_comments-requires
@@ -58,7 +58,7 @@ append_comments-requires c =
     let rest = c.in_ok-rest.rest in
     let text : t.text.now ≡ new = ap (λ (x : Bor (List ℕ)). x.now) c.in_ok-rest.ensures.text ∙ c.in_ok-scanner.ensures.text in
     let none : length t.faults.items ≡ 0 = omega (arith, eqb-true _ 0 (sym c.if-not-is_empty.ensures), t.faults.ok) in
-    let end = settled old c.pieces.ensures.scan new c.args.from c.args.removed c.args.added c.requires t rest.tokens.now rest.comments.now text c.in_ok-rest.ensures.under_way none c.if-new_text-gt-MAX_TEXT.false c.in_ok-rest.ensures.met in
+    let end = settled old c.pieces-all.ensures.scan new c.args.from c.args.removed c.args.added c.requires t rest.tokens.now rest.comments.now text c.in_ok-rest.ensures.under_way none c.if-new_text-gt-MAX_TEXT.false c.in_ok-rest.ensures.met in
     end.comments_move
 
 pub new-tokens-requires : goal.new-tokens-requires
@@ -69,7 +69,7 @@ new-tokens-requires c =
     let rest = c.in_ok-rest.rest in
     let text : t.text.now ≡ new = ap (λ (x : Bor (List ℕ)). x.now) c.in_ok-rest.ensures.text ∙ c.in_ok-scanner.ensures.text in
     let none : length t.faults.items ≡ 0 = omega (arith, eqb-true _ 0 (sym c.if-not-is_empty.ensures), t.faults.ok) in
-    let end = settled old c.pieces.ensures.scan new c.args.from c.args.removed c.args.added c.requires t rest.tokens.now rest.comments.now text c.in_ok-rest.ensures.under_way none c.if-new_text-gt-MAX_TEXT.false c.in_ok-rest.ensures.met in
+    let end = settled old c.pieces-all.ensures.scan new c.args.from c.args.removed c.args.added c.requires t rest.tokens.now rest.comments.now text c.in_ok-rest.ensures.under_way none c.if-new_text-gt-MAX_TEXT.false c.in_ok-rest.ensures.met in
     end.scan _ _ _ c.in_ok-from_str.ensures.ok c.in_ok-append_tokens.ensures c.in_ok-append_comments.ensures
 
 pub returns-clause-reused : goal.returns-clause-reused
@@ -80,10 +80,10 @@ returns-clause-reused c =
     let rest = c.in_ok-rest.rest in
     let text : t.text.now ≡ new = ap (λ (x : Bor (List ℕ)). x.now) c.in_ok-rest.ensures.text ∙ c.in_ok-scanner.ensures.text in
     let none : length t.faults.items ≡ 0 = omega (arith, eqb-true _ 0 (sym c.if-not-is_empty.ensures), t.faults.ok) in
-    let end = settled old c.pieces.ensures.scan new c.args.from c.args.removed c.args.added c.requires t rest.tokens.now rest.comments.now text c.in_ok-rest.ensures.under_way none c.if-new_text-gt-MAX_TEXT.false c.in_ok-rest.ensures.met in
+    let end = settled old c.pieces-all.ensures.scan new c.args.from c.args.removed c.args.added c.requires t rest.tokens.now rest.comments.now text c.in_ok-rest.ensures.under_way none c.if-new_text-gt-MAX_TEXT.false c.in_ok-rest.ensures.met in
     let s = c.in_ok-scanner.scanner in
-    let tokens = c.in_ok-scanner.ensures.tokens ∙ c.ending_before-kept.ensures.tokens ∙ ap (front_tokens c.args.from) c.pieces.ensures.tokens in
-    let comments = c.in_ok-scanner.ensures.comments ∙ c.ending_before-kept.ensures.comments ∙ ap (front_comments c.args.from) c.pieces.ensures.comments in
+    let tokens = c.in_ok-scanner.ensures.tokens ∙ c.ending_before-kept.ensures.tokens ∙ ap (front_tokens c.args.from) c.pieces-all.ensures.tokens in
+    let comments = c.in_ok-scanner.ensures.comments ∙ c.ending_before-kept.ensures.comments ∙ ap (front_comments c.args.from) c.pieces-all.ensures.comments in
     reused old c.new-tokens.result c.args.from c.args.removed c.args.added s t rest.tokens.now rest.comments.now (length new) tokens comments (c.in_ok-rest.ensures.reads none) end.met
     (ap (λ (v : Scanned). v.tokens) c.new-tokens.ensures ∙ c.in_ok-append_tokens.ensures)
     (ap (λ (v : Scanned). v.comments) c.new-tokens.ensures ∙ c.in_ok-append_comments.ensures)
