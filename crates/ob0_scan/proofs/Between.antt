@@ -1,0 +1,150 @@
+-- What is read anew between the tokens and comments that are taken over.
+use Rattle.std.proofs.Common.{◌≡◌, ℕ, ◌+◌, ◌-◌, ◌≤◌, Bool, true, false, ◌||◌, List, [], ◌∷◌, ◌++◌, length, map, refl, sym, ap, ap₂, ◌∙◌, subst, arith, ◌⊎◌, inl, inr, ⊎_elim, append_assoc, append-nil, length-append, length-drop}
+use Rattle.std.specs.List.{All}
+use Rattle.std.proofs.lemmas.List.Elements.{All-nil, All-same, All-append, All-drop}
+use Rattle.ob0_scan.specs.declared.lexeme.Span.{Span}
+use Rattle.ob0_scan.specs.declared.lexeme.Token.{Token}
+use Rattle.ob0_scan.specs.declared.scanner.Scanner.{Scanner}
+use Rattle.ob0_scan.specs.Scanned.{Scanned, IsScan, max_text, span_from, token_at, comment_at, tokens_from, comments_from}
+use Rattle.ob0_scan.specs.Reused.{IsReplaced, NoneBegins, IsNew, Reuses, moved, moved_token, front_tokens, front_comments, back_tokens, back_comments}
+use Rattle.ob0_scan.specs.Rescanning.{token_begins, comment_begins, IsMovable, TakesOne, ReadsOn, IsMet}
+use Rattle.ob0_scan.specs.Progress.{Progress}
+use Rattle.ob0_scan.specs.UnderWay.{IsUnderWay}
+use Rattle.ob0_scan.proofs.Spans.{token_with, comment_with}
+use Rattle.ob0_scan.proofs.Standing.{of_tokens, of_comments, full, Ascending, ascending, first_at, none_at, at_first, Border, begin_at_borders}
+use Rattle.ob0_scan.proofs.Reusing.{end_border, none_behind, finished, movable}
+
+either_false : (a b : Bool) → (a || b) ≡ false → (a ≡ false) × (b ≡ false)
+either_false true b e = cc
+either_false false b e = (refl, e)
+
+either_true : (a b : Bool) → (a || b) ≡ true → (a ≡ true) ⊎ (b ≡ true)
+either_true true b e = inl refl
+either_true false b e = inr e
+
+token_first : (place : ℕ) (ts : List Token) → token_begins place ts ≡ first_at (λ (t : Token). t.span.start) place ts
+token_first place [] = refl
+token_first place (t ∷ ts) = refl
+
+comment_first : (place : ℕ) (cs : List Span) → comment_begins place cs ≡ first_at (λ (c : Span). c.start) place cs
+comment_first place [] = refl
+comment_first place (c ∷ cs) = refl
+
+pub reads_none : (old : Scanned) (from removed added : ℕ) (s : Scanner) → ReadsOn old from removed added s s
+reads_none old from removed added s = record {
+  tokens = [];
+  comments = [];
+  tokens_are = sym (append-nil s.tokens.items);
+  comments_are = sym (append-nil s.comments.items);
+  tokens_new = All-nil (λ (t : Token). IsNew old from removed added t.span);
+  comments_new = All-nil (λ (c : Span). IsNew old from removed added c);
+}
+
+pub reads_more : (old : Scanned) (from removed added : ℕ) (s t u : Scanner) → ReadsOn old from removed added s t → TakesOne t u → (from + added ≤ t.at → NoneBegins old (t.at + removed - added)) → ReadsOn old from removed added s u
+reads_more old from removed added s t u r w new =
+    let place = span_from t.at w.len in
+    record {
+      tokens = r.tokens ++ token_at w.kind place;
+      comments = r.comments ++ comment_at w.kind place;
+      tokens_are = w.tokens ∙ ap (λ x. x ++ token_at w.kind place) r.tokens_are ∙ append_assoc s.tokens.items r.tokens (token_at w.kind place);
+      comments_are = w.comments ∙ ap (λ x. x ++ comment_at w.kind place) r.comments_are ∙ append_assoc s.comments.items r.comments (comment_at w.kind place);
+      tokens_new = All-append (λ (x : Token). IsNew old from removed added x.span) r.tokens (token_at w.kind place) r.tokens_new (token_with (λ (x : Token). IsNew old from removed added x.span) w.kind place (λ kind. new));
+      comments_new = All-append (λ (x : Span). IsNew old from removed added x) r.comments (comment_at w.kind place) r.comments_new (comment_with (λ (x : Span). IsNew old from removed added x) w.kind place new);
+    }
+
+module _ (old : Scanned) (o : IsScan old) where
+  pub none_begins : (place : ℕ) → (token_begins place (back_tokens place old.tokens) || comment_begins place (back_comments place old.comments)) ≡ false → NoneBegins old place
+  none_begins place e =
+      let parts = either_false (token_begins place (back_tokens place old.tokens)) (comment_begins place (back_comments place old.comments)) e in
+      let some = full o.lexemes [] o.lexed.each in
+      record {
+        tokens = none_at (λ (t : Token). t.span.start) place old.tokens (subst (Ascending (λ (t : Token). t.span.start)) (sym o.tokens) (ascending of_tokens 0 o.lexemes some)) (sym (token_first place (back_tokens place old.tokens)) ∙ parts.0);
+        comments = none_at (λ (c : Span). c.start) place old.comments (subst (Ascending (λ (c : Span). c.start)) (sym o.comments) (ascending of_comments 0 o.lexemes some)) (sym (comment_first place (back_comments place old.comments)) ∙ parts.1);
+      }
+
+  token_border : (place : ℕ) → token_begins place (back_tokens place old.tokens) ≡ true → Border 0 o.lexemes place
+  token_border place e = at_first (λ (t : Token). t.span.start) (Border 0 o.lexemes) place (back_tokens place old.tokens) (sym (token_first place (back_tokens place old.tokens)) ∙ e)
+      (All-drop (λ (t : Token). Border 0 o.lexemes t.span.start) _ old.tokens (All-same (λ (t : Token). Border 0 o.lexemes t.span.start) old.tokens (tokens_from 0 o.lexemes) o.tokens (begin_at_borders of_tokens 0 o.lexemes)))
+
+  comment_border : (place : ℕ) → comment_begins place (back_comments place old.comments) ≡ true → Border 0 o.lexemes place
+  comment_border place e = at_first (λ (c : Span). c.start) (Border 0 o.lexemes) place (back_comments place old.comments) (sym (comment_first place (back_comments place old.comments)) ∙ e)
+      (All-drop (λ (c : Span). Border 0 o.lexemes c.start) _ old.comments (All-same (λ (c : Span). Border 0 o.lexemes c.start) old.comments (comments_from 0 o.lexemes) o.comments (begin_at_borders of_comments 0 o.lexemes)))
+
+  module _ (new : List ℕ) (from removed added : ℕ) (r : IsReplaced old.text new from removed added) where
+    -- the end of the new text was the end of the old one
+    pub end_place : (at : ℕ) → at ≡ length new → at + removed - added ≡ length old.text
+    end_place at e =
+        let same : length old.text - (from + removed) ≡ length new - (from + added) = sym (length-drop (from + removed) old.text) ∙ ap length r.behind ∙ length-drop (from + added) new in
+        omega (arith, same, r.inside_old, r.inside_new)
+
+    pub end_met : (at : ℕ) → at ≡ length new → IsMet old (length new) from removed added at [] []
+    end_met at e =
+        let place = end_place at e in
+        let none = none_behind old o new from removed added r in
+        record {
+          behind = omega (arith, r.inside_new);
+          tokens_are = sym (ap (λ p. back_tokens p old.tokens) place ∙ none.0);
+          comments_are = sym (ap (λ p. back_comments p old.comments) place ∙ none.1);
+          border = inl e;
+        }
+
+    pub met_border : (at : ℕ) (tokens : List Token) (comments : List Span) → IsMet old (length new) from removed added at tokens comments → Border 0 o.lexemes (at + removed - added)
+    met_border at tokens comments m = ⊎_elim
+        (λ end. subst (Border 0 o.lexemes) (sym (end_place at end)) (end_border old o new from removed added r))
+        (λ begins. ⊎_elim
+        (λ token. token_border (at + removed - added) token)
+        (λ comment. comment_border (at + removed - added) comment)
+        (either_true (token_begins (at + removed - added) (back_tokens (at + removed - added) old.tokens)) (comment_begins (at + removed - added) (back_comments (at + removed - added) old.comments))
+        (ap₂ (λ ts cs. token_begins (at + removed - added) ts || comment_begins (at + removed - added) cs) (sym m.tokens_are) (sym m.comments_are) ∙ begins)))
+        m.border
+
+-- what was kept, read and taken over
+pub reused : (old new : Scanned) (from removed added : ℕ) (s t : Scanner) (tokens : List Token) (comments : List Span) (end : ℕ) → s.tokens.items ≡ front_tokens from old.tokens → s.comments.items ≡ front_comments from old.comments
+    → ReadsOn old from removed added s t → IsMet old end from removed added t.at tokens comments
+    → new.tokens ≡ t.tokens.items ++ map (moved_token removed added) tokens → new.comments ≡ t.comments.items ++ map (moved removed added) comments
+    → (read : ℕ) → read ≡ (length t.tokens.items - length s.tokens.items) + (length t.comments.items - length s.comments.items) → Reuses old new from removed added read
+reused old new from removed added s t tokens comments end st sc r m et ec read e =
+    let long_tokens : length t.tokens.items ≡ length s.tokens.items + length r.tokens = ap length r.tokens_are ∙ length-append s.tokens.items r.tokens in
+    let long_comments : length t.comments.items ≡ length s.comments.items + length r.comments = ap length r.comments_are ∙ length-append s.comments.items r.comments in
+    record {
+      place = t.at + removed - added;
+      behind = omega (arith, m.behind);
+      tokens_between = r.tokens;
+      comments_between = r.comments;
+      tokens = et ∙ ap₂ (λ x y. x ++ map (moved_token removed added) y) (r.tokens_are ∙ ap (λ x. x ++ r.tokens) st) m.tokens_are;
+      comments = ec ∙ ap₂ (λ x y. x ++ map (moved removed added) y) (r.comments_are ∙ ap (λ x. x ++ r.comments) sc) m.comments_are;
+      read_are = omega (arith, e, long_tokens, long_comments);
+      tokens_new = r.tokens_new;
+      comments_new = r.comments_new;
+    }
+
+-- what holds of a scanner that stopped without a fault, and of the old tokens and comments that are left
+pub record Settled (old : Scanned) (new : List ℕ) (from removed added : ℕ) (t : Scanner) (tokens : List Token) (comments : List Span) : Type 0 where
+  pub met : IsMet old (length new) from removed added t.at tokens comments
+  pub tokens_move : All (λ (x : Token). IsMovable removed added x.span) tokens
+  pub comments_move : All (λ (x : Span). IsMovable removed added x) comments
+  pub scan : (text : List ℕ) (us : List Token) (ds : List Span) → text ≡ new → us ≡ t.tokens.items ++ map (moved_token removed added) tokens → ds ≡ t.comments.items ++ map (moved removed added) comments → IsScan (record { text = text; tokens = us; comments = ds })
+
+abbrev make_scan : List ℕ → List Token → List Span → Scanned
+make_scan text tokens comments = record { text = text; tokens = tokens; comments = comments }
+
+pub settled : (old : Scanned) (o : IsScan old) (new : List ℕ) (from removed added : ℕ) (r : IsReplaced old.text new from removed added) (t : Scanner) (tokens : List Token) (comments : List Span) → t.text.now ≡ new → IsUnderWay t → length t.faults.items ≡ 0 → length new ≤ max_text
+    → (length t.faults.items ≡ 0 → IsMet old (length t.text.now) from removed added t.at tokens comments) → Settled old new from removed added t tokens comments
+settled old o new from removed added r t tokens comments text under none short found =
+    let met : IsMet old (length new) from removed added t.at tokens comments = subst (λ x. IsMet old (length x) from removed added t.at tokens comments) text (found none) in
+    let p : Progress new t.at t.tokens.items t.comments.items t.faults.items = subst (λ x. Progress x t.at t.tokens.items t.comments.items t.faults.items) text under in
+    let place : ℕ = t.at + removed - added in
+    let border = met_border old o new from removed added r t.at tokens comments met in
+    let low : removed ≤ place = omega (arith, met.behind) in
+    let same : t.at + removed ≡ place + added = omega (arith, met.behind) in
+    let move = movable old o new from removed added r place short low border in
+    let whole = finished old o new from removed added r t.at place t.tokens.items t.comments.items p.utf8 short p.place.0 met.behind same (p.cut none) border in
+    record {
+      met = met;
+      tokens_move = All-same (λ (x : Token). IsMovable removed added x.span) tokens (back_tokens place old.tokens) met.tokens_are move.0;
+      comments_move = All-same (λ (x : Span). IsMovable removed added x) comments (back_comments place old.comments) met.comments_are move.1;
+      scan = λ x us ds ex et ec.
+          subst (λ y. IsScan (make_scan y us ds)) (sym ex)
+          (subst (λ y. IsScan (make_scan new y ds)) (sym (et ∙ ap (λ y. t.tokens.items ++ map (moved_token removed added) y) met.tokens_are))
+          (subst (λ y. IsScan (make_scan new (t.tokens.items ++ map (moved_token removed added) (back_tokens place old.tokens)) y)) (sym (ec ∙ ap (λ y. t.comments.items ++ map (moved removed added) y) met.comments_are)) whole));
+    }

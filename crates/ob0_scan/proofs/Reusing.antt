@@ -1,0 +1,187 @@
+-- What stands in front of a change and behind it has the lexemes that it had.
+use Rattle.std.proofs.Common.{◌≡◌, ℕ, ◌+◌, ◌-◌, ◌<◌, ◌≤◌, List, [], ◌∷◌, ◌++◌, length, map, get_or, take, drop, refl, sym, ap, ap₂, ◌∙◌, subst, arith, ⊎_elim, append_assoc, append-nil, length-append, length-take-le, take-append-drop, drop_at, take_at, drop-drop, get_or-take, get_or-drop, add-zero, IsUtf8, IsCharBoundary}
+use Rattle.std.specs.List.{All}
+use Rattle.std.proofs.lemmas.List.{take-append-le}
+use Rattle.std.proofs.lemmas.List.Elements.{All-nil, All-same, All-weaker}
+use Rattle.std.proofs.lemmas.Str.{IsCharBoundary-start}
+use Rattle.ob0_scan.specs.declared.lexeme.Span.{Span}
+use Rattle.ob0_scan.specs.declared.lexeme.Token.{Token}
+use Rattle.ob0_scan.specs.declared.fault.Fault.{Fault}
+use Rattle.ob0_scan.specs.Lexed.{Lexeme, joined, IsFirst, AreLexemes}
+use Rattle.ob0_scan.specs.Ends.{EndsBefore}
+use Rattle.ob0_scan.specs.Scanned.{tokens_from, comments_from, IsRangeOf, Scanned, IsScan, max_text}
+use Rattle.ob0_scan.specs.Faults.{FaultsFrom, lexeme}
+use Rattle.ob0_scan.specs.Progress.{IsCutTo, Progress}
+use Rattle.ob0_scan.specs.Reused.{IsReplaced, moved, moved_token, front_tokens, front_comments, back_tokens, back_comments}
+use Rattle.ob0_scan.specs.Rescanning.{last_end, IsMovable}
+use Rattle.ob0_scan.proofs.Borders.{first_from_end, end_from_first}
+use Rattle.ob0_scan.proofs.Spans.{StandFrom, next_from}
+use Rattle.ob0_scan.proofs.Standing.{of_tokens, of_comments, Full, full, full_parts, Lies, lies, all-append, back_split, front_split, Border, tokens_moved, comments_moved}
+use Rattle.ob0_scan.proofs.Fronts.{find_front, front_end}
+
+pub joined_append : (xs ys : List Lexeme) → joined (xs ++ ys) ≡ joined xs ++ joined ys
+joined_append [] ys = refl
+joined_append (x ∷ xs) ys = ap (λ t. x.text ++ t) (joined_append xs ys) ∙ sym (append_assoc x.text (joined xs) (joined ys))
+
+first_byte : (w a b : List ℕ) → get_or a 0 0 ≡ get_or b 0 0 → get_or (w ++ a) 0 0 ≡ get_or (w ++ b) 0 0
+first_byte [] a b e = e
+first_byte (x ∷ w) a b e = refl
+
+-- lexemes depend on the one byte behind them
+same_behind : (ls : List Lexeme) (a b : List ℕ) → get_or a 0 0 ≡ get_or b 0 0 → AreLexemes ls a → AreLexemes ls b
+same_behind [] a b e f = tt
+same_behind (l ∷ ls) a b e f =
+    (first_from_end l (joined ls ++ b) (subst (EndsBefore l) (first_byte (joined ls) a b e) (end_from_first l (joined ls ++ a) f.0)), same_behind ls a b e f.1)
+
+stay : (ls : List Lexeme) (a b : List ℕ) → (0 < length ls → get_or a 0 0 ≡ get_or b 0 0) → AreLexemes ls a → AreLexemes ls b
+stay [] a b e f = tt
+stay (l ∷ ls) a b e f = same_behind (l ∷ ls) a b (e (omega arith)) f
+
+lexemes_parts : (xs ys : List Lexeme) (after : List ℕ) → AreLexemes (xs ++ ys) after → AreLexemes xs (joined ys ++ after) × AreLexemes ys after
+lexemes_parts [] ys after f = (tt, f)
+lexemes_parts (x ∷ xs) ys after f =
+    let more = lexemes_parts xs ys after f.1 in
+    ((subst (IsFirst x) (ap (λ t. t ++ after) (joined_append xs ys) ∙ append_assoc (joined xs) (joined ys) after) f.0, more.0), more.1)
+
+lexemes_append : (xs ys : List Lexeme) (after : List ℕ) → AreLexemes xs (joined ys ++ after) → AreLexemes ys after → AreLexemes (xs ++ ys) after
+lexemes_append [] ys after f g = g
+lexemes_append (x ∷ xs) ys after f g =
+    (subst (IsFirst x) (sym (ap (λ t. t ++ after) (joined_append xs ys) ∙ append_assoc (joined xs) (joined ys) after)) f.0, lexemes_append xs ys after f.1 g)
+
+shorter_front : (n m : ℕ) (xs ys : List ℕ) → n ≤ m → m ≤ length xs → m ≤ length ys → take m xs ≡ take m ys → take n xs ≡ take n ys
+shorter_front n m xs ys less hx hy e =
+    let lx = length-take-le m xs hx in
+    let ly = length-take-le m ys hy in
+    ap (take n) (sym (take-append-drop m xs))
+    ∙ take-append-le n (take m xs) (drop m xs) (omega arith)
+    ∙ ap (take n) e
+    ∙ sym (take-append-le n (take m ys) (drop m ys) (omega arith))
+    ∙ ap (take n) (take-append-drop m ys)
+
+-- a text that is cut up to a place is cut there between characters
+boundary_behind : (text : List ℕ) (s : ℕ) (ls : List Lexeme) (after : List ℕ) → StandFrom text s ls after → IsCharBoundary text (s + length (joined ls))
+boundary_behind text s [] after h = subst (IsCharBoundary text) (sym (add-zero s)) h.place
+boundary_behind text s (l ∷ ls) after h =
+    let place : s + length l.text + length (joined ls) ≡ s + length (joined (l ∷ ls)) = omega (arith, length-append l.text (joined ls)) in
+    subst (IsCharBoundary text) place (boundary_behind text (s + length l.text) ls after (next_from text s l ls after h))
+
+told_behind : {room : ℕ} {faults : List Fault} (s : ℕ) (text : List ℕ) (ls : List Lexeme) (after : List ℕ) → AreLexemes ls after → text ≡ joined ls ++ after → FaultsFrom room (s + length (joined ls)) after faults → FaultsFrom room s text faults
+told_behind {room = room} {faults = faults} s text [] after f e h = subst (λ t. FaultsFrom room s t faults) (sym e) (subst (λ n. FaultsFrom room n after faults) (add-zero s) h)
+told_behind {room = room} {faults = faults} s text (l ∷ ls) after f e h =
+    let place : s + length (joined (l ∷ ls)) ≡ s + length l.text + length (joined ls) = omega (arith, length-append l.text (joined ls)) in
+    lexeme l (joined ls ++ after) f.0 (e ∙ append_assoc l.text (joined ls) after)
+    (told_behind (s + length l.text) (joined ls ++ after) ls after f.1 refl (subst (λ n. FaultsFrom room n after faults) place h))
+
+-- a scanner may begin behind what is cut already
+pub progress_behind : (text : List ℕ) (at : ℕ) (tokens : List Token) (comments : List Span) → IsUtf8 text → at ≤ length text → IsCutTo text at tokens comments → Progress text at tokens comments []
+progress_behind text at tokens comments utf8 inside cut =
+    let whole : joined cut.lexemes ++ drop at text ≡ text = ap (λ t. t ++ drop at text) cut.front ∙ take-append-drop at text in
+    let place : 0 + length (joined cut.lexemes) ≡ at = omega (arith, ap length cut.front, length-take-le at text inside) in
+    record {
+      utf8 = utf8;
+      place = subst (IsCharBoundary text) place (boundary_behind text 0 cut.lexemes (drop at text) (record { utf8 = utf8; place = IsCharBoundary-start text utf8; each = cut.each; rest = sym whole }));
+      few = omega arith;
+      room = λ more. omega arith;
+      ranges = All-nil (λ (fault : Fault). IsRangeOf text fault.span);
+      told = λ more h. told_behind 0 text cut.lexemes (drop at text) cut.each (sym whole) (subst (λ n. FaultsFrom 100 n (drop at text) more) (sym place) h);
+      cut = λ none. cut;
+      uncut = λ some. absurd (omega (arith, some));
+    }
+
+module _ (old : Scanned) (o : IsScan old) (new : List ℕ) (from removed added : ℕ) (r : IsReplaced old.text new from removed added) where
+  some_each : Full o.lexemes
+  some_each = full o.lexemes [] o.lexed.each
+
+  -- The tokens and comments that end before the change are those of the new text up to where the last of them ends.
+  pub front_cut : (last_end (front_tokens from old.tokens) (front_comments from old.comments) ≤ length new) × IsCutTo new (last_end (front_tokens from old.tokens) (front_comments from old.comments)) (front_tokens from old.tokens) (front_comments from old.comments)
+  front_cut =
+      let f = find_front from 0 o.lexemes some_each in
+      let parts = full_parts f.front f.back (subst Full f.split some_each) in
+      let each = lexemes_parts f.front f.back [] (subst (λ t. AreLexemes t []) f.split o.lexed.each) in
+      let whole : joined f.front ++ joined f.back ≡ old.text = sym (joined_append f.front f.back) ∙ ap joined (sym f.split) ∙ o.lexed.whole in
+      let long : length (joined f.front) ≡ f.at = omega (arith, f.at_is) in
+      let close : f.at ≤ from = ⊎_elim (λ e. omega (arith, long, ap (λ t. length (joined t)) e)) (λ last. omega (arith, f.near (omega (arith, ap length last.are, length-append last.init (last.last ∷ []))))) f.shape in
+      let tokens : front_tokens from old.tokens ≡ tokens_from 0 f.front = ap (front_tokens from) (o.tokens ∙ ap (tokens_from 0) f.split) ∙ front_split of_tokens 0 f.at from f.front f.back parts.0 (λ h. subst (λ n. n < from) (sym f.at_is) (f.near h)) f.at_is f.tokens_done in
+      let comments : front_comments from old.comments ≡ comments_from 0 f.front = ap (front_comments from) (o.comments ∙ ap (comments_from 0) f.split) ∙ front_split of_comments 0 f.at from f.front f.back parts.0 (λ h. subst (λ n. n < from) (sym f.at_is) (f.near h)) f.at_is f.comments_done in
+      let ends : last_end (front_tokens from old.tokens) (front_comments from old.comments) ≡ f.at = ap₂ last_end tokens comments ∙ front_end f.front parts.0 f.shape ∙ long in
+      let behind : drop f.at old.text ≡ joined f.back = ap (drop f.at) (sym whole) ∙ drop_at (joined f.front) (joined f.back) f.at long in
+      let same : 0 < length f.front → get_or (joined f.back ++ []) 0 0 ≡ get_or (drop f.at new) 0 0 = λ some.
+      ap (λ t. get_or t 0 0) (append-nil (joined f.back) ∙ sym behind)
+      ∙ get_or-drop f.at old.text 0 0
+      ∙ sym (get_or-take from old.text (f.at + 0) 0 (omega (arith, f.near some)))
+      ∙ ap (λ t. get_or t (f.at + 0) 0) r.front
+      ∙ get_or-take from new (f.at + 0) 0 (omega (arith, f.near some))
+      ∙ sym (get_or-drop f.at new 0 0) in (
+        omega (arith, ends, close, r.inside_new),
+        record {
+          lexemes = f.front;
+          each = subst (λ n. AreLexemes f.front (drop n new)) (sym ends) (stay f.front (joined f.back ++ []) (drop f.at new) same each.0);
+          front = sym (take_at (joined f.front) (joined f.back) f.at long) ∙ ap (take f.at) whole ∙ shorter_front f.at from old.text new close (omega (arith, r.inside_old)) (omega (arith, r.inside_new)) r.front ∙ ap (λ n. take n new) (sym ends);
+          tokens_are = tokens;
+          comments_are = comments;
+        },
+      )
+
+  -- what stands behind a place behind the change is what stood behind the place that it was
+  same_rest : (at p : ℕ) → from + added ≤ at → at + removed ≡ p + added → drop at new ≡ drop p old.text
+  same_rest at p behind e =
+      let k : ℕ = at - (from + added) in
+      let here : from + added + k ≡ at = omega arith in
+      let there : from + removed + k ≡ p = omega arith in
+      ap (λ n. drop n new) (sym here) ∙ sym (drop-drop k (from + added) new) ∙ ap (drop k) (sym r.behind) ∙ drop-drop k (from + removed) old.text ∙ ap (λ n. drop n old.text) there
+
+  -- the lexemes behind a place of the old text
+  border_facts : (p : ℕ) (b : Border 0 o.lexemes p) → (joined b.back ≡ drop p old.text) × AreLexemes b.back [] × (back_tokens p old.tokens ≡ tokens_from p b.back) × (back_comments p old.comments ≡ comments_from p b.back) × Full b.back
+  border_facts p b =
+      let parts = full_parts b.front b.back (subst Full b.split some_each) in
+      let each = lexemes_parts b.front b.back [] (subst (λ t. AreLexemes t []) b.split o.lexed.each) in
+      let whole : joined b.front ++ joined b.back ≡ old.text = sym (joined_append b.front b.back) ∙ ap joined (sym b.split) ∙ o.lexed.whole in (
+        sym (drop_at (joined b.front) (joined b.back) p (omega (arith, b.at))) ∙ ap (drop p) whole,
+        each.1,
+        ap (back_tokens p) (o.tokens ∙ ap (tokens_from 0) b.split) ∙ back_split of_tokens 0 p b.front b.back parts.0 parts.1 b.at,
+        ap (back_comments p) (o.comments ∙ ap (comments_from 0) b.split) ∙ back_split of_comments 0 p b.front b.back parts.0 parts.1 b.at,
+        parts.1,
+      )
+
+  -- a scan that stopped at a border of the old text goes on with what the old text had there
+  pub finished : (at p : ℕ) (tokens : List Token) (comments : List Span) → IsUtf8 new → length new ≤ max_text → at ≤ length new → from + added ≤ at → at + removed ≡ p + added → IsCutTo new at tokens comments → Border 0 o.lexemes p
+      → IsScan (record { text = new; tokens = tokens ++ map (moved_token removed added) (back_tokens p old.tokens); comments = comments ++ map (moved removed added) (back_comments p old.comments) })
+  finished at p tokens comments utf8 short inside behind e cut b =
+      let facts = border_facts p b in
+      let rest : joined b.back ≡ drop at new = facts.0 ∙ sym (same_rest at p behind e) in
+      let place : 0 + length (joined cut.lexemes) ≡ at = omega (arith, ap length cut.front, length-take-le at new inside) in
+      let low : removed ≤ p = omega arith in
+      record {
+        utf8 = utf8;
+        short = short;
+        lexemes = cut.lexemes ++ b.back;
+        lexed = record {
+          whole = joined_append cut.lexemes b.back ∙ ap₂ (λ x y. x ++ y) cut.front rest ∙ take-append-drop at new;
+          each = lexemes_append cut.lexemes b.back [] (subst (AreLexemes cut.lexemes) (sym rest ∙ sym (append-nil (joined b.back))) cut.each) facts.1;
+        };
+        tokens = ap₂ (λ x y. x ++ y) cut.tokens_are (ap (map (moved_token removed added)) facts.2 ∙ sym (tokens_moved removed added at p b.back e low) ∙ ap (λ n. tokens_from n b.back) (sym place)) ∙ sym (all-append of_tokens 0 cut.lexemes b.back);
+        comments = ap₂ (λ x y. x ++ y) cut.comments_are (ap (map (moved removed added)) facts.3 ∙ sym (comments_moved removed added at p b.back e low) ∙ ap (λ n. comments_from n b.back) (sym place)) ∙ sym (all-append of_comments 0 cut.lexemes b.back);
+      }
+
+  movable_lies : (p q : ℕ) (s : Span) → removed ≤ p → q ≤ max_text → length new ≤ max_text → Lies p q s → IsMovable removed added s
+  movable_lies p q s low most short w = record { behind = omega (arith, w.starts); ordered = omega (arith, w.some); small = omega (arith, w.ends, r.inside_new) }
+
+  pub movable : (p : ℕ) → length new ≤ max_text → removed ≤ p → Border 0 o.lexemes p → All (λ (t : Token). IsMovable removed added t.span) (back_tokens p old.tokens) × All (λ (c : Span). IsMovable removed added c) (back_comments p old.comments)
+  movable p short low b =
+      let facts = border_facts p b in
+      let whole : length (joined b.front) + length (joined b.back) ≡ length old.text = sym (length-append (joined b.front) (joined b.back)) ∙ ap length (sym (joined_append b.front b.back) ∙ ap joined (sym b.split) ∙ o.lexed.whole) in
+      let most : p + length (joined b.back) ≤ max_text = omega (arith, b.at, whole, o.short) in
+      let q : ℕ = p + length (joined b.back) in (
+        All-same (λ (t : Token). IsMovable removed added t.span) (back_tokens p old.tokens) (tokens_from p b.back) facts.2
+            (All-weaker (λ (t : Token). Lies p q t.span) (λ (t : Token). IsMovable removed added t.span) (λ t w. movable_lies p q t.span low most short w) (tokens_from p b.back) (lies of_tokens p b.back facts.4)),
+        All-same (λ (c : Span). IsMovable removed added c) (back_comments p old.comments) (comments_from p b.back) facts.3
+            (All-weaker (λ (c : Span). Lies p q c) (λ (c : Span). IsMovable removed added c) (λ c w. movable_lies p q c low most short w) (comments_from p b.back) (lies of_comments p b.back facts.4)),
+      )
+
+  -- the end of the old text
+  pub end_border : Border 0 o.lexemes (length old.text)
+  end_border = record { front = o.lexemes; back = []; split = sym (append-nil o.lexemes); at = omega (arith, ap length o.lexed.whole) }
+
+  pub none_behind : (back_tokens (length old.text) old.tokens ≡ []) × (back_comments (length old.text) old.comments ≡ [])
+  unfolding end_border
+  none_behind = let facts = border_facts (length old.text) end_border in (facts.2, facts.3)

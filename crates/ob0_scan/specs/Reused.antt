@@ -1,0 +1,57 @@
+-- What a scan of a changed text takes over from the scan of the text before.
+use Rattle.std.specs.Prelude.{◌≡◌, ◌≢◌, ℕ, ◌+◌, ◌-◌, ◌≤◌, List, ◌++◌, length, map, take, drop, nat_lt}
+use Rattle.std.specs.List.{All, prefix_len}
+use Rattle.ob0_scan.specs.declared.lexeme.Span.{Span}
+use Rattle.ob0_scan.specs.declared.lexeme.Token.{Token}
+use Rattle.ob0_scan.specs.Scanned.{Scanned}
+
+-- So many bytes of the old text from a place on gave way to so many others: the new one is as the old in front of them and behind them.
+pub record IsReplaced (old new : List ℕ) (from removed added : ℕ) : Type 0 where
+  pub inside_old : from + removed ≤ length old
+  pub inside_new : from + added ≤ length new
+  pub front : take from old ≡ take from new
+  pub behind : drop (from + removed) old ≡ drop (from + added) new
+
+-- a span behind the change is moved by what was added less what was removed
+abbrev pub moved : ℕ → ℕ → Span → Span
+moved removed added span = record { start = span.start + added - removed; end = span.end + added - removed }
+
+abbrev pub moved_token : ℕ → ℕ → Token → Token
+moved_token removed added token = record { kind = token.kind; span = moved removed added token.span }
+
+-- the tokens in front that end before a place, and the comments
+abbrev pub front_tokens : ℕ → List Token → List Token
+front_tokens place tokens = take (prefix_len (λ t. nat_lt t.span.end place) tokens) tokens
+
+abbrev pub front_comments : ℕ → List Span → List Span
+front_comments place comments = take (prefix_len (λ c. nat_lt c.end place) comments) comments
+
+-- the tokens from the first on that doesn't begin before a place, and the comments
+abbrev pub back_tokens : ℕ → List Token → List Token
+back_tokens place tokens = drop (prefix_len (λ t. nat_lt t.span.start place) tokens) tokens
+
+abbrev pub back_comments : ℕ → List Span → List Span
+back_comments place comments = drop (prefix_len (λ c. nat_lt c.start place) comments) comments
+
+-- no token and no comment of a text begins at a place
+pub record NoneBegins (s : Scanned) (place : ℕ) : Type 0 where
+  pub tokens : All (λ (t : Token). t.span.start ≢ place) s.tokens
+  pub comments : All (λ (c : Span). c.start ≢ place) s.comments
+
+-- Behind the change, no old token or comment began where this begins.
+abbrev pub IsNew : Scanned → ℕ → ℕ → ℕ → Span → Type 0
+IsNew old from removed added span = from + added ≤ span.start → NoneBegins old (span.start + removed - added)
+
+-- Of the tokens and comments of a changed text, the first are the old ones that end before the change, and the last are old ones behind it,
+-- moved. As many as told lie between: of these, none behind the change begins where an old one began. So the last begin
+-- at the first place that the new text's tokens and comments have in common with the old one's.
+pub record Reuses (old new : Scanned) (from removed added read : ℕ) : Type 0 where
+  pub place : ℕ
+  pub behind : from + removed ≤ place
+  pub tokens_between : List Token
+  pub comments_between : List Span
+  pub tokens : new.tokens ≡ (front_tokens from old.tokens ++ tokens_between) ++ map (moved_token removed added) (back_tokens place old.tokens)
+  pub comments : new.comments ≡ (front_comments from old.comments ++ comments_between) ++ map (moved removed added) (back_comments place old.comments)
+  pub read_are : read ≡ length tokens_between + length comments_between
+  pub tokens_new : All (λ (t : Token). IsNew old from removed added t.span) tokens_between
+  pub comments_new : All (λ (c : Span). IsNew old from removed added c) comments_between
