@@ -18,18 +18,17 @@ sys.dont_write_bytecode = True
 sys.path[:0] = [HERE, os.path.join(os.path.dirname(HERE), "tests")]
 
 import corpus  # noqa: E402
-from features import BUILT  # noqa: E402
-from harness import BINARY, EXIT, SHUTDOWN, Failed, did_change, did_open, extent, frame, frames, initialize, install, place, request  # noqa: E402
+from harness import BINARY, EXIT, SHUTDOWN, did_change, did_open, extent, frame, frames, initialize, place, request  # noqa: E402
 
 MIB = 1 << 20
 MEASURES = []
 
 
-def measure(name, *needs):
-    """Makes a function a measurement under this name, which needs these features."""
+def measure(name):
+    """Makes a function a measurement under this name."""
 
     def take(function):
-        MEASURES.append((name, needs, function))
+        MEASURES.append((name, function))
         return function
 
     return take
@@ -116,13 +115,11 @@ def best(count, run):
 
 
 def letter_at(text, version):
-    """A change of one letter in the middle of a text: as a range where that is built, else as the whole text."""
+    """A change of one letter in the middle of a text."""
     middle = text.index("(", len(text) // 2)
     line = text.count("\n", 0, middle)
     column = middle - (text.rfind("\n", 0, middle) + 1)
-    if BUILT["changes"]:
-        return did_change([{"range": extent(f"{line}:{column}-{line}:{column}"), "text": " "}], version=version)
-    return did_change(text[:middle] + " " * version + text[middle:], version=version)
+    return did_change([{"range": extent(f"{line}:{column}-{line}:{column}"), "text": " "}], version=version)
 
 
 @measure("serve: 1 MiB opened and changed 20 times")
@@ -242,7 +239,6 @@ def spread(taken):
 
 @measure("serve: from a keystroke to the diagnostics, on 1 MiB")
 def keystroke():
-    said("the change is sent as", "a range" if BUILT["changes"] else "a whole text")
     for name, on_line in (("on many lines", False), ("on one line", True)):
         text = corpus.module(MIB - 1000, on_line=on_line)
         with Talk(text) as talk:
@@ -258,7 +254,7 @@ def on_file(words, text, given=b"", times=3):
         return best(times, lambda: Timed([BINARY, words[0], "m.mod", *words[1:]], given, cwd=room))
 
 
-@measure("parse: a module that ends too early, beside one with a bad character at its end", "check")
+@measure("parse: a module that ends too early, beside one with a bad character at its end")
 def parsed():
     """What comes behind the parser isn't begun where a module ends too early, and the parser isn't where the scanner tells a fault."""
 
@@ -280,7 +276,7 @@ def parsed():
     beside([100000, MIB - 1000], on_line=True)
 
 
-@measure("check: corpora, a large block, deep procedures", "check")
+@measure("check: corpora, a large block, deep procedures")
 def checked():
     def each(text, _):
         found = on_file(["check"], text)
@@ -293,7 +289,7 @@ def checked():
     growth("procedures inside one another", [10, 50, 100], corpus.nest, each)
 
 
-@measure("check: 50,000 declarations in one block", "check")
+@measure("check: 50,000 declarations in one block")
 def large_block():
     def each(text, count):
         found = on_file(["check"], text)
@@ -320,7 +316,7 @@ def asked(text, method, params, expected, count, **capabilities):
 USES = (("on many lines", False), ("on one line", True))
 
 
-@measure("questions: references of one name, 10,000 and 100,000", "questions")
+@measure("questions: references of one name, 10,000 and 100,000")
 def referred():
     ask = {"context": {"includeDeclaration": True}, "position": place(0, 18)}
     each = lambda text, size: asked(text, "references", ask, b'"uri":"file:///m"}', size + 1)
@@ -328,14 +324,14 @@ def referred():
         growth(f"references {name},", [10000, 100000], lambda size, on_line=on_line: corpus.uses(size, on_line), each)
 
 
-@measure("rename: a name with 10,000 and 100,000 uses", "rename")
+@measure("rename: a name with 10,000 and 100,000 uses")
 def renamed():
     each = lambda text, size: asked(text, "rename", {"newName": "y", "position": place(0, 18)}, b'"newText":"y"', size + 1)
     for name, on_line in USES:
         growth(f"rename {name},", [10000, 100000], lambda size, on_line=on_line: corpus.uses(size, on_line), each)
 
 
-@measure("rename: from the request to the end of its answer, on 1 MiB", "rename")
+@measure("rename: from the request to the end of its answer, on 1 MiB")
 def rename_answered():
     """By the clock, with the document open: a name that stands in a module here and there, and one that is all of the text."""
 
@@ -355,14 +351,14 @@ def rename_answered():
         whole(f"uses {name}", corpus.uses(most, on_line).ljust(MIB), 0, 18, "x", "y")
 
 
-@measure("rename: a field with 10,000 and 100,000 uses", "rename fields")
+@measure("rename: a field with 10,000 and 100,000 uses")
 def field_renamed():
     each = lambda text, size: asked(text, "rename", {"newName": "y", "position": place(0, 26)}, b'"newText":"y"', size + 1)
     for name, on_line in USES:
         growth(f"rename of a field {name},", [10000, 100000], lambda size, on_line=on_line: corpus.fields(size, on_line), each)
 
 
-@measure("inline: a constant with 10,000 and 100,000 uses", "inline")
+@measure("inline: a constant with 10,000 and 100,000 uses")
 def inlined():
     """At the declaration Inline everywhere is offered, at a use both actions are: the last one, at the text's end."""
     literals = {"textDocument": {"codeAction": {"codeActionLiteralSupport": {}}}}
@@ -380,7 +376,7 @@ def inlined():
         growth(f"inline here and everywhere, {name},", [10000, 100000], make, both)
 
 
-@measure("format: what a layout costs, from 100 KB to 1 MiB", "format")
+@measure("format: what a layout costs, from 100 KB to 1 MiB")
 def laid_out():
     options = {"insertSpaces": True, "tabSize": 2}
     request = {"id": 5, "jsonrpc": "2.0", "method": "textDocument/formatting", "params": {"options": options, "textDocument": {"uri": "file:///m"}}}
@@ -402,17 +398,11 @@ def laid_out():
 
 
 def lacks(command):
-    """Why a command can't be had, or None: a missing one is installed where that can be done."""
-    if shutil.which(command):
-        return None
-    try:
-        install([command], command)
-    except Failed as why:
-        return str(why).partition("\n")[0]
-    return None if shutil.which(command) else f"{command} is missing"
+    """What is said of a command that isn't here, or None."""
+    return None if shutil.which(command) else f"{command} is missing (on Debian: apt-get install {command})"
 
 
-@measure("run: loops, arrays and calls, against Lua and Python", "run")
+@measure("run: loops, arrays and calls, against Lua and Python")
 def ran():
     import programs
 
@@ -433,7 +423,7 @@ def ran():
             said(f"{name}: {command}", f"{beside.processor:.3f} s  ob0 takes {found.processor / beside.processor:.1f} times that; {agrees}")
 
 
-@measure("run: memory over 100,000 and 10,000,000 calls", "run")
+@measure("run: memory over 100,000 and 10,000,000 calls")
 def flat():
     import programs
 
@@ -450,12 +440,9 @@ def main(words):
     if not os.access(BINARY, os.X_OK):
         print("bin/ob0 is missing: make it with `make build`", file=sys.stderr)
         return 2
-    for name, needs, function in MEASURES:
-        if words and not any(it in name for it in words):
-            continue
-        lacking = [it for it in needs if not BUILT[it]]
-        print(f"{name}{': skipped, ' + ', '.join(lacking) + ' not built yet' if lacking else ''}", flush=True)
-        if not lacking:
+    for name, function in MEASURES:
+        if not words or any(it in name for it in words):
+            print(name, flush=True)
             function()
     return 0
 

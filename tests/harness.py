@@ -4,7 +4,6 @@ import fcntl
 import json
 import os
 import select
-import shutil
 import subprocess
 import sys
 import tempfile
@@ -15,17 +14,19 @@ import time
 TOP = os.path.dirname(os.path.dirname(os.path.abspath(__file__)))
 sys.path.insert(0, os.path.join(TOP, "tools"))
 
+import editors  # noqa: E402
+
 BINARY = os.environ.get("OB0") or os.path.join(TOP, "bin", "ob0")
 SECONDS = 60  # the longest that one conversation may take
 
 TESTS = []
 
 
-def test(name, *needs):
-    """Makes a function a test under this name, which needs these features."""
+def test(name):
+    """Makes a function a test under this name."""
 
     def take(function):
-        TESTS.append((name, needs, function))
+        TESTS.append((name, function))
         return function
 
     return take
@@ -36,7 +37,7 @@ class Failed(Exception):
 
 
 class Skipped(Exception):
-    """A test that somebody left out; the run says so by name."""
+    """A test that is left out; the run says so by name."""
 
 
 def shown(value, most=600):
@@ -106,6 +107,23 @@ def error(ident, code, message):
 
 def initialize(ident=1, **capabilities):
     return request(ident, "initialize", {"capabilities": capabilities})
+
+
+def capabilities(prepare=False, literals=False, utf8=False):
+    """What the server announces to a client that supports these."""
+    found = {
+        "definitionProvider": True,
+        "documentFormattingProvider": True,
+        "hoverProvider": True,
+        "referencesProvider": True,
+        "renameProvider": {"prepareProvider": True} if prepare else True,
+        "textDocumentSync": {"change": 2, "openClose": True},
+    }
+    if literals:
+        found["codeActionProvider"] = {"codeActionKinds": ["refactor.inline"]}
+    if utf8:
+        found["positionEncoding"] = "utf-8"
+    return found
 
 
 def did_open(text, uri="file:///m", version=1):
@@ -224,12 +242,13 @@ def serve_in_pieces(pieces):
 class Server:
     """A server in conversation: messages go one at a time, and answers are awaited."""
 
-    def __init__(self, **capabilities):
+    def __init__(self, silent=False, **capabilities):
         how = {"stdin": subprocess.PIPE, "stdout": subprocess.PIPE, "stderr": subprocess.PIPE, "bufsize": 0}
         self.process = subprocess.Popen([BINARY, "serve"], **how)
         self.held, self.idents = b"", 0
-        self.first = self.ask("initialize", {"capabilities": {}, **capabilities})
-        self.send(notice("initialized", {}))
+        if not silent:
+            self.first = self.ask("initialize", {"capabilities": {}, **capabilities})
+            self.send(notice("initialized", {}))
 
     def __enter__(self):
         return self
@@ -289,25 +308,18 @@ class Server:
             raise Failed("the server did not end") from None
 
 
-# Packages
+# Editors and other tools
 
 
-def install(packages, of):
-    """Installs Debian's packages."""
-    if not shutil.which("apt-get"):
-        raise Failed(f"{of} is missing, and apt-get too, which would install it: install {of} by hand")
-    words = [] if os.geteuid() == 0 else ["sudo", "-n"]
-    print(f"{of} is missing: installing {' '.join(packages)} with apt-get", flush=True)
-    environment = {**os.environ, "DEBIAN_FRONTEND": "noninteractive"}
-    how = {"stdin": subprocess.DEVNULL, "stdout": subprocess.PIPE, "stderr": subprocess.STDOUT, "env": environment}
-    for step in (["update"], ["install", "-y", "--no-install-recommends", *packages]):
-        try:
-            ran = subprocess.run([*words, "apt-get", *step], timeout=900, check=False, **how)
-        except (OSError, subprocess.TimeoutExpired) as why:
-            raise Failed(f"{of} is missing, and apt-get {step[0]} ended early: {why}") from None
-    if ran.returncode:
-        said = ran.stdout.decode(errors="replace")[-600:]
-        raise Failed(f"{of} is missing, and apt-get could not install {' '.join(packages)}:\n{said}")
+MISSING = {}  # what tests wanted and isn't here, with its package
+
+
+def want(*names):
+    """Leaves this test out where one of these tools (of tools/editors.py) isn't here."""
+    missing = [it for it in names if not editors.is_here(it)]
+    MISSING.update({it: [editors.TOOLS[it][1]] for it in missing})
+    if missing:
+        raise Skipped(f"{' and '.join(missing)} missing")
 
 
 # Texts and files

@@ -4,7 +4,8 @@
   tests/run.py [WORD..]   the tests whose names hold each of the words; with no word all of them
   tests/run.py --list     their names
 
-A test that needs what isn't built yet (features.py) is skipped by name. The last line is 'N passed, M failed'."""
+A test that wants an editor or another program that isn't here is left out, by name. The last line is
+'N passed, M failed'."""
 import glob
 import importlib
 import os
@@ -16,17 +17,14 @@ sys.dont_write_bytecode = True
 HERE = os.path.dirname(os.path.abspath(__file__))
 sys.path.insert(0, HERE)
 
-import features  # noqa: E402
 import harness  # noqa: E402
 
 
 def load():
     for file in sorted(glob.glob(os.path.join(HERE, "test_*.py"))):
         importlib.import_module(os.path.basename(file)[:-3])
-    names = [name for name, _, _ in harness.TESTS]
+    names = [name for name, _ in harness.TESTS]
     assert len({*names}) == len(names), "two tests have one name"
-    for name, needs, _ in harness.TESTS:
-        assert all(it in features.BUILT for it in needs), f"{name} needs a feature that the table does not have"
 
 
 def passes(name, function):
@@ -35,7 +33,7 @@ def passes(name, function):
     try:
         function()
     except harness.Skipped as why:
-        print(f"skipped  {name}: {why}", flush=True)
+        print(f"left out {name}: {why}", flush=True)
         return None
     except harness.Failed as why:
         print(f"FAILED   {name}\n    {why}", flush=True)
@@ -52,26 +50,23 @@ def main(words):
     load()
     chosen = [it for it in harness.TESTS if all(word in it[0] for word in words if word != "--list")]
     if "--list" in words:
-        for name, needs, _ in chosen:
-            print(name + (f" (needs {', '.join(needs)})" if needs else ""))
+        for name, _ in chosen:
+            print(name)
         return 0
     if not os.access(harness.BINARY, os.X_OK):
         print(f"there is no program {os.path.relpath(harness.BINARY)}: make it with `make build`", file=sys.stderr)
         print("0 passed, 1 failed")
         return 1
-    passed, failed, skipped = 0, 0, []
-    for name, needs, function in chosen:
-        lacking = [it for it in needs if not features.BUILT[it]]
-        if lacking:
-            skipped.append(name)
-            print(f"skipped  {name}: needs {', '.join(lacking)}, not built yet", flush=True)
-            continue
+    passed, failed, left_out = 0, 0, 0
+    for name, function in chosen:
         well = passes(name, function)
         if well is None:
-            skipped.append(name)
+            left_out += 1
         else:
             passed, failed = passed + well, failed + (not well)
-    print(f"{len(skipped)} skipped" + (", each named above" if skipped else ""))
+    if left_out:
+        missing = "; ".join(f"{name} ({', '.join(packages)})" for name, packages in sorted(harness.MISSING.items()))
+        print(f"{left_out} left out, each named above" + (f". Missing: {missing}. `make editors` installs them" if missing else ""))
     print(f"{passed} passed, {failed} failed")
     return 1 if failed else 0
 

@@ -93,12 +93,12 @@ def session(seed, utf8, steps):
         same(server.end(), 0, "the status")
 
 
-@test("changes: 1,000 random changes in UTF-16 units, with CR, CR LF and characters past U+FFFF", "changes")
+@test("changes: 1,000 random changes in UTF-16 units, with CR, CR LF and characters past U+FFFF")
 def utf16():
     session(1, False, 1000)
 
 
-@test("changes: 1,000 random changes in UTF-8 units", "changes", "utf8")
+@test("changes: 1,000 random changes in UTF-8 units")
 def utf8_units():
     session(2, True, 1000)
 
@@ -119,7 +119,7 @@ def at_end(text, *changes, encodings=None):
     return [it["range"]["start"] for it in found][-1]
 
 
-@test("changes: lines and units", "changes")
+@test("changes: lines and units")
 def lines():
     place = lambda line, character: {"line": line, "character": character}
     same(at_end("(* 😀 *) x := 1;"), place(0, 16), "units of UTF-16")
@@ -133,7 +133,7 @@ def lines():
     same(at_end("ab", ("0:0-0:1", ""), (None, "xyz"), ("0:1-0:2", "")), place(0, 2), "a whole text between ranges")
 
 
-@test("changes: places in a text show by a bad character", "changes")
+@test("changes: places in a text show by a bad character")
 def places():
     bad = lambda where: [told("BadChar", "bad character", where)]
     same(changed("(* 😀 *) x", ("0:9-0:9", "$")), bad("0:9-0:10"), "behind a pair")
@@ -145,7 +145,7 @@ def places():
 WITH_PAIR = "(* 😀 *) x := 1;"
 
 
-@test("changes: a place inside a character moves back before it, in both units", "changes", "utf8")
+@test("changes: a place inside a character moves back before it, in both units")
 def inside():
     wanted = [told("BadChar", "bad character", "0:5-0:6")]
     for encodings, places in ((["utf-16"], [3, 4]), (["utf-8"], [3, 4, 5, 6])):
@@ -155,7 +155,7 @@ def inside():
             same(found, wanted, f"0:{at} in {encodings[0]}")
 
 
-@test("changes: a place behind a line's end is that end, and one behind the last line is the text's end", "changes")
+@test("changes: a place behind a line's end is that end, and one behind the last line is the text's end")
 def behind():
     bad = lambda where: [told("BadChar", "bad character", where)]
     same(changed(WITH_PAIR, ("0:99-0:99", "$")), bad("0:16-0:17"), "0:99, of one line")
@@ -167,7 +167,7 @@ def behind():
         same(changed(text, ("7:0-7:0", "$")), bad("2:1-2:2"), f"7:0 behind {ending!r}")
 
 
-@test("changes: places behind a line's end and behind the last line, in UTF-8 units", "changes", "utf8")
+@test("changes: places behind a line's end and behind the last line, in UTF-8 units")
 def behind_utf8():
     bad = [told("BadChar", "bad character", "0:18-0:19")]
     for where in ("0:99-0:99", "7:0-7:0"):
@@ -180,7 +180,7 @@ def all_at_once(text, *changes):
     return serve([initialize(), did_open(text), did_change(given, version=2)]).contents()[1:]
 
 
-@test("changes: several in one notification are published once, with its version", "changes", "syntax")
+@test("changes: several in one notification are published once, with its version")
 def one_notification():
     bad = lambda *places: [told("BadChar", "bad character", it) for it in places]
     module = [told("Syntax", "expected MODULE", "0:0-0:1")]
@@ -192,7 +192,7 @@ def one_notification():
     same(all_at_once("$", ("0:0-0:0", "\r\n"), ("1:0-1:0", "\r"))[1], published(bad("2:0-2:1"), version=2), "two changes")
 
 
-@test("changes: units of UTF-8", "changes", "utf8")
+@test("changes: units of UTF-8")
 def utf8_lines():
     place = lambda line, character: {"line": line, "character": character}
     both = ["utf-8", "utf-16"]
@@ -203,7 +203,7 @@ def utf8_lines():
     same(at_end(text, ("0:5-0:5", "!"), encodings=both), place(0, 19), "inside a character: before it")
 
 
-@test("changes: utf-8 is announced where it is offered, and UTF-16 is taken else", "utf8")
+@test("changes: utf-8 is announced where it is offered, and UTF-16 is taken else")
 def announced():
     for encodings, wanted in ((["utf-8"], True), ([7, "utf-8"], True), (["utf-16"], False), ([], False), ("utf-8", False)):
         with Server(capabilities={"general": {"positionEncodings": encodings}}) as server:
@@ -211,7 +211,7 @@ def announced():
         same(found.get("positionEncoding"), "utf-8" if wanted else None, repr(encodings))
 
 
-@test("changes: params that can't be read, and a document out of step", "changes")
+@test("changes: params that can't be read, and a document out of step")
 def broken():
     module = "MODULE M; END M."
     with Server() as server:
@@ -233,7 +233,7 @@ def broken():
             same(server.tell(did_change(module, version=10 * at + 2)), [], f"after {change}")
 
 
-@test("changes: a text of many lines is edited near its end", "changes")
+@test("changes: a text of many lines is edited near its end")
 def long_text():
     lines = [f"(* line {at} *)" for at in range(20000)]
     with Server() as server:

@@ -25,12 +25,12 @@ LONG_TOLD = """1:10: ConstFault: constant has a fault
 """
 
 
-@test("check: a module with ten faults, byte by byte", "check", "types")
+@test("check: a module with ten faults, byte by byte")
 def ten_faults():
     ends(on_file("check", LONG), LONG_TOLD, 1)
 
 
-@test("check: two array types of one form are two types", "check", "types")
+@test("check: two array types of one form are two types")
 def arrays():
     ends(
         on_file("check", "MODULE M; VAR a: ARRAY 3 OF INTEGER; b: ARRAY 3 OF INTEGER; BEGIN a := b END M."),
@@ -48,7 +48,7 @@ def chain(count):
     return f"MODULE M; TYPE{types}\nEND M."
 
 
-@test("check: sizes of types", "check", "types")
+@test("check: sizes of types")
 def sizes():
     of = lambda text: on_file("check", f"MODULE M; VAR a: {text}; END M.")
     ends(of("ARRAY 256 OF ARRAY 256 OF INTEGER"), "", 0)
@@ -138,7 +138,7 @@ EXAMPLES = [
 ]
 
 
-@test("check: each code of scopes and types, with its ranges, through `serve`", "types")
+@test("check: each code of scopes and types, with its ranges, through `serve`")
 def examples():
     with Server() as server:
         for text, *codes in EXAMPLES:
@@ -146,7 +146,7 @@ def examples():
             same(server.tell(did_open(plain)), wanted, text)
 
 
-@test("check: each code of scopes and types, through `check`", "check", "types")
+@test("check: each code of scopes and types, through `check`")
 def examples_checked():
     for text, *codes in EXAMPLES:
         plain, wanted = marked(text, *codes)
@@ -154,7 +154,7 @@ def examples_checked():
         ends(on_file("check", plain), "".join(lines), 1 if lines else 0)
 
 
-@test("check: the first 100 faults", "types")
+@test("check: the first 100 faults")
 def hundred():
     with Server() as server:
         text = "MODULE M; BEGIN" + " x;" * 1000 + " END M."
@@ -162,7 +162,7 @@ def hundred():
     same([it["range"]["start"]["character"] for it in found], [16 + 3 * at for at in range(100)], "where")
 
 
-@test("check: parameters that are assigned, and bodies that see their own name", "check", "types")
+@test("check: parameters that are assigned, and bodies that see their own name")
 def well_typed():
     texts = [
         "MODULE M; VAR r: RECORD a: INTEGER END; s: RECORD a: BOOLEAN END; BEGIN r.a := 1; s.a := TRUE END M.",
@@ -174,7 +174,7 @@ def well_typed():
         ends(on_file("check", text), "", 0)
 
 
-@test("check: a comment that isn't closed, and numbers that are too large", "check")
+@test("check: a comment that isn't closed, and numbers that are too large")
 def scanning():
     ends(on_file("check", "MODULE M;\n(* (* *) END M."), "1:0: OpenComment: comment not closed\n", 1)
     ends(on_file("check", "MODULE M; CONST c = 2147483648; END M."), "0:20: NumberTooLarge: number too large\n", 1)
@@ -185,7 +185,7 @@ def scanning():
     )
 
 
-@test("check: scanning and syntax are told first", "check")
+@test("check: scanning and syntax are told first")
 def earlier():
     ends(on_file("check", "MODULE M; BEGIN x := 1a END M."), "0:21: NumberJoinsLetter: letter after number\n", 1)
     ends(on_file("check", "MODULE M; BEGIN x = 1 END M."), "0:18: Syntax: expected END\n", 1)
@@ -194,7 +194,7 @@ def earlier():
     ends(on_file("check", deep), "0:137: TooDeep: nested too deep\n", 1)
 
 
-@test("check: files that can't be taken", "check")
+@test("check: files that can't be taken")
 def files():
     good = "MODULE M; VAR x: INTEGER; END M."
     too_long = "0:0: TooLong: text too long\n"
@@ -209,14 +209,14 @@ def files():
     ends(on_file("check", good, name="a b é.mod"), "", 0)
 
 
-@test("check: command lines that are refused", "check")
+@test("check: command lines that are refused")
 def lines():
     for words in (["check"], ["check", "a", "b"], ["check", "--x", "a"]):
         found = run(words)
         same((found.out, bool(found.err), found.status), (b"", True, 2), " ".join(words))
 
 
-@test("check: a device that is full is a fault of writing", "check", "types")
+@test("check: a device that is full is a fault of writing")
 def full():
     with tempfile.TemporaryDirectory() as room:
         file = os.path.join(room, "m.mod")

@@ -1,7 +1,6 @@
 """Documents and what is published of them: opens, changes, closes, versions, faults of scanning."""
 from harness import answer, did_change, did_close, did_open, error, holds, initialize, notice, place, published, request, same, serve
-from harness import Server, extent, frames, told, test
-from features import BUILT, capabilities
+from harness import Server, capabilities, extent, frames, told, test
 
 FIRST = answer(1, {"capabilities": capabilities()})
 MODULE = "MODULE M; VAR x: INTEGER; END M."
@@ -157,7 +156,7 @@ def nothing():
 AT_START = {"position": place(0, 0), "textDocument": {"uri": "file:///m"}}
 
 
-@test("documents: one out of step sends nothing and refuses hover, until a whole text comes", "hover")
+@test("documents: one out of step sends nothing and refuses hover, until a whole text comes")
 def hover_out_of_step():
     broken = notice("textDocument/didChange", {"textDocument": {"uri": "file:///m", "version": 2}})
     hover = request(3, "textDocument/hover", AT_START)
@@ -167,7 +166,7 @@ def hover_out_of_step():
     same(found[1], '{"error":{"code":-32803,"message":"out of step"},"id":3,"jsonrpc":"2.0"}')
 
 
-@test("documents: hover of one that was never opened", "hover")
+@test("documents: hover of one that was never opened")
 def hover_unopened():
     hover = request("h", "textDocument/hover", AT_START)
     same(talk(hover), [error("h", -32803, "unopened")])
@@ -219,14 +218,6 @@ def null_range():
     same(talk(did_open("$"), did_change([{"range": None, "text": MODULE}]))[1:], [published([], version=2)])
 
 
-@test("documents: a change with a range can't be read while changes are of whole texts")
-def ranged():
-    if BUILT["changes"]:
-        return
-    found = talk(did_open("$"), did_change([{"range": extent("0:0-0:1"), "text": ""}]), did_change("$", version=3))
-    same(found[1:], [published([told("BadChar", "bad character", "0:0-0:1")], version=3)])
-
-
 @test("documents: a long conversation keeps each document")
 def long_talk():
     with Server() as server:
@@ -238,7 +229,7 @@ def long_talk():
         same(server.end(), 0, "the status")
 
 
-@test("documents: questions of a document that isn't open, or is out of step", "questions")
+@test("documents: questions of a document that isn't open, or is out of step")
 def refused_questions():
     where = {"position": {"character": 0, "line": 0}, "textDocument": {"uri": "file:///m"}}
     broken = notice("textDocument/didChange", {"textDocument": {"uri": "file:///m", "version": 2}})

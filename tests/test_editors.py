@@ -1,77 +1,129 @@
-"""Real editors, without a screen: Neovim by its own client, Emacs by eglot.
+"""Real editors, without a screen, each set up by the commands and lines of its page in editors/: Neovim by its own client,
+Emacs by eglot and by lsp-mode, Vim by ALE, Kate by its plugin (on a screen that nobody sees). Kakoune, which has no client, is in
+test_syntax_files.py.
 
-An editor that is absent is installed with apt-get. OB0_NO_EDITORS=1 leaves these tests out, by name."""
+A test of an editor that isn't here is left out, by name; `make editors` installs them all."""
 import functools
 import json
 import os
+import pty
+import re
+import select
 import shutil
+import signal
 import subprocess
 import tempfile
+import time
 
 import harness
-from features import BUILT
-from harness import Failed, Skipped, TOP, ends, extent, install, on_file, same, test
+from harness import Failed, TOP, ends, extent, on_file, same, test, want
+from snippets import snippets
 from test_edits import CALLS, LEAST, NESTED, OUTER, RECORDS, edited
 
 EDITORS = os.path.join(TOP, "tests", "editors")
 ENDED = {"code": 0, "signal": 0}
+SECONDS = 240  # the longest that an editor may take
 
 
-def wanted():
-    if os.environ.get("OB0_NO_EDITORS"):
-        raise Skipped("OB0_NO_EDITORS is set")
+def at_home(room, editor):
+    """Sets an editor up in a home of its own, by the commands of its page: the environment that it is started in."""
+    own = {key: value for key, value in os.environ.items() if not key.startswith("XDG_")}
+    os.makedirs(os.path.join(room, "bin"))
+    os.symlink(os.path.abspath(harness.BINARY), os.path.join(room, "bin", "ob0"))
+    own.update(HOME=room, XDG_RUNTIME_DIR=room, PATH=os.path.join(room, "bin") + os.pathsep + os.environ["PATH"], TERM="xterm")
+    for it in snippets(editor, "sh"):
+        ran = subprocess.run(["sh", "-e", "-c", it], cwd=TOP, env=own, stdin=subprocess.DEVNULL, capture_output=True, check=False)
+        if ran.returncode:
+            raise Failed(f"a command of editors/{editor}/README.md ended with {ran.returncode}: {ran.stderr.decode()}\n{it}")
+    return own
 
 
-@functools.lru_cache(None)
-def neovim():
-    wanted()
-    if not shutil.which("nvim"):
-        install(["neovim"], "Neovim")
-    return "nvim"
+def write(path, text):
+    os.makedirs(os.path.dirname(path), exist_ok=True)
+    with open(path, "w", encoding="utf-8", newline="") as file:
+        file.write(text)
 
 
-@functools.lru_cache(None)
-def emacs():
-    wanted()
-    if not shutil.which("emacs"):
-        install(["emacs-nox", "elpa-eglot"], "Emacs")
-    words = ["emacs", "--batch", "--eval", "(progn (require 'package) (package-initialize) (require 'eglot))"]
-    if subprocess.run(words, stdin=subprocess.DEVNULL, capture_output=True, check=False).returncode:
-        install(["elpa-eglot"], "eglot")
-    return "emacs"
-
-
-def play(command, script, steps, text, given):
+def play(editor, words, steps, text, given, set_up=lambda room: None, in_terminal=False, more=None):
     """What an editor found in these steps on a file with this text, with what else is given to it: pairs of a step and
     what was found."""
     with tempfile.TemporaryDirectory() as room:
-        file, report = os.path.join(room, "m.mod"), os.path.join(room, "report")
-        with open(file, "w", encoding="utf-8", newline="") as it:
-            it.write(text)
-        own = {"OB0": os.path.abspath(harness.BINARY), "OB0_FILE": file, "OB0_REPORT": report, "OB0_STEPS": steps, "HOME": room}
-        own["OB0_GIVEN"] = json.dumps(given)
-        how = {"stdin": subprocess.DEVNULL, "stdout": subprocess.PIPE, "stderr": subprocess.STDOUT, "cwd": room}
-        try:
-            ran = subprocess.run(
-                [*command, os.path.join(EDITORS, script)], env={**os.environ, **own}, timeout=240, check=False, **how
-            )
-        except subprocess.TimeoutExpired:
-            raise Failed(f"{command[0]} had not ended after 240 seconds") from None
+        own = at_home(room, editor)
+        set_up(room)
+        file, report = os.path.join(room, "work", "m.mod"), os.path.join(room, "report")
+        write(file, text)
+        own.update(OB0_FILE=file, OB0_REPORT=report, OB0_STEPS=steps, OB0_GIVEN=json.dumps(given), **(more or {}))
+        status, said = (run_in_terminal if in_terminal else run_plainly)(words, own, os.path.dirname(file))
         found = []
         if os.path.isfile(report):
             with open(report, encoding="utf-8") as it:
-                found = [json.loads(line.replace(room, "")) for line in it]
-        if ran.returncode:
-            raise Failed(f"{command[0]} ended with {ran.returncode}: {found[-1:]}\n{ran.stdout.decode(errors='replace')[-1500:]}")
+                found = [json.loads(line.replace(os.path.dirname(file), "")) for line in it]
+        if status:
+            raise Failed(f"{words[0]} ended with {status}: {found[-1:]}\n{said[-1500:]}")
     return [(it["step"], it["found"]) for it in found]
 
 
+def run_plainly(words, own, cwd):
+    how = {"stdin": subprocess.DEVNULL, "stdout": subprocess.PIPE, "stderr": subprocess.STDOUT, "cwd": cwd, "env": own}
+    try:
+        ran = subprocess.run(words, timeout=SECONDS, check=False, **how)
+    except subprocess.TimeoutExpired:
+        raise Failed(f"{words[0]} had not ended after {SECONDS} seconds") from None
+    return ran.returncode, ran.stdout.decode(errors="replace")
+
+
+def run_in_terminal(words, own, cwd):
+    """Runs an editor that wants a terminal, and gives its status and what it drew."""
+    process, terminal = pty.fork()
+    if process == 0:
+        os.chdir(cwd)
+        os.execvpe(words[0], words, own)
+    drawn, end = b"", time.monotonic() + SECONDS
+    try:
+        while time.monotonic() < end:
+            if select.select([terminal], [], [], 0.5)[0]:
+                try:
+                    drawn += os.read(terminal, 1 << 16)
+                except OSError:
+                    break
+        else:
+            os.kill(process, signal.SIGKILL)
+            raise Failed(f"{words[0]} had not ended after {SECONDS} seconds: {drawn[-500:]!r}")
+    finally:
+        os.close(terminal)
+        status = os.waitpid(process, 0)[1]
+    return os.waitstatus_to_exitcode(status) if hasattr(os, "waitstatus_to_exitcode") else status >> 8, drawn.decode(errors="replace")
+
+
 def in_neovim(steps, text, **given):
-    return play([neovim(), "--headless", "--clean", "-n", "-S"], "neovim.lua", steps, text, given)
+    want("Neovim")
+    words = ["nvim", "--headless", "-n", "-i", "NONE", "-S", os.path.join(EDITORS, "neovim.lua")]
+    set_up = lambda room: write(os.path.join(room, ".config", "nvim", "init.lua"), "\n".join(snippets("neovim", "lua")))
+    return play("neovim", words, steps, text, given, set_up)
+
+
+def in_emacs_by(client, steps, text, given):
+    """In Emacs: the page has the lines for eglot first, and then those for lsp-mode."""
+    want("Emacs", client)
+    lines = snippets("emacs", "elisp")["eglot lsp-mode".split().index(client)]
+    init = os.path.join(".emacs.d", "init.el")
+    words = ["emacs", "--batch", "--eval", f'(progn (package-initialize) (load "~/{init}"))', "-l", os.path.join(EDITORS, f"{client}.el")]
+    return play("emacs", words, steps, text, given, lambda room: write(os.path.join(room, init), lines))
 
 
 def in_emacs(steps, text, **given):
-    return play([emacs(), "--batch", "-l"], "emacs.el", steps, text, given)
+    return in_emacs_by("eglot", steps, text, given)
+
+
+def in_lsp_mode(steps, text, **given):
+    return in_emacs_by("lsp-mode", steps, text, given)
+
+
+def in_vim(steps, text, **given):
+    want("Vim", "ALE")
+    words = ["vim.nox", "-n", "-i", "NONE", "-S", os.path.join(EDITORS, "vim.vim")]
+    set_up = lambda room: write(os.path.join(room, ".vimrc"), "\n".join(snippets("vim", "vim")))
+    return play("vim", words, steps, text, given, set_up, in_terminal=True)
 
 
 GOOD = "MODULE M; BEGIN WriteLn END M.\n"
@@ -96,13 +148,13 @@ def while_typing():
             found = [[0, at + 4, 0, at + 5, "Syntax", "expected END"]]
         elif count in (6, 7):
             found = [[0, end, 0, end + 3, "Syntax", "expected expression"]]
-        elif count in (3, 4) and BUILT["types"]:
+        elif count in (3, 4):
             found = [[0, name, 0, name + 1, "WrongKind", "wrong kind of name"]]
         wanted_steps.append((f"typed {letter}", found))
     return [*wanted_steps, ("ended", ENDED)]
 
 
-@test("Neovim: a syntax fault comes and goes while a statement is typed", "syntax")
+@test("Neovim: a syntax fault comes and goes while a statement is typed")
 def neovim_typing():
     same(in_neovim("typing", TYPED), while_typing())
 
@@ -153,14 +205,24 @@ def as_emacs_shows():
     return found
 
 
-@test("Neovim: the diagnostics of a faulty module, and none of the mended one", "types")
+@test("Neovim: the diagnostics of a faulty module, and none of the mended one")
 def neovim_types():
     same(in_neovim("mending", FAULTY, mended=MENDED), [("opened", as_neovim_shows()), ("mended", []), ("ended", ENDED)])
 
 
-@test("Emacs: the diagnostics of a faulty module, and none of the mended one", "types")
+@test("Emacs: the diagnostics of a faulty module, and none of the mended one")
 def emacs_types():
     same(in_emacs("mending", FAULTY, mended=MENDED), [("opened", as_emacs_shows()), ("mended", []), ("ended", 0)])
+
+
+@test("lsp-mode: the diagnostics of a faulty module, and none of the mended one")
+def lsp_mode_types():
+    same(in_lsp_mode("mending", FAULTY, mended=MENDED), [("opened", as_neovim_shows()), ("mended", [])])
+
+
+@test("Vim: the diagnostics of a faulty module, and none of the mended one")
+def vim_types():
+    same(in_vim("mending", FAULTY, mended=MENDED), [("opened", as_neovim_shows()), ("mended", [])])
 
 
 @test("Emacs: a bad character comes and goes, and the server ends cleanly")
@@ -176,12 +238,12 @@ REFERENCES = [{"range": extent(it), "uri": "file:///m.mod"} for it in PLACES]
 ANSWERED = [("opened", []), ("hover", HOVER), ("definition", DEFINITION), ("references", REFERENCES)]
 
 
-@test("Neovim: hover, definition and references, as the server answers them", "questions", "hover")
+@test("Neovim: hover, definition and references, as the server answers them")
 def neovim_questions():
     same(in_neovim("questions", CALLS), [*ANSWERED, ("ended", ENDED)])
 
 
-@test("Emacs: hover, definition and references, as the server answers them", "questions", "hover")
+@test("Emacs: hover, definition and references, as the server answers them")
 def emacs_questions():
     same(in_emacs("questions", CALLS), [*ANSWERED, ("ended", 0)])
 
@@ -205,16 +267,33 @@ def looked(seen):
     return found
 
 
-@test("Neovim: what its own hover, list of references and go to definition show", "questions", "hover", "fields")
+def without_declarations(seen):
+    """The same for a client that asks for references without the declaration."""
+    return [(place, shown, [it for it in listed if it != declared], declared) for place, shown, listed, declared in seen]
+
+
+@test("Neovim: what its own hover, list of references and go to definition show")
 def neovim_looking():
     for text, seen in ((CALLS, CALLS_SEEN), (RECORDS, RECORDS_SEEN)):
         same(in_neovim("looking", text, places=[it[0] for it in seen]), [*looked(seen), ("ended", ENDED)])
 
 
-@test("Emacs: what its own hover, list of references and go to definition show", "questions", "hover", "fields")
+@test("Emacs: what its own hover, list of references and go to definition show")
 def emacs_looking():
     for text, seen in ((CALLS, CALLS_SEEN), (RECORDS, RECORDS_SEEN)):
         same(in_emacs("looking", text, places=[it[0] for it in seen]), [*looked(seen), ("ended", 0)])
+
+
+@test("lsp-mode: what its own hover, list of references and go to definition show")
+def lsp_mode_looking():
+    for text, seen in ((CALLS, CALLS_SEEN), (RECORDS, RECORDS_SEEN)):
+        same(in_lsp_mode("looking", text, places=[it[0] for it in seen]), looked(without_declarations(seen)))
+
+
+@test("Vim: what ALE's hover, list of references and go to definition show")
+def vim_looking():
+    for text, seen in ((CALLS, CALLS_SEEN), (RECORDS, RECORDS_SEEN)):
+        same(in_vim("looking", text, places=[it[0] for it in seen]), looked(without_declarations(seen)))
 
 
 def keeps_the_run(before, after, out, given=b""):
@@ -223,8 +302,24 @@ def keeps_the_run(before, after, out, given=b""):
         ends(on_file("run", text, given=given), out, 0)
 
 
+def example(name):
+    """An example and what it prints."""
+    with open(os.path.join(TOP, "examples", f"{name}.mod"), encoding="utf-8") as text, open(os.path.join(TOP, "examples", f"{name}.out"), encoding="utf-8") as out:
+        return text.read(), out.read()
+
+
+NESTED_EXAMPLE, NESTED_PRINTS = example("Nested")
+INNER = [
+    f"{line}:{it.start()}-{line}:{it.end()}"
+    for line, text in enumerate(NESTED_EXAMPLE.split("\n"))
+    if "(*" not in text
+    for it in re.finditer(r"\bInner\b", text)
+]
+COLLATZ, COLLATZ_PRINTS = example("Collatz")
+
 # a text, a place in it, the new name there, the places that change, what the text prints before and after
 RENAMED = [
+    (NESTED_EXAMPLE, [6, 14], "Add", INNER, NESTED_PRINTS),
     (CALLS, [2, 47], "G", PLACES, " 2 1"),
     (NESTED, [1, 4], "z", ["1:4-1:5", "4:14-4:15", "5:15-5:16"], " 1"),
     (OUTER, [4, 10], "Q", ["4:10-4:11", "4:32-4:33", "5:9-5:10"], " 2 7"),
@@ -236,23 +331,31 @@ FIELDS_RENAMED = [
 ]
 
 
-def renames(editor, ended, rows):
+def renames(editor, end, rows):
     for text, place, new, places, out in rows:
         found = editor("rename", text, place=place, name=new)
-        steps = [("opened", []), ("renamed", []), ("text", edited(text, places, new)), ("ended", ended)]
+        steps = [("opened", []), ("renamed", []), ("text", edited(text, places, new)), *end]
         same(found, steps, f"{new} at {place}")
         keeps_the_run(text, dict(found)["text"], out)
 
 
-def rename_tests():
-    """In each editor, of names and of fields."""
-    for name, editor, ended in ("Neovim", in_neovim, ENDED), ("Emacs", in_emacs, 0):
-        for what, needs, rows in ("", "rename", RENAMED), (" of a record's field", "rename fields", FIELDS_RENAMED):
-            take = test(f"{name}: a rename{what} is applied, and keeps the run", needs, "run")
-            take(functools.partial(renames, editor, ended, rows))
+# the editors that rename, what they are started by, and what they say at last
+CLIENTS = [
+    ("Neovim", in_neovim, [("ended", ENDED)]),
+    ("Emacs", in_emacs, [("ended", 0)]),
+    ("lsp-mode", in_lsp_mode, []),
+    ("Vim", in_vim, []),
+]
 
 
-rename_tests()
+def in_each(what, clients, function, *more):
+    """A test of this name for each of these editors."""
+    for name, editor, end in clients:
+        test(f"{name}: {what}")(functools.partial(function, editor, end, *more))
+
+
+in_each("a rename is applied, and keeps the run", CLIENTS, renames, RENAMED)
+in_each("a rename of a record's field is applied, and keeps the run", CLIENTS, renames, FIELDS_RENAMED)
 
 LEAST_HERE = LEAST.replace("+ c", "+ (-2147483647 - 1)")
 LEAST_EVERYWHERE = LEAST_HERE.replace("c = -2147483647 - 1;", "")
@@ -269,18 +372,21 @@ ACTED = [
 ]
 
 
-@test("Neovim: both ways to inline a constant are offered and applied, and keep the run", "inline", "run")
-def neovim_inline():
+def inlines(editor, end):
     for text, place, title, count, wanted_text, out in ACTED:
-        found = in_neovim("acting", text, place=place, title=title)
+        found = editor("acting", text, place=place, title=title)
         offered = ["Inline here", "Inline everywhere"][2 - count :]
-        steps = [("opened", []), ("acted", []), ("offered", offered), ("text", wanted_text), ("ended", ENDED)]
+        steps = [("opened", []), ("acted", []), ("offered", offered), ("text", wanted_text), *end]
         same(found, steps, f"{title} at {place}")
         keeps_the_run(text, dict(found)["text"], out)
 
 
+in_each("both ways to inline a constant are offered and applied, and keep the run", CLIENTS, inlines)
+
 # the width of a level, whether it is spaces, a text, its layout, an input, what the text prints on that before and after
 FORMATTED = [
+    # (an example, all on one line, is laid out as it is in its file)
+    (2, True, " ".join(COLLATZ.split()), COLLATZ, b"15", COLLATZ_PRINTS),
     (
         2,
         True,
@@ -311,19 +417,96 @@ FORMATTED = [
 ]
 
 
-def formats(editor, ended):
+def formats(editor, end):
     for size, spaces, text, wanted, given, out in FORMATTED:
         found = editor("format", text, size=size, spaces=spaces)
         once = [("opened", []), ("formatted", []), ("text", wanted)]
-        same(found, [*once, ("left to do", []), ("changes", 0), ("text again", wanted), ("ended", ended)], wanted)
+        same(found, [*once, ("left to do", []), ("changes", 0), ("text again", wanted), *end], wanted)
         keeps_the_run(text, dict(found)["text"], out, given)
 
 
-@test("Neovim: a text is laid out, once more changes nothing, and the run is kept", "format", "run")
-def neovim_format():
-    formats(in_neovim, ENDED)
+in_each("a text is laid out, once more changes nothing, and the run is kept", CLIENTS[:2], formats)
 
 
-@test("Emacs: a text is laid out, once more changes nothing, and the run is kept", "format", "run")
-def emacs_format():
-    formats(in_emacs, 0)
+@test("lsp-mode: a text is laid out, and the run is kept")
+def lsp_mode_format():
+    for size, spaces, text, wanted, given, out in FORMATTED:
+        if (size, spaces) == (2, True):  # (what ob0-mode asks for)
+            found = in_lsp_mode("format", text)
+            same(found, [("opened", []), ("formatted", []), ("text", wanted)], wanted)
+            keeps_the_run(text, dict(found)["text"], out, given)
+
+
+@test("VS Code: the extension, with stand-ins for the editor, starts the server, and its tasks check and run")
+def vscode():
+    want("Node")
+    with tempfile.TemporaryDirectory() as room:
+        own = at_home(room, "vscode")
+        file = os.path.join(room, "it's a.mod")
+        write(file, "MODULE M;\nBEGIN x := 1 END M.\n")
+        words = ["node", os.path.join(EDITORS, "vscode.js"), os.path.join(TOP, "editors", "vscode"), file]
+        status, said = run_plainly(words, own, room)
+        same(status, 0, said[-2000:])
+        found = json.loads(said)
+    same(found["published"], [["Undeclared"]], "the diagnostics")
+    same(found["ended"], 0, "the server's status")
+    same(found["language"], "oberon0", "the language")
+    same(found["registered"], found["declared"], "the commands")
+    same(found["executed"], ["check", "run"], "the tasks that the commands start")
+    same(found["tasks"], {"type": "ob0", "names": ["check", "run"]}, "the tasks")
+    same(found["matched"], [[file, "2", "7", "Undeclared", "not declared"]], "what the problem matcher finds")
+
+
+def in_kate(steps, text, **given):
+    want("Kate", "Xvfb", "xauth", "openbox", "xdotool", "D-Bus")
+
+    def set_up(room):
+        """A server whose messages are kept, and Kate's plugin switched on and allowed to start it, as its user would do once."""
+        program = os.path.join(room, "bin", "ob0")
+        os.unlink(program)
+        write(program, f'#!/bin/sh\ntee "{room}/in" | "{os.path.abspath(harness.BINARY)}" "$@" | tee "{room}/out"\n')
+        os.chmod(program, 0o755)
+        write(os.path.join(room, ".config", "katerc"), f"[Kate Plugins]\nlspclientplugin=true\n\n[lspclient]\nAllowedServerCommandLines={program} serve\n")
+        own["OB0_WIRE"] = room
+
+    own = {}
+    words = ["xvfb-run", "-a", "dbus-run-session", "--", "python3", os.path.join(EDITORS, "kate.py")]
+    # (keys can come before a window takes them, where the machine has much else to do: then all is done once more)
+    for _ in range(2):
+        try:
+            return play("kate", words, steps, text, given, set_up, more=own)
+        except Failed as why:
+            print(f"Kate is tried again: {why}".splitlines()[0], flush=True)
+    return play("kate", words, steps, text, given, set_up, more=own)
+
+
+KATE_LAID_OUT = """MODULE M;
+    PROCEDURE G(n: INTEGER);
+    BEGIN
+        IF n > 0 THEN
+            Write(n);
+            G(n - 1)
+        END
+    END G;
+BEGIN
+    G(2)
+END M.
+"""
+
+
+@test("Kate: diagnostics, what is known of a name, a rename and a layout, by its keys")
+def kate_names():
+    steps = [("opened", []), ("typed", ["BadChar"]), ("undone", []), ("shown", "PROCEDURE F(n: INTEGER)")]
+    steps += [("listed", [[1, 10], [2, 30], [2, 47], [3, 6]]), ("jumped", [1, 10])]
+    steps += [("renamed", []), ("text", edited(CALLS, PLACES, "G")), ("laid out", []), ("text", KATE_LAID_OUT)]
+    same(in_kate("names", CALLS, place=[3, 7]), steps)
+    keeps_the_run(CALLS, KATE_LAID_OUT, " 2 1")
+
+
+@test("Kate: a constant is inlined, by its keys")
+def kate_inline():
+    text = "MODULE M;\nCONST k = 7;\nBEGIN Write(k) END M.\n"
+    wanted = text.replace("Write(k)", "Write(7)")
+    steps = [("opened", []), ("offered", ["Inline here", "Inline everywhere"]), ("acted", []), ("text", wanted)]
+    same(in_kate("inlining", text, place=[2, 12]), steps)
+    keeps_the_run(text, wanted, " 7")

@@ -156,23 +156,23 @@ def through_command(rows):
             ends(found, edited(text, wanted, new), 0)
 
 
-@test("rename: edits and refusals, through `serve`", "rename")
+@test("rename: edits and refusals, through `serve`")
 def renames():
     through_serve(RENAMES)
 
 
-@test("rename: edits and refusals, through the command", "rename command")
+@test("rename: edits and refusals, through the command")
 def renamed():
     through_command(RENAMES)
 
 
-@test("rename: a field of a record", "rename fields", "rename command")
+@test("rename: a field of a record")
 def field_renamed():
     through_serve(FIELD_RENAMES)
     through_command(FIELD_RENAMES)
 
 
-@test("rename: a field at each of its places, and the run is kept", "rename fields", "rename command", "run")
+@test("rename: a field at each of its places, and the run is kept")
 def field_places():
     for text, names in FIELDS_MARKED:
         plain, places = unmarked(text)
@@ -188,7 +188,7 @@ def field_places():
             ends(on_file("run", edited(plain, places, new)), out, 0)
 
 
-@test("rename: a field, byte by byte", "rename fields")
+@test("rename: a field, byte by byte")
 def field_bytes():
     asked = [request(3, "textDocument/rename", where(3, 8, newName="b")), request(4, "textDocument/rename", where(1, 19, newName="c"))]
     found = serve(frames([initialize(), did_open(RECORDS, URI), *asked])).contents()[2:]
@@ -200,7 +200,7 @@ def field_bytes():
     )
 
 
-@test("rename: a field, with the version and in both units", "rename fields")
+@test("rename: a field, with the version and in both units")
 def field_units():
     text = "MODULE M; VAR r: RECORD a: INTEGER END; BEGIN (* 😀é *) r.a := 1; Write(r.a) END M."
     support = {"workspace": {"workspaceEdit": {"documentChanges": True}}}
@@ -214,14 +214,14 @@ def field_units():
                 same(found, {"documentChanges": [{"edits": edits, "textDocument": {"uri": URI, "version": 7}}]})
 
 
-@test("rename: a field, up to the longest text", "rename fields", "rename command")
+@test("rename: a field, up to the longest text")
 def field_longest():
     text = "MODULE M; VAR r: RECORD x: INTEGER END; END M.".ljust(1048576)
     ends(on_file("rename", text, "0", "24", "y"), text.replace("x", "y"), 0)
     ends(on_file("rename", text, "0", "24", "xy"), "", 1, "refused: TooLong\n")
 
 
-@test("rename: a refusal and an edit, byte by byte", "rename")
+@test("rename: a refusal and an edit, byte by byte")
 def rename_bytes():
     asked = [request(3, "textDocument/rename", where(1, 4, newName="y")), request(4, "textDocument/rename", where(1, 4, newName="x"))]
     found = serve(frames([initialize(), did_open(NESTED, URI), *asked])).contents()[2:]
@@ -229,7 +229,7 @@ def rename_bytes():
     same(found[1], '{"id":4,"jsonrpc":"2.0","result":{"changes":{"file:///m":[]}}}')
 
 
-@test("rename: as a list of document changes, with the version", "rename")
+@test("rename: as a list of document changes, with the version")
 def document_changes():
     with Server(capabilities={"workspace": {"workspaceEdit": {"documentChanges": True}}}) as server:
         server.tell(did_open(NESTED, URI, 7))
@@ -239,14 +239,14 @@ def document_changes():
             same(found, {"documentChanges": [{"edits": wanted, "textDocument": {"uri": URI, "version": 7}}]})
 
 
-@test("rename: prepareProvider is announced where it is supported", "rename")
+@test("rename: prepareProvider is announced where it is supported")
 def announced():
     for support, wanted in ((True, {"prepareProvider": True}), (False, True), (None, True), (1, True)):
         with Server(capabilities={"textDocument": {"rename": {"prepareSupport": support}}}) as server:
             same(server.first["result"]["capabilities"]["renameProvider"], wanted)
 
 
-@test("rename: of texts that aren't well-typed", "rename", "rename command")
+@test("rename: of texts that aren't well-typed")
 def ill_typed():
     with Server() as server:
         server.tell(did_open("MODULE M", URI))
@@ -255,20 +255,20 @@ def ill_typed():
     ends(on_file("rename", "MODULE M", "0", "7", "x"), "0:8: Syntax: expected ;\n", 1)
 
 
-@test("rename: up to the longest text", "rename command")
+@test("rename: up to the longest text")
 def longest():
     text = "MODULE M; VAR x: INTEGER; END M.".ljust(1048576)
     ends(on_file("rename", text, "0", "14", "y"), text.replace("x", "y"), 0)
     ends(on_file("rename", text, "0", "14", "xy"), "", 1, "refused: TooLong\n")
 
 
-@test("rename: up to the longest text, through `serve`", "rename")
+@test("rename: up to the longest text, through `serve`")
 def longest_served():
     text, places = "MODULE M; VAR x: INTEGER; END M.".ljust(1048576), ["0:14-0:15"]
     through_serve([(text, 0, 14, "y", places), (text, 0, 14, "xy", "TooLong"), (text[:-1], 0, 14, "xy", places)])
 
 
-@test("rename: keeps the run", "rename", "rename fields", "run")
+@test("rename: keeps the run")
 def same_run():
     for text, _, _, new, wanted in [*RENAMES, *FIELD_RENAMES]:
         if not isinstance(wanted, str):
@@ -276,13 +276,13 @@ def same_run():
             ends(on_file("run", edited(text, wanted, new)), before.out, before.status, before.err)
 
 
-@test("rename: a field under each new name prints the same", "rename fields", "rename command", "run")
+@test("rename: a field under each new name prints the same")
 def field_runs():
     for new in ("c", "r"):
         ends(on_file("run", on_file("rename", RECORDS, "3", "8", new).out), " 3", 0)
 
 
-@test("rename: command lines, and places far off", "rename command")
+@test("rename: command lines, and places far off")
 def lines():
     for words in (["0"], ["0", "0"], ["-1", "0", "x"], ["0", "18446744073709551616", "x"], ["0", "0", "x", "y"]):
         same(on_file("rename", NESTED, *words).status, 2, " ".join(words))
@@ -321,7 +321,7 @@ def actions(text, line, character, context=None, capabilities=None, end=None):
         return {it["title"]: [(e["range"], e["newText"]) for e in it["edit"]["changes"][URI]] for it in found["result"]}
 
 
-@test("inline: a constant's edit, byte by byte", "inline")
+@test("inline: a constant's edit, byte by byte")
 def inline_bytes():
     asked = request(4, "textDocument/codeAction", acting(1, 6))
     found = serve(frames([initialize(**LITERALS), did_open(LEAST, URI), asked])).contents()[2]
@@ -334,7 +334,7 @@ def inline_bytes():
     )
 
 
-@test("inline: at a use, at the declaration, under `only`", "inline")
+@test("inline: at a use, at the declaration, under `only`")
 def inlined():
     use, gone = (extent("3:15-3:16"), "(-2147483647 - 1)"), (extent("1:6-1:26"), "")
     both = {"Inline here": [use], "Inline everywhere": [gone, use]}
@@ -349,7 +349,7 @@ def inlined():
     same(actions(LEAST, 2, 4), {}, "at a variable")
 
 
-@test("inline: negative values, truth values, and refusals", "inline")
+@test("inline: negative values, truth values, and refusals")
 def inline_values():
     text = "MODULE M; CONST c = -5; t = 1 = 1; VAR a: INTEGER; BEGIN a := a - c; Write(c DIV 3); IF t THEN END END M."
     uses = [at for at in range(len(text)) if text.startswith("c;", at) or text.startswith("c DIV", at)]
@@ -363,7 +363,7 @@ def inline_values():
     same(actions(deep, 0, deep.index("c)")), {}, "nested too deep")
 
 
-@test("inline: both actions at a use as document changes, byte by byte", "inline")
+@test("inline: both actions at a use as document changes, byte by byte")
 def inline_changes():
     support = {**LITERALS, "workspace": {"workspaceEdit": {"documentChanges": True}}}
     asked = request(4, "textDocument/codeAction", acting(3, 15))
@@ -377,7 +377,7 @@ def inline_changes():
     same(found, f'{{"id":4,"jsonrpc":"2.0","result":[{action(use, "Inline here")},{action(gone + "," + use, "Inline everywhere")}]}}')
 
 
-@test("inline: positions in both units", "inline", "utf8")
+@test("inline: positions in both units")
 def inline_units():
     text = "MODULE M; CONST (* é *) c = 5; BEGIN (* 😀 *) Write(c) END M."
     for encodings, gone, use in ((["utf-16"], "0:24-0:30", "0:52-0:53"), (["utf-8"], "0:25-0:31", "0:55-0:56")):
@@ -388,7 +388,7 @@ def inline_units():
         same(actions(text, 0, extent(gone)["start"]["character"], capabilities=support), {"Inline everywhere": both["Inline everywhere"]})
 
 
-@test("inline: a range works at its start, and a swapped one at the lesser position", "inline")
+@test("inline: a range works at its start, and a swapped one at the lesser position")
 def inline_ranges():
     both = actions(LEAST, 3, 15)
     same([*both], ["Inline here", "Inline everywhere"])
@@ -414,7 +414,7 @@ INLINED = [
 ]
 
 
-@test("inline: here and everywhere, and both keep the run", "inline", "run")
+@test("inline: here and everywhere, and both keep the run")
 def inline_runs():
     for text, written, refused in INLINED:
         plain, uses = unmarked(text)
@@ -439,7 +439,7 @@ def inlinings(text, line, character):
     return {title: patched(text, [{"newText": new, "range": it} for it, new in edits]) for title, edits in found.items()}
 
 
-@test("inline: negative values print the same before, after `here` and after `everywhere`", "inline", "run")
+@test("inline: negative values print the same before, after `here` and after `everywhere`")
 def inline_negative():
     rows = [
         (LEAST, 3, 15, "0 + c", "0 + (-2147483647 - 1)", "c = -2147483647 - 1;", " -2147483648"),
@@ -453,13 +453,13 @@ def inline_negative():
             ends(on_file("run", it), out, 0)
 
 
-@test("inline: a constant that is never used is taken out", "inline")
+@test("inline: a constant that is never used is taken out")
 def inline_unused():
     text = "MODULE M; CONST c = 5; d = 6; BEGIN Write(d) END M."
     same(actions(text, 0, 16), {"Inline everywhere": [(extent("0:16-0:22"), "")]})
 
 
-@test("inline: places where nothing is offered", "inline")
+@test("inline: places where nothing is offered")
 def inline_nowhere():
     text = "MODULE M; TYPE R = RECORD c: INTEGER END; VAR x: R; PROCEDURE P; BEGIN IF TRUE THEN x.c := 1 END END P; BEGIN P; Write(x.c) END M."
     for what in ("M", "R", "c", "INTEGER", "x", "P", "TRUE", "1", "Write", "IF", "; VAR"):
@@ -468,7 +468,7 @@ def inline_nowhere():
     same(actions(LEAST, 99, 0), {}, "behind the text")
 
 
-@test("inline: up to the longest text", "inline")
+@test("inline: up to the longest text")
 def inline_longest():
     text = "MODULE M; CONST c = 10; d = c + c; END M."
     whole = lambda size: actions(text.ljust(size), 0, text.index("c +"))
@@ -476,7 +476,7 @@ def inline_longest():
     same([*whole(1048576)], ["Inline everywhere"], "where the text would be too long by one use")
 
 
-@test("inline: what is refused before anything is looked at", "inline")
+@test("inline: what is refused before anything is looked at")
 def inline_refused():
     bad = {"code": -32602, "message": "bad params"}
     for support in (LITERALS, {}):
@@ -536,7 +536,7 @@ def formatted(text, size, spaces):
     return found, patched(text, found)
 
 
-@test("format: worked texts, and once more changes nothing", "format")
+@test("format: worked texts, and once more changes nothing")
 def formats():
     for size, spaces, text, wanted in LAYOUTS:
         _, found = formatted(text, size, spaces)
@@ -544,7 +544,7 @@ def formats():
         same(formatted(wanted, size, spaces)[0], [], "formatted again")
 
 
-@test("format: options", "format")
+@test("format: options")
 def options():
     with Server() as server:
         server.tell(did_open("MODULE M; END M.", URI))
@@ -567,7 +567,7 @@ def length_after(text, edits):
     return len(text) + sum(len(it["newText"]) - size(it) for it in edits)
 
 
-@test("format: up to the longest layout", "format")
+@test("format: up to the longest layout")
 def longest_layout():
     params = {"options": {"insertSpaces": True, "tabSize": 16}, "textDocument": {"uri": URI}}
     with Server() as server:

@@ -1,7 +1,6 @@
 """The order of checks and the table of errors: JSON, shape, lifecycle, method, params."""
-from features import capabilities
 from harness import EXIT, SHUTDOWN, answer, did_close, did_open, error, frame, initialize, notice, published, request
-from harness import run, same, serve, test
+from harness import capabilities, run, same, serve, test
 
 FIRST = answer(1, {"capabilities": capabilities()})
 SHUT = answer(2, None)

@@ -4,7 +4,6 @@ import os
 import random
 
 import nesting
-from features import BUILT
 from harness import did_open, ends, frames, holds, initialize, on_file, place, same, serve, test, SHUTDOWN, EXIT
 
 MIXES = int(os.environ.get("OB0_MIXES", "400"))
@@ -41,11 +40,9 @@ def hundred():
     made = texts(100)
     for (name, (text, _)), found in zip(made.items(), diagnosed([text for text, _ in made.values()])):
         same(of_syntax(found), [], f"{name}: {text}")
-        if not BUILT["types"]:
-            same(found, [], f"{name}: {text}")
 
 
-@test("nesting: mixes of 101 are too deep, at the innermost construct", "syntax")
+@test("nesting: mixes of 101 are too deep, at the innermost construct")
 def hundred_and_one():
     made = texts(101)
     for (name, (text, at)), found in zip(made.items(), diagnosed([text for text, _ in made.values()])):
@@ -56,10 +53,7 @@ def hundred_and_one():
 def far():
     made = [nesting.of_one(it, 20000)[0] for it in nesting.REPEATED]
     for text, found in zip(made, diagnosed(made)):
-        if BUILT["syntax"]:
-            same([it["code"] for it in found], ["TooDeep"], text[:60])
-        else:
-            holds(found == [], text[:60])
+        same([it["code"] for it in found], ["TooDeep"], text[:60])
 
 
 def chosen():
@@ -71,7 +65,7 @@ def chosen():
     return found
 
 
-@test("nesting: 64 open calls, each inside 100 nested constructs, run under a stack of 8 MiB", "run")
+@test("nesting: 64 open calls, each inside 100 nested constructs, run under a stack of 8 MiB")
 def calls():
     for name, choose in chosen().items():
         text, out = nesting.recursive(64, choose)
@@ -81,14 +75,14 @@ def calls():
         ends(on_file("run", text, small_stack=True), out.rsplit(" ", 2)[0], 1, "fault: CallBound\n")
 
 
-@test("nesting: 64 open calls of procedures inside one another, run under a stack of 8 MiB", "run")
+@test("nesting: 64 open calls of procedures inside one another, run under a stack of 8 MiB")
 def inward():
     for choose in chosen().values():
         text, out = nesting.inward(64, choose)
         ends(on_file("run", text, small_stack=True), out, 0)
 
 
-@test("nesting: calls inside 100 nested constructs are taken, inside 101 they are not", "run")
+@test("nesting: calls inside 100 nested constructs are taken, inside 101 they are not")
 def calls_within():
     choose = lambda: nesting.ENTERED[0]
     for text, _ in (nesting.recursive(64, choose), nesting.inward(64, choose)):

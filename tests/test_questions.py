@@ -39,7 +39,7 @@ class Asked(Server):
         return found and found["range"]
 
 
-@test("questions: hover, byte by byte", "hover")
+@test("questions: hover, byte by byte")
 def hover_bytes():
     found = serve(frames([initialize(), did_open(CALLS), request(3, "textDocument/hover", where(3, 7))])).contents()[2]
     wanted = (
@@ -49,7 +49,7 @@ def hover_bytes():
     same(found, wanted)
 
 
-@test("questions: definition and references, byte by byte", "questions")
+@test("questions: definition and references, byte by byte")
 def references_bytes():
     asked = [
         request(3, "textDocument/definition", where(2, 47)),
@@ -69,7 +69,7 @@ def references_bytes():
     )
 
 
-@test("questions: predeclared names and places without a name", "questions")
+@test("questions: predeclared names and places without a name")
 def no_names():
     with Asked(CALLS) as server:
         write = [extent("2:20-2:25")]
@@ -82,7 +82,7 @@ def no_names():
             same(server.definition(line, character), None, f"definition at {line}:{character}")
 
 
-@test("questions: hover of predeclared names, and where no name is", "hover")
+@test("questions: hover of predeclared names, and where no name is")
 def no_hover():
     with Asked(CALLS) as server:
         same(server.hover(2, 20), ("predeclared Write", extent("2:20-2:25")))
@@ -92,7 +92,7 @@ def no_hover():
         same(server.result("hover", 0, 7), None)
 
 
-@test("questions: a text that isn't well-typed", "questions")
+@test("questions: a text that isn't well-typed")
 def ill_typed():
     with Asked("MODULE M") as server:
         for what in ("definition", "prepareRename"):
@@ -100,7 +100,7 @@ def ill_typed():
         same(server.references(0, 7, True), [])
 
 
-@test("questions: each place of a text that isn't well-typed", "questions", "hover")
+@test("questions: each place of a text that isn't well-typed")
 def ill_typed_places():
     with Asked("MODULE M") as server:
         for character in range(9):
@@ -111,7 +111,7 @@ def ill_typed_places():
                 same(found, [], f"references at 0:{character}")
 
 
-@test("questions: positions that can't be read, and positions far off", "questions")
+@test("questions: positions that can't be read, and positions far off")
 def positions():
     bad = {"code": -32602, "message": "bad params"}
     with Asked(CALLS) as server:
@@ -145,7 +145,7 @@ def shows(server, wanted):
             same(server.hover(at[end]["line"], at[end]["character"]), (text, at), f"at {span}")
 
 
-@test("questions: what hover tells of each kind of name", "hover")
+@test("questions: what hover tells of each kind of name")
 def hovers():
     wanted = {
         "1:6-1:7": "CONST c = 7",
@@ -172,7 +172,7 @@ def hovers():
         shows(server, wanted)
 
 
-@test("questions: hover of a constant that is FALSE", "hover")
+@test("questions: hover of a constant that is FALSE")
 def hover_false():
     text = "MODULE M; CONST c = FALSE; d = 1 > 2; BEGIN IF c OR d THEN WriteLn END END M."
     wanted = {"0:16-0:17": "CONST c = FALSE", "0:27-0:28": "CONST d = FALSE", "0:47-0:48": "CONST c = FALSE"}
@@ -180,7 +180,7 @@ def hover_false():
         shows(server, wanted)
 
 
-@test("questions: names that are declared anew, closing names", "questions")
+@test("questions: names that are declared anew, closing names")
 def scopes():
     with Asked(NAMES) as server:
         same(server.definition(6, 19), extent("5:4-5:5"), "the inner c")
@@ -190,7 +190,7 @@ def scopes():
         same(server.references(7, 20, False), [extent(it) for it in ("6:40-6:41", "7:20-7:21", "8:17-8:18")])
 
 
-@test("questions: fields, by their record", "fields", "hover")
+@test("questions: fields, by their record")
 def fields():
     with Asked(NAMES) as server:
         same(server.hover(6, 26), ("FIELD x: INTEGER", extent("6:26-6:27")))
@@ -209,7 +209,7 @@ BEGIN r.a := 1; s.a := 2; a := r.a + s.a; Write(a) END M.
         same(server.references(3, 26, True), [extent(it) for it in ("2:36-2:37", "3:26-3:27", "3:48-3:49")])
 
 
-@test("questions: hover where a field is declared", "fields", "hover")
+@test("questions: hover where a field is declared")
 def declared_fields():
     wanted = {
         "2:40-2:41": "FIELD x: INTEGER",
@@ -244,7 +244,7 @@ END M.
             same(server.hover(line, character), None, f"at {line}:{character}")
 
 
-@test("questions: which fields can be renamed", "rename fields")
+@test("questions: which fields can be renamed")
 def renamable_fields():
     with Asked(NAMES) as server:
         same(server.result("prepareRename", 6, 31), extent("6:31-6:33"))
@@ -253,7 +253,7 @@ def renamable_fields():
         same(server.result("prepareRename", 2, 41), extent("2:40-2:41"))
 
 
-@test("questions: prepareRename at a field, byte by byte", "rename fields")
+@test("questions: prepareRename at a field, byte by byte")
 def renamable_bytes():
     text = "MODULE M; VAR r: RECORD a: INTEGER END; BEGIN (* 😀 *) r.a := 1 END M."
     asked = [request(3, "textDocument/prepareRename", where(0, 24)), request(4, "textDocument/prepareRename", where(0, 57))]
@@ -264,7 +264,7 @@ def renamable_bytes():
         same(server.result("prepareRename", 0, 59), extent("0:59-0:60"))
 
 
-@test("questions: positions in UTF-8 units", "questions", "utf8")
+@test("questions: positions in UTF-8 units")
 def utf8():
     text = "MODULE M; VAR x: INTEGER; BEGIN (* 😀é *) x := 1 END M."
     with Asked(text, general={"positionEncodings": ["utf-8"]}) as server:
@@ -273,7 +273,7 @@ def utf8():
         same(server.references(0, 14, True), [extent("0:14-0:15"), extent("0:42-0:43")])
 
 
-@test("questions: 5,000 references, on many lines and on one", "questions")
+@test("questions: 5,000 references, on many lines and on one")
 def many():
     for gap in ("\n", " ", "\r\n", " (* 😀 *) "):
         text = "MODULE M; VAR x: INTEGER; BEGIN" + f"{gap}x := 1;" * 5000 + " END M."

@@ -10,7 +10,6 @@ import reference
 import reference_edits
 import reference_questions
 import wild
-from features import BUILT
 from harness import MESSAGES, TOP, Server, did_open, extent, on_file, place, same, test, told
 
 sys.path.insert(0, os.path.join(TOP, "bench"))
@@ -26,11 +25,8 @@ NAMES = ["TRUE", "FALSE", "INTEGER", "BOOLEAN", "Read", "Write", "WriteLn", "unk
 
 
 def wanted(text):
-    """What is told of a text by its second writing, as far as the program tells it today."""
+    """The diagnostics of a text by its second writing."""
     found = reference.Text(text)
-    codes = {it[0] for it in found.told}
-    if not BUILT["syntax"] and codes & {"Syntax", "TooDeep"} or not BUILT["types"] and found.checker:
-        return []
     return [
         told(code, message or MESSAGES[code], "{}:{}-{}:{}".format(*found.position(start), *found.position(end)))
         for code, start, end, message in found.told
@@ -74,12 +70,12 @@ def lexemes():
     compare(False)
 
 
-@test("random: diagnostics of texts with a few names and operators changed", "types")
+@test("random: diagnostics of texts with a few names and operators changed")
 def names():
     compare(True)
 
 
-@test("random: diagnostics of modules of few names with many faults", "types")
+@test("random: diagnostics of modules of few names with many faults")
 def wilds():
     with Server() as server:
         for seed in range(SEED, SEED + 2 * COUNT):
@@ -110,7 +106,7 @@ def answers_at(server, found, at, where):
     same(result("hover"), span and {"contents": contents, "range": ranges(span)}, f"{where}: hover")
 
 
-@test("random: hover, definition and references at each place", "questions", "hover", "fields")
+@test("random: hover, definition and references at each place")
 def questions():
     with Server() as server:
         for seed in range(SEED, SEED + max(1, COUNT // 30)):
@@ -122,7 +118,7 @@ def questions():
                 answers_at(server, found, at, f"seed {seed}, at {found.position(at)}")
 
 
-@test("random: hover, definition and references where fields are declared", "questions", "hover", "fields")
+@test("random: hover, definition and references where fields are declared")
 def declared_fields():
     with Server() as server:
         for seed in range(SEED, SEED + COUNT // 3):
@@ -149,7 +145,7 @@ def program(seed):
     return text, given, chance.choice([0, 1, 3, 8]), chance.choice([0, 1, 2, 5])
 
 
-@test("random: runs", "run")
+@test("random: runs")
 def runs():
     ends = {}
     for seed in range(SEED, SEED + COUNT):
@@ -187,7 +183,7 @@ def modules(count):
         yield seed, chance, text, reference.Text(text)
 
 
-@test("random: renames", "rename", "rename fields")
+@test("random: renames")
 def renames():
     with Server() as server:
         for seed, chance, text, found in modules(COUNT // 10):
@@ -205,7 +201,7 @@ def renames():
                     keeps_runs(text, reference_edits.patched(text, wanted_), seed)
 
 
-@test("random: inlining", "inline")
+@test("random: inlining")
 def inlining():
     with Server(capabilities={"textDocument": {"codeAction": {"codeActionLiteralSupport": {}}}}) as server:
         for seed, chance, text, found in modules(COUNT // 10):
@@ -238,7 +234,7 @@ def squeezed(text, chance):
     return "".join(pieces)
 
 
-@test("random: formatting", "format")
+@test("random: formatting")
 def formatting():
     with Server() as server:
         for seed, chance, text, _ in modules(COUNT // 5):

@@ -50,7 +50,7 @@ def four_runs(text):
     ran(text, "\n\n 0", "", "2", 1, 3)
 
 
-@test("run: input, turns and calls under bounds", "run")
+@test("run: input, turns and calls under bounds")
 def bounds():
     four_runs(COUNT)
     ran(CALLS, " 2 1", "", "", 3)
@@ -58,14 +58,14 @@ def bounds():
     ran(CALLS, " 2 1")
 
 
-@test("run: a module with a WHILE that `rename` gave another name has the same four runs", "run", "rename command")
+@test("run: a module with a WHILE that `rename` gave another name has the same four runs")
 def renamed_runs():
     found = on_file("rename", COUNT, "1", "4", "k")
     ends(found, edited(COUNT, ["1:4-1:5", "2:25-2:26", "3:11-3:12", "3:21-3:22", "3:30-3:31", "3:35-3:36"], "k"), 0)
     four_runs(found.out)
 
 
-@test("run: fields of one name in two records, constants below 0, and TRUE declared anew", "run")
+@test("run: fields of one name in two records, constants below 0, and TRUE declared anew")
 def before_edits():
     ran(RECORDS, " 3")
     ran(LEAST, " -2147483648")
@@ -73,7 +73,7 @@ def before_edits():
     ran(SHADOWED, "")
 
 
-@test("run: names that hide others, procedures that stand later", "run")
+@test("run: names that hide others, procedures that stand later")
 def scopes():
     ran(NESTED, " 1")
     ran(OUTER, " 2 7")
@@ -81,13 +81,13 @@ def scopes():
     ran(ACTIVATIONS, "", "CallBound", "", 3)
 
 
-@test("run: aliases, and places that are fixed at the call", "run")
+@test("run: aliases, and places that are fixed at the call")
 def aliases():
     ran(ALIASES, " 0 10 0 1 20", "Index", "", 1)
     ran(ALIASES, "", "CallBound", "", 0)
 
 
-@test("run: arithmetic of 32 bits, DIV and MOD", "run")
+@test("run: arithmetic of 32 bits, DIV and MOD")
 def arithmetic():
     ran(DIVISORS, " -2 -3 2", "Divisor")
     ran(body("Write(2147483647 + 1)"), "", "Overflow")
@@ -100,7 +100,7 @@ def arithmetic():
     ran(body("x := -2147483647; Write(x - 1); Write(x - 2)"), " -2147483648", "Overflow")
 
 
-@test("run: relations, & and OR that stop early", "run")
+@test("run: relations, & and OR that stop early")
 def truth():
     tell = lambda it: f"IF {it} THEN Write(1) ELSE Write(0) END"
     ran(body("; ".join(tell(it) for it in ("1 < 2", "1 <= 1", "2 > 2", "2 >= 2", "1 = 1", "1 # 1", "TRUE = FALSE", "TRUE # b"))), " 1 1 0 1 1 0 0 1")
@@ -109,7 +109,7 @@ def truth():
     ran(body(tell("b OR (1 DIV 0 = 1)")), "", "Divisor")
 
 
-@test("run: statements", "run")
+@test("run: statements")
 def statements():
     ran(body("IF b THEN Write(1) ELSIF x = 0 THEN Write(2) ELSE Write(3) END"), " 2")
     ran(body("IF b THEN Write(1) ELSIF b THEN Write(2) END; WriteLn; ;; Write(4)"), "\n 4")
@@ -120,7 +120,7 @@ def statements():
     ran(body("WHILE x <= 100000 DO x := x + 1 END; Write(x)"), "", "TurnBound")
 
 
-@test("run: REPEAT", "run")
+@test("run: REPEAT")
 def repeated():
     ran(REPEATED, " 0", "", "0", None, 0)
     ran(REPEATED, " 2", "TurnBound", "2", None, 0)
@@ -128,7 +128,7 @@ def repeated():
     ran(REPEATED, " 2 1", "", "2", None, 2)
 
 
-@test("run: arrays and records", "run")
+@test("run: arrays and records")
 def arrays():
     ran(body("a[0] := 1; b := a; b[0] := 2; Write(a[0]); Write(b[0]); Write(b[1])", "a, b: ARRAY 2 OF INTEGER"), " 1 2 0")
     ran(body("r.x[1].y := 5; Write(r.x[1].y); Write(r.x[0].y); IF ~r.b THEN WriteLn END", "r: RECORD x: ARRAY 2 OF RECORD y: INTEGER END; b: BOOLEAN END"), " 5 0\n")
@@ -141,12 +141,12 @@ def arrays():
     ran(text + "BEGIN P(a, a); Write(a[0]); Write(a[1]) END M.", " 0 0 7")
 
 
-@test("run: variables begin anew at each call", "run")
+@test("run: variables begin anew at each call")
 def anew():
     ran("MODULE M; PROCEDURE P; VAR x: INTEGER; b: BOOLEAN; BEGIN IF b THEN Write(9) END; x := x + 1; b := TRUE; Write(x) END P; BEGIN P; P END M.", " 1 1")
 
 
-@test("run: the input", "run")
+@test("run: the input")
 def inputs():
     text = body("Read(x); Read(y); Write(x + y)")
     ran(text, " 3", "", "1 2")
@@ -161,7 +161,7 @@ def inputs():
     ends(on_file("run", DIVISORS, given=b"1 x"), "", 4, "fault: Input\n")
 
 
-@test("run: a file that isn't well-typed is checked, and its input isn't read", "run")
+@test("run: a file that isn't well-typed is checked, and its input isn't read")
 def ill_typed():
     ends(on_file("run", "MODULE M; BEGIN x := 1 END M.", given=b"x"), "0:16: Undeclared: not declared\n", 1)
     ends(on_file("run", "", given=b"x"), "0:0: Syntax: expected MODULE\n", 1)
@@ -169,7 +169,7 @@ def ill_typed():
     ends(run(["run", "/nowhere"]), "", 4, "fault: File\n")
 
 
-@test("run: command lines", "run")
+@test("run: command lines")
 def lines():
     for words in (["--calls", "65"], ["--turns", "100001"], ["--calls", "-1"], ["--calls", "x"], ["--calls"], ["y"]):
         found = on_file("run", DIVISORS, *words)
@@ -178,14 +178,14 @@ def lines():
     same(run(["run"]).status, 2)
 
 
-@test("run: a predeclared name that is declared anew", "run")
+@test("run: a predeclared name that is declared anew")
 def declared_anew():
     text = "MODULE M; VAR x: INTEGER; PROCEDURE Write(VAR n: INTEGER); BEGIN n := 3 END Write; "
     ran(text + "PROCEDURE P; BEGIN Write(x) END P; BEGIN P; IF x = 3 THEN WriteLn END END M.", "\n")
     ran("MODULE M; CONST TRUE = 1 = 2; BEGIN IF TRUE THEN Write(1) ELSE Write(0) END END M.", " 0")
 
 
-@test("run: a long run, and much output", "run")
+@test("run: a long run, and much output")
 def long_run():
     text = body("WHILE x < 1000 DO y := 0; WHILE y < 100 DO Write(y); y := y + 1 END; WriteLn; x := x + 1 END")
     line = "".join(f" {at}" for at in range(100)) + "\n"

@@ -3,8 +3,7 @@ import os
 import subprocess
 
 import harness
-from features import FIRST_ANSWER, capabilities
-from harness import compact, frame, frames, holds, initialize, run, same, serve, serve_in_pieces, test, unframed
+from harness import capabilities, compact, frame, frames, holds, initialize, run, same, serve, serve_in_pieces, test, unframed
 from harness import SHUTDOWN, EXIT, request
 
 IN = [
@@ -15,7 +14,6 @@ IN = [
     b'{"jsonrpc":"2.0","method":"exit"}',
 ]
 HEADS_IN = [75, 171, 44, 33]
-# The first answer's capabilities are those of what is built; all else never changes.
 FIRST = b'{"id":1,"jsonrpc":"2.0","result":{"capabilities":%s}}' % compact(capabilities()).encode()
 OUT = [
     FIRST,
@@ -23,7 +21,7 @@ OUT = [
     b'"uri":"file:///m","version":1}}',
     b'{"id":2,"jsonrpc":"2.0","result":null}',
 ]
-HEADS_OUT = [FIRST_ANSWER, 118, 38]
+HEADS_OUT = [230, 118, 38]
 
 
 def spelled(lengths, contents):

@@ -35,14 +35,14 @@ EXPECTED = {
 }
 
 
-@test("syntax: the first token that can't stand, and what was expected", "syntax")
+@test("syntax: the first token that can't stand, and what was expected")
 def expected():
     with Server() as server:
         for text, (where, what) in EXPECTED.items():
             same(server.tell(did_open(text)), [told("Syntax", f"expected {what}", where)], repr(text))
 
 
-@test("syntax: the empty text, byte by byte", "syntax")
+@test("syntax: the empty text, byte by byte")
 def empty():
     wanted = (
         b'{"jsonrpc":"2.0","method":"textDocument/publishDiagnostics","params":{"diagnostics":[{"code":"Syntax",'
@@ -53,7 +53,7 @@ def empty():
     same(found.contents()[1].encode(), wanted)
 
 
-@test("syntax: faults of scanning are told alone", "syntax")
+@test("syntax: faults of scanning are told alone")
 def scanning_first():
     with Server() as server:
         same(server.tell(did_open("MODULE 12ab")), [told("NumberJoinsLetter", "letter after number", "0:7-0:11")])
@@ -68,7 +68,7 @@ DEEP = {
 }
 
 
-@test("syntax: 100 of a construct inside one another are taken, the 101st is too deep", "syntax")
+@test("syntax: 100 of a construct inside one another are taken, the 101st is too deep")
 def deep():
     with Server() as server:
         for name, (before, opened, middle, closed, after, where) in DEEP.items():
@@ -77,7 +77,7 @@ def deep():
                 same(server.tell(did_open(text)), wanted, f"{depth} of {name}")
 
 
-@test("syntax: chains of 100,000 aren't nested", "syntax")
+@test("syntax: chains of 100,000 aren't nested")
 def chains():
     count = 100000
     texts = {
@@ -99,6 +99,6 @@ def chains():
         same([it for it in found if it["code"] in ("Syntax", "TooDeep")], [], "selectors")
 
 
-@test("syntax: `check` tells where the text ends early", "check")
+@test("syntax: `check` tells where the text ends early")
 def checked():
     ends(on_file("check", ""), "0:0: Syntax: expected MODULE\n", 1)

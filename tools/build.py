@@ -18,7 +18,6 @@ import common
 from common import TOP, BINARY
 
 STEP = 15  # seconds between two lines about a crate that takes long
-LARGE = 2000  # lines of code from which on a crate's check gets each processor
 ROOMS = os.path.join(TOP, "bin", "rooms")
 
 
@@ -35,7 +34,7 @@ def lanes():
             free = int(found[1]) // (4 << 20) if found else free
     except OSError:
         pass
-    return max(1, min(processors(), free, 3))
+    return max(1, min(processors(), free))
 
 
 def link(old, new):
@@ -46,15 +45,9 @@ def link(old, new):
         shutil.copy2(old, new)
 
 
-def lines_of(name):
-    """How many lines of code a crate has."""
-    folder = os.path.join(TOP, "crates", name, "src")
-    count = 0
-    for at, _, files in os.walk(folder):
-        for it in files:
-            with open(os.path.join(at, it), "rb") as file:
-                count += sum(1 for _ in file)
-    return count
+def chain(name, named):
+    """How many crates stand one on the other above this one, at most."""
+    return max((1 + chain(it, named) for it in named if name in named[it]), default=0)
 
 
 def furnish(room, name, named):
@@ -74,12 +67,11 @@ def furnish(room, name, named):
 class Work:
     """One crate that is being proved, in a room of its own."""
 
-    def __init__(self, name, named):
+    def __init__(self, name, named, jobs):
         self.name, self.room = name, os.path.join(ROOMS, name)
         self.out, self.moved = os.path.join(TOP, "crates", name, "out"), os.path.join(self.room, "crates", name, "out")
         self.furnish(named)
         self.log = os.path.join(self.moved, "build.log")
-        jobs = processors() if lines_of(name) > LARGE else max(1, processors() // 2)
         words = ["rt", "run", "--", "--help"] if name == "ob0" else ["rt", "lib", "--jobs", str(jobs)]
         with open(self.log, "wb") as out:
             how = {"cwd": os.path.join(self.room, "crates", name), "stdin": subprocess.DEVNULL, "stdout": out}
@@ -152,11 +144,17 @@ def prove_all(running):
 
     say(f"proving {total} crates: {' '.join(left)}")
     most, told = lanes(), time.monotonic()
+    # (what has the longest chain above it goes first)
+    heights = {name: chain(name, named) for name in left}
     while left or running:
-        for name in [it for it in left if all(low in done for low in named[it])]:
+        ready = [it for it in left if all(low in done for low in named[it])]
+        ready.sort(key=lambda it: -heights[it])
+        # (a check with more jobs takes more of the processors in all, so it gets those alone that nobody else wants)
+        jobs = max(1, processors() // max(1, min(most, len(ready) + len(running))))
+        for name in ready:
             if len(running) < most:
                 left.remove(name)
-                running[name] = Work(name, named)
+                running[name] = Work(name, named, jobs)
                 say(f"{name}: proving it; {total - len(done)} of {total} crates are left")
         time.sleep(0.2)
         for name, work in list(running.items()):

@@ -1,15 +1,21 @@
 #!/usr/bin/env python3
-"""Plays a conversation with bin/ob0 over a real pipe, and prints what goes each way in readable form."""
+"""Plays a conversation with the server, and prints what goes each way in readable form.
+
+It is played with bin/ob0 where that was proved and built from the sources as they are. Else the program is compiled by
+`rt try`, which proves nothing and takes a minute or two, and gets all messages at once."""
 import json
 import os
+import subprocess
 import sys
+import tempfile
+import time
 
 import common
 
 sys.path.insert(0, os.path.join(common.TOP, "tests"))
 
-from features import BUILT  # noqa: E402
-from harness import Server, did_change, did_close, did_open, place  # noqa: E402
+import harness  # noqa: E402
+from harness import EXIT, SHUTDOWN, did_change, did_close, did_open, notice, place, request  # noqa: E402
 
 URI = "file:///squares.mod"
 GOOD = """MODULE Squares;
@@ -19,45 +25,101 @@ BEGIN y := x * x END Square;
 BEGIN n := 7; Square(n, n); Write(n) END Squares.
 """
 CHANGES = [
-    (
-        True,
-        "a letter joins a number, and a character begins no lexeme: two diagnostics",
-        GOOD.replace("n := 7;", "n := 7x $;"),
-    ),
-    (BUILT["syntax"], "an operand is missing: the parser tells where", GOOD.replace("x * x", "x *")),
-    (
-        BUILT["types"],
-        "a truth value is assigned to a number: the checker tells where",
-        GOOD.replace("n := 7", "n := 7 = 7"),
-    ),
-    (True, "mended: an empty list again", GOOD),
+    ("a letter joins a number, and a character begins no lexeme: two diagnostics", GOOD.replace("n := 7;", "n := 7x $;")),
+    ("an operand is missing: the parser says where", GOOD.replace("x * x", "x *")),
+    ("a truth value is assigned to a number: the checker says where", GOOD.replace("n := 7", "n := 7 = 7")),
+    ("mended: an empty list again", GOOD),
 ]
+STEP = 15  # seconds between two lines while the program is compiled
 
 
-class Played(Server):
-    """A server whose messages are shown."""
+def steps():
+    """The conversation: what is said before a message, and the message."""
+    document = {"uri": URI}
+    where = {"position": place(4, 16), "textDocument": document}
+    yield "the client begins", request(1, "initialize", {"capabilities": {}})
+    yield "", notice("initialized", {})
+    yield "a module without a fault is opened: an empty list of diagnostics", did_open(GOOD, URI)
+    for version, (what, text) in enumerate(CHANGES, 2):
+        yield what, did_change(text, URI, version)
+    yield "which name is in line 4 at character 16, and where else?", request(2, "textDocument/hover", where)
+    yield "", request(3, "textDocument/references", {**where, "context": {"includeDeclaration": True}})
+    yield "rename it: three edits", request(4, "textDocument/rename", {**where, "newName": "Squared"})
+    yield (
+        "rename it to a name that the module uses for something else: refused, with the place that would change its meaning",
+        request(5, "textDocument/rename", {**where, "newName": "Write"}),
+    )
+    layout = {"textDocument": document, "options": {"tabSize": 2, "insertSpaces": True}}
+    yield "lay it out: an edit for each gap that changes", request(6, "textDocument/formatting", layout)
+    yield "the document is closed: its diagnostics are withdrawn", did_close(URI)
+    yield "the client ends", {**SHUTDOWN, "id": 7}
+    yield "", EXIT
 
-    def send(self, message):
-        content = json.dumps(message, separators=(",", ":"), ensure_ascii=False)
-        print(f"\n--> {message['method']}" + (f" (request {message['id']})" if "id" in message else ""))
-        show(message.get("params", ()), len(content.encode()))
-        super().send(message)
 
-    def take(self):
-        message = super().take()
-        what = message.get("method") or f"answer to request {message['id']}"
-        print(f"\n<-- {what}")
-        rest = message.get("params", message.get("result", message.get("error")))
-        show(rest, len(json.dumps(message, separators=(",", ":"), ensure_ascii=False).encode()))
-        return message
+def is_answered(message):
+    return "id" in message or message["method"].startswith("textDocument/did")
+
+
+class Live:
+    """bin/ob0, in conversation."""
+
+    def __init__(self):
+        self.server = harness.Server(silent=True)
+
+    def answer(self, message):
+        self.server.send(message)
+        return self.server.take() if is_answered(message) else None
+
+    def status(self):
+        return self.server.process.wait(harness.SECONDS)
+
+
+class Recorded:
+    """The program as `rt try` compiles and runs it, on all messages at once."""
+
+    def __init__(self):
+        found = tried([it for _, it in steps()])
+        self.answers, self.ended = iter(map(json.loads, harness.unframed(found[0]))), found[1]
+
+    def answer(self, message):
+        return next(self.answers) if is_answered(message) else None
+
+    def status(self):
+        return self.ended
+
+
+def tried(messages):
+    """What the unproved program writes on these messages, and its status."""
+    with tempfile.TemporaryFile() as given, tempfile.TemporaryFile() as out, tempfile.TemporaryFile() as err:
+        given.write(harness.frames(messages))
+        given.seek(0)
+        how = {"cwd": os.path.join(common.TOP, "crates", "ob0"), "stdin": given, "stdout": out, "stderr": err}
+        timer, shown = common.Timer(), time.monotonic()
+        with subprocess.Popen(["rt", "try", "--", "serve"], **how) as process:
+            try:
+                while process.poll() is None:
+                    time.sleep(0.2)
+                    if time.monotonic() - shown > STEP:
+                        shown = time.monotonic()
+                        print(f"[{timer}] compiling", flush=True)
+            except KeyboardInterrupt:
+                process.terminate()
+                common.stop("interrupted", 130)
+        err.seek(0)
+        said = err.read().decode(errors="replace")
+        if "run=ended" not in said:
+            common.stop(f"rt try did not run the program:\n{said[-2000:]}", 1)
+        print(f"[{timer}] compiled and run", flush=True)
+        out.seek(0)
+        return out.read(), process.returncode
 
 
 def lines_of(value):
-    """JSON in readable lines: what fits stands on one line, texts of several lines stand as lines."""
+    """JSON in readable lines: what fits is on one line, texts of several lines are shown as lines."""
     flat = json.dumps(value, ensure_ascii=False)
     if isinstance(value, str) and "\n" in value:
         return ['"', *("  | " + it for it in value.rstrip("\n").split("\n")), '"']
-    if len(flat) <= 90 and "\\n" not in flat or not isinstance(value, (dict, list)):
+    if len(flat) <= 110 and ("\\n" not in flat or "newText" in flat) or not isinstance(value, (dict, list)):
         return [flat]
     pairs = [(f"{json.dumps(k)}: ", v) for k, v in value.items()] if isinstance(value, dict) else [("", v) for v in value]
     found = []
@@ -67,42 +129,48 @@ def lines_of(value):
     return ["{", *found, "}"] if isinstance(value, dict) else ["[", *found, "]"]
 
 
-def show(value, size):
-    """A value under the head of its message."""
-    print(f"    Content-Length: {size}")
+def show(arrow, what, message, parts):
+    """A message: its head, and the part of it that has something to say."""
+    print(f"\n{arrow} {what}")
+    print(f"    Content-Length: {len(json.dumps(message, separators=(',', ':'), ensure_ascii=False).encode())}")
+    value = next((message[it] for it in parts if it in message), ())
     for line in lines_of(value) if value != () else ():
         print(f"    {line}")
 
 
 def say(text):
-    print(f"\n== {text}")
+    print(f"\n== {text}", flush=True)
+
+
+def play(server):
+    """Plays the conversation, and returns the status that the server ended with."""
+    for what, message in steps():
+        if what:
+            say(what)
+        name = message["method"] + (f" (request {message['id']})" if "id" in message else "")
+        show("-->", name, message, ["params"])
+        found = server.answer(message)
+        if found is not None:
+            name = found.get("method") or f"answer to request {found['id']}"
+            show("<--", name, found, ["params", "result", "error"])
+    status = server.status()
+    say(f"the server ended with status {status}")
+    return status
 
 
 def main():
-    if not os.access(common.BINARY, os.X_OK):
-        common.stop("bin/ob0 is missing: make it with `make build`")
-    say("the client begins")
-    with Played() as server:
-        say("a module without a fault is opened: an empty list of diagnostics")
-        server.tell(did_open(GOOD, URI))
-        for version, (what, text) in enumerate([it[1:] for it in CHANGES if it[0]], 2):
-            say(what)
-            server.tell(did_change(text, URI, version))
-        where = {"position": place(4, 16), "textDocument": {"uri": URI}}
-        if BUILT["questions"]:
-            say("which name stands in line 4 at character 16, and where else?")
-            if BUILT["hover"]:
-                server.ask("textDocument/hover", where)
-            server.ask("textDocument/references", {**where, "context": {"includeDeclaration": True}})
-        if BUILT["rename"]:
-            say("rename it; and then to a name that would be captured, which is refused")
-            server.ask("textDocument/rename", {**where, "newName": "Squared"})
-            server.ask("textDocument/rename", {**where, "newName": "Write"})
-        say("the document is closed: its diagnostics are taken back")
-        server.tell(did_close(URI))
-        say("the client ends")
-        status = server.end()
-    say(f"the server ended with status {status}")
+    if common.is_current():
+        print("The program is bin/ob0, which is proved.", flush=True)
+        return play(Live())
+    common.need("rt")
+    print("The program is compiled by `rt try` and NOT PROVED: nothing checks its proofs here. This takes a minute or two.", flush=True)
+    status = play(Recorded())
+    say("that was the program without its proofs")
+    print(
+        "`make build` proves every function and builds the program: half an hour to an hour on four processors. It says\n"
+        f"which crate is being proved, how many are left and the time so far, and leaves the proved program as\n"
+        f"{os.path.relpath(common.BINARY, os.getcwd())}. After that `make demo` plays this with it, and `make install` installs it."
+    )
     return status
 
 

@@ -10,14 +10,16 @@ import subprocess
 import sys
 
 import common
+import editors
 from common import TOP
 
 LINE = re.compile(r"^(\d+) passed, (\d+) failed$")
 RESULTS = os.path.join(TOP, "bin", "results")
 
 
-def stream(words, **named):
-    """Runs a command, shows what it says, and returns its status and the counts of its last line that has them."""
+def stream(words, timer, **named):
+    """Runs a command, shows what it says, and returns its status and the counts of its last line that has them. What `rt`
+    says of a crate has the time before it."""
     counts = None
     how = {"cwd": TOP, "stdin": subprocess.DEVNULL, "stdout": subprocess.PIPE, "stderr": subprocess.STDOUT}
     how["env"] = {**os.environ, **named}
@@ -28,6 +30,8 @@ def stream(words, **named):
             if found:
                 counts = int(found[1]), int(found[2])
                 text = f"{words[0]}: {text}" if words[0] == "rt" else f"end to end: {text}"
+            elif text.startswith("rt: ob0"):
+                text = f"[{timer}] {text}"
             print(text, end="", flush=True)
     passed, failed = counts or (0, 0)
     if process.returncode and not failed or counts is None:
@@ -36,22 +40,35 @@ def stream(words, **named):
 
 
 def at_once():
-    """How many checks the gate makes side by side: one a processor, and one for each 5 GB of memory. A check takes 1 to
-    2.5 GB; left to itself `rt ci` reckons three times that, and lets large crates wait for each other's edits."""
+    """How many checks the gate makes side by side: one a processor, and one for each 3.5 GB of memory. A check takes 1 to
+    3 GB; left to itself `rt ci` reckons three times that, and lets large crates wait for each other's edits."""
     memory = os.sysconf("SC_PAGE_SIZE") * os.sysconf("SC_PHYS_PAGES")
-    return max(1, min(len(os.sched_getaffinity(0)), memory // 5_000_000_000))
+    return max(1, min(len(os.sched_getaffinity(0)), memory // 3_500_000_000))
 
 
-def gate():
+def gate(timer):
     """The gate's counts. The program that it builds becomes bin/ob0: it is not proved a second time."""
     linked = os.path.join(TOP, "crates", "ob0", "out", "ob0")
     for old in (linked, common.BINARY):
         if os.path.exists(old):
             os.remove(old)
-    counts = stream(["rt", "ci"], RT_JOBS=os.environ.get("RT_JOBS") or str(at_once()))
+    counts = stream(["rt", "ci"], timer, RT_JOBS=os.environ.get("RT_JOBS") or str(at_once()))
     if os.path.isfile(linked):
         common.keep(linked)
     return counts
+
+
+def spent():
+    """The processors' time, in seconds, that what was run so far took."""
+    times = os.times()
+    return times.children_user + times.children_system
+
+
+def say_missing():
+    """Says at once which tests will be left out, for lack of which editors and tools, and how to get them."""
+    missing = [it for it in editors.TOOLS if not editors.is_here(it)]
+    if missing:
+        print(f"missing: {', '.join(missing)}. `make editors` installs them; without, the tests that want them are left out, by name", flush=True)
 
 
 def main():
@@ -62,12 +79,13 @@ def main():
     # (what a build that was killed left: the gate takes no source outside crates/)
     shutil.rmtree(os.path.join(TOP, "bin", "rooms"), ignore_errors=True)
     common.need("rt")
+    say_missing()
     print("== the gate", flush=True)
-    passed, failed = gate()
-    print(f"== the gate: {passed} passed, {failed} failed, {timer}", flush=True)
+    passed, failed = gate(timer)
+    print(f"== the gate: {passed} passed, {failed} failed, {timer}, of the processors {common.clock(spent())}", flush=True)
     print("== end to end", flush=True)
     if os.path.isfile(common.BINARY):
-        more, wrong = stream([sys.executable, os.path.join("tests", "run.py")])
+        more, wrong = stream([sys.executable, os.path.join("tests", "run.py")], timer)
         passed, failed = passed + more, failed + wrong
     else:
         print("the gate built no program, so no end-to-end test ran", flush=True)
@@ -75,7 +93,7 @@ def main():
     line = f"{passed} passed, {failed} failed"
     with open(RESULTS, "w", encoding="utf-8") as file:
         file.write(line + "\n")
-    print(f"== all of it took {timer}\n{line}", flush=True)
+    print(f"== all of it took {timer}, of the processors {common.clock(spent())}\n{line}", flush=True)
     return 1 if failed else 0
 
 

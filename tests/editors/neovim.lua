@@ -1,7 +1,8 @@
 -- Drives the server from Neovim, without a screen: what an editor sees while somebody types.
--- Variables: OB0 (the program), OB0_FILE (the file to edit), OB0_REPORT (where the findings go, a line of JSON each),
+-- The server is started by the files of editors/neovim, which are installed.
+-- Variables: OB0_FILE (the file to edit), OB0_REPORT (where the findings go, a line of JSON each),
 -- OB0_STEPS (the name of a list of steps below); what a list of steps needs besides is in OB0_GIVEN, as JSON.
-local program, file = vim.env.OB0, vim.env.OB0_FILE
+local file = vim.env.OB0_FILE
 local report = assert(io.open(vim.env.OB0_REPORT, "w"))
 local given = vim.fn.json_decode(vim.env.OB0_GIVEN or "{}")
 local published, exited = 0, nil
@@ -20,29 +21,37 @@ end
 
 local show = vim.lsp.handlers["textDocument/publishDiagnostics"]
 
-local function on_publish(fault, result, context, config)
+vim.lsp.handlers["textDocument/publishDiagnostics"] = function(fault, result, context, config)
   show(fault, result, context, config)
   published = published + 1
 end
 
-local settings = {
-  name = "ob0",
-  cmd = { program, "serve" },
-  root_dir = vim.fn.fnamemodify(file, ":h"),
-  handlers = { ["textDocument/publishDiagnostics"] = on_publish },
-  on_exit = function(code, signal)
+-- Notes how a server ends, whoever starts it.
+local function watched(settings)
+  local before = settings.on_exit
+  settings.on_exit = function(code, signal, ...)
     exited = { code = code, signal = signal }
-  end,
-}
-
--- Starts the server on the buffer: by vim.lsp.start, and where this Neovim is too old for that, by its two halves.
-local function start()
-  if vim.lsp.start then
-    return vim.lsp.start(settings)
+    if before then
+      before(code, signal, ...)
+    end
   end
-  local id = vim.lsp.start_client(settings)
-  vim.lsp.buf_attach_client(0, id)
-  return id
+  return settings
+end
+
+for _, name in ipairs({ vim.lsp.start and "start" or "start_client" }) do
+  local real = vim.lsp[name]
+  vim.lsp[name] = function(settings, ...)
+    return real(watched(settings), ...)
+  end
+end
+
+-- The server of this buffer, once it has answered the first message.
+local function client_here()
+  for _, it in pairs((vim.lsp.get_clients or vim.lsp.buf_get_clients)(vim.lsp.get_clients and { bufnr = 0 } or 0)) do
+    if it.name == "ob0" or it.config.cmd[1] == "ob0" then
+      return it.initialized and it or nil
+    end
+  end
 end
 
 -- The diagnostics that the buffer shows, once the server has told something new.
@@ -238,12 +247,9 @@ end
 
 local function run()
   vim.cmd("edit " .. vim.fn.fnameescape(file))
-  local id = start()
-  await("the server", function()
-    local client = vim.lsp.get_client_by_id(id)
-    return client and client.initialized
-  end)
-  local client = vim.lsp.get_client_by_id(id)
+  assert(vim.bo.filetype == "ob0", "the file was taken as " .. vim.bo.filetype)
+  await("the server", client_here)
+  local client = client_here()
   steps[vim.env.OB0_STEPS](client)
   client.stop()
   await("the server's end", function()

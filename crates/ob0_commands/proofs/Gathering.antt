@@ -1,10 +1,9 @@
 -- Numbers read so far: with those of what is left they are the text's.
 use Rattle.std.proofs.Common.{◌≡◌, ◌∙◌, ℕ, ◌+◌, ◌-◌, ◌<◌, ◌≤◌, suc, Bool, true, false, List, [], ◌∷◌, ◌++◌, ℤ, length, drop, take, refl, sym, ap, subst, append_assoc, append-nil, arith, IsTrue, slice_index}
-use Rattle.std.specs.List.{position_or_len}
+use Rattle.std.specs.List.{position_or_len, slice_range}
 use Rattle.std.proofs.Math.Seq.{drop-cons}
 use Rattle.std.proofs.lemmas.List.{drop_all, drop-drop, length-drop, take_all}
 use Rattle.std.proofs.lemmas.List.Folds.{drop_split}
-use Rattle.std.specs.List.{slice_range}
 use Rattle.ob0_commands.specs.Numbers.{WritesNumber, WritesNumbers, nothing, space, number, EndsBefore}
 use Rattle.ob0_scan.specs.Classes.{is_space}
 

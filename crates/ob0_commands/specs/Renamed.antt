@@ -10,7 +10,7 @@ use Rattle.ob0_text.specs.declared.positions.Position.{Position}
 use Rattle.ob0_text.specs.declared.positions.Unit.{Unit}
 use Rattle.ob0_text.specs.declared.positions.Unit.TheVariants.{Utf16}
 use Rattle.ob0_text.specs.declared.refusals.EditRefusal.{EditRefusal}
-use Rattle.ob0_session.specs.Renamed.{IsRefusedIn, RenamesIn}
+use Rattle.ob0_rename.specs.InTexts.{IsRefusedIn, RenamesIn}
 use Rattle.ob0_commands.specs.Printed.{TellsWrong}
 
 -- known bytes grow by the text that edits make

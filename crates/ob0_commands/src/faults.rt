@@ -9,7 +9,7 @@ use std::alloc::{AllocError, AllocFailed};
 use std::io::Write;
 
 /// Why a command on a file gave up. Each is told by its name.
-#[derive(Clone, Copy, Debug, PartialEq, Eq)]
+#[derive(Clone, Copy, PartialEq, Eq)]
 pub enum Fault {
     /// The file can't be read.
     File,

@@ -14,6 +14,3 @@ pub use faults::{Fault, tell_fault};
 pub use reading::{MAX_FILE, read_file};
 pub use renaming::rename_text;
 pub use running::run_text;
-
-#[cfg(test)]
-mod tests;

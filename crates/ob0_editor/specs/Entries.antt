@@ -1,9 +1,8 @@
 -- What the stored documents stand for.
-use Rattle.std.specs.Prelude.{ℕ, List, map, string_bytes, String}
+use Rattle.std.specs.Prelude.{ℕ, List, map, string_bytes, String, refl}
 use Rattle.std.specs.Str.{chars}
 use Rattle.std.specs.FinMap as map_of
 use Rattle.std.specs.Coded.{Coded, code_by, coded×, coded_ℕ, coded_list}
-use Rattle.std.specs.Prelude.{refl}
 use Rattle.ob0_editor.specs.declared.documents.Open as stored
 use Rattle.ob0_ends.specs.Ends.{Open, Documents}
 

@@ -7,8 +7,6 @@ mod beginning;
 mod documents;
 mod editor;
 mod reading;
-#[cfg(test)]
-mod tests;
 mod texts;
 mod writing;
 

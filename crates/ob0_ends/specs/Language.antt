@@ -2,9 +2,9 @@
 use Rattle.std.specs.Prelude.{ℕ, List}
 use Rattle.ob0_tree.specs.Tree.{Tree, module_text}
 use Rattle.ob0_scope.specs.Names.{Name}
-use Rattle.ob0_run.specs.EditLaws.{SameRuns}
-use Rattle.ob0_session.specs.Diagnosed.{IsTextOf, IsWellTypedModule}
-use Rattle.ob0_session.specs.Diagnostics.{utf8}
+use Rattle.ob0_semantics.specs.EditLaws.{SameRuns}
+use Rattle.ob0_analysis.specs.Diagnosed.{IsTextOf, IsWellTypedModule}
+use Rattle.ob0_analysis.specs.Texts.{utf8}
 
 -- A text is here the list of its characters.
 

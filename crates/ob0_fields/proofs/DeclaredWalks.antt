@@ -8,10 +8,10 @@ use Rattle.ob0_tree.specs.declared.tree.Procedure.{Procedure}
 use Rattle.ob0_tree.specs.Tree.{Tree, further_section, items, more, procedure, type_name, value_section, variable, variable_section}
 use Rattle.ob0_tree.specs.View.{further_section_of, items_of, names_of, procedure_of, section_of, type_declaration_of, type_of, variable_of}
 use Rattle.ob0_scope.specs.Parts.{section_type}
-use Rattle.ob0_types.specs.Declarations.{formals_constructors, procedure_constructors, procedures_constructors, types_constructors, variables_constructors}
-use Rattle.ob0_types.specs.Expressions.{Meanings}
-use Rattle.ob0_types.specs.Typing.{constructors}
-use Rattle.ob0_types.specs.WellTyped.{Signature}
+use Rattle.ob0_typing.specs.Declarations.{formals_constructors, procedure_constructors, procedures_constructors, types_constructors, variables_constructors}
+use Rattle.ob0_typing.specs.Expressions.{Meanings}
+use Rattle.ob0_typing.specs.Typing.{constructors}
+use Rattle.ob0_typing.specs.WellTyped.{Signature}
 use Rattle.ob0_values.specs.Values.{Shape}
 use Rattle.ob0_fields.specs.Owned.{marked_procedure, marked_procedures, marked_sections, marked_type, marked_types, marked_variables}
 

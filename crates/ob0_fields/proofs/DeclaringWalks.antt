@@ -4,7 +4,7 @@ use Rattle.std.proofs.lemmas.List.{drop_all, drop_more}
 use Rattle.ob0_tree.specs.declared.tree.Procedure.{Procedure}
 use Rattle.ob0_tree.specs.Tree.{Tree, items, more, procedure}
 use Rattle.ob0_tree.specs.View.{items_of, procedure_of}
-use Rattle.ob0_types.specs.Declarations.{procedure_constructors, procedures_constructors}
+use Rattle.ob0_typing.specs.Declarations.{procedure_constructors, procedures_constructors}
 use Rattle.ob0_fields.specs.Identifiers.{declared_in_procedure, declared_in_procedures}
 
 pub record OverDeclaring (k : ℕ) (start : List (ℕ × ℕ)) (xs : List Procedure) (done : ℕ) (out : List (ℕ × ℕ)) (next : ℕ) : Type 0 where

@@ -15,8 +15,8 @@ use Rattle.ob0_scope.specs.Resolution.{Resolution, ordinal_in}
 use Rattle.ob0_scope.specs.Scopes.{same_ordinal}
 use Rattle.ob0_fields.specs.Identifiers.{RenamedAtTokens, field_identifiers, field_tokens, is_field, tokens_among}
 use Rattle.ob0_fields.specs.Owned.{fields_among, owned_tokens, with_fields_at}
-use Rattle.ob0_fields.specs.Owners.{is_of_field}
-use Rattle.ob0_fields.proofs.ByToken.{renamed_by_token-holds}
+use Rattle.ob0_field_laws.specs.Owners.{is_of_field}
+use Rattle.ob0_field_laws.proofs.ByToken.{renamed_by_token-holds}
 use Rattle.ob0_fields.proofs.OwnedTokens.{module-tokens, owners_of_fields-holds, tokens}
 
 abbrev pub firsts : List (ℕ × ℕ) → List ℕ

@@ -15,26 +15,26 @@ use Rattle.ob0_scope.proofs.OccurrencesMapped.{occurrences-mapped}
 use Rattle.ob0_scope.proofs.Ordinals.{le-after_procedure}
 use Rattle.ob0_scope.proofs.Peeling.{heads}
 use Rattle.ob0_scope.proofs.Relabelled.{formals-section, types-section, variables-section}
-use Rattle.ob0_types.specs.Bindings.{block_bindings, declared_object, for_some, procedure_bindings, procedures_bindings, since}
-use Rattle.ob0_types.specs.Checking.{declare_block, declare_procedure}
-use Rattle.ob0_types.specs.Declarations.{after_formals, after_types, after_variables, declare_first, formals_constructors, procedure_constructors, types_constructors, variables_constructors}
-use Rattle.ob0_types.specs.Environments.{from_binding, meanings, newest, outermost}
-use Rattle.ob0_types.specs.Expressions.{Meanings, Object, a_procedure, a_variable}
-use Rattle.ob0_types.specs.Typing.{object_type}
-use Rattle.ob0_types.specs.WellTyped.{Signature, TypeEnvironment, Typed, TypedParameter, WellTyped, bind_typed, block_fits, body_fits, declare_typed, fits_over, heading, hold, procedure_fits, procedures_fit, typed_parameters}
+use Rattle.ob0_checker.specs.Bindings.{block_bindings, declared_object, for_some, procedure_bindings, procedures_bindings, since}
+use Rattle.ob0_checker.specs.Checking.{declare_block, declare_procedure}
+use Rattle.ob0_typing.specs.Declarations.{after_formals, after_types, after_variables, declare_first, formals_constructors, procedure_constructors, types_constructors, variables_constructors}
+use Rattle.ob0_typing.specs.Environments.{from_binding, meanings, newest, outermost}
+use Rattle.ob0_typing.specs.Expressions.{Meanings, Object, a_procedure, a_variable}
+use Rattle.ob0_typing.specs.Typing.{object_type}
+use Rattle.ob0_typing.specs.WellTyped.{Signature, TypeEnvironment, Typed, TypedParameter, WellTyped, bind_typed, block_fits, body_fits, declare_typed, fits_over, heading, hold, procedure_fits, procedures_fit, typed_parameters}
 use Rattle.ob0_values.specs.Values.{Shape}
-use Rattle.ob0_types.proofs.Agreeing.{Agree, HoldsOf}
-use Rattle.ob0_types.proofs.Constructors.{formals_constructors-relabel, procedure_constructors-relabel, types_constructors-relabel, variables_constructors-relabel}
-use Rattle.ob0_types.proofs.KeptProcedures.{headed_bindings, since-append}
-use Rattle.ob0_types.proofs.Literals.{some_inverse}
-use Rattle.ob0_types.proofs.Proved.{fits_by_ordinal-holds}
-use Rattle.ob0_types.proofs.TypesByOrdinal.{TypeNoted, TypedBelow, TypedBelow-weaken, TypedWithin, bind_typed-by_name, bind_typed-by_ordinal, body_fits-agrees, declarations_typed, label_typed, label_typed-formals, noted_parameters, noted_parameters-within, parameters_typed, typed_by_name, typed_by_ordinal, typed_names, typed_outermost, typed_scope}
-use Rattle.ob0_fields.specs.Fields.{behind_heading, behind_procedures, behind_variables, parameters_of, refield, refield_block, refield_procedures, refield_variable_section}
-use Rattle.ob0_fields.specs.Owners.{of_records}
+use Rattle.ob0_typing.proofs.Agreeing.{Agree, HoldsOf}
+use Rattle.ob0_typing.proofs.Constructors.{formals_constructors-relabel, procedure_constructors-relabel, types_constructors-relabel, variables_constructors-relabel}
+use Rattle.ob0_checker.proofs.KeptProcedures.{headed_bindings, since-append}
+use Rattle.ob0_typing.proofs.Literals.{some_inverse}
+use Rattle.ob0_typing.proofs.Proved.{fits_by_ordinal-holds}
+use Rattle.ob0_typing.proofs.TypesByOrdinal.{TypeNoted, TypedBelow, TypedBelow-weaken, TypedWithin, bind_typed-by_name, bind_typed-by_ordinal, body_fits-agrees, declarations_typed, label_typed, label_typed-formals, noted_parameters, noted_parameters-within, parameters_typed, typed_by_name, typed_by_ordinal, typed_names, typed_outermost, typed_scope}
+use Rattle.ob0_field_laws.specs.Fields.{behind_heading, behind_procedures, behind_variables, parameters_of, refield, refield_block, refield_procedures, refield_variable_section}
+use Rattle.ob0_field_laws.specs.Owners.{of_records}
 use Rattle.ob0_fields.specs.Owned.{HasOwners, OwnersByDeclaration, owned, owned_block, owned_formals, owned_procedure, owned_procedures, owned_type_section, owned_variable_section, token_objects, unowned}
 use Rattle.ob0_fields.proofs.OwnedStatements.{Alike, SameTypes, owned-alike, owners_split, recorded, recorded-alike, recorded-mapped, unowned-all}
 use Rattle.ob0_fields.proofs.OwnedTypes.{counted_formals_section, counted_procedure, counted_type_section, counted_variable_section, formals-owned, type_section-owned, variable_section-owned}
-use Rattle.ob0_fields.proofs.RefieldedModules.{stands_in}
+use Rattle.ob0_field_laws.proofs.RefieldedModules.{stands_in}
 use Rattle.ob0_fields.proofs.Selecting.{body-selects, here}
 use Rattle.ob0_fields.proofs.DeclaredInOrder.{Descends, Grown, Right, block_grows, bound_right, descends_join, heading_grows, right_join, right_split}
 

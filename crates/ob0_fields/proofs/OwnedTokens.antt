@@ -10,9 +10,9 @@ use Rattle.ob0_tree.specs.Tree.{Sort, Tree, item, adds, array_type, assigns, beg
 use Rattle.ob0_tree.proofs.Leaves.{leaves_ascend}
 use Rattle.ob0_scope.specs.Parts.{further_names, names_listed, section_type}
 use Rattle.ob0_scope.specs.Resolution.{ordinal_in}
-use Rattle.ob0_types.specs.Declarations.{after_formals, after_types, after_variables, procedure_constructors}
-use Rattle.ob0_types.specs.Expressions.{Meanings}
-use Rattle.ob0_types.specs.Typing.{constructors, group_constructors, object_type}
+use Rattle.ob0_typing.specs.Declarations.{after_formals, after_types, after_variables, procedure_constructors}
+use Rattle.ob0_typing.specs.Expressions.{Meanings}
+use Rattle.ob0_typing.specs.Typing.{constructors, group_constructors, object_type}
 use Rattle.ob0_values.specs.Values.{Shape}
 use Rattle.ob0_fields.specs.Owned.{HasOwners, OwnersOfFields, fields_among, owned, owned_block, owned_formals, owned_group, owned_groups, owned_module, owned_procedure, owned_procedures, owned_section, owned_sections, owned_tokens, owned_type, owned_type_section, owned_types, owned_variable_section, owned_variables, passed, unowned, unowned_among, with_fields_at}
 use Rattle.ob0_fields.proofs.OwnedModules.{owners_by_declaration-holds}

@@ -2,10 +2,10 @@
 use Rattle.std.proofs.Common.{◌≡◌, ℕ, List, None, Option, length, replicate, sym, ◌∙◌, subst}
 use Rattle.ob0_tree.specs.Parsed.{named_tree_of, tree_of}
 use Rattle.ob0_scope.specs.Resolution.{Resolution}
-use Rattle.ob0_types.specs.Bindings.{declared_object}
+use Rattle.ob0_checker.specs.Bindings.{declared_object}
 use Rattle.ob0_types.specs.CheckedModules.{IsWellTyped}
 use Rattle.ob0_fields.specs.Owned.{marked_module, token_objects, with_fields_at}
-use Rattle.ob0_fields.specs.Owners.{AreOwners}
+use Rattle.ob0_field_laws.specs.Owners.{AreOwners}
 use Rattle.ob0_fields.proofs.MarkedFields.{module-fields}
 use Rattle.ob0_fields.proofs.OwnedTokens.{owners_of_fields-holds}
 

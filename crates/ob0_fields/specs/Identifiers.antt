@@ -9,9 +9,9 @@ use Rattle.ob0_scope.specs.Names.{Name, same_name}
 use Rattle.ob0_scope.specs.Parts.{formal_sections, module_block, section_types, section_variables}
 use Rattle.ob0_scope.specs.Resolution.{Resolution}
 use Rattle.ob0_types.specs.CheckedModules.{IsWellTyped}
-use Rattle.ob0_types.specs.Declarations.{after_formals, after_types, after_variables, procedure_constructors}
+use Rattle.ob0_typing.specs.Declarations.{after_formals, after_types, after_variables, procedure_constructors}
 use Rattle.ob0_fields.specs.Owned.{fields_among, marked_sections, marked_types, marked_variables, owned_tokens}
-use Rattle.ob0_fields.specs.Renaming.{field_renamed, is_duplicate_field}
+use Rattle.ob0_field_laws.specs.Renaming.{field_renamed, is_duplicate_field}
 
 -- the identifiers of a module that are fields, in text order, each with the ordinal of its record
 abbrev pub field_identifiers : Resolution → List (ℕ × ℕ)

@@ -8,15 +8,15 @@ use Rattle.ob0_tree.specs.Places.{text_at}
 use Rattle.ob0_scope.specs.Names.{Name}
 use Rattle.ob0_scope.specs.Parts.{formal_sections, names_listed, section_type, section_types, section_variables}
 use Rattle.ob0_scope.specs.Resolution.{Resolution, ordinal_in}
-use Rattle.ob0_types.specs.Bindings.{declared_object}
+use Rattle.ob0_checker.specs.Bindings.{declared_object}
 use Rattle.ob0_types.specs.CheckedModules.{IsWellTyped}
-use Rattle.ob0_types.specs.Declarations.{after_formals, after_types, after_variables, procedure_constructors}
-use Rattle.ob0_types.specs.Expressions.{Meanings, Object}
-use Rattle.ob0_types.specs.FieldPlaces.{field_selected}
-use Rattle.ob0_types.specs.Typing.{constructors, element_type, field_type, group_constructors, object_type}
-use Rattle.ob0_types.specs.WellTyped.{Signature}
+use Rattle.ob0_typing.specs.Declarations.{after_formals, after_types, after_variables, procedure_constructors}
+use Rattle.ob0_typing.specs.Expressions.{Meanings, Object}
+use Rattle.ob0_symbols.specs.FieldPlaces.{field_selected}
+use Rattle.ob0_typing.specs.Typing.{constructors, element_type, field_type, group_constructors, object_type}
+use Rattle.ob0_typing.specs.WellTyped.{Signature}
 use Rattle.ob0_values.specs.Values.{Shape, integer_shape}
-use Rattle.ob0_fields.specs.Owners.{AreOwners}
+use Rattle.ob0_field_laws.specs.Owners.{AreOwners}
 
 -- identifiers none of which is a field
 abbrev pub unowned_among : List (Role × ℕ) → List (ℕ × Option ℕ)

@@ -1,9 +1,9 @@
 -- What the walk over a module keeps.
 use Rattle.std.specs.Prelude.{ℕ, List, Option}
 use Rattle.ob0_tree.specs.Tree.{Tree, field, index, item, selector}
-use Rattle.ob0_types.specs.Expressions.{Meanings}
-use Rattle.ob0_types.specs.KnownTables.{declared_in}
-use Rattle.ob0_types.specs.WellTyped.{Signature}
+use Rattle.ob0_typing.specs.Expressions.{Meanings}
+use Rattle.ob0_symbols.specs.KnownTables.{declared_in}
+use Rattle.ob0_typing.specs.WellTyped.{Signature}
 use Rattle.ob0_values.specs.Values.{Shape}
 use Rattle.ob0_fields.specs.declared.owning.Owning.{Owning}
 use Rattle.ob0_fields.specs.Owned.{mark, marked, owner, token_objects}

@@ -2,7 +2,7 @@
 
 ghost use Rattle.std.specs.Prelude.{◌≡◌, ◌++◌, ◌+◌, IfOk, length};
 ghost use Rattle.ob0_tree.specs.View.{block_of, procedure_of};
-ghost use Rattle.ob0_types.specs.Declarations.{block_constructors, procedure_constructors};
+ghost use Rattle.ob0_typing.specs.Declarations.{block_constructors, procedure_constructors};
 ghost use Rattle.ob0_fields.specs.Identifiers.{declared_in, declared_in_procedure};
 
 use crate::declared::{formals, types, variables};

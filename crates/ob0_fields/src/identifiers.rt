@@ -8,8 +8,8 @@ use crate::declaring::block;
 use crate::owners::found_fields;
 use ob0_scan::Tokens;
 use ob0_scope::resolved::Resolved;
+use ob0_symbols::written::text_at;
 use ob0_types::checked::WellTyped;
-use ob0_types::names::text_at;
 use std::alloc::{AllocError, Global};
 
 /// The identifiers of a module that are fields, declared or selected, by their tokens, in text order. Each comes with the

@@ -1,4 +1,4 @@
-//! The fields of records under other names: definitions, and laws over them.
+//! The identifiers of the fields of a module, and which record each belongs to.
 #![tactic(auto)]
 
 mod declared;
@@ -7,8 +7,6 @@ mod identifiers;
 pub mod laws;
 mod owners;
 mod owning;
-#[cfg(test)]
-mod tests;
 
 pub use identifiers::{declaring_field, field_identifiers, field_tokens};
 pub use owners::field_owners;

@@ -3,8 +3,8 @@
 ghost use Rattle.std.specs.Prelude.{◌≡◌, IfOk, None, replicate};
 ghost use Rattle.ob0_fields.specs.Owned.{marked_module, token_objects, with_fields_at};
 ghost use Rattle.ob0_tree.specs.Parsed.{named_tree_of, tree_of};
-ghost use Rattle.ob0_types.specs.Bindings.{declared_object};
-ghost use Rattle.ob0_fields.specs.Owners.{AreOwners};
+ghost use Rattle.ob0_checker.specs.Bindings.{declared_object};
+ghost use Rattle.ob0_field_laws.specs.Owners.{AreOwners};
 
 use crate::owning::{Fields, Owning};
 use ob0_types::checked::WellTyped;

@@ -2,25 +2,25 @@
 
 ghost use Rattle.std.specs.Prelude.{◌≡◌, ◌++◌, ◌+◌, IfOk, length, option_and_then, option_map};
 ghost use Rattle.ob0_tree.specs.View.{expression_of, simple_of, term_of, factor_of, designator_of, selector_of, assignment_of, call_of, arguments_in, statement_of, if_of, elsifs_in, sequence_in, body_of, block_of, procedure_of};
-ghost use Rattle.ob0_types.specs.Declarations.{block_constructors, procedure_constructors};
+ghost use Rattle.ob0_typing.specs.Declarations.{block_constructors, procedure_constructors};
 ghost use Rattle.ob0_scope.specs.Resolution.{ordinal_in};
-ghost use Rattle.ob0_types.specs.FieldPlaces.{field_selected};
-ghost use Rattle.ob0_types.specs.KnownTables.{declared_in, shapes_of};
-ghost use Rattle.ob0_types.specs.Tables.{type_shape};
-ghost use Rattle.ob0_types.specs.Typing.{element_type, field_type, object_type};
+ghost use Rattle.ob0_symbols.specs.FieldPlaces.{field_selected};
+ghost use Rattle.ob0_symbols.specs.KnownTables.{declared_in, shapes_of};
+ghost use Rattle.ob0_symbols.specs.Tables.{type_shape};
+ghost use Rattle.ob0_typing.specs.Typing.{element_type, field_type, object_type};
 ghost use Rattle.ob0_values.specs.Values.{integer_shape};
 ghost use Rattle.ob0_fields.specs.Owned.{mark, marked, marked_block, marked_procedure, owner, passed};
 ghost use Rattle.ob0_fields.specs.Walk.{marked_at, meaning_in};
 
 use crate::declared::{formals, types, variables};
 use ob0_scope::resolved::Resolved;
+use ob0_symbols::known::{Known, Object};
+use ob0_symbols::types::{TypeId, scalar_type};
+use ob0_symbols::written::text_at;
 use ob0_tree::tree::{
     Assignment, Block, Call, Designator, Elsif, Expression, Factor, If, Procedure, Selector,
     Simple, Statement, Term,
 };
-use ob0_types::known::{Known, Object};
-use ob0_types::names::text_at;
-use ob0_types::types::{TypeId, scalar_type};
 use std::alloc::AllocError;
 
 /// Tokens of fields, each with the ordinal of its record.

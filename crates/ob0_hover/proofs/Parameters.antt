@@ -3,7 +3,7 @@ use Rattle.std.proofs.Common.{◌≡◌, ℕ, ◌<◌, zero, suc, min, List, [],
 use Rattle.ob0_hover.specs.Shown.{parameter_shown, parameters_shown}
 use Rattle.ob0_refs.specs.Hovers.{Parameter}
 use Rattle.ob0_scope.specs.Names.{Name}
-use Rattle.ob0_types.specs.WellTyped.{Formal}
+use Rattle.ob0_typing.specs.WellTyped.{Formal}
 
 -- those found so far and those that are left are all
 abbrev pub Gathered : {A B : Type 0} → (A → Name) → (B → Formal) → List A → List B → ℕ → List Parameter → Type 0

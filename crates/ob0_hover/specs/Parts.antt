@@ -2,12 +2,12 @@
 use Rattle.std.specs.Prelude.{List, map, string_bytes, Option}
 use Rattle.ob0_hover.specs.declared.answers.Hover as answer
 use Rattle.ob0_hover.specs.Shown.{Shown}
-use Rattle.ob0_types.specs.declared.known.Formal as formal
-use Rattle.ob0_types.specs.declared.known.Object as declaration
-use Rattle.ob0_types.specs.Expressions.{Object}
-use Rattle.ob0_types.specs.KnownTables.{Tables, shapes_of}
-use Rattle.ob0_types.specs.Tables.{formal_in, object_in}
-use Rattle.ob0_types.specs.WellTyped.{Signature}
+use Rattle.ob0_symbols.specs.declared.known.Formal as formal
+use Rattle.ob0_symbols.specs.declared.known.Object as declaration
+use Rattle.ob0_typing.specs.Expressions.{Object}
+use Rattle.ob0_symbols.specs.KnownTables.{Tables, shapes_of}
+use Rattle.ob0_symbols.specs.Tables.{formal_in, object_in}
+use Rattle.ob0_typing.specs.WellTyped.{Signature}
 use Rattle.ob0_values.specs.Values.{Shape}
 
 abbrev pub hover_in : answer.Hover → Shown

@@ -10,9 +10,9 @@ use Rattle.ob0_scope.specs.Resolution.{declaring_only, span_at}
 use Rattle.ob0_refs.specs.Hovers.{Parameter, constant_text, named_type_text, predeclared_text, procedure_text, type_text, variable_text}
 use Rattle.ob0_refs.specs.Standing.{name_on}
 use Rattle.ob0_refs.specs.declared.answers.Named as named
-use Rattle.ob0_types.specs.Bindings.{declared_object}
-use Rattle.ob0_types.specs.Expressions.{Object, a_constant, a_procedure, a_standard, a_type, a_variable}
-use Rattle.ob0_types.specs.WellTyped.{Formal, Mode, Signature, by_place, by_value}
+use Rattle.ob0_checker.specs.Bindings.{declared_object}
+use Rattle.ob0_typing.specs.Expressions.{Object, a_constant, a_procedure, a_standard, a_type, a_variable}
+use Rattle.ob0_typing.specs.WellTyped.{Formal, Mode, Signature, by_place, by_value}
 use Rattle.ob0_values.specs.Values.{Shape, Value, elements, members, number, truth}
 use Rattle.ob0_values.specs.declared.scalar.Scalar.TheVariants as scalar
 

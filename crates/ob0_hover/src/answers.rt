@@ -3,7 +3,7 @@
 use ob0_scan::Span;
 
 /// What is shown of a name, and where the name stands.
-#[derive(Debug, Drop)]
+#[derive(Drop)]
 pub struct Hover {
     pub span: Span,
     /// Plain text, of one line.

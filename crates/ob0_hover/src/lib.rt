@@ -4,8 +4,6 @@
 mod answers;
 mod hovering;
 mod showing;
-#[cfg(test)]
-mod tests;
 mod typing;
 
 pub use answers::Hover;

@@ -10,8 +10,8 @@ ghost use Rattle.ob0_hover.specs.Parts.{object_of, signature_in};
 ghost use Rattle.ob0_hover.specs.Shown.{declaration_shown, name_shown, names_behind, object_shown, parameter_shown, parameters_shown};
 ghost use Rattle.ob0_refs.specs.Hovers.{named_type_text, procedure_text, type_text, variable_text};
 ghost use Rattle.ob0_refs.specs.Parameters.{parameter_in};
-ghost use Rattle.ob0_types.specs.KnownTables.{declared_in, shapes_of};
-ghost use Rattle.ob0_types.specs.Tables.{formal_in, type_shape};
+ghost use Rattle.ob0_symbols.specs.KnownTables.{declared_in, shapes_of};
+ghost use Rattle.ob0_symbols.specs.Tables.{formal_in, type_shape};
 
 use crate::typing::type_text;
 use ob0_refs::{
@@ -20,9 +20,9 @@ use ob0_refs::{
 };
 use ob0_scan::Tokens;
 use ob0_scope::resolved::{PREDECLARED, Resolved};
-use ob0_types::known::{Formal, Known, Object};
-use ob0_types::names::text_at;
-use ob0_types::types::TypeId;
+use ob0_symbols::known::{Formal, Known, Object};
+use ob0_symbols::types::TypeId;
+use ob0_symbols::written::text_at;
 use std::alloc::{AllocError, Global};
 
 /// What is shown of a name. None where its declaration is nothing.

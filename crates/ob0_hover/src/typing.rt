@@ -2,14 +2,14 @@
 
 ghost use Rattle.std.specs.Prelude.{◌≡◌, IfOk, string_bytes};
 ghost use Rattle.ob0_refs.specs.Hovers.{type_text};
-ghost use Rattle.ob0_types.specs.KnownTables.{shapes_of};
-ghost use Rattle.ob0_types.specs.Tables.{type_shape};
+ghost use Rattle.ob0_symbols.specs.KnownTables.{shapes_of};
+ghost use Rattle.ob0_symbols.specs.Tables.{type_shape};
 ghost use Rattle.ob0_values.specs.Values.{array_shape};
 
 use ob0_refs::{array_text, record_text};
-use ob0_types::known::{ArrayShape, Known};
-use ob0_types::sameness::Parts;
-use ob0_types::types::TypeId;
+use ob0_symbols::known::{ArrayShape, Known};
+use ob0_symbols::sameness::Parts;
+use ob0_symbols::types::TypeId;
 use std::alloc::{AllocError, Global};
 
 /// The text of a type, arrays level by level; a record by the number of its fields.

@@ -20,8 +20,8 @@ use Rattle.ob0_scope.specs.Scopes.{same_ordinal}
 use Rattle.ob0_refs.specs.declared.answers.Named as named
 use Rattle.ob0_refs.specs.Standing.{name_on}
 use Rattle.ob0_types.specs.CheckedModules.{IsWellTyped}
-use Rattle.ob0_types.specs.EditLaws.{ConstantsStandAlone, IsConstantWritten, IsScalar, IsShown}
-use Rattle.ob0_run.specs.EditLaws.{InliningEverywhereKeepsModules}
+use Rattle.ob0_typing.specs.EditLaws.{ConstantsStandAlone, IsConstantWritten, IsScalar, IsShown}
+use Rattle.ob0_semantics.specs.EditLaws.{InliningEverywhereKeepsModules}
 use Rattle.ob0_values.specs.declared.scalar.Scalar.TheVariants as scalar
 use Rattle.ob0_values.specs.Scalars.{scalar_value}
 use Rattle.ob0_inline.specs.declared.constants.Constant.{Constant}

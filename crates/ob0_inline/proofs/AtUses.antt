@@ -20,11 +20,11 @@ use Rattle.ob0_refs.specs.declared.answers.Named as named
 use Rattle.ob0_refs.specs.Listing.{is_name_on}
 use Rattle.ob0_refs.specs.Standing.{name_on}
 use Rattle.ob0_refs.proofs.Placed.{name_found, named_so}
-use Rattle.ob0_types.specs.ConstantValues.{value_of_constant}
+use Rattle.ob0_typing.specs.ConstantValues.{value_of_constant}
 use Rattle.ob0_types.specs.CheckedModules.{IsWellTyped}
-use Rattle.ob0_types.specs.EditLaws.{AreUsesOf, ConstantsStandAlone, IsConstantWritten, IsScalar, IsShown}
-use Rattle.ob0_types.specs.Written.{written_value}
-use Rattle.ob0_run.specs.EditLaws.{InliningKeepsModules}
+use Rattle.ob0_typing.specs.EditLaws.{AreUsesOf, ConstantsStandAlone, IsConstantWritten, IsScalar, IsShown}
+use Rattle.ob0_typing.specs.Written.{written_value}
+use Rattle.ob0_semantics.specs.EditLaws.{InliningKeepsModules}
 use Rattle.ob0_values.specs.declared.scalar.Scalar.{Scalar}
 use Rattle.ob0_values.specs.declared.scalar.Scalar.TheVariants as scalar
 use Rattle.ob0_values.specs.Scalars.{scalar_value}

@@ -22,7 +22,7 @@ use Rattle.ob0_scope.proofs.EditedTrees.{UsesNone, inline-nothing}
 use Rattle.ob0_scope.proofs.Fused.{mapped-mapped, relabelled-mapped}
 use Rattle.ob0_scope.proofs.OccurrenceNames.{length-map}
 use Rattle.ob0_scope.proofs.OccurrencesMapped.{occurrences-mapped}
-use Rattle.ob0_types.specs.ConstantValues.{value_of_constant}
+use Rattle.ob0_typing.specs.ConstantValues.{value_of_constant}
 use Rattle.ob0_values.specs.Values.{Value}
 use Rattle.ob0_inline.proofs.Earlier.{AllLow, IsLow, forget}
 use Rattle.ob0_inline.proofs.Late.{AllIn, Late, late_module, late_move}

@@ -27,7 +27,7 @@ use Rattle.ob0_scope.specs.Scopes.{as_label, same_ordinal}
 use Rattle.ob0_scope.proofs.Bound.{bindings_by_table}
 use Rattle.ob0_scope.proofs.OccurrenceNames.{length-map}
 use Rattle.ob0_scope.proofs.Peeling.{heads}
-use Rattle.ob0_types.specs.ConstantValues.{value_of_constant}
+use Rattle.ob0_typing.specs.ConstantValues.{value_of_constant}
 use Rattle.ob0_values.specs.Scalars.{scalar_value}
 use Rattle.ob0_values.specs.Values.{Value}
 use Rattle.ob0_inline.specs.declared.constants.Constant.{Constant}

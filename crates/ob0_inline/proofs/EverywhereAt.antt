@@ -18,7 +18,7 @@ use Rattle.ob0_scope.specs.Parts.{module_block}
 use Rattle.ob0_scope.specs.Resolution.{IsResolution, Resolution, ordinal_in}
 use Rattle.ob0_scope.specs.Scopes.{numbered, same_ordinal}
 use Rattle.ob0_scope.proofs.Bound.{bound_at}
-use Rattle.ob0_types.specs.ConstantValues.{value_of_constant}
+use Rattle.ob0_typing.specs.ConstantValues.{value_of_constant}
 use Rattle.ob0_values.specs.Values.{Value}
 use Rattle.ob0_inline.proofs.Behind.{late_of, uses_behind}
 use Rattle.ob0_inline.proofs.Late.{Late}

@@ -20,12 +20,12 @@ use Rattle.ob0_scope.specs.Parts.{constant_names, formal_names, formal_sections,
 use Rattle.ob0_scope.specs.Scopes.{Scope, after_names, after_procedure, body_scope, declare_names, first_procedure, first_type, first_variable, predeclared_scope, procedures_scope, relabel_block, relabel_constant_section, relabel_constants, relabel_formals, relabel_procedure, relabel_procedures, relabel_type_section, relabel_uses, relabel_variable_section, relabelled, types_scope, variables_scope}
 use Rattle.ob0_scope.proofs.OccurrenceNames.{as_many-constant_section, as_many-formals, as_many-procedure, as_many-type_section, as_many-uses, as_many-variable_section}
 use Rattle.ob0_scope.proofs.Ordinals.{le-after_names, le-after_procedure}
-use Rattle.ob0_types.specs.ConstantValues.{Known, no_constant, predeclared_known, value_among, value_in_block, value_in_procedure, value_in_procedures, value_of_constant}
-use Rattle.ob0_types.specs.Declarations.{declare_constants}
-use Rattle.ob0_types.specs.Environments.{meanings}
-use Rattle.ob0_types.specs.Expressions.{a_constant}
-use Rattle.ob0_types.specs.Typing.{constant_value}
-use Rattle.ob0_types.specs.WellTyped.{bind_names}
+use Rattle.ob0_typing.specs.ConstantValues.{Known, no_constant, predeclared_known, value_among, value_in_block, value_in_procedure, value_in_procedures, value_of_constant}
+use Rattle.ob0_typing.specs.Declarations.{declare_constants}
+use Rattle.ob0_typing.specs.Environments.{meanings}
+use Rattle.ob0_typing.specs.Expressions.{a_constant}
+use Rattle.ob0_typing.specs.Typing.{constant_value}
+use Rattle.ob0_typing.specs.WellTyped.{bind_names}
 use Rattle.ob0_values.specs.Values.{Value}
 use Rattle.ob0_inline.proofs.Earlier.{AllLow, ScopeLow, constant_section_low, declared_low, forget, formals_low, low_append, procedure_low, raised, scope_raised, type_section_low, uses_low, variable_section_low}
 use Rattle.ob0_inline.proofs.TakenOut.{Taken, among_others, block_declares, expression_no_end, first_procedure_count, first_type_count, formals_count, get_first, get_later, gone_block, gone_constants, gone_here, gone_module, gone_procedure, gone_procedures, gone_section, high_procedure, high_section, low_procedures, names_counted, procedure_count, procedure_counted, procedure_declares, procedures_declare, put_before, put_behind}

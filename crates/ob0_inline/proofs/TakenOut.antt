@@ -25,12 +25,12 @@ use Rattle.ob0_tree.specs.declared.tree.Role.TheVariants as role
 use Rattle.ob0_scope.specs.Resolution.{declaring_only}
 use Rattle.ob0_scope.proofs.Plain.{IsPlain, declares_nothing, declaring_only-append}
 use Rattle.ob0_scope.specs.Scopes.{after_block, after_names, after_procedure, after_procedures, first_procedure, first_type}
-use Rattle.ob0_types.specs.Declarations.{declare_constants}
-use Rattle.ob0_types.specs.WellTyped.{bind_names}
-use Rattle.ob0_types.specs.ConstantValues.{Known, no_constant, predeclared_known, value_among, value_in_block, value_in_procedure, value_in_procedures, value_of_constant}
-use Rattle.ob0_types.specs.Environments.{meanings}
-use Rattle.ob0_types.specs.Expressions.{a_constant}
-use Rattle.ob0_types.specs.Typing.{constant_value}
+use Rattle.ob0_typing.specs.Declarations.{declare_constants}
+use Rattle.ob0_typing.specs.WellTyped.{bind_names}
+use Rattle.ob0_typing.specs.ConstantValues.{Known, no_constant, predeclared_known, value_among, value_in_block, value_in_procedure, value_in_procedures, value_of_constant}
+use Rattle.ob0_typing.specs.Environments.{meanings}
+use Rattle.ob0_typing.specs.Expressions.{a_constant}
+use Rattle.ob0_typing.specs.Typing.{constant_value}
 use Rattle.ob0_values.specs.Values.{Value}
 use Rattle.ob0_scope.proofs.Ordinals.{after_names-append, le-after_names, le-after_procedure, le-after_procedures}
 

@@ -23,9 +23,9 @@ use Rattle.ob0_scope.specs.Scopes.{numbered, same_ordinal}
 use Rattle.ob0_values.specs.Scalars.{scalar_value}
 use Rattle.ob0_refs.specs.declared.answers.Named as named
 use Rattle.ob0_refs.specs.Standing.{name_on}
-use Rattle.ob0_types.specs.ConstantValues.{value_of_constant}
-use Rattle.ob0_types.specs.WellTyped.{WellTyped}
-use Rattle.ob0_run.specs.EditLaws.{SameRuns}
+use Rattle.ob0_typing.specs.ConstantValues.{value_of_constant}
+use Rattle.ob0_typing.specs.WellTyped.{WellTyped}
+use Rattle.ob0_semantics.specs.EditLaws.{SameRuns}
 use Rattle.ob0_inline.specs.declared.constants.Constant.{Constant}
 use Rattle.ob0_inline.specs.Declarations.{is_inside, is_semicolon}
 use Rattle.ob0_inline.specs.Inlined.{LeavesModule}

@@ -19,9 +19,9 @@ use Rattle.ob0_values.specs.declared.scalar.Scalar.{Scalar}
 use Rattle.ob0_values.specs.declared.scalar.Scalar.TheVariants as scalar
 use Rattle.ob0_values.specs.Scalars.{scalar_value}
 use Rattle.ob0_refs.specs.Standing.{name_on}
-use Rattle.ob0_types.specs.ConstantValues.{value_of_constant}
-use Rattle.ob0_types.specs.WellTyped.{WellTyped}
-use Rattle.ob0_run.specs.EditLaws.{SameRuns}
+use Rattle.ob0_typing.specs.ConstantValues.{value_of_constant}
+use Rattle.ob0_typing.specs.WellTyped.{WellTyped}
+use Rattle.ob0_semantics.specs.EditLaws.{SameRuns}
 use Rattle.ob0_inline.specs.declared.uses.Use.{Use}
 use Rattle.ob0_inline.specs.Inlined.{LeavesModule}
 use Rattle.ob0_inline.specs.Values.{value_factor, value_text}

@@ -3,7 +3,7 @@
 ghost use Rattle.std.specs.Prelude.{◌≡◌, drop, IsSomeAnd, MatchOption, Some};
 ghost use Rattle.std.specs.List.{position_from};
 ghost use Rattle.ob0_tree.specs.Parsed.{named_tree_of};
-ghost use Rattle.ob0_types.specs.ConstantValues.{value_of_constant};
+ghost use Rattle.ob0_typing.specs.ConstantValues.{value_of_constant};
 ghost use Rattle.ob0_values.specs.Scalars.{scalar_value};
 ghost use Rattle.ob0_inline.specs.Declarations.{is_semicolon};
 ghost use Rattle.ob0_inline.specs.Everywhere.{IsConstant, IsConstantAt, NoConstantAt};

@@ -6,8 +6,6 @@ mod depth;
 mod everywhere;
 mod inlining;
 mod shown;
-#[cfg(test)]
-mod tests;
 mod uses;
 mod writing;
 mod written;

@@ -6,8 +6,6 @@ mod gap;
 pub mod laws;
 mod sites;
 mod standing;
-#[cfg(test)]
-mod tests;
 mod walk;
 
 pub use formatting::format;

@@ -5,10 +5,10 @@ use Rattle.ob0_refs.specs.Standing.{is_on}
 use Rattle.ob0_scan.specs.Scanned.{Scanned}
 use Rattle.ob0_scope.specs.Resolution.{Resolution, span_at}
 use Rattle.ob0_tree.specs.Parsed.{named_tree_of, tree_of}
-use Rattle.ob0_types.specs.Bindings.{declared_object}
-use Rattle.ob0_types.specs.Expressions.{Object}
-use Rattle.ob0_types.specs.WellTyped.{Signature}
-use Rattle.ob0_types.specs.declared.known.FieldOf.{FieldOf}
+use Rattle.ob0_checker.specs.Bindings.{declared_object}
+use Rattle.ob0_typing.specs.Expressions.{Object}
+use Rattle.ob0_typing.specs.WellTyped.{Signature}
+use Rattle.ob0_symbols.specs.declared.known.FieldOf.{FieldOf}
 use Rattle.ob0_selectors.specs.declared.selecting.Selection.{Selection}
 use Rattle.ob0_selectors.specs.Selections.{Selected, module_selections, name_and_field, selections, token_meaning}
 use Rattle.ob0_selectors.specs.Walk.{selection_in, token_and_field}

@@ -7,7 +7,7 @@ use Rattle.ob0_scan.specs.Scanned.{Scanned}
 use Rattle.ob0_selectors.specs.Selections.{module_selections, name_and_field}
 use Rattle.ob0_scope.specs.Resolution.{Resolution, span_at}
 use Rattle.ob0_tree.specs.Parsed.{tree_of}
-use Rattle.ob0_types.specs.declared.known.FieldOf.{FieldOf}
+use Rattle.ob0_symbols.specs.declared.known.FieldOf.{FieldOf}
 use Rattle.ob0_questions.specs.Writing.{fields_written}
 
 -- the fields of the record with this ordinal, from one with this place on

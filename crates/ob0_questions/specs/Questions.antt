@@ -11,7 +11,7 @@ use Rattle.ob0_refs.specs.declared.answers.Named as named
 use Rattle.ob0_refs.specs.declared.answers.Of.TheVariants as tells
 use Rattle.ob0_selectors.specs.Selections.{Selected, module_selections}
 use Rattle.ob0_tree.specs.Places.{text_at}
-use Rattle.ob0_types.specs.declared.known.FieldOf.{FieldOf}
+use Rattle.ob0_symbols.specs.declared.known.FieldOf.{FieldOf}
 use Rattle.ob0_questions.specs.Fields.{AreReferences, field_on, module_fields, or_else, tokens_of}
 use Rattle.ob0_questions.specs.FieldTypes.{module_typed}
 

@@ -12,11 +12,11 @@ use Rattle.ob0_questions.specs.declared.declaring.Declaring.{Declaring}
 use Rattle.ob0_questions.specs.Writing.{groups_names}
 use Rattle.ob0_selectors.specs.Selections.{Selected, token_meaning}
 use Rattle.ob0_selectors.specs.Walk.{selection_in}
-use Rattle.ob0_types.specs.declared.types.TypeId.{TypeId}
-use Rattle.ob0_types.specs.Expressions.{Meanings}
-use Rattle.ob0_types.specs.KnownTables.{declared_in, shapes_of}
-use Rattle.ob0_types.specs.Tables.{type_shape}
-use Rattle.ob0_types.specs.WellTyped.{Signature}
+use Rattle.ob0_symbols.specs.declared.types.TypeId.{TypeId}
+use Rattle.ob0_typing.specs.Expressions.{Meanings}
+use Rattle.ob0_symbols.specs.KnownTables.{declared_in, shapes_of}
+use Rattle.ob0_symbols.specs.Tables.{type_shape}
+use Rattle.ob0_typing.specs.WellTyped.{Signature}
 use Rattle.ob0_values.specs.Values.{Shape}
 
 abbrev pub lists_in : List (Vec ℕ Global) → List (List ℕ)

@@ -6,21 +6,21 @@ ghost use Rattle.ob0_tree.specs.View.{block_of, fields_of, formals_of, names_of,
 ghost use Rattle.ob0_scope.specs.Parts.{names_listed};
 ghost use Rattle.ob0_selectors.specs.Selections.{noted, token_meaning};
 ghost use Rattle.ob0_selectors.specs.Walk.{selection_in};
-ghost use Rattle.ob0_types.specs.Bindings.{type_declared};
-ghost use Rattle.ob0_types.specs.KnownTables.{declared_in, shapes_of};
-ghost use Rattle.ob0_types.specs.Tables.{type_shape};
+ghost use Rattle.ob0_typing.specs.Typing.{type_declared};
+ghost use Rattle.ob0_symbols.specs.KnownTables.{declared_in, shapes_of};
+ghost use Rattle.ob0_symbols.specs.Tables.{type_shape};
 ghost use Rattle.ob0_values.specs.Values.{Shape};
 ghost use Rattle.ob0_questions.specs.FieldTypes.{field_named, fields_named, type_named, type_of_elements, typed_fields};
 ghost use Rattle.ob0_questions.specs.Walk.{meaning_in, type_in, typed_in};
 
 use ob0_scope::resolved::Resolved;
 use ob0_selectors::Selection;
+use ob0_symbols::known::{FieldOf, Known};
+use ob0_symbols::types::TypeId;
+use ob0_symbols::written::text_at;
 use ob0_tree::tree::{
     Block, Fields, Names, Procedure, RecordType, Section, TypeDeclaration, Variables, WrittenType,
 };
-use ob0_types::known::{FieldOf, Known};
-use ob0_types::names::text_at;
-use ob0_types::types::TypeId;
 use std::alloc::{AllocError, Global};
 
 /// The identifiers that declare the fields of a module, in text order: each with its field and this field's type.

@@ -12,8 +12,8 @@ use crate::writing::block;
 use ob0_scan::{Span, Tokens};
 use ob0_scope::resolved::Resolved;
 use ob0_selectors::{Selection, selections};
+use ob0_symbols::known::FieldOf;
 use ob0_types::checked::WellTyped;
-use ob0_types::known::FieldOf;
 use std::alloc::{AllocError, Global};
 
 /// The identifiers that declare fields, by their tokens, each with its record's ordinal and its place in the record.

@@ -5,8 +5,8 @@ ghost use Rattle.ob0_hover.specs.Parts.{hover_in};
 ghost use Rattle.ob0_refs.specs.Hovers.{type_text};
 ghost use Rattle.ob0_selectors.specs.Selections.{module_selections};
 ghost use Rattle.ob0_selectors.specs.Walk.{selection_in};
-ghost use Rattle.ob0_types.specs.KnownTables.{shapes_of};
-ghost use Rattle.ob0_types.specs.Tables.{type_shape};
+ghost use Rattle.ob0_symbols.specs.KnownTables.{shapes_of};
+ghost use Rattle.ob0_symbols.specs.Tables.{type_shape};
 ghost use Rattle.ob0_questions.specs.FieldTypes.{module_typed};
 ghost use Rattle.ob0_questions.specs.Questions.{all_shown_at, field_shown, field_text, selected_shown, selection_shown};
 ghost use Rattle.ob0_questions.specs.Walk.{selection_on};
@@ -18,10 +18,10 @@ use ob0_hover::{Hover, type_text};
 use ob0_scan::Tokens;
 use ob0_scope::resolved::Resolved;
 use ob0_selectors::{Selection, selections_by};
+use ob0_symbols::known::Known;
+use ob0_symbols::types::TypeId;
+use ob0_symbols::written::text_at;
 use ob0_types::checked::WellTyped;
-use ob0_types::known::Known;
-use ob0_types::names::text_at;
-use ob0_types::types::TypeId;
 use std::alloc::{AllocError, Global};
 
 /// What is shown at a place, where it lies in a name or at its end: of a name as `ob0_hover::hover`, and of a field where

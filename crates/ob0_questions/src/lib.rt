@@ -5,8 +5,6 @@ mod declaring;
 mod fields;
 mod hovers;
 mod questions;
-#[cfg(test)]
-mod tests;
 mod writing;
 
 pub use fields::{field_tokens, module_fields};

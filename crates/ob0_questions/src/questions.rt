@@ -7,8 +7,8 @@ ghost use Rattle.ob0_questions.specs.Questions.{AreReferencesAt, IsReferred, at_
 use crate::fields::{declaring_token, field_on, field_tokens};
 use ob0_refs::{At, Of, name_at};
 use ob0_scan::{Span, Tokens};
+use ob0_symbols::known::FieldOf;
 use ob0_types::checked::WellTyped;
-use ob0_types::known::FieldOf;
 use std::alloc::{AllocError, Global};
 
 /// What a place is on: a name, as `ob0_refs::at`, or a field, at the identifier that declares it and at each that selects

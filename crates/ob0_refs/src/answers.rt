@@ -3,14 +3,14 @@
 use ob0_scan::Span;
 
 /// An identifier that is bound to a declaration: its token, and the declaration's ordinal.
-#[derive(Clone, Copy, Debug, PartialEq, Eq)]
+#[derive(Clone, Copy, PartialEq, Eq)]
 pub struct Named {
     pub token: usize,
     pub ordinal: usize,
 }
 
 /// What an identifier is a name of.
-#[derive(Clone, Copy, Debug, PartialEq, Eq)]
+#[derive(Clone, Copy, PartialEq, Eq)]
 pub enum Of {
     /// A declaration of the text, by its ordinal.
     Declared(usize),
@@ -21,7 +21,7 @@ pub enum Of {
 }
 
 /// An identifier of the text.
-#[derive(Clone, Copy, Debug, PartialEq, Eq)]
+#[derive(Clone, Copy, PartialEq, Eq)]
 pub struct At {
     pub span: Span,
     pub of: Of,

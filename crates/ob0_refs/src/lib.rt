@@ -6,8 +6,6 @@ mod answers;
 mod hovers;
 mod naming;
 mod places;
-#[cfg(test)]
-mod tests;
 
 pub use answers::{At, Named, Of};
 pub use hovers::{

@@ -20,9 +20,9 @@ use Rattle.ob0_edits.specs.Changed.{is_among, words_of}
 use Rattle.ob0_edits.specs.OfTrees.{RenamedWordsSpell, number_at, renamed_at}
 use Rattle.ob0_edits.specs.Replaced.{AreNames, StandsForName, with_text_at}
 use Rattle.ob0_edits.specs.Written.{name_word}
-use Rattle.ob0_fields.specs.FieldLaws.{FreeFieldKeepsModules}
+use Rattle.ob0_field_laws.specs.FieldLaws.{FreeFieldKeepsModules}
 use Rattle.ob0_fields.specs.Identifiers.{DuplicateByToken, RenamedAtTokens, declaring_field, field_identifiers, field_tokens, tokens_among}
-use Rattle.ob0_fields.specs.Renaming.{FieldFree, field_renamed}
+use Rattle.ob0_field_laws.specs.Renaming.{FieldFree, field_renamed}
 use Rattle.ob0_rename.specs.Answers.{Answers, AnswersForField, IsRefused, IsRefusedToField, OnlyMemory, TakesOwnName}
 use Rattle.ob0_rename.specs.Renaming.{MeansField, Renaming, declaration, field_of, field_tokens_renamed, token_range}
 use Rattle.ob0_rename.proofs.Outcomes.{Edited, whole, written}

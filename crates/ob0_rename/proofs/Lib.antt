@@ -8,3 +8,4 @@ pub mod Told
 pub mod Spelled
 pub mod Outcomes
 pub mod FieldOutcomes
+pub mod InTexts

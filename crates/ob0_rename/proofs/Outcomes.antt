@@ -22,8 +22,8 @@ use Rattle.ob0_scope.specs.Scopes.{renamed}
 use Rattle.ob0_scope.specs.declared.captures.Capture as told
 use Rattle.ob0_scope.specs.declared.captures.Capture.TheVariants as tells
 use Rattle.ob0_types.specs.CheckedModules.{IsWellTyped}
-use Rattle.ob0_types.specs.WellTyped.{WellTyped}
-use Rattle.ob0_run.specs.EditLaws.{FreeKeepsModules}
+use Rattle.ob0_typing.specs.WellTyped.{WellTyped}
+use Rattle.ob0_semantics.specs.EditLaws.{FreeKeepsModules, SameRuns}
 use Rattle.ob0_edits.specs.Changed.{at_each, changed, words_of}
 use Rattle.ob0_edits.specs.OfTrees.{RenamedWordsSpell}
 use Rattle.ob0_edits.specs.Replaced.{AreNames, LeavesWords, StandsForName, edit_at, parts, with_text_at}
@@ -32,7 +32,6 @@ use Rattle.ob0_refs.specs.Standing.{name_on, tokens_bound}
 use Rattle.ob0_refs.specs.declared.answers.Named as named
 use Rattle.ob0_fields.specs.Identifiers.{field_identifiers}
 use Rattle.ob0_refs.proofs.Written.{renamed_there}
-use Rattle.ob0_run.specs.EditLaws.{SameRuns}
 use Rattle.ob0_tree.specs.Module.{ModuleOf}
 use Rattle.ob0_rename.specs.Answers.{Answers, AnswersFor, IsRefused, IsRefusedTo, OnlyMemory, TakesOwnName, Writes}
 use Rattle.ob0_rename.specs.Renaming.{Means, MeansField, Renaming, by_ordinal, by_token, declaration, field_on, meant_at, meant_by, declaring_token, field_of, is_declared_as, meant, module_of, nothing, predeclared, token_range, tokens_renamed}

@@ -1,2 +1,3 @@
 pub mod Renaming
 pub mod Answers
+pub mod InTexts

@@ -15,13 +15,14 @@ ghost use Rattle.ob0_rename.specs.Renaming.{field_on, field_tokens_renamed};
 use crate::places::{span_of, token_range};
 use ob0_edits::edits_for;
 use ob0_edits::laws::{names_stand_for_names, renamed_words_spell};
-use ob0_fields::laws::{duplicate_by_token, free_field_keeps_modules, renamed_at_tokens};
+use ob0_field_laws::laws::free_field_keeps_modules;
+use ob0_fields::laws::{duplicate_by_token, renamed_at_tokens};
 use ob0_fields::{declaring_field, field_identifiers, field_tokens};
 use ob0_scan::{Span, Tokens, is_identifier};
 use ob0_scope::resolved::Resolved;
+use ob0_symbols::written::text_at;
 use ob0_text::{Edit, EditRefusal, TextStore};
 use ob0_types::checked::WellTyped;
-use ob0_types::names::text_at;
 use std::alloc::{AllocError, Global};
 
 /// The field whose identifier a place is on: the identifier's token, and the ordinal of the field's record.

@@ -15,6 +15,3 @@ pub use clients::Client;
 pub use incoming::{Id, Incoming, RpcFault, read};
 pub use notes::{Note, notice};
 pub use outgoing::{error, notification, result};
-
-#[cfg(test)]
-mod tests;

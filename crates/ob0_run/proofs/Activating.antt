@@ -2,7 +2,7 @@
 use Rattle.std.proofs.Common.{◌≡◌, ℕ, List, [], ◌∷◌, ◌++◌, length, map, Option, Some, Ok, Err, Result, refl, sym, ap, ◌∙◌, subst, arith, drop, unwrap_or, ◌+◌, ◌<◌, ◌≤◌, get_or, option_and_then}
 use Rattle.std.proofs.lemmas.List.{drop_all, drop_more, length-map}
 use Rattle.ob0_scope.specs.Names.{Label}
-use Rattle.ob0_types.specs.Expressions.{a_variable}
+use Rattle.ob0_typing.specs.Expressions.{a_variable}
 use Rattle.ob0_values.specs.declared.value.Place as code_place
 use Rattle.ob0_values.specs.declared.value.Value as code_value
 use Rattle.ob0_values.specs.Values.{Place}
@@ -16,10 +16,10 @@ use Rattle.ob0_run.specs.declared.scene.Meant.TheVariants as meant
 use Rattle.ob0_run.specs.declared.scene.Stop.{Stop}
 use Rattle.ob0_run.specs.declared.scene.Stop.TheVariants as stop
 use Rattle.ob0_run.specs.Bindings.{Table, rewound, with_binding}
-use Rattle.ob0_types.specs.WellTyped.{by_value}
+use Rattle.ob0_typing.specs.WellTyped.{by_value}
 use Rattle.ob0_run.specs.declared.machine.Bound.{Bound}
 use Rattle.ob0_run.specs.Held.{IsHeldIn}
-use Rattle.ob0_run.specs.Runs.{Activation, Frame, Parameter, bind_parameter, bind_parameters, value_argument}
+use Rattle.ob0_semantics.specs.Runs.{Activation, Frame, Parameter, bind_parameter, bind_parameters, value_argument}
 use Rattle.ob0_run.specs.Scenes.{label_with, mode_of, ordinal_in}
 use Rattle.ob0_run.specs.Activations.{Adds, Declares, Stands, label_there, labelled, surroundings, table_of, with_variable}
 use Rattle.ob0_run.proofs.Binding.{held_binds}

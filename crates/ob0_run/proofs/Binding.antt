@@ -5,14 +5,14 @@ use Rattle.ob0_scan.specs.Scanned.{Scanned}
 use Rattle.ob0_tree.specs.Places.{text_at}
 use Rattle.ob0_scope.specs.Names.{Label, as_labels, as_names, declared}
 use Rattle.ob0_scope.specs.Scopes.{as_label}
-use Rattle.ob0_types.specs.Environments.{from_binding}
-use Rattle.ob0_types.specs.Expressions.{Object}
+use Rattle.ob0_typing.specs.Environments.{from_binding}
+use Rattle.ob0_typing.specs.Expressions.{Object}
 use Rattle.ob0_values.specs.Values.{Place}
 use Rattle.ob0_run.specs.declared.machine.Bound.{Bound}
 use Rattle.ob0_run.specs.declared.scene.Meant.{Meant}
 use Rattle.ob0_run.specs.Bindings.{Table, exchanged, put_at, rewound}
 use Rattle.ob0_run.specs.Held.{DepthIs, HeldBinds, HeldUnwinds, Holds, IsBoundAt, Reaches, TakenBack, down_to, entry_of, without_newest}
-use Rattle.ob0_run.specs.Runs.{Code}
+use Rattle.ob0_semantics.specs.Runs.{Code}
 use Rattle.ob0_run.specs.Scenes.{label_with, ordinal_in}
 use Rattle.ob0_run.proofs.Holding.{held_closes, held_length}
 use Rattle.ob0_run.proofs.Rewinding.{put_back, reverse_pushed, take_short, take_whole}

@@ -7,12 +7,12 @@ use Rattle.ob0_tree.specs.View.{block_of, body_of, constants_of, items_of, proce
 use Rattle.ob0_tree.proofs.Viewed.{block_parts}
 use Rattle.ob0_scope.specs.Names.{Label, as_labels}
 use Rattle.ob0_scope.specs.Parts.{section_constants, section_types, section_variables}
-use Rattle.ob0_types.specs.Declarations.{after_types, after_variables, types_constructors, variables_constructors}
+use Rattle.ob0_typing.specs.Declarations.{after_types, after_variables, types_constructors, variables_constructors}
 use Rattle.ob0_run.specs.declared.machine.Machine.{Machine}
 use Rattle.ob0_run.specs.declared.scene.Stop.{Stop}
 use Rattle.ob0_run.specs.Activations.{Declares, label_there, surroundings}
 use Rattle.ob0_run.specs.DeclaredFrames.{constants_declared, procedures_declared, read_there, types_declared}
-use Rattle.ob0_run.specs.Runs.{Frame, declare_block, declare_variables}
+use Rattle.ob0_semantics.specs.Runs.{Frame, declare_block, declare_variables}
 use Rattle.ob0_run.specs.Scenes.{read_with}
 use Rattle.ob0_run.proofs.CountsKept.{types-kept, variables-kept}
 use Rattle.ob0_run.proofs.FramesDeclared.{Declared, Step, declared_begins, declared_fails, declared_last, declared_on}

@@ -1,7 +1,7 @@
 -- Sizes of types, where what is past a cap counts as the cap.
 use Rattle.std.proofs.Common.{◌≡◌, ℕ, zero, suc, ◌+◌, ◌*◌, ◌<◌, ◌≤◌, min, max, ◌⊎◌, inl, inr, List, ◌∷◌, length, get_or, drop, sym, ap, ◌∙◌, arith}
 use Rattle.std.proofs.lemmas.List.{drop_all, drop_more}
-use Rattle.ob0_types.specs.Typing.{depth, field_depth, field_scalars, scalars}
+use Rattle.ob0_typing.specs.Typing.{depth, field_depth, field_scalars, scalars}
 use Rattle.ob0_run.specs.declared.shapes.Field.{Field}
 use Rattle.ob0_run.specs.Shapes.{fields_in, shape_of}
 

@@ -5,11 +5,11 @@ use Rattle.ob0_tree.specs.Tree.{Tree, Item, addend, adds, compares, designator, 
 use Rattle.ob0_tree.specs.declared.tree.Selector.{Selector}
 use Rattle.ob0_tree.specs.View.{items_of, selector_of}
 use Rattle.ob0_scope.specs.Names.{Label}
-use Rattle.ob0_types.specs.Expressions.{Meanings, Object, a_constant, a_procedure, a_standard, a_type, a_variable, element_step, evaluate, evaluate_addends, evaluate_factor, evaluate_multipliers, evaluate_simple, evaluate_term, follow, value_of}
-use Rattle.ob0_types.specs.Typing.{constant_of, constant_value, constants_only, element_type, given_value, object_type, type_at, type_of, type_of_factor, value_type}
+use Rattle.ob0_typing.specs.Expressions.{Meanings, Object, a_constant, a_procedure, a_standard, a_type, a_variable, element_step, evaluate, evaluate_addends, evaluate_factor, evaluate_multipliers, evaluate_simple, evaluate_term, follow, value_of}
+use Rattle.ob0_typing.specs.Typing.{constant_of, constant_value, constants_only, element_type, given_value, object_type, type_at, type_of, type_of_factor, value_type}
 use Rattle.ob0_values.specs.Values.{Outcome, Place, Shape, Store, Value, add, add_is_settled, at_field, at_path, elements, gives, integer_shape, boolean_shape, members, multiply, multiply_is_settled, negated, number, or_stuck, part, relate, signed, truth, ◌>>=◌}
-use Rattle.ob0_types.proofs.Chains.{IsChain}
-use Rattle.ob0_types.proofs.Judged.{designator_typed}
+use Rattle.ob0_checker.proofs.Chains.{IsChain}
+use Rattle.ob0_checker.proofs.Judged.{designator_typed}
 use Rattle.ob0_run.specs.declared.scene.Scene.{Scene}
 use Rattle.ob0_run.specs.declared.scene.Stop.{Stop}
 use Rattle.ob0_run.specs.declared.scene.Stop.TheVariants as stop

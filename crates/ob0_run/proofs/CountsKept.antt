@@ -7,8 +7,8 @@ use Rattle.ob0_tree.specs.declared.tree.Procedure.{Procedure, out-Procedure, rol
 use Rattle.ob0_tree.specs.View.{formals_of, items_of, procedure_of, types_of, variables_of}
 use Rattle.ob0_tree.proofs.Viewed.{block_parts, procedure_made}
 use Rattle.ob0_scope.specs.Parts.{formal_sections, section_type, section_types, section_variables}
-use Rattle.ob0_types.specs.Declarations.{block_constructors, formals_constructors, procedure_constructors, procedures_constructors, types_constructors, variables_constructors}
-use Rattle.ob0_types.specs.Typing.{constructors, group_constructors, groups_constructors}
+use Rattle.ob0_typing.specs.Declarations.{block_constructors, formals_constructors, procedure_constructors, procedures_constructors, types_constructors, variables_constructors}
+use Rattle.ob0_typing.specs.Typing.{constructors, group_constructors, groups_constructors}
 
 module _ {N M : Type 0} (f : N → M) (g : ℕ → ℕ) where
   mutual

@@ -12,7 +12,7 @@ use Rattle.ob0_tree.specs.declared.tree.Factor.{Factor, Designator}
 use Rattle.ob0_tree.specs.declared.tree.Selector.{Selector}
 use Rattle.ob0_tree.proofs.Viewed.{addend_made, comparison_made, designator_made, expression_made, simple_made, term_made}
 use Rattle.ob0_tree.specs.View.{addend_of, comparison_of, compared_of, expression_of, factor_of, items_of, multiplier_of, selector_of, simple_of, term_of}
-use Rattle.ob0_types.specs.Expressions.{Meanings, designate, place_of, value_of, element_step, evaluate, evaluate_addends, evaluate_factor, evaluate_multipliers, evaluate_simple, evaluate_term, follow}
+use Rattle.ob0_typing.specs.Expressions.{Meanings, designate, place_of, value_of, element_step, evaluate, evaluate_addends, evaluate_factor, evaluate_multipliers, evaluate_simple, evaluate_term, follow}
 use Rattle.ob0_values.specs.Stored.{store_of}
 use Rattle.ob0_values.specs.Values.{Outcome, Place, negated, number, read_place, Step, Store, Value, at_path, ends, gives, or_stuck, part, relate, signed, ◌>>=◌}
 use Rattle.ob0_run.specs.declared.scene.Scene.{Scene}

@@ -11,14 +11,14 @@ use Rattle.ob0_tree.specs.declared.tree.Repeat.{Repeat}
 use Rattle.ob0_tree.proofs.Viewed.{if_parts}
 use Rattle.ob0_tree.specs.View.{call_of, else_in, elsif_of, expression_of, further_argument_of, further_statement_of, if_of, items_of, sequence_listed, statement_of}
 use Rattle.ob0_scope.specs.Names.{Label}
-use Rattle.ob0_types.specs.Expressions.{evaluate}
+use Rattle.ob0_typing.specs.Expressions.{evaluate}
 use Rattle.ob0_values.specs.Values.{End, Outcome, TurnBound, Value, elements, ends, gives, members, number, truth, ◌>>=◌}
 use Rattle.ob0_run.specs.declared.machine.Machine.{Machine}
 use Rattle.ob0_run.specs.declared.scene.Ending.{Ending}
 use Rattle.ob0_run.specs.declared.scene.Stop.{Stop}
 use Rattle.ob0_run.specs.declared.scene.Stop.TheVariants as stop
 use Rattle.ob0_run.specs.Machines.{Does, Doing, Named, Performs, Steps, executed, executed_all, label_for, meaning_of, named, read_for, repeat_of, state_in, while_of}
-use Rattle.ob0_run.specs.Runs.{Argument, Calls, Progress, State, choose, execute, execute_all, execute_else, execute_elsifs, execute_further, go_on, perform, running, stopped, turns, turns_until, use_in}
+use Rattle.ob0_semantics.specs.Runs.{Argument, Calls, Progress, State, choose, execute, execute_all, execute_else, execute_elsifs, execute_further, go_on, perform, running, stopped, turns, turns_until, use_in}
 use Rattle.ob0_run.specs.Scenes.{Answers, condition_in, end_of, meant_with, truth_of}
 use Rattle.std.specs.declared.vec.Vec.{Vec}
 use Rattle.std.specs.declared.alloc.Global.{Global}
@@ -26,7 +26,7 @@ use Rattle.ob0_scan.specs.Scanned.{Scanned}
 use Rattle.ob0_tree.specs.declared.tree.Call as call
 use Rattle.ob0_tree.specs.declared.tree.Expression.{Expression}
 use Rattle.ob0_tree.specs.View as view
-use Rattle.ob0_types.specs.Arguments.{arguments_listed, further_arguments}
+use Rattle.ob0_typing.specs.Arguments.{arguments_listed, further_arguments}
 use Rattle.ob0_run.specs.declared.scene.Meant.{Meant}
 use Rattle.ob0_run.specs.Callings.{expressions_read, listed_in, listed_or_none, passed_to}
 use Rattle.ob0_run.specs.States.{Runs}

@@ -4,10 +4,10 @@ use Rattle.std.proofs.lemmas.List.{drop_all, drop_more}
 use Rattle.ob0_tree.specs.Tree.{Sort, Tree, expression, written_type}
 use Rattle.ob0_scope.specs.Names.{Label, as_labels}
 use Rattle.ob0_scope.proofs.SameNames.{with_names-id}
-use Rattle.ob0_types.specs.Environments.{from_binding, meanings, newest}
-use Rattle.ob0_types.specs.Expressions.{Object}
-use Rattle.ob0_types.specs.Typing.{constant_value, denoted}
-use Rattle.ob0_types.proofs.TypeNaturality.{constant_value-map, denoted-map}
+use Rattle.ob0_typing.specs.Environments.{from_binding, meanings, newest}
+use Rattle.ob0_typing.specs.Expressions.{Object}
+use Rattle.ob0_typing.specs.Typing.{constant_value, denoted}
+use Rattle.ob0_typing.proofs.TypeNaturality.{constant_value-map, denoted-map}
 use Rattle.ob0_values.specs.Values.{Place, ends, gives, or_stuck}
 use Rattle.ob0_values.specs.Stored.{store_of}
 use Rattle.ob0_run.specs.declared.machine.Machine.{Machine}
@@ -20,11 +20,11 @@ use Rattle.ob0_run.specs.Activations.{Adds, Declares, Stands, label_there, surro
 use Rattle.ob0_run.specs.Bindings.{with_binding}
 use Rattle.ob0_run.specs.DeclaredFrames.{read_there, with_object}
 use Rattle.ob0_run.specs.Held.{DepthIs, entry_of}
-use Rattle.ob0_run.specs.Runs.{Code, Frame, statement_meanings}
+use Rattle.ob0_semantics.specs.Runs.{Code, Frame, statement_meanings}
 use Rattle.ob0_run.specs.Scenes.{Answers, end_of, label_with, meaning_with, ordinal_in, read_with}
 use Rattle.ob0_run.proofs.Activating.{adds_more, adds_none, held_there}
 use Rattle.ob0_run.proofs.Binding.{held_binds}
-use Rattle.ob0_run.proofs.SoundCalls.{passing-constant, passing-type}
+use Rattle.ob0_semantics.proofs.SoundCalls.{passing-constant, passing-type}
 use Rattle.ob0_run.proofs.Speaking.{held_speaks}
 
 abbrev pub Step : Type 0

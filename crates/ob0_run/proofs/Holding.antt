@@ -3,8 +3,8 @@ use Rattle.std.proofs.Common.{arith, ◌+◌, drop, unwrap_or, ◌≡◌, ◌≢
 use Rattle.std.proofs.lemmas.Bool.{eqb-false, eqb-true}
 use Rattle.ob0_scan.specs.Scanned.{Scanned}
 use Rattle.ob0_scope.specs.Names.{Label, as_labels, as_written, declared}
-use Rattle.ob0_types.specs.Environments.{from_binding, newest}
-use Rattle.ob0_types.specs.Expressions.{Object}
+use Rattle.ob0_typing.specs.Environments.{from_binding, newest}
+use Rattle.ob0_typing.specs.Expressions.{Object}
 use Rattle.ob0_values.specs.Values.{Place}
 use Rattle.ob0_run.specs.declared.machine.Bound.{Bound}
 use Rattle.ob0_run.specs.declared.scene.Meant.{Meant}
@@ -12,7 +12,7 @@ use Rattle.ob0_run.specs.declared.scene.Meant.TheVariants as meant
 use Rattle.ob0_run.specs.declared.scene.Routine.{Routine}
 use Rattle.ob0_run.specs.Bindings.{put_at}
 use Rattle.ob0_run.specs.Held.{DepthIs, Holds, IsBoundAt, entry_of, without_newest}
-use Rattle.ob0_run.specs.Runs.{Activation, Code}
+use Rattle.ob0_semantics.specs.Runs.{Activation, Code}
 
 get_other : {A : Type 0} (xs : List A) (j k : ℕ) (x : A) → k ≢ j → slice_get (slice_set xs j x) k ≡ slice_get xs k
 get_other [] j k x h = refl

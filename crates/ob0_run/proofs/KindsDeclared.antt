@@ -11,16 +11,16 @@ use Rattle.ob0_tree.specs.View.{constant_of, expression_of, items_of, names_of, 
 use Rattle.ob0_tree.proofs.Viewed.{procedure_made}
 use Rattle.ob0_scope.specs.Names.{Label, as_labels}
 use Rattle.ob0_scope.specs.Parts.{block_constants, block_procedures, block_types, block_variables, further_names, names_listed, procedure_name}
-use Rattle.ob0_types.specs.Declarations.{after_types, after_variables, declare_constants, declare_first, declare_types, procedure_constructors}
-use Rattle.ob0_types.specs.Environments.{meanings}
-use Rattle.ob0_types.specs.Expressions.{a_constant, a_procedure, a_type}
-use Rattle.ob0_types.specs.Typing.{constant_value, constructors, denoted}
+use Rattle.ob0_typing.specs.Declarations.{after_types, after_variables, declare_constants, declare_first, declare_types, procedure_constructors}
+use Rattle.ob0_typing.specs.Environments.{meanings}
+use Rattle.ob0_typing.specs.Expressions.{a_constant, a_procedure, a_type}
+use Rattle.ob0_typing.specs.Typing.{constant_value, constructors, denoted}
 use Rattle.ob0_values.specs.Values.{Shape, Value, initial}
 use Rattle.ob0_run.specs.declared.machine.Machine.{Machine}
 use Rattle.ob0_run.specs.declared.scene.Stop.{Stop}
 use Rattle.ob0_run.specs.Activations.{Declares, label_there, surroundings}
 use Rattle.ob0_run.specs.DeclaredFrames.{constant_declared, constants_declared, procedure_declared, procedures_declared, read_there, type_declared, types_declared, variables_declared, with_object}
-use Rattle.ob0_run.specs.Runs.{Activation, Frame, allocate, declare_block, declare_variables, with_procedures}
+use Rattle.ob0_semantics.specs.Runs.{Activation, Frame, allocate, declare_block, declare_variables, with_procedures}
 use Rattle.ob0_run.specs.Scenes.{label_with, read_with}
 use Rattle.ob0_run.proofs.CountsKept.{constructors-kept, procedure-kept}
 use Rattle.ob0_run.proofs.FramesDeclared.{Step, Walk}

@@ -12,15 +12,15 @@ use Rattle.ob0_tree.specs.declared.tree.Multiplier.{Multiplier}
 use Rattle.ob0_tree.specs.View.{addend_of, factor_of, further_section_of, items_of, multiplier_of, names_of, section_of, simple_of, term_of, type_of}
 use Rattle.ob0_run.proofs.Evaluating.{bind_assoc, bind_gives, fails, simple_parts, term_parts}
 use Rattle.ob0_scope.specs.Parts.{further_names, names_listed, section_names}
-use Rattle.ob0_types.specs.Expressions.{Meanings, designate, evaluate}
-use Rattle.ob0_types.specs.Typing.{designated}
-use Rattle.ob0_types.specs.WellTyped.{Mode, by_place, by_value, section_mode}
+use Rattle.ob0_typing.specs.Expressions.{Meanings, designate, evaluate}
+use Rattle.ob0_typing.specs.Typing.{designated}
+use Rattle.ob0_typing.specs.WellTyped.{Mode, by_place, by_value, section_mode}
 use Rattle.ob0_values.specs.Values.{Place, Store, Stuck, ends, gives, or_stuck, ◌>>=◌}
 use Rattle.ob0_run.specs.declared.calling.Argument as code
 use Rattle.ob0_run.specs.declared.calling.Formal.{Formal}
 use Rattle.ob0_run.specs.declared.scene.Stop.{Stop}
 use Rattle.ob0_run.specs.Callings.{alone_in, alone_in_factor, alone_in_simple, alone_in_term, argument_of, modes_listed, parameter_of, parameters_of, taken_by}
-use Rattle.ob0_run.specs.Runs.{Argument, Parameter, evaluate_argument, evaluate_arguments, formal_modes, parameters, place_argument, value_argument}
+use Rattle.ob0_semantics.specs.Runs.{Argument, Parameter, evaluate_argument, evaluate_arguments, formal_modes, parameters, place_argument, value_argument}
 use Rattle.ob0_run.specs.Scenes.{Answers, mode_of}
 
 pub further_listed : (xs : List ℕ) → further_names (items_of then_name xs) ≡ xs

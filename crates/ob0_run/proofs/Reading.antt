@@ -7,10 +7,10 @@ use Rattle.ob0_tree.specs.View.{formals_of, procedure_of}
 use Rattle.ob0_tree.proofs.Viewed.{procedure_made}
 use Rattle.ob0_scope.specs.Names.{Label}
 use Rattle.ob0_scope.specs.Parts.{formal_sections, further_names, names_listed, procedure_formals, section_names}
-use Rattle.ob0_types.specs.WellTyped.{Mode, section_mode}
+use Rattle.ob0_typing.specs.WellTyped.{Mode, section_mode}
 use Rattle.ob0_run.specs.declared.machine.Machine.{Machine}
 use Rattle.ob0_run.specs.Activations.{label_there, labelled}
-use Rattle.ob0_run.specs.Runs.{Parameter, parameters}
+use Rattle.ob0_semantics.specs.Runs.{Parameter, parameters}
 use Rattle.ob0_run.specs.Scenes.{read_with}
 
 map_joined : {A B : Type 0} (f : A → B) (xs ys : List A) → map f (xs ++ ys) ≡ map f xs ++ map f ys

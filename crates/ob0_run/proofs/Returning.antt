@@ -12,10 +12,10 @@ use Rattle.ob0_tree.proofs.Viewed.{block_parts, procedure_made}
 use Rattle.ob0_scope.specs.Names.{Label, as_labels, as_names, as_written, declared}
 use Rattle.ob0_scope.specs.Parts.{block_statements, formal_sections, procedure_block, procedure_formals}
 use Rattle.ob0_scope.specs.Scopes.{as_label}
-use Rattle.ob0_types.specs.Declarations.{after_formals, formals_constructors}
-use Rattle.ob0_types.specs.Environments.{from_binding, newest}
-use Rattle.ob0_types.specs.Expressions.{Object, a_constant, a_procedure, a_standard, a_type, a_variable}
-use Rattle.ob0_types.proofs.Counted.{counted_formals, sections_mapped}
+use Rattle.ob0_typing.specs.Declarations.{after_formals, formals_constructors}
+use Rattle.ob0_typing.specs.Environments.{from_binding, newest}
+use Rattle.ob0_typing.specs.Expressions.{Object, a_constant, a_procedure, a_standard, a_type, a_variable}
+use Rattle.ob0_checker.proofs.Counted.{counted_formals, sections_mapped}
 use Rattle.ob0_values.specs.Stored.{store_of, value_of}
 use Rattle.ob0_values.specs.Values.{CallBound, Place, Stuck}
 use Rattle.std.specs.declared.vec.Vec.{Vec}
@@ -35,7 +35,7 @@ use Rattle.ob0_run.specs.Callings.{argument_of, arguments_of}
 use Rattle.ob0_run.specs.CallSteps.{Enters, Interrupts, Resumes, activation_frame, entry_at, executed_body, routine_in, text_read}
 use Rattle.ob0_run.specs.Held.{IsHeldIn, down_to, entry_of}
 use Rattle.ob0_run.specs.Machines.{Does, Performs, Steps, label_for, meaning_of, named, state_in}
-use Rattle.ob0_run.specs.Runs.{Activation, Argument, Calls, Code, Frame, Progress, State, activate, bind_parameters, call, declare_block, execute_all, execute_body, give_up, in_frame, parameters, running, stopped}
+use Rattle.ob0_semantics.specs.Runs.{Activation, Argument, Calls, Code, Frame, Progress, State, activate, bind_parameters, call, declare_block, execute_all, execute_body, give_up, in_frame, parameters, running, stopped}
 use Rattle.ob0_run.specs.Scenes.{end_of, label_with, ordinal_in, read_with}
 use Rattle.ob0_run.specs.States.{items_out}
 use Rattle.ob0_run.proofs.Activating.{adds_more}

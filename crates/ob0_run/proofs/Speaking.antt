@@ -7,14 +7,14 @@ use Rattle.ob0_tree.specs.View.{formals_of, procedure_of}
 use Rattle.ob0_tree.proofs.Viewed.{procedure_made}
 use Rattle.ob0_scope.specs.Names.{Label, as_labels, as_written, declared, label_text}
 use Rattle.ob0_scope.specs.Parts.{formal_sections, further_names, names_listed, procedure_formals, section_names}
-use Rattle.ob0_types.specs.Environments.{from_binding, newest}
-use Rattle.ob0_types.specs.Expressions.{a_procedure}
-use Rattle.ob0_types.specs.WellTyped.{Mode, section_mode}
+use Rattle.ob0_typing.specs.Environments.{from_binding, newest}
+use Rattle.ob0_typing.specs.Expressions.{a_procedure}
+use Rattle.ob0_typing.specs.WellTyped.{Mode, section_mode}
 use Rattle.ob0_run.specs.declared.machine.Bound.{Bound}
 use Rattle.ob0_run.specs.declared.scene.Meant.{Meant}
 use Rattle.ob0_run.specs.declared.scene.Meant.TheVariants as meant
 use Rattle.ob0_run.specs.Held.{Holds, entry_of}
-use Rattle.ob0_run.specs.Runs.{Activation, formal_modes, passing, statement_meanings}
+use Rattle.ob0_semantics.specs.Runs.{Activation, formal_modes, passing, statement_meanings}
 use Rattle.ob0_run.specs.Scenes.{meaning_with, meant_with, object_of}
 use Rattle.ob0_run.proofs.Holding.{held_means}
 

@@ -4,8 +4,8 @@ use Rattle.std.proofs.lemmas.Bool.{ltb-false, ltb-true}
 use Rattle.std.proofs.Math.Dec.{ltb}
 use Rattle.ob0_scan.specs.Scanned.{Scanned}
 use Rattle.ob0_scope.specs.Names.{Label, as_labels, declared}
-use Rattle.ob0_types.specs.Environments.{outermost}
-use Rattle.ob0_types.specs.Expressions.{Object, a_constant, a_standard, a_type, reads, writes, writes_line}
+use Rattle.ob0_typing.specs.Environments.{outermost}
+use Rattle.ob0_typing.specs.Expressions.{Object, a_constant, a_standard, a_type, reads, writes, writes_line}
 use Rattle.ob0_values.specs.Values.{Place, boolean_shape, integer_shape, truth}
 use Rattle.ob0_run.specs.declared.machine.Bound.{Bound}
 use Rattle.ob0_run.specs.declared.machine.Machine.{Machine}
@@ -22,7 +22,7 @@ use Rattle.ob0_run.specs.Machines.{state_in}
 use Rattle.ob0_run.specs.Outcomes.{AllNothing, first_frame, predeclared_table}
 use Rattle.ob0_run.specs.States.{items_out}
 use Rattle.ob0_values.specs.Stored.{store_of}
-use Rattle.ob0_run.specs.Runs.{Activation, Code}
+use Rattle.ob0_semantics.specs.Runs.{Activation, Code}
 use Rattle.ob0_run.specs.Scenes.{ordinal_in}
 use Rattle.ob0_run.proofs.Binding.{get_set, length_put, reaches}
 use Rattle.ob0_run.proofs.Passing.{length_pushed}

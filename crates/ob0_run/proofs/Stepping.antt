@@ -1,13 +1,13 @@
 -- Steps of statements: where a part ends the run, the statement does.
 use Rattle.std.proofs.Common.{◌≡◌, ℕ, List, refl, sym, ap, subst, Err, Result}
 use Rattle.ob0_tree.specs.Tree.{Tree, assigns, expression, items, selector}
-use Rattle.ob0_types.specs.Expressions.{Meanings, designate, evaluate}
-use Rattle.ob0_types.specs.WellTyped.{Mode}
+use Rattle.ob0_typing.specs.Expressions.{Meanings, designate, evaluate}
+use Rattle.ob0_typing.specs.WellTyped.{Mode}
 use Rattle.ob0_values.specs.Values.{Outcome, Place}
 use Rattle.ob0_run.specs.declared.scene.Stop.{Stop}
 use Rattle.ob0_run.specs.declared.scene.Stop.TheVariants as stop
 use Rattle.ob0_run.specs.declared.state.State as code
-use Rattle.ob0_run.specs.Runs.{Calls, Progress, State, execute, store_at, use_in}
+use Rattle.ob0_semantics.specs.Runs.{Calls, Progress, State, execute, store_at, use_in}
 use Rattle.ob0_run.specs.Scenes.{Answers}
 use Rattle.ob0_run.specs.States.{Runs, state_of}
 

@@ -7,10 +7,10 @@ use Rattle.ob0_tree.specs.Places.{value_at}
 use Rattle.ob0_tree.specs.View.{fields_of, further_fields_of_group, items_of, record_listed}
 use Rattle.ob0_scope.specs.Names.{Label, label_text}
 use Rattle.ob0_scope.specs.Parts.{further_names, names_listed}
-use Rattle.ob0_types.specs.DenotedTables.{joined}
-use Rattle.ob0_types.specs.Expressions.{Meanings}
-use Rattle.ob0_types.specs.Typing.{array_length, constant_value, denoted, denoted_group, denoted_groups, group_constructors, type_of_name, with_fields, within_limits}
-use Rattle.ob0_types.proofs.Added.{joined-assoc, joined-nothing}
+use Rattle.ob0_checker.specs.DenotedTables.{joined}
+use Rattle.ob0_typing.specs.Expressions.{Meanings}
+use Rattle.ob0_typing.specs.Typing.{array_length, constant_value, denoted, denoted_group, denoted_groups, group_constructors, type_of_name, with_fields, within_limits}
+use Rattle.ob0_checker.proofs.Added.{joined-assoc, joined-nothing}
 use Rattle.ob0_values.specs.Values.{FieldShapes, Shape, array_shape, next_field_shape, no_field_shape, ends, or_stuck, record_shape, ◌>>=◌}
 use Rattle.ob0_run.specs.declared.scene.Scene.{Scene}
 use Rattle.ob0_run.specs.declared.scene.Stop.{Stop}

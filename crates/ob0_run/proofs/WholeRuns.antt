@@ -25,14 +25,14 @@ use Rattle.ob0_run.specs.Activations.{Declares, Stands, surroundings}
 use Rattle.ob0_run.specs.CallSteps.{Enters, executed_body}
 use Rattle.ob0_run.specs.Machines.{Does, Steps, state_in}
 use Rattle.ob0_run.specs.Outcomes.{HasMeaning, IsEndOf, IsReady, block_run, end_in, first_frame, run_of}
-use Rattle.ob0_run.specs.Runs.{Frame, Progress, State, call, declare_block, execute_body, finished, in_frame, run, run_numbered, run_over, stopped}
+use Rattle.ob0_semantics.specs.Runs.{Frame, Progress, State, call, declare_block, execute_body, finished, in_frame, run, run_numbered, run_over, stopped}
 use Rattle.ob0_run.specs.Scenes.{end_of, label_with, ordinal_in, read_with}
 use Rattle.ob0_run.specs.States.{Runs, items_out}
 use Rattle.ob0_run.proofs.Alike.{AllAlike, alike}
 use Rattle.ob0_run.proofs.Executing.{Post}
-use Rattle.ob0_run.proofs.Proved.{runs_by_ordinal-holds}
+use Rattle.ob0_semantics.proofs.Proved.{runs_by_ordinal-holds}
 use Rattle.ob0_run.proofs.Returning.{body_does}
-use Rattle.ob0_run.proofs.SoundCalls.{never_stuck-holds}
+use Rattle.ob0_semantics.proofs.SoundCalls.{never_stuck-holds}
 
 -- the block of a module
 runs_from : (q : Result (Unit {0}) Stop) (m m' : Machine) (p : Progress) → Steps q m m' p → Runs q m'.state p

@@ -2,7 +2,7 @@
 use Rattle.std.specs.Prelude.{◌≡◌, ℕ, ℤ, List, ◌∷◌, Option, Some, None, Ok, Err, Result}
 use Rattle.ob0_scan.specs.Scanned.{Scanned}
 use Rattle.ob0_scope.specs.Names.{Label}
-use Rattle.ob0_types.specs.Expressions.{a_variable}
+use Rattle.ob0_typing.specs.Expressions.{a_variable}
 use Rattle.ob0_values.specs.Stored.{store_of}
 use Rattle.ob0_values.specs.Values.{Place}
 use Rattle.ob0_run.specs.declared.machine.Bound.{Bound}
@@ -12,7 +12,7 @@ use Rattle.ob0_run.specs.declared.scene.Stop.{Stop}
 use Rattle.ob0_run.specs.declared.scene.Stop.TheVariants as stop
 use Rattle.ob0_run.specs.Bindings.{Table, rewound}
 use Rattle.ob0_run.specs.Held.{IsHeldIn}
-use Rattle.ob0_run.specs.Runs.{Frame, Parameter, Written}
+use Rattle.ob0_semantics.specs.Runs.{Frame, Parameter, Written}
 use Rattle.ob0_run.specs.Scenes.{label_with}
 use Rattle.ob0_run.specs.States.{items_out}
 

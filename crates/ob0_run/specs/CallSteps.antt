@@ -6,7 +6,7 @@ use Rattle.ob0_tree.specs.declared.tree.Procedure.{Procedure}
 use Rattle.ob0_tree.specs.View.{procedure_of}
 use Rattle.ob0_scope.specs.Names.{Label, as_labels}
 use Rattle.ob0_scope.specs.Parts.{procedure_block, procedure_formals}
-use Rattle.ob0_types.specs.Declarations.{after_formals}
+use Rattle.ob0_typing.specs.Declarations.{after_formals}
 use Rattle.ob0_run.specs.declared.calls.Interrupted.{Interrupted}
 use Rattle.ob0_run.specs.declared.machine.Machine.{Machine}
 use Rattle.ob0_run.specs.declared.scene.Meant.{Meant}
@@ -18,7 +18,7 @@ use Rattle.ob0_run.specs.Bindings.{rewound}
 use Rattle.ob0_run.specs.Callings.{arguments_of}
 use Rattle.ob0_run.specs.Held.{IsHeldIn, down_to}
 use Rattle.ob0_run.specs.Machines.{Doing, Steps, executed_all, state_in}
-use Rattle.ob0_run.specs.Runs.{Activation, Argument, Frame, bind_parameters, call, declare_block, parameters, running}
+use Rattle.ob0_semantics.specs.Runs.{Activation, Argument, Frame, bind_parameters, call, declare_block, parameters, running}
 use Rattle.ob0_run.specs.Scenes.{ordinal_in, read_with}
 
 -- the procedure that an entry of the table is

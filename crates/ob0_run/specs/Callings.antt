@@ -10,15 +10,15 @@ use Rattle.ob0_tree.specs.declared.tree.Expression.{Expression}
 use Rattle.ob0_tree.specs.Tree.{Tree, compares, designator, end, expression, factor, integer, items, more, negation, none, one, parenthesised, product, selector, simple, sum, term}
 use Rattle.ob0_tree.specs.View.{expression_of, items_of, selector_of}
 use Rattle.ob0_scope.specs.Names.{Label}
-use Rattle.ob0_types.specs.Expressions.{Meanings, Object, a_standard}
-use Rattle.ob0_types.specs.WellTyped.{Mode}
+use Rattle.ob0_typing.specs.Expressions.{Meanings, Object, a_standard}
+use Rattle.ob0_typing.specs.WellTyped.{Mode}
 use Rattle.ob0_values.specs.Values.{Outcome, Place, Store, Value, elements, members, number, truth, ◌>>=◌}
 use Rattle.ob0_values.specs.Stored.{place_of, value_of}
 use Rattle.ob0_run.specs.declared.calling.Argument as code
 use Rattle.ob0_run.specs.declared.calling.Argument.TheVariants as argument
 use Rattle.ob0_run.specs.declared.calling.Formal.{Formal}
 use Rattle.ob0_run.specs.declared.scene.Standard.{Standard}
-use Rattle.ob0_run.specs.Runs.{Argument, Parameter, evaluate_arguments, modes_of, place_argument, value_argument}
+use Rattle.ob0_semantics.specs.Runs.{Argument, Parameter, evaluate_arguments, modes_of, place_argument, value_argument}
 use Rattle.ob0_run.specs.Scenes.{mode_of, read_with, standard_of}
 
 abbrev pub argument_of : code.Argument → Argument

@@ -5,11 +5,11 @@ use Rattle.ob0_tree.specs.declared.tree.FieldList.{FieldList}
 use Rattle.ob0_tree.specs.View.{names_of, type_of}
 use Rattle.ob0_scope.specs.Names.{Label, as_labels, label_text}
 use Rattle.ob0_scope.specs.Parts.{names_listed}
-use Rattle.ob0_types.specs.Declarations.{declare_constants, declare_types}
-use Rattle.ob0_types.specs.DenotedTables.{joined}
-use Rattle.ob0_types.specs.Environments.{meanings}
-use Rattle.ob0_types.specs.Expressions.{Meanings, Object, a_constant, a_procedure, a_type}
-use Rattle.ob0_types.specs.Typing.{constant_value, constants_only, denoted, with_fields}
+use Rattle.ob0_typing.specs.Declarations.{declare_constants, declare_types}
+use Rattle.ob0_checker.specs.DenotedTables.{joined}
+use Rattle.ob0_typing.specs.Environments.{meanings}
+use Rattle.ob0_typing.specs.Expressions.{Meanings, Object, a_constant, a_procedure, a_type}
+use Rattle.ob0_typing.specs.Typing.{constant_value, constants_only, denoted, with_fields}
 use Rattle.ob0_values.specs.Values.{FieldShapes, Shape, initial}
 use Rattle.ob0_values.specs.Values as values
 use Rattle.ob0_run.specs.declared.machine.Machine.{Machine}
@@ -18,7 +18,7 @@ use Rattle.ob0_run.specs.declared.scene.Scene.{Scene}
 use Rattle.ob0_run.specs.declared.scene.Stop.{Stop}
 use Rattle.ob0_run.specs.declared.scene.Stop.TheVariants as stop
 use Rattle.ob0_run.specs.declared.shapes.Field.{Field}
-use Rattle.ob0_run.specs.Runs.{Activation, Code, Frame, allocate, with_procedures}
+use Rattle.ob0_semantics.specs.Runs.{Activation, Code, Frame, allocate, with_procedures}
 use Rattle.ob0_run.specs.Scenes.{meaning_in, read_with}
 use Rattle.ob0_run.specs.Shapes.{fields_in}
 

@@ -3,8 +3,8 @@ use Rattle.std.specs.Prelude.{◌≡◌, ℕ, zero, suc, ◌+◌, drop, List, []
 use Rattle.ob0_scan.specs.Scanned.{Scanned}
 use Rattle.ob0_tree.specs.View.{procedure_of}
 use Rattle.ob0_scope.specs.Names.{Label, as_labels, as_written, declared}
-use Rattle.ob0_types.specs.Environments.{from_binding, newest}
-use Rattle.ob0_types.specs.Expressions.{Object, a_constant, a_procedure, a_standard, a_type, a_variable}
+use Rattle.ob0_typing.specs.Environments.{from_binding, newest}
+use Rattle.ob0_typing.specs.Expressions.{Object, a_constant, a_procedure, a_standard, a_type, a_variable}
 use Rattle.ob0_values.specs.Stored.{place_of, value_of}
 use Rattle.ob0_values.specs.Values.{Place}
 use Rattle.ob0_run.specs.declared.machine.Bound.{Bound}
@@ -12,7 +12,7 @@ use Rattle.ob0_run.specs.declared.scene.Meant.{Meant}
 use Rattle.ob0_run.specs.declared.scene.Meant.TheVariants as meant
 use Rattle.ob0_run.specs.declared.scene.Routine.{Routine}
 use Rattle.ob0_run.specs.Bindings.{Table, put_at, rewound, with_binding}
-use Rattle.ob0_run.specs.Runs.{Activation, Code, statement_meanings}
+use Rattle.ob0_semantics.specs.Runs.{Activation, Code, statement_meanings}
 use Rattle.ob0_run.specs.Shapes.{shape_of}
 use Rattle.ob0_run.specs.Scenes.{label_with, meaning_with, ordinal_in, read_with, standard_of}
 

@@ -6,8 +6,8 @@ use Rattle.ob0_tree.specs.declared.tree.While.{While}
 use Rattle.ob0_tree.specs.declared.tree.Repeat.{Repeat}
 use Rattle.ob0_tree.specs.View.{expression_of, sequence_listed}
 use Rattle.ob0_scope.specs.Names.{Label}
-use Rattle.ob0_types.specs.Expressions.{Meanings, Object}
-use Rattle.ob0_types.specs.WellTyped.{Mode}
+use Rattle.ob0_typing.specs.Expressions.{Meanings, Object}
+use Rattle.ob0_typing.specs.WellTyped.{Mode}
 use Rattle.ob0_values.specs.Values.{Place, Stuck}
 use Rattle.ob0_run.specs.declared.machine.Machine.{Machine}
 use Rattle.ob0_run.specs.declared.machine.Bound.{Bound}
@@ -18,7 +18,7 @@ use Rattle.ob0_run.specs.declared.scene.Stop.TheVariants as stop
 use Rattle.ob0_run.specs.declared.statements.Callee.{Callee}
 use Rattle.ob0_run.specs.declared.statements.Callee.TheVariants as callee
 use Rattle.ob0_run.specs.Callings.{arguments_of, mode_taken}
-use Rattle.ob0_run.specs.Runs.{Argument, Calls, Progress, State, execute, execute_all, perform, running, stopped}
+use Rattle.ob0_semantics.specs.Runs.{Argument, Calls, Progress, State, execute, execute_all, perform, running, stopped}
 use Rattle.ob0_run.specs.Scenes.{end_of, label_with, meaning_with, read_with}
 use Rattle.ob0_run.specs.States.{items_out, state_of}
 

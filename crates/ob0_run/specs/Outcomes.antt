@@ -5,7 +5,7 @@ use Rattle.ob0_scope.specs.Names.{Label, as_labels}
 use Rattle.ob0_scope.specs.Parts.{block_statements}
 use Rattle.ob0_scope.specs.Resolution as resolution
 use Rattle.ob0_scope.specs.Resolution.{Resolution}
-use Rattle.ob0_types.specs.Environments.{outermost}
+use Rattle.ob0_typing.specs.Environments.{outermost}
 use Rattle.ob0_values.specs.declared.scalar.Scalar.TheVariants.{Truth}
 use Rattle.ob0_values.specs.declared.value.Value.{Scalar}
 use Rattle.ob0_values.specs.Values as values
@@ -23,7 +23,7 @@ use Rattle.ob0_run.specs.declared.scene.Stop.TheVariants as stop
 use Rattle.ob0_run.specs.Activations.{Stands}
 use Rattle.ob0_run.specs.Bindings.{Table, with_binding}
 use Rattle.ob0_run.specs.Machines.{state_in}
-use Rattle.ob0_run.specs.Runs.{Frame, Progress, Run, State, call, declare_block, execute_body, in_frame}
+use Rattle.ob0_semantics.specs.Runs.{Frame, Progress, Run, State, call, declare_block, execute_body, in_frame}
 use Rattle.ob0_run.specs.Scenes.{end_of, ordinal_in}
 use Rattle.ob0_run.specs.States.{items_out}
 

@@ -6,12 +6,12 @@ use Rattle.ob0_tree.specs.Tree.{Sort, Tree, addend, adds, expression, field, ind
 use Rattle.ob0_tree.specs.declared.tree.Procedure.{out-Procedure}
 use Rattle.ob0_tree.specs.View.{formals_of}
 use Rattle.ob0_scope.specs.Parts.{formal_sections}
-use Rattle.ob0_run.specs.Runs.{formal_modes}
+use Rattle.ob0_semantics.specs.Runs.{formal_modes}
 use Rattle.ob0_scope.specs.Names.{Label, as_names, as_written, declared, label_text}
 use Rattle.ob0_scope.specs.Scopes.{as_label}
-use Rattle.ob0_types.specs.Expressions.{Meanings, Object, a_constant, a_procedure, a_standard, a_type, a_variable, element_step, evaluate, evaluate_factor, evaluate_term, reads, writes, writes_line}
-use Rattle.ob0_types.specs.Expressions as standard
-use Rattle.ob0_types.specs.WellTyped.{Mode, by_place, by_value}
+use Rattle.ob0_typing.specs.Expressions.{Meanings, Object, a_constant, a_procedure, a_standard, a_type, a_variable, element_step, evaluate, evaluate_factor, evaluate_term, reads, writes, writes_line}
+use Rattle.ob0_typing.specs.Expressions as standard
+use Rattle.ob0_typing.specs.WellTyped.{Mode, by_place, by_value}
 use Rattle.ob0_values.specs.declared.scalar.Fault.{Fault}
 use Rattle.ob0_values.specs.declared.scalar.Fault.TheVariants as fault
 use Rattle.ob0_values.specs.Stored.{path_of, place_of, value_of}

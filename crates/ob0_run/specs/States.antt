@@ -6,7 +6,7 @@ use Rattle.ob0_run.specs.declared.scene.Stop.TheVariants as stop
 use Rattle.ob0_run.specs.declared.state.Item.{Item}
 use Rattle.ob0_run.specs.declared.state.Item.TheVariants as item
 use Rattle.ob0_run.specs.declared.state.State as code
-use Rattle.ob0_run.specs.Runs.{Progress, State, Written, line_out, number_out, running, stopped}
+use Rattle.ob0_semantics.specs.Runs.{Progress, State, Written, line_out, number_out, running, stopped}
 use Rattle.ob0_run.specs.Scenes.{end_of}
 
 abbrev pub item_of : Item → Written

@@ -6,8 +6,8 @@ ghost use Rattle.ob0_scope.specs.Parts.{procedure_formals};
 ghost use Rattle.ob0_values.specs.Stored.{place_of, value_of};
 ghost use Rattle.ob0_run.specs.Activations.{Declares, label_there, labelled, with_variable};
 ghost use Rattle.ob0_run.specs.Callings.{argument_of, arguments_of, parameters_of};
-ghost use Rattle.ob0_run.specs.Runs.{bind_parameter, bind_parameters, parameters, value_argument};
-ghost use Rattle.ob0_types.specs.WellTyped.{by_value};
+ghost use Rattle.ob0_semantics.specs.Runs.{bind_parameter, bind_parameters, parameters, value_argument};
+ghost use Rattle.ob0_typing.specs.WellTyped.{by_value};
 ghost use Rattle.ob0_run.specs.Scenes.{mode_of, read_with};
 
 use crate::calling::{Argument, Formal, formals};

@@ -4,8 +4,8 @@ ghost use Rattle.std.specs.Prelude.{◌≡◌, ◌++◌, IfOk, List, length, map
 ghost use Rattle.ob0_tree.specs.declared.tree.Procedure.{out-Procedure};
 ghost use Rattle.ob0_tree.specs.View.{expression_of, factor_of, formals_of, simple_of, term_of, further_section_of, items_of, names_of};
 ghost use Rattle.ob0_scope.specs.Parts.{formal_sections, names_listed};
-ghost use Rattle.ob0_types.specs.WellTyped.{by_place, by_value};
-ghost use Rattle.ob0_run.specs.Runs.{evaluate_argument, evaluate_arguments, modes_of, parameters};
+ghost use Rattle.ob0_typing.specs.WellTyped.{by_place, by_value};
+ghost use Rattle.ob0_semantics.specs.Runs.{evaluate_argument, evaluate_arguments, modes_of, parameters};
 ghost use Rattle.ob0_run.specs.Callings.{alone_in, alone_in_factor, alone_in_simple, alone_in_term, argument_of, arguments_of, designated_by, expressions_read, listed_in, mode_taken, modes_in, modes_listed, parameter_of, parameters_of, passed_to, taken_by};
 ghost use Rattle.ob0_run.specs.Scenes.{Answers, label_with, meaning_with, meant_with, mode_of, object_of, read_with};
 ghost use Rattle.ob0_run.specs.States.{state_of};

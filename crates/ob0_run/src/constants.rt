@@ -2,9 +2,9 @@
 
 ghost use Rattle.std.specs.Prelude.{◌≡◌, [], option_and_then, option_map};
 ghost use Rattle.ob0_tree.specs.View.{designator_of, expression_of, factor_of, simple_of, term_of};
-ghost use Rattle.ob0_types.specs.Expressions.{evaluate};
-ghost use Rattle.ob0_types.specs.Tables.{type_shape};
-ghost use Rattle.ob0_types.specs.Typing.{array_length, constant_value, given_value, object_type, type_of, type_of_factor, type_of_simple, type_of_term, value_type};
+ghost use Rattle.ob0_typing.specs.Expressions.{evaluate};
+ghost use Rattle.ob0_symbols.specs.Tables.{type_shape};
+ghost use Rattle.ob0_typing.specs.Typing.{array_length, constant_value, given_value, object_type, type_of, type_of_factor, type_of_simple, type_of_term, value_type};
 ghost use Rattle.ob0_values.specs.Stored.{value_of};
 ghost use Rattle.ob0_values.specs.Values.{or_stuck};
 ghost use Rattle.ob0_run.specs.DeclaredFrames.{constants_in, only_stuck};
@@ -12,9 +12,9 @@ ghost use Rattle.ob0_run.specs.Scenes.{Answers, label_in, meaning_in, read_in};
 
 use crate::operands::scalar_of;
 use crate::scene::{Ending, Meant, Scene, Stop};
+use ob0_checker::denoting::array_length;
+use ob0_symbols::types::{TypeId, added, complement, multiplied, related, scalar_type, with_sign};
 use ob0_tree::tree::{Designator, Expression, Factor, Simple, Term};
-use ob0_types::denoting::array_length;
-use ob0_types::types::{TypeId, added, complement, multiplied, related, scalar_type, with_sign};
 use ob0_values::value::Value;
 
 /// The type of a constant. Only numbers and truths have one.

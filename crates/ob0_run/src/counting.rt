@@ -4,8 +4,8 @@
 ghost use Rattle.std.specs.Prelude.{◌≡◌, ◌+◌, IfOk};
 ghost use Rattle.ob0_tree.specs.View.{fields_of, formals_of, further_section_of, items_of, procedure_of, record_in, type_declaration_of, type_of, types_of, variable_of, variables_of};
 ghost use Rattle.ob0_scope.specs.Parts.{formal_sections, section_types, section_variables};
-ghost use Rattle.ob0_types.specs.Declarations.{formals_constructors, procedure_constructors, types_constructors, variables_constructors};
-ghost use Rattle.ob0_types.specs.Typing.{constructors, group_constructors};
+ghost use Rattle.ob0_typing.specs.Declarations.{formals_constructors, procedure_constructors, types_constructors, variables_constructors};
+ghost use Rattle.ob0_typing.specs.Typing.{constructors, group_constructors};
 
 use ob0_tree::tree::{
     Fields, Procedure, RecordType, Section, TypeDeclaration, Variables, WrittenType,

@@ -5,15 +5,15 @@ ghost use Rattle.ob0_tree.specs.declared.tree.Procedure.{out-Procedure};
 ghost use Rattle.ob0_tree.specs.View.{block_of, constant_of, constants_of, expression_of, items_of, names_of, procedure_of, type_declaration_of, type_of, types_of, variable_of, variables_of};
 ghost use Rattle.ob0_scope.specs.Names.{Label, as_labels};
 ghost use Rattle.ob0_scope.specs.Parts.{names_listed, section_constants, section_types, section_variables};
-ghost use Rattle.ob0_types.specs.Expressions.{Object};
-ghost use Rattle.ob0_types.specs.Typing.{constant_value, denoted};
+ghost use Rattle.ob0_typing.specs.Expressions.{Object};
+ghost use Rattle.ob0_typing.specs.Typing.{constant_value, denoted};
 ghost use Rattle.ob0_values.specs.Stored.{value_of};
 ghost use Rattle.ob0_values.specs.Values as values;
 ghost use Rattle.ob0_values.specs.Values.{initial, or_stuck};
 ghost use Rattle.ob0_run.specs.Activations.{Declares, label_there};
 ghost use Rattle.ob0_run.specs.DeclaredFrames.{constant_declared, constants_declared, procedure_declared, procedures_declared, read_there, type_declared, types_declared, variables_declared, with_object};
 ghost use Rattle.ob0_run.specs.Held.{DepthIs, entry_of};
-ghost use Rattle.ob0_run.specs.Runs.{Code, allocate, declare_block, declare_variables};
+ghost use Rattle.ob0_semantics.specs.Runs.{Code, allocate, declare_block, declare_variables};
 ghost use Rattle.ob0_run.specs.Scenes.{Answers, meaning_with};
 ghost use Rattle.ob0_run.specs.Shapes.{shape_of};
 

@@ -3,8 +3,8 @@
 ghost use Rattle.std.specs.Prelude.{Some};
 ghost use Rattle.ob0_tree.specs.Tree.{named_type};
 ghost use Rattle.ob0_tree.specs.View.{fields_of, names_of, record_in, type_of};
-ghost use Rattle.ob0_types.specs.DenotedTables.{array_in};
-ghost use Rattle.ob0_types.specs.Typing.{denoted, denoted_group, type_of_name};
+ghost use Rattle.ob0_checker.specs.DenotedTables.{array_in};
+ghost use Rattle.ob0_typing.specs.Typing.{denoted, denoted_group, type_of_name};
 ghost use Rattle.ob0_scope.specs.Names.{label_text};
 ghost use Rattle.ob0_values.specs.Values.{next_field_shape, or_stuck};
 ghost use Rattle.ob0_run.specs.DeclaredFrames.{Extends, fields_listed, with_named};

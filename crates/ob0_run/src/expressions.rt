@@ -2,8 +2,8 @@
 
 ghost use Rattle.std.specs.Prelude.{◌≡◌, ◌++◌};
 ghost use Rattle.ob0_tree.specs.View.{addend_of, expression_of, factor_of, items_of, multiplier_of, selector_of, simple_of, term_of};
-ghost use Rattle.ob0_types.specs.Expressions.{designate, element_step, evaluate, evaluate_factor, evaluate_simple, evaluate_term, follow};
-ghost use Rattle.ob0_types.specs.Expressions as expressions;
+ghost use Rattle.ob0_typing.specs.Expressions.{designate, element_step, evaluate, evaluate_factor, evaluate_simple, evaluate_term, follow};
+ghost use Rattle.ob0_typing.specs.Expressions as expressions;
 ghost use Rattle.ob0_values.specs.Values.{at_path, gives, or_stuck, part, read_place};
 ghost use Rattle.ob0_values.specs.Stored.{given, path_of, place_of, step_of, store_of, value_of};
 ghost use Rattle.ob0_run.specs.Scenes.{Answers, added_by, label_in, meaning_in, meant_by, multiplied_by, read_in, step_by, steps_of};

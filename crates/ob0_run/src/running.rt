@@ -10,7 +10,7 @@ ghost use Rattle.ob0_run.specs.Bindings.{with_binding};
 ghost use Rattle.ob0_run.specs.Held.{Reaches};
 ghost use Rattle.ob0_run.specs.Machines.{state_in};
 ghost use Rattle.ob0_run.specs.Outcomes.{AllNothing, HasMeaning, IsEndOf, IsReady, block_run, end_in, first_frame, predeclared_table, run_of};
-ghost use Rattle.ob0_run.specs.Runs.{run};
+ghost use Rattle.ob0_semantics.specs.Runs.{run};
 ghost use Rattle.ob0_run.specs.Scenes.{ordinal_in, read_with};
 ghost use Rattle.ob0_run.specs.States.{Runs};
 
@@ -28,7 +28,7 @@ use ob0_values::value::Value;
 use std::alloc::{AllocError, Global};
 
 /// How a run ends.
-#[derive(Clone, Copy, Debug, PartialEq, Eq)]
+#[derive(Clone, Copy, PartialEq, Eq)]
 pub enum End {
     /// The end of the module's body.
     Done,

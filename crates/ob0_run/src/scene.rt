@@ -3,7 +3,7 @@
 ghost use Rattle.std.specs.Prelude.{◌≡◌, option_map, option_and_then, pos};
 ghost use Rattle.ob0_scope.specs.Names.{label_text};
 ghost use Rattle.ob0_tree.specs.Places.{value_at};
-ghost use Rattle.ob0_types.specs.Expressions.{value_of};
+ghost use Rattle.ob0_typing.specs.Expressions.{value_of};
 ghost use Rattle.ob0_values.specs.Stored.{given, store_of};
 ghost use Rattle.ob0_run.specs.Scenes.{Answers, label_in, meant_by, object_of, ordinal_in, stop_of};
 
@@ -15,7 +15,7 @@ use ob0_values::value::{Place, Value, read_place};
 use std::alloc::{AllocError, AllocFailed, Global};
 
 /// How a run ends where it doesn't reach the end of the module's body.
-#[derive(Clone, Copy, Debug, PartialEq, Eq)]
+#[derive(Clone, Copy, PartialEq, Eq)]
 pub enum Ending {
     Overflow,
     Divisor,
@@ -28,7 +28,7 @@ pub enum Ending {
 }
 
 /// Why a step of a run gives nothing.
-#[derive(Clone, Copy, Debug, PartialEq, Eq)]
+#[derive(Clone, Copy, PartialEq, Eq)]
 pub enum Stop {
     Ended(Ending),
     /// Memory was refused.
@@ -56,7 +56,7 @@ impl<T: Drop> From<AllocFailed<T>> for Stop {
 }
 
 /// The standard procedures.
-#[derive(Clone, Copy, Debug, PartialEq, Eq)]
+#[derive(Clone, Copy, PartialEq, Eq)]
 pub enum Standard {
     Read,
     Write,

@@ -1,14 +1,14 @@
 //! How large types are. A type has at most 65,536 scalars, and at most 100 arrays and records inside one another.
 
 ghost use Rattle.std.specs.Prelude.{◌≡◌, ◌-◌, ◌^◌, ◌&&◌, min, nat_le};
-ghost use Rattle.ob0_types.specs.Typing.{depth, scalars, within_limits};
+ghost use Rattle.ob0_typing.specs.Typing.{depth, scalars, within_limits};
 ghost use Rattle.ob0_values.specs.Values.{or_stuck};
 ghost use Rattle.ob0_run.specs.Scenes.{Answers};
 ghost use Rattle.ob0_run.specs.Shapes.{shape_of};
 
 use crate::scene::{Ending, Stop};
 use crate::shapes::Shape;
-use ob0_types::known::{MOST_DEPTH, MOST_SCALARS};
+use ob0_symbols::known::{MOST_DEPTH, MOST_SCALARS};
 
 /// How many scalars a type has. What is past the last `usize` counts as that.
 fn scalars(shape: &Shape) -> usize

@@ -3,10 +3,10 @@
 ghost use Rattle.std.specs.Prelude.{◌≡◌, ℕ};
 ghost use Rattle.ob0_scope.specs.Names.{Label};
 ghost use Rattle.ob0_tree.specs.View.{assignment_of, expression_of, items_of, selector_of};
-ghost use Rattle.ob0_types.specs.Expressions.{designate, evaluate};
+ghost use Rattle.ob0_typing.specs.Expressions.{designate, evaluate};
 ghost use Rattle.ob0_run.specs.Scenes.{Answers, label_with, condition_in, meaning_with, read_with, truth_of};
 ghost use Rattle.ob0_values.specs.Stored.{place_of, value_of};
-ghost use Rattle.ob0_run.specs.Runs.{Calls, execute, put_out, read_number, running, store_at};
+ghost use Rattle.ob0_semantics.specs.Runs.{Calls, execute, put_out, read_number, running, store_at};
 ghost use Rattle.ob0_run.specs.States.{Runs, item_of, state_of};
 
 use crate::operands::scalar_of;
@@ -27,7 +27,7 @@ pub struct Names<'r, 't> {
 }
 
 /// What a run puts out.
-#[derive(Clone, Copy, Debug, PartialEq, Eq)]
+#[derive(Clone, Copy, PartialEq, Eq)]
 pub enum Item {
     Number(i32),
     Line,

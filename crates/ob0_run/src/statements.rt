@@ -4,13 +4,13 @@
 ghost use Rattle.std.specs.Prelude.{◌≡◌, ℕ, List, Some, map, option_map};
 ghost use Rattle.ob0_scope.specs.Names.{Label};
 ghost use Rattle.ob0_tree.specs.View.{assignment_of, call_of, expression_of, if_of, sequence_listed, statement_of};
-ghost use Rattle.ob0_types.specs.Expressions.{a_standard, reads, writes, writes_line};
+ghost use Rattle.ob0_typing.specs.Expressions.{a_standard, reads, writes, writes_line};
 ghost use Rattle.ob0_values.specs.Stored.{value_of};
 ghost use Rattle.ob0_values.specs.Values.{number};
 ghost use Rattle.ob0_run.specs.Callings.{argument_of, mode_taken, number_only, only_one};
 ghost use Rattle.ob0_run.specs.Machines.{ActsAs, Does, executed, executed_all, meaning_of, named, read_for, repeat_of, state_in, while_of};
-ghost use Rattle.ob0_run.specs.Runs as run;
-ghost use Rattle.ob0_run.specs.Runs.{Calls, execute, perform};
+ghost use Rattle.ob0_semantics.specs.Runs as run;
+ghost use Rattle.ob0_semantics.specs.Runs.{Calls, execute, perform};
 ghost use Rattle.ob0_run.specs.Scenes.{Answers, condition_in, label_with, meant_with};
 ghost use Rattle.ob0_run.specs.States.{Runs, state_of};
 

@@ -4,8 +4,7 @@ use Rattle.ob0_tree.specs.Tree.{Sort, Tree, adds, array_type, assigns, begins, b
 use Rattle.ob0_scope.specs.Mapping.{with_names}
 use Rattle.ob0_scope.specs.Names.{Naming}
 use Rattle.ob0_scope.specs.Parts.{formal_names, formal_sections, names_listed, procedure_name, section_names}
-use Rattle.ob0_scope.specs.Scopes.{relabelled}
-use Rattle.ob0_scope.specs.Scopes.{Labels, Scope, after_names, after_procedure, body_scope, declare_names, first_procedure, first_type, first_variable, label_of, predeclared_scope, procedures_scope, relabel_block, relabel_constant_section, relabel_constants, relabel_formals, relabel_procedure, relabel_procedures, relabel_section, relabel_sections, relabel_type_section, relabel_types, relabel_uses, relabel_variable_section, relabel_variables, types_scope, variables_scope}
+use Rattle.ob0_scope.specs.Scopes.{relabelled, Labels, Scope, after_names, after_procedure, body_scope, declare_names, first_procedure, first_type, first_variable, label_of, predeclared_scope, procedures_scope, relabel_block, relabel_constant_section, relabel_constants, relabel_formals, relabel_procedure, relabel_procedures, relabel_section, relabel_sections, relabel_type_section, relabel_types, relabel_uses, relabel_variable_section, relabel_variables, types_scope, variables_scope}
 use Rattle.std.proofs.lemmas.List.{map-append}
 
 pub joined : {N M : Type 0} {xs' ys' : List M} (look : N → M) (xs ys : List N) → xs' ≡ map look xs → ys' ≡ map look ys → xs' ++ ys' ≡ map look (xs ++ ys)

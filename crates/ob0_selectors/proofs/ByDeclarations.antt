@@ -2,9 +2,9 @@
 use Rattle.std.proofs.Common.{◌≡◌, ℕ, List, [], ◌∷◌, map, Option, refl, ap, ◌∙◌}
 use Rattle.ob0_scope.specs.Resolution.{Resolution}
 use Rattle.ob0_tree.specs.Parsed.{named_tree_of, tree_of}
-use Rattle.ob0_types.specs.Bindings.{declared_object}
-use Rattle.ob0_types.specs.Expressions.{Object}
-use Rattle.ob0_types.specs.WellTyped.{Signature}
+use Rattle.ob0_checker.specs.Bindings.{declared_object}
+use Rattle.ob0_typing.specs.Expressions.{Object}
+use Rattle.ob0_typing.specs.WellTyped.{Signature}
 use Rattle.ob0_selectors.specs.declared.selecting.Selection.{Selection}
 use Rattle.ob0_selectors.specs.Selections.{module_selections, name_and_field, selections, token_meaning}
 use Rattle.ob0_selectors.specs.Walk.{selection_in, token_and_field}

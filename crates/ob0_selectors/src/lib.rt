@@ -2,19 +2,17 @@
 #![tactic(auto)]
 
 mod selecting;
-#[cfg(test)]
-mod tests;
 
 ghost use Rattle.std.specs.Prelude.{◌≡◌, IfOk, map};
 ghost use Rattle.ob0_tree.specs.Parsed.{tree_of};
-ghost use Rattle.ob0_types.specs.KnownTables.{declared_in, shapes_of};
+ghost use Rattle.ob0_symbols.specs.KnownTables.{declared_in, shapes_of};
 ghost use Rattle.ob0_selectors.specs.Selections.{module_selections, name_and_field, selections, token_meaning};
 ghost use Rattle.ob0_selectors.specs.Walk.{selection_at, selection_in, token_and_field};
 
 use crate::selecting::Selecting;
 use ob0_scope::resolved::Resolved;
+use ob0_symbols::known::Known;
 use ob0_types::checked::WellTyped;
-use ob0_types::known::Known;
 pub use selecting::Selection;
 use std::alloc::{AllocError, Global};
 

@@ -4,28 +4,28 @@ ghost use Rattle.std.specs.Prelude.{◌≡◌, ◌++◌, IfOk, List, map, option
 ghost use Rattle.ob0_tree.specs.View.{expression_of, simple_of, term_of, factor_of, designator_of, selector_of, assignment_of, call_of, arguments_in, statement_of, if_of, elsifs_in, sequence_in, type_of, record_in, fields_of, section_of, formals_of, constants_of, types_of, variables_of, body_of, procedure_of, block_of};
 ghost use Rattle.ob0_tree.specs.declared.tree.Designator.{out-Designator};
 ghost use Rattle.ob0_scope.specs.Resolution.{ordinal_in};
-ghost use Rattle.ob0_types.specs.FieldPlaces.{field_selected};
-ghost use Rattle.ob0_types.specs.KnownTables.{declared_in, shapes_of};
-ghost use Rattle.ob0_types.specs.Selected.{selectors_in};
-ghost use Rattle.ob0_types.specs.Tables.{type_shape};
-ghost use Rattle.ob0_types.specs.Typing.{field_type, object_type};
+ghost use Rattle.ob0_symbols.specs.FieldPlaces.{field_selected};
+ghost use Rattle.ob0_symbols.specs.KnownTables.{declared_in, shapes_of};
+ghost use Rattle.ob0_typing.specs.Selected.{selectors_in};
+ghost use Rattle.ob0_symbols.specs.Tables.{type_shape};
+ghost use Rattle.ob0_typing.specs.Typing.{field_type, object_type};
 ghost use Rattle.ob0_values.specs.Values.{Shape};
 ghost use Rattle.ob0_selectors.specs.Selections.{noted, path_selections, selections, type_behind};
 ghost use Rattle.ob0_selectors.specs.Walk.{found_in, meaning_in, selected_from, selection_in};
 
 use ob0_scope::resolved::Resolved;
+use ob0_symbols::known::{FieldOf, Known, Object};
+use ob0_symbols::types::{TypeId, scalar_type};
+use ob0_symbols::written::text_at;
 use ob0_tree::tree::{
     Assignment, Block, Call, Constant, Designator, Elsif, Expression, Factor, Fields, If,
     Procedure, RecordType, Section, Selector, Simple, Statement, Term, TypeDeclaration, Variables,
     WrittenType,
 };
-use ob0_types::known::{FieldOf, Known, Object};
-use ob0_types::names::text_at;
-use ob0_types::types::{TypeId, scalar_type};
 use std::alloc::AllocError;
 
 /// A selector that is a name: the token of its identifier, the field that it selects, and the field's type.
-#[derive(Clone, Copy, Debug)]
+#[derive(Clone, Copy)]
 pub struct Selection {
     pub token: usize,
     pub field: FieldOf,

@@ -8,12 +8,12 @@ use Rattle.ob0_scope.specs.DeclaredOnce.{declared_once}
 use Rattle.ob0_scope.specs.Resolution.{IsResolution, Resolution, is_of_declarations}
 use Rattle.ob0_tree.specs.Parsed.{named_tree_of, tree_of}
 use Rattle.ob0_types.specs.CheckedModules.{IsChecked, IsTold}
-use Rattle.ob0_types.specs.Bindings.{module_bindings, object_bound}
-use Rattle.ob0_types.specs.Checking.{Keeps}
-use Rattle.ob0_types.specs.InLabels.{in_labels}
-use Rattle.ob0_types.specs.KnownTables.{Tables}
-use Rattle.ob0_types.specs.Laws.{FitsByOrdinal}
-use Rattle.ob0_types.specs.WellTyped.{WellTyped, fits_over}
+use Rattle.ob0_checker.specs.Bindings.{module_bindings, object_bound}
+use Rattle.ob0_checker.specs.Checking.{Keeps}
+use Rattle.ob0_checker.specs.InLabels.{in_labels}
+use Rattle.ob0_symbols.specs.KnownTables.{Tables}
+use Rattle.ob0_typing.specs.Laws.{FitsByOrdinal}
+use Rattle.ob0_typing.specs.WellTyped.{WellTyped, fits_over}
 
 length-nil : (xs : List Fault) → xs ≡ [] → length xs ≡ 0
 length-nil xs e = ap length e

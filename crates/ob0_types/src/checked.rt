@@ -5,13 +5,13 @@ ghost use Rattle.ob0_types.specs.CheckedModules.{IsTold};
 ghost use Rattle.std.specs.List.{filter, list_any};
 ghost use Rattle.std.specs.Prelude.{◌≡◌, ◌≤◌, ◌&&◌, ◌++◌, [], length, not, IfOk, OnOk, MatchOption};
 
-use crate::deciding::decide;
-use crate::known::Known;
-use crate::laws::fits_by_ordinal;
-use crate::sameness::Parts;
-use crate::telling::tell;
+use ob0_checker::decide;
+use ob0_reports::tell;
 use ob0_scan::{Code, Fault, Span};
 use ob0_scope::resolved::{PREDECLARED, Resolved};
+use ob0_symbols::known::Known;
+use ob0_symbols::sameness::Parts;
+use ob0_typing::laws::fits_by_ordinal;
 use ob0_values::scalar::Scalar;
 use std::alloc::{AllocError, Global};
 use std::marker::Model;
@@ -191,7 +191,7 @@ impl<'c, 't> WellTyped<'c, 't> {
     ghost use Rattle.std.specs.Prelude.{option_map};
     ghost use Rattle.ob0_tree.specs.Parsed.{named_tree_of};
     ghost use Rattle.ob0_types.specs.CheckedModules.{HoldsDeclarations, IsWellTyped};
-    ghost use Rattle.ob0_types.specs.ConstantValues.{value_of_constant};
+    ghost use Rattle.ob0_typing.specs.ConstantValues.{value_of_constant};
     ghost use Rattle.ob0_types.specs.DeclaredShapes.{IsShapeOf};
     ghost use Rattle.ob0_values.specs.Scalars.{scalar_value};
 

@@ -2,6 +2,4 @@
 #![tactic(auto)]
 
 pub mod scalar;
-#[cfg(test)]
-mod tests;
 pub mod value;

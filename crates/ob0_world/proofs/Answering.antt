@@ -24,17 +24,18 @@ use Rattle.ob0_rpc.specs.Faults.{minus}
 use Rattle.ob0_rpc.specs.Messages.{Reads, meaning, meaning_of}
 use Rattle.ob0_rpc.specs.Shapes.{result_message, error_message}
 use Rattle.ob0_rpc.specs.declared.clients.Client.{Client}
-use Rattle.ob0_session.specs.Actions.{ActionsAsked, ListsActions, Offers, place_of, actions_value}
+use Rattle.ob0_answers.specs.Actions.{ActionsAsked, ListsActions, Offers, place_of, actions_value}
 use Rattle.ob0_session.specs.Answers as answers_of
 use Rattle.ob0_session.specs.Answers.{State, Say, Says, Sends, Reaction, reacts, told, hears, requested, asked as asked_in, calls, of_document, lays_out, renames, offers_actions, published, Answers, AnswersIn, AnswersGoingOn, says}
-use Rattle.ob0_session.specs.Diagnosed.{Complaint, Tells, TellsFaults, complaint_of}
-use Rattle.ob0_session.specs.Diagnostics.{Diagnoses, diagnostic_of, utf8}
-use Rattle.ob0_session.specs.Formatted.{AnswersFormatting}
-use Rattle.ob0_session.specs.Renamed.{RenameAsked, AnswersRenaming}
-use Rattle.ob0_session.specs.RunsKept.{RunsAsBefore}
-use Rattle.ob0_session.specs.Shapes.{Diagnostic, diagnostic_value, edit_value, edits_value, document_edit, workspace_edit, publication}
-use Rattle.ob0_session.specs.declared.actions.Inlining.{Inlining}
-use Rattle.ob0_session.specs.declared.actions.Inlining.TheVariants.{Here, Everywhere}
+use Rattle.ob0_analysis.specs.Diagnosed.{Complaint, Tells, TellsFaults, complaint_of}
+use Rattle.ob0_answers.specs.Diagnostics.{Diagnoses, diagnostic_of}
+use Rattle.ob0_analysis.specs.Texts.{utf8}
+use Rattle.ob0_answers.specs.Formatted.{AnswersFormatting}
+use Rattle.ob0_answers.specs.Renamed.{RenameAsked, AnswersRenaming}
+use Rattle.ob0_analysis.specs.RunsKept.{RunsAsBefore}
+use Rattle.ob0_answers.specs.Shapes.{Diagnostic, diagnostic_value, edit_value, edits_value, document_edit, workspace_edit, publication}
+use Rattle.ob0_answers.specs.declared.actions.Inlining.{Inlining}
+use Rattle.ob0_answers.specs.declared.actions.Inlining.TheVariants.{Here, Everywhere}
 use Rattle.ob0_session.specs.declared.server.Phase.TheVariants.{Running}
 use Rattle.ob0_editor.specs.Code.{replacement_of, replacements}
 use Rattle.ob0_editor.specs.Heard as heard_as

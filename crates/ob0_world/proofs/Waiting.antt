@@ -1,6 +1,6 @@
 -- Contents that wait say the same once more was asked, and what they say as the queues grow and shrink.
 use Rattle.std.proofs.Common.{◌≡◌, ◌∙◌, ℕ, Bool, true, false, cond, List, [], ◌∷◌, ◌++◌, Option, Some, None, refl, sym, ap, subst}
-use Rattle.std.specs.Prelude.{All, Vec, is_some, filter_map, option_map, option_and_then}
+use Rattle.std.specs.Prelude.{All, Vec, is_some, filter_map, option_map, option_and_then, codes}
 use Rattle.std.specs.List.{cons_option}
 use Rattle.std.specs.Str.{is_utf8}
 use Rattle.std.specs.declared.alloc.Global.{Global}
@@ -16,7 +16,6 @@ use Rattle.ob0_editor.proofs.Hearing.{says_heard}
 use Rattle.ob0_ends.specs.Ends.{Asked, numbered, ToServer, tells, asks, ToEditor}
 use Rattle.ob0_ends.proofs.SameDocument.{numbered_push}
 use Rattle.ob0_world.specs.Queues.{Contents, bytes, all_heard, all_understood, IsHeard, IsUnderstood}
-use Rattle.std.specs.Prelude.{codes}
 
 -- ---- more asks
 

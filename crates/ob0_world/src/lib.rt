@@ -6,8 +6,6 @@ mod ends;
 mod events;
 mod faults;
 mod played;
-#[cfg(test)]
-mod tests;
 mod world;
 
 pub use events::{Event, Seen};

@@ -1,5 +1,5 @@
-use Rattle.ob0_types.specs.KnownTables.{declared_in, shapes_of}
-use Rattle.ob0_types.proofs.Procedures.{ifok_map}
+use Rattle.ob0_symbols.specs.KnownTables.{declared_in, shapes_of}
+use Rattle.ob0_checker.proofs.Procedures.{ifok_map}
 use Rattle.ob0_selectors.proofs.ByDeclarations.{module_found}
 use Rattle.ob0_selectors.proofs.selections.Goals as goal
 

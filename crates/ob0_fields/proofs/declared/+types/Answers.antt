@@ -1,7 +1,7 @@
 use Rattle.std.proofs.Common.{◌≡◌, ◌++◌, ◌+◌, IfOk, length, sym, ap, ◌∙◌, subst}
 use Rattle.ob0_tree.proofs.Viewed.{record_made}
 use Rattle.ob0_tree.specs.View.{type_of}
-use Rattle.ob0_types.specs.Typing.{constructors}
+use Rattle.ob0_typing.specs.Typing.{constructors}
 use Rattle.ob0_fields.specs.Owned.{marked_type}
 use Rattle.ob0_fields.proofs.declared.+types.Goals as goal
 

@@ -1,7 +1,7 @@
 use Rattle.std.proofs.Common.{List, ℕ, length, ◌∙◌, sym, subst}
 use Rattle.ob0_tree.specs.Order.{AreIdentifiers, Ascending}
 use Rattle.ob0_tree.specs.Parsed.{named_tree_of, tree_of}
-use Rattle.ob0_types.specs.Bindings.{declared_object}
+use Rattle.ob0_checker.specs.Bindings.{declared_object}
 use Rattle.ob0_fields.specs.Owned.{token_objects}
 use Rattle.ob0_fields.proofs.FieldTokens.{fields_ascend, fields_stand, firsts}
 use Rattle.ob0_fields.proofs.MarkedFields.{module-fields}

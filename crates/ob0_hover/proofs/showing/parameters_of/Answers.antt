@@ -5,8 +5,8 @@ use Rattle.ob0_hover.proofs.Parameters.{Gathered, gathered_all, gathered_further
 use Rattle.ob0_hover.specs.Shown.{parameter_shown}
 use Rattle.ob0_refs.specs.Parameters.{parameter_in}
 use Rattle.ob0_tree.specs.Places.{text_at}
-use Rattle.ob0_types.specs.KnownTables.{shapes_of}
-use Rattle.ob0_types.specs.Tables.{formal_in}
+use Rattle.ob0_symbols.specs.KnownTables.{shapes_of}
+use Rattle.ob0_symbols.specs.Tables.{formal_in}
 use Rattle.ob0_hover.proofs.showing.parameters_of.Goals as goal
 
 pub loop-token-preserved : goal.loop-token-preserved

@@ -2,8 +2,8 @@ use Rattle.std.proofs.Common.{map, length}
 use Rattle.ob0_hover.proofs.Parameters.{Gathered}
 use Rattle.ob0_refs.specs.Parameters.{parameter_in}
 use Rattle.ob0_tree.specs.Places.{text_at}
-use Rattle.ob0_types.specs.KnownTables.{shapes_of}
-use Rattle.ob0_types.specs.Tables.{formal_in}
+use Rattle.ob0_symbols.specs.KnownTables.{shapes_of}
+use Rattle.ob0_symbols.specs.Tables.{formal_in}
 use Rattle.ob0_hover.proofs.showing.parameters_of.Given as goal
 
 abbrev pub invariant-loop-token : goal.invariant-loop-token

@@ -1,8 +1,8 @@
 use Rattle.std.proofs.Common.{ap, ◌∙◌, rules}
 use Rattle.std.proofs.lemmas.Result.{IfOk-weaker}
 use Rattle.ob0_refs.specs.Hovers.{type_text}
-use Rattle.ob0_types.specs.KnownTables.{shapes_of}
-use Rattle.ob0_types.specs.Tables.{fields_shape, type_shape}
+use Rattle.ob0_symbols.specs.KnownTables.{shapes_of}
+use Rattle.ob0_symbols.specs.Tables.{fields_shape, type_shape}
 use Rattle.ob0_values.specs.Values.{no_field_shape}
 use Rattle.ob0_hover.proofs.Counted.{fields_counted}
 use Rattle.ob0_hover.proofs.typing.+types.Goals as goal

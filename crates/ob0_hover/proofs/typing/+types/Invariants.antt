@@ -1,7 +1,7 @@
 use Rattle.std.proofs.Common.{◌+◌, ◌*◌}
-use Rattle.ob0_types.specs.KnownTables.{shapes_of}
-use Rattle.ob0_types.specs.Tables.{type_shape}
-use Rattle.ob0_types.specs.Typing.{depth}
+use Rattle.ob0_symbols.specs.KnownTables.{shapes_of}
+use Rattle.ob0_symbols.specs.Tables.{type_shape}
+use Rattle.ob0_typing.specs.Typing.{depth}
 use Rattle.ob0_hover.proofs.typing.+types.Given as goal
 
 abbrev pub decreases-of_array : goal.decreases-of_array

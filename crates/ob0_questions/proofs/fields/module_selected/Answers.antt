@@ -1,4 +1,4 @@
-use Rattle.ob0_types.proofs.Procedures.{ifok_map}
+use Rattle.ob0_checker.proofs.Procedures.{ifok_map}
 use Rattle.ob0_questions.proofs.Selected.{selected_kept}
 use Rattle.ob0_questions.proofs.fields.module_selected.Goals as goal
 

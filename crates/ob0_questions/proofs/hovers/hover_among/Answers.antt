@@ -1,6 +1,6 @@
 use Rattle.std.proofs.Common.{Some, option_map, ap, sym, ◌∙◌}
 use Rattle.ob0_selectors.specs.Walk.{selection_in}
-use Rattle.ob0_types.specs.KnownTables.{shapes_of}
+use Rattle.ob0_symbols.specs.KnownTables.{shapes_of}
 use Rattle.ob0_questions.specs.Questions.{selection_shown}
 use Rattle.ob0_questions.proofs.Selected.{chosen_shown}
 use Rattle.ob0_questions.proofs.hovers.hover_among.Goals as goal

@@ -1,6 +1,6 @@
 use Rattle.std.proofs.Common.{◌≡◌, map, option_map}
-use Rattle.ob0_types.proofs.Procedures.{ifok_map}
-use Rattle.ob0_types.specs.KnownTables.{declared_in, shapes_of}
+use Rattle.ob0_checker.proofs.Procedures.{ifok_map}
+use Rattle.ob0_symbols.specs.KnownTables.{declared_in, shapes_of}
 use Rattle.ob0_selectors.specs.Walk.{selection_in}
 use Rattle.ob0_hover.specs.Parts.{hover_in}
 use Rattle.ob0_questions.specs.FieldTypes.{module_typed}

@@ -1,7 +1,7 @@
 use Rattle.std.proofs.Common.{map, ap, ◌∙◌, subst}
 use Rattle.ob0_run.specs.Activations.{Declares, labelled}
 use Rattle.ob0_run.specs.Callings.{arguments_of, parameters_of}
-use Rattle.ob0_run.specs.Runs.{bind_parameters}
+use Rattle.ob0_semantics.specs.Runs.{bind_parameters}
 use Rattle.ob0_run.proofs.Reading.{parameters_read}
 use Rattle.ob0_run.proofs.activations.pass.Goals as goal
 

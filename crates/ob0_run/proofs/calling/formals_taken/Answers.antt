@@ -3,7 +3,7 @@ use Rattle.ob0_tree.specs.declared.tree.Procedure.{out-Procedure}
 use Rattle.ob0_tree.specs.View.{formals_of}
 use Rattle.ob0_scope.specs.Parts.{formal_sections}
 use Rattle.ob0_values.specs.Values.{gives}
-use Rattle.ob0_run.specs.Runs.{modes_of}
+use Rattle.ob0_semantics.specs.Runs.{modes_of}
 use Rattle.ob0_run.specs.Scenes.{object_of}
 use Rattle.ob0_run.proofs.Passing.{modes_agree}
 use Rattle.ob0_run.proofs.calling.formals_taken.Goals as goal

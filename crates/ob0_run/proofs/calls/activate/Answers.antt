@@ -3,7 +3,7 @@ use Rattle.ob0_run.specs.Activations.{Declares}
 use Rattle.ob0_run.specs.Callings.{arguments_of}
 use Rattle.ob0_run.specs.CallSteps.{activation_frame, text_read}
 use Rattle.ob0_scope.specs.Parts.{procedure_formals}
-use Rattle.ob0_run.specs.Runs.{bind_parameters, parameters}
+use Rattle.ob0_semantics.specs.Runs.{bind_parameters, parameters}
 use Rattle.ob0_run.proofs.Returning.{activated, declares_waiting}
 use Rattle.ob0_run.proofs.calls.activate.Goals as goal
 

@@ -2,7 +2,7 @@ use Rattle.std.proofs.Common.{ap, arith}
 use Rattle.ob0_tree.specs.declared.tree.Block.{out-Block}
 use Rattle.ob0_tree.specs.declared.tree.Procedure.{out-Procedure}
 use Rattle.ob0_tree.specs.View.{items_of, procedure_of}
-use Rattle.ob0_types.specs.Declarations.{procedures_constructors}
+use Rattle.ob0_typing.specs.Declarations.{procedures_constructors}
 use Rattle.ob0_run.proofs.CountsKept.{counting_ends, procedure_counted, procedures_count}
 use Rattle.ob0_run.proofs.counting.+after_procedure.Goals as goal
 

@@ -1,5 +1,5 @@
 use Rattle.ob0_tree.specs.View.{items_of, procedure_of}
-use Rattle.ob0_types.specs.Declarations.{procedures_constructors}
+use Rattle.ob0_typing.specs.Declarations.{procedures_constructors}
 use Rattle.ob0_run.proofs.CountsKept.{Counting}
 use Rattle.ob0_run.proofs.counting.+after_procedure.Given as goal
 

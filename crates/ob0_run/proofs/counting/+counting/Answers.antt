@@ -1,7 +1,7 @@
 use Rattle.std.proofs.Common.{◌+◌, sym, ap, ◌∙◌}
 use Rattle.ob0_tree.specs.View.{record_in, type_of}
 use Rattle.ob0_tree.proofs.Viewed.{record_made}
-use Rattle.ob0_types.specs.Typing.{constructors}
+use Rattle.ob0_typing.specs.Typing.{constructors}
 use Rattle.ob0_run.proofs.CountsKept.{counted_as}
 use Rattle.ob0_run.proofs.counting.+counting.Goals as goal
 

@@ -1,5 +1,5 @@
 use Rattle.ob0_tree.specs.View.{further_fields_of_group, items_of}
-use Rattle.ob0_types.specs.Typing.{groups_constructors}
+use Rattle.ob0_typing.specs.Typing.{groups_constructors}
 use Rattle.ob0_run.proofs.CountsKept.{Counting}
 use Rattle.ob0_run.proofs.counting.+counting.Given as goal
 

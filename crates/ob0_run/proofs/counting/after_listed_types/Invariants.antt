@@ -1,5 +1,5 @@
 use Rattle.ob0_tree.specs.View.{items_of, type_declaration_of}
-use Rattle.ob0_types.specs.Declarations.{types_constructors}
+use Rattle.ob0_typing.specs.Declarations.{types_constructors}
 use Rattle.ob0_run.proofs.CountsKept.{Counting}
 use Rattle.ob0_run.proofs.counting.after_listed_types.Given as goal
 

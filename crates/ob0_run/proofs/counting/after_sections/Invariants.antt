@@ -1,5 +1,5 @@
 use Rattle.ob0_tree.specs.View.{further_section_of, items_of}
-use Rattle.ob0_types.specs.Declarations.{formals_constructors}
+use Rattle.ob0_typing.specs.Declarations.{formals_constructors}
 use Rattle.ob0_run.proofs.CountsKept.{Counting}
 use Rattle.ob0_run.proofs.counting.after_sections.Given as goal
 

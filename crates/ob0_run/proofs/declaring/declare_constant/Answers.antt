@@ -1,8 +1,8 @@
 use Rattle.std.proofs.Common.{option_map, ap, ◌∙◌, refl}
 use Rattle.std.proofs.lemmas.Result.{err_from_is_err_and}
 use Rattle.ob0_tree.specs.View.{expression_of}
-use Rattle.ob0_types.specs.Expressions.{a_constant}
-use Rattle.ob0_types.specs.Typing.{constant_value}
+use Rattle.ob0_typing.specs.Expressions.{a_constant}
+use Rattle.ob0_typing.specs.Typing.{constant_value}
 use Rattle.ob0_values.specs.Stored.{value_of}
 use Rattle.ob0_run.specs.Activations.{label_there}
 use Rattle.ob0_run.specs.DeclaredFrames.{constant_declared, read_there, with_object}

@@ -1,7 +1,7 @@
 use Rattle.std.proofs.Common.{◌∷◌, [], ◌+◌, Ok, Some, get_or, refl, sym, ap, subst, arith, add-one}
 use Rattle.ob0_values.specs.Values.{initial}
 use Rattle.ob0_run.specs.Activations.{Declares}
-use Rattle.ob0_run.specs.Runs.{allocate}
+use Rattle.ob0_semantics.specs.Runs.{allocate}
 use Rattle.ob0_run.specs.Shapes.{shape_of}
 use Rattle.ob0_run.proofs.FramesDeclared.{declared_begins, declares_as, same_labelled, walk_ends, walk_on}
 use Rattle.ob0_run.proofs.KindsDeclared.{named_by, names-labelled, names_walk, one_named, uncounted}

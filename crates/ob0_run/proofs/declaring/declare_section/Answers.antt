@@ -2,10 +2,10 @@ use Rattle.std.proofs.Common.{option_map, ap, ◌∙◌}
 use Rattle.std.proofs.lemmas.Result.{err_from_is_err_and}
 use Rattle.ob0_tree.specs.View.{names_of, type_of}
 use Rattle.ob0_scope.specs.Parts.{names_listed}
-use Rattle.ob0_types.specs.Typing.{denoted}
+use Rattle.ob0_typing.specs.Typing.{denoted}
 use Rattle.ob0_values.specs.Values.{initial}
 use Rattle.ob0_run.specs.DeclaredFrames.{read_there, variables_declared}
-use Rattle.ob0_run.specs.Runs.{allocate}
+use Rattle.ob0_semantics.specs.Runs.{allocate}
 use Rattle.ob0_run.specs.Scenes.{meaning_with}
 use Rattle.ob0_run.specs.Shapes.{shape_of}
 use Rattle.ob0_run.proofs.Activating.{declares_left}

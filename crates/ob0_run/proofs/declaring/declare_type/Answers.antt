@@ -1,8 +1,8 @@
 use Rattle.std.proofs.Common.{option_map, ap, ◌∙◌, refl}
 use Rattle.std.proofs.lemmas.Result.{err_from_is_err_and}
 use Rattle.ob0_tree.specs.View.{type_of}
-use Rattle.ob0_types.specs.Expressions.{a_type}
-use Rattle.ob0_types.specs.Typing.{denoted}
+use Rattle.ob0_typing.specs.Expressions.{a_type}
+use Rattle.ob0_typing.specs.Typing.{denoted}
 use Rattle.ob0_run.specs.Activations.{label_there}
 use Rattle.ob0_run.specs.DeclaredFrames.{read_there, type_declared, with_object}
 use Rattle.ob0_run.specs.Scenes.{meaning_with}

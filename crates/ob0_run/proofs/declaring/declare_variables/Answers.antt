@@ -5,7 +5,7 @@ use Rattle.ob0_scope.specs.Names.{as_labels}
 use Rattle.ob0_scope.specs.Parts.{section_variables}
 use Rattle.ob0_run.specs.Activations.{Declares}
 use Rattle.ob0_run.specs.DeclaredFrames.{read_there}
-use Rattle.ob0_run.specs.Runs.{declare_variables}
+use Rattle.ob0_semantics.specs.Runs.{declare_variables}
 use Rattle.ob0_run.proofs.FramesDeclared.{declared_begins, declared_ends}
 use Rattle.ob0_run.proofs.KindsDeclared.{no_variables}
 use Rattle.ob0_run.proofs.declaring.declare_variables.Goals as goal

@@ -1,5 +1,5 @@
 use Rattle.std.proofs.Common.{ap, ◌∙◌, arith}
-use Rattle.ob0_types.specs.Typing.{depth, field_depth}
+use Rattle.ob0_typing.specs.Typing.{depth, field_depth}
 use Rattle.ob0_run.specs.Shapes.{fields_in, shape_of}
 use Rattle.ob0_run.proofs.Capped.{deepest_ends}
 use Rattle.ob0_run.proofs.Shaping.{fields_made}

@@ -1,5 +1,5 @@
 use Rattle.std.proofs.Common.{ap, ◌∙◌, arith}
-use Rattle.ob0_types.specs.Typing.{field_scalars, scalars}
+use Rattle.ob0_typing.specs.Typing.{field_scalars, scalars}
 use Rattle.ob0_run.specs.Shapes.{fields_in, shape_of}
 use Rattle.ob0_run.proofs.Capped.{adding_ends}
 use Rattle.ob0_run.proofs.Shaping.{fields_made}

@@ -1,6 +1,6 @@
 use Rattle.std.proofs.Common.{◌∙◌, subst}
 use Rattle.ob0_tree.specs.View.{assignment_of}
-use Rattle.ob0_run.specs.Runs.{execute}
+use Rattle.ob0_semantics.specs.Runs.{execute}
 use Rattle.ob0_run.specs.Scenes.{meaning_with, read_with}
 use Rattle.ob0_run.specs.States.{Runs, state_of}
 use Rattle.ob0_run.proofs.statements.assign.Goals as goal

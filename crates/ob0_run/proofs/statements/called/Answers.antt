@@ -1,12 +1,11 @@
-use Rattle.std.proofs.Common.{refl, sym, ◌∙◌, subst, Ok, Err, Some}
+use Rattle.std.proofs.Common.{refl, sym, ◌∙◌, subst, Ok, Err, Some, map}
 use Rattle.std.proofs.lemmas.Result.{err_from_is_err_and}
 use Rattle.ob0_run.specs.declared.statements.Callee.TheVariants as callee
 use Rattle.ob0_run.specs.Callings.{argument_of, arguments_of, expressions_read, listed_in, mode_taken, passed_to}
 use Rattle.ob0_run.specs.Machines.{ActsAs, Steps, label_for, named, state_in}
-use Rattle.ob0_run.specs.Runs.{perform}
+use Rattle.ob0_semantics.specs.Runs.{perform}
 use Rattle.ob0_run.specs.Scenes.{Answers, label_with, meaning_with, meant_with}
 use Rattle.ob0_run.specs.States.{Runs}
-use Rattle.std.proofs.Common.{map}
 use Rattle.ob0_run.proofs.Executing.{at_names, called-does, called-split, failed_use, leaving_steps, steps_from, steps_same}
 use Rattle.ob0_run.proofs.statements.called.Goals as goal
 

@@ -1,6 +1,6 @@
 use Rattle.std.proofs.Common.{Some, map, sym, subst}
 use Rattle.ob0_run.specs.Callings.{argument_of, mode_taken}
-use Rattle.ob0_run.specs.Runs.{perform}
+use Rattle.ob0_semantics.specs.Runs.{perform}
 use Rattle.ob0_run.specs.States.{Runs, state_of}
 use Rattle.ob0_run.proofs.statements.standard.Goals as goal
 

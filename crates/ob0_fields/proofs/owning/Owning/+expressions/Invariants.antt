@@ -1,6 +1,6 @@
 use Rattle.std.proofs.Common.{option_map}
-use Rattle.ob0_types.specs.KnownTables.{shapes_of}
-use Rattle.ob0_types.specs.Tables.{type_shape}
+use Rattle.ob0_symbols.specs.KnownTables.{shapes_of}
+use Rattle.ob0_symbols.specs.Tables.{type_shape}
 use Rattle.ob0_fields.proofs.MarkPaths.{OnPath}
 use Rattle.ob0_fields.specs.Walk.{meaning_in}
 use Rattle.ob0_tree.specs.View.{addend_of, multiplier_of}

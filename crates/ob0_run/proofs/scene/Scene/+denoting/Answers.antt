@@ -4,7 +4,7 @@ use Rattle.ob0_tree.specs.View.{expression_of, fields_of, names_of, record_liste
 use Rattle.ob0_tree.proofs.Viewed.{record_made}
 use Rattle.ob0_scope.specs.Names.{label_text}
 use Rattle.ob0_scope.specs.Parts.{names_listed}
-use Rattle.ob0_types.specs.Typing.{array_length, constant_value, denoted, denoted_group, with_fields, within_limits}
+use Rattle.ob0_typing.specs.Typing.{array_length, constant_value, denoted, denoted_group, with_fields, within_limits}
 use Rattle.ob0_values.specs.Values.{array_shape, or_stuck, ◌>>=◌}
 use Rattle.ob0_run.specs.DeclaredFrames.{Extends, with_named}
 use Rattle.ob0_run.specs.Scenes.{Answers, label_in, meaning_in, read_in}

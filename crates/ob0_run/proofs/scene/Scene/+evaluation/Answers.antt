@@ -8,8 +8,8 @@ use Rattle.ob0_tree.specs.declared.tree.Simple.{out-Simple}
 use Rattle.ob0_tree.specs.declared.tree.Term.{out-Term}
 use Rattle.ob0_tree.specs.Places.{value_at}
 use Rattle.ob0_tree.specs.View.{addend_of, expression_of, factor_of, items_of, multiplier_of, selector_of, simple_of, term_of}
-use Rattle.ob0_types.specs.Expressions as expressions
-use Rattle.ob0_types.specs.Expressions.{evaluate, evaluate_addends, evaluate_factor, evaluate_multipliers, evaluate_simple, evaluate_term, follow}
+use Rattle.ob0_typing.specs.Expressions as expressions
+use Rattle.ob0_typing.specs.Expressions.{evaluate, evaluate_addends, evaluate_factor, evaluate_multipliers, evaluate_simple, evaluate_term, follow}
 use Rattle.ob0_values.specs.Stored.{given, path_of, step_of, value_of}
 use Rattle.ob0_values.specs.Values.{at_path, gives, negated, number, or_stuck, relate, signed, ◌>>=◌}
 use Rattle.ob0_run.specs.Scenes.{Answers, label_in, meaning_in, meant_by, read_in, steps_of}

@@ -6,11 +6,11 @@ use Rattle.ob0_tree.specs.declared.tree.Expression.{out-Expression}
 use Rattle.ob0_tree.specs.declared.tree.Simple.{out-Simple}
 use Rattle.ob0_tree.specs.declared.tree.Term.{out-Term}
 use Rattle.ob0_tree.specs.View.{expression_of, items_of, addend_of, multiplier_of, term_of, factor_of, simple_of}
-use Rattle.ob0_types.specs.Selected.{both, type_added}
-use Rattle.ob0_types.specs.Tables.{type_shape}
-use Rattle.ob0_types.specs.Typing.{add_type, complement_type, multiply_type, relation_type, sign_type, type_of, type_of_addends, type_of_factor, type_of_multipliers, type_of_simple, type_of_term}
-use Rattle.ob0_types.proofs.Judged.{added_chain, added_step, alone_typed, multiplied_chain, multiplied_step, negation_typed, related_typed, simple_typed, term_typed}
-use Rattle.ob0_types.proofs.TreeParts.{addend_parts, expression_alone, expression_related}
+use Rattle.ob0_typing.specs.Selected.{both, type_added}
+use Rattle.ob0_symbols.specs.Tables.{type_shape}
+use Rattle.ob0_typing.specs.Typing.{add_type, complement_type, multiply_type, relation_type, sign_type, type_of, type_of_addends, type_of_factor, type_of_multipliers, type_of_simple, type_of_term}
+use Rattle.ob0_checker.proofs.Judged.{added_chain, added_step, alone_typed, multiplied_chain, multiplied_step, negation_typed, related_typed, simple_typed, term_typed}
+use Rattle.ob0_typing.proofs.TreeParts.{addend_parts, expression_alone, expression_related}
 use Rattle.ob0_run.specs.DeclaredFrames.{constants_in}
 use Rattle.ob0_run.specs.Scenes.{read_in}
 use Rattle.ob0_run.proofs.ConstantsRead.{chain_ends, chain_goes_on, integer_typed, parenthesised_typed}

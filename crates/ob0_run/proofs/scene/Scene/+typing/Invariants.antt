@@ -1,7 +1,7 @@
 use Rattle.std.proofs.Common.{[], option_map}
 use Rattle.ob0_tree.specs.View.{addend_of, multiplier_of}
-use Rattle.ob0_types.specs.Tables.{type_shape}
-use Rattle.ob0_types.specs.Typing.{type_of_addends, type_of_multipliers}
+use Rattle.ob0_symbols.specs.Tables.{type_shape}
+use Rattle.ob0_typing.specs.Typing.{type_of_addends, type_of_multipliers}
 use Rattle.ob0_run.specs.DeclaredFrames.{constants_in}
 use Rattle.ob0_run.proofs.ConstantsRead.{Chained}
 use Rattle.ob0_run.proofs.scene.Scene.+typing.Given as goal

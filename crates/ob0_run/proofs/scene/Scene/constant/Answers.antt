@@ -1,6 +1,6 @@
 use Rattle.std.proofs.Common.{[], sym, ap, subst}
 use Rattle.ob0_tree.specs.View.{expression_of}
-use Rattle.ob0_types.specs.Tables.{type_shape}
+use Rattle.ob0_symbols.specs.Tables.{type_shape}
 use Rattle.ob0_values.specs.Stored.{value_of}
 use Rattle.ob0_values.specs.Values.{or_stuck}
 use Rattle.ob0_run.specs.Scenes.{Answers, meaning_in, read_in}

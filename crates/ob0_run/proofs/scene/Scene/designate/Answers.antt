@@ -2,8 +2,8 @@ use Rattle.std.proofs.Common.{◌++◌, List, sym, ap, ◌∙◌, subst, Err}
 use denote.Ref.{Bor}
 use Rattle.std.proofs.lemmas.Result.{err_from_is_err_and}
 use Rattle.ob0_tree.specs.View.{items_of, selector_of}
-use Rattle.ob0_types.specs.Expressions as expressions
-use Rattle.ob0_types.specs.Expressions.{follow}
+use Rattle.ob0_typing.specs.Expressions as expressions
+use Rattle.ob0_typing.specs.Expressions.{follow}
 use Rattle.ob0_values.specs.declared.value.Place as code_place
 use Rattle.ob0_values.specs.Stored.{given, path_of, place_of, value_of}
 use Rattle.ob0_values.specs.Values.{Place, Step, gives, or_stuck, read_place, ◌>>=◌}

@@ -1,7 +1,7 @@
 use Rattle.std.proofs.Common.{[], Err, sym, ◌∙◌, subst}
 use Rattle.ob0_tree.specs.View.{expression_of}
-use Rattle.ob0_types.specs.Expressions.{evaluate}
-use Rattle.ob0_types.specs.Typing.{given_value}
+use Rattle.ob0_typing.specs.Expressions.{evaluate}
+use Rattle.ob0_typing.specs.Typing.{given_value}
 use Rattle.ob0_values.specs.Stored.{value_of}
 use Rattle.ob0_values.specs.Values.{Place, or_stuck}
 use Rattle.ob0_run.specs.DeclaredFrames.{constants_in}

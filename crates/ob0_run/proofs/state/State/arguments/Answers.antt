@@ -3,7 +3,7 @@ use Rattle.std.proofs.lemmas.Result.{err_from_is_err_and}
 use Rattle.ob0_values.specs.Stored.{store_of}
 use Rattle.ob0_values.specs.Values.{◌>>=◌}
 use Rattle.ob0_run.specs.Callings.{arguments_of, expressions_read, modes_in, modes_listed, passed_to}
-use Rattle.ob0_run.specs.Runs.{evaluate_arguments}
+use Rattle.ob0_semantics.specs.Runs.{evaluate_arguments}
 use Rattle.ob0_run.specs.Scenes.{Answers, label_with, meaning_with, meant_with}
 use Rattle.ob0_run.proofs.Evaluating.{exits, fails}
 use Rattle.ob0_run.proofs.state.State.arguments.Goals as goal

@@ -1,9 +1,9 @@
 use Rattle.std.proofs.Common.{sym, ap, ◌∙◌, subst, Err}
 use Rattle.std.proofs.lemmas.Result.{err_from_is_err_and}
 use Rattle.ob0_tree.specs.View.{expression_of, items_of, selector_of}
-use Rattle.ob0_types.specs.Expressions.{designate, evaluate}
+use Rattle.ob0_typing.specs.Expressions.{designate, evaluate}
 use Rattle.ob0_values.specs.Stored.{place_of, value_of}
-use Rattle.ob0_run.specs.Runs.{store_at, use_in}
+use Rattle.ob0_semantics.specs.Runs.{store_at, use_in}
 use Rattle.ob0_run.specs.Scenes.{label_with, meaning_with, read_with}
 use Rattle.ob0_run.specs.States.{Runs, state_of}
 use Rattle.ob0_run.proofs.Stepping.{assigns-split, leaves, stops}

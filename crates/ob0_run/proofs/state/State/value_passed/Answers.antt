@@ -5,7 +5,7 @@ use Rattle.ob0_tree.specs.View.{expression_of}
 use Rattle.ob0_values.specs.Stored.{value_of}
 use Rattle.ob0_values.specs.Values.{gives, ◌>>=◌}
 use Rattle.ob0_run.specs.Callings.{argument_of}
-use Rattle.ob0_run.specs.Runs.{value_argument}
+use Rattle.ob0_semantics.specs.Runs.{value_argument}
 use Rattle.ob0_run.specs.Scenes.{Answers, label_with, meaning_with}
 use Rattle.ob0_run.specs.States.{state_of}
 use Rattle.ob0_run.proofs.Evaluating.{exits, fails}

@@ -1,6 +1,6 @@
 use Rattle.std.proofs.Common.{option_map}
-use Rattle.ob0_types.specs.KnownTables.{shapes_of}
-use Rattle.ob0_types.specs.Tables.{type_shape}
+use Rattle.ob0_symbols.specs.KnownTables.{shapes_of}
+use Rattle.ob0_symbols.specs.Tables.{type_shape}
 use Rattle.ob0_selectors.specs.Walk.{found_in, meaning_in}
 use Rattle.ob0_selectors.proofs.Paths.{OnPath}
 use Rattle.ob0_selectors.proofs.selecting.Selecting.path.Given as goal

@@ -1,4 +1,0 @@
-mod Named
-mod Numbers
-mod Rows
-mod Walked

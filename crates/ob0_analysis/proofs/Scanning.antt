@@ -1,0 +1,90 @@
+-- What scanner and parser say of a text.
+use Rattle.std.proofs.Common.{◌≡◌, ◌≤◌, ◌<◌, ◌∙◌, ◌+◌, ◌++◌, ◌∷◌, ℕ, List, [], length, take, drop, map, min, encode_utf8_all, inl, inr, refl, sym, ap, subst, arith}
+use Rattle.std.proofs.lemmas.List.{take-append-drop, length-take}
+use Rattle.std.specs.Str.{chars, IsUtf8}
+use Rattle.std.proofs.lemmas.Str.{encodes-chars}
+use Rattle.ob0_scan.specs.Refused.{AreFaults}
+use Rattle.ob0_scan.specs.Scanned.{Scanned, IsScan, IsScannable}
+use Rattle.ob0_scan.specs.declared.fault.Fault.{Fault}
+use Rattle.ob0_tree.specs.Lexeme.{Lexeme, EndOfText}
+use Rattle.ob0_tree.specs.Module.{ModuleOf, text_lexemes}
+use Rattle.ob0_tree.specs.Tree.{Tree, module_text}
+use Rattle.ob0_parse.specs.RefusedBy.{NoneBegins, RefusedBy}
+use Rattle.ob0_parse.specs.declared.refusal.ParseRefusal.{ParseRefusal}
+use Rattle.ob0_parse.specs.declared.refusal.ParseRefusal.TheVariants.{Syntax, TooDeep, Memory}
+use Rattle.ob0_scope.specs.Resolution.{Resolution}
+use Rattle.ob0_tree.specs.Parsed.{Parsed, named_tree_of}
+use Rattle.ob0_types.specs.CheckedModules.{CheckedModule, IsChecked, IsWellTyped}
+use Rattle.ob0_typing.specs.WellTyped.{WellTyped}
+use Rattle.ob0_analysis.specs.Analysed.{IsModuleIn}
+use Rattle.ob0_analysis.specs.Diagnosed.{Complaint, IsTextOf, IsWellTypedModule, IsRefusalAt, TellsFaults, complaint_of}
+use Rattle.ob0_analysis.specs.Texts.{utf8}
+
+-- the bytes of a text's characters are its bytes
+pub utf8_of : (bytes text : List ℕ) → IsUtf8 bytes → chars bytes ≡ text → bytes ≡ utf8 text
+utf8_of bytes text u is = sym (encodes-chars bytes u) ∙ ap encode_utf8_all is
+
+abbrev pub OneScan : Type 0
+OneScan = (s t : Scanned) → IsScan s → IsScan t → s.text ≡ t.text → s ≡ t
+
+scannable : (text : List ℕ) → IsWellTypedModule text → IsScannable text
+scannable text w = subst IsScannable w.text_of.scan.of (w.text_of.scan.scan.short, (w.text_of.scan.scan.lexemes, w.text_of.scan.scan.lexed))
+
+pub finds_lexemes : (text : List ℕ) (faults : List Fault) (told : List Complaint) → (IsScannable text → ⊥) → AreFaults text faults → told ≡ map complaint_of faults
+    → ¬ IsWellTypedModule text × TellsFaults text told
+finds_lexemes text faults told bad are is =
+    (λ w. bad (scannable text w), inl (record { unscannable = bad; faults = faults; of_text = are; all = is }))
+
+-- no tree is a module's where none begins so
+none : (s : Scanned) (i : ℕ) (tree : Tree (List ℕ) module_text) → NoneBegins s i → ModuleOf s tree → ⊥
+none s i tree h is =
+    let all : List (Lexeme (List ℕ)) = text_lexemes s ++ (EndOfText ∷ []) in
+    h tree (drop (i + 1) all) is.shallow (ap (λ (w : List (Lexeme (List ℕ))). w ++ (EndOfText ∷ [])) (sym is.spelled) ∙ sym (take-append-drop (i + 1) all))
+
+unformed : (s : Scanned) (i : ℕ) → OneScan → IsScan s → NoneBegins s i → IsWellTypedModule s.text → ⊥
+unformed s i one scan h w =
+    let same : w.text_of.scanned ≡ s = one w.text_of.scanned s w.text_of.scan.scan scan w.text_of.scan.of in
+    none s i w.tree h (subst (λ (x : Scanned). ModuleOf x w.tree) same w.text_of.module_of)
+
+pub finds_parser : (s : Scanned) (refusal : ParseRefusal) (c : Complaint) → OneScan → IsScan s → RefusedBy s refusal → IsRefusalAt s refusal c
+    → ¬ IsWellTypedModule s.text × TellsFaults s.text (c ∷ [])
+finds_parser s (Syntax i expected) c one scan by at =
+    (unformed s i one scan by.1, inr (inl (record { scanned = s; scan = record { of = refl; scan = scan }; token = i; within = by.0; none_begins = by.1; complaint = c; of_parser = at; alone = refl })))
+finds_parser s (TooDeep i) c one scan by at =
+    (unformed s i one scan by.1, inr (inl (record { scanned = s; scan = record { of = refl; scan = scan }; token = i; within = by.0; none_begins = by.1; complaint = c; of_parser = at; alone = refl })))
+finds_parser s Memory c one scan by at = absurd at
+
+abbrev pub OneTree : Type 0
+OneTree = (text : Scanned) (a b : Tree (List ℕ) module_text) → ModuleOf text a → ModuleOf text b → a ≡ b
+
+-- a text has one tree, so where that isn't well-typed the text is no well-typed module
+ill_typed : (s : Scanned) (tree : Tree (List ℕ) module_text) → OneScan → OneTree → IsScan s → ModuleOf s tree → (WellTyped tree → ⊥) → IsWellTypedModule s.text → ⊥
+ill_typed s tree one only scan is ill w =
+    let same : w.text_of.scanned ≡ s = one w.text_of.scanned s w.text_of.scan.scan scan w.text_of.scan.of in
+    ill (subst WellTyped (only s w.tree tree (subst (λ (x : Scanned). ModuleOf x w.tree) same w.text_of.module_of) is) w.well_typed)
+
+pub finds_types : (c : CheckedModule) (faults : List Fault) (told : List Complaint) → OneScan → OneTree → IsScan c.names.module_read.source → IsChecked c → (c.faults ≡ [] → ⊥)
+    → 0 < length faults → length faults ≤ 100 → told ≡ map complaint_of faults
+    → ¬ IsWellTypedModule c.names.module_read.source.text × TellsFaults c.names.module_read.source.text told
+finds_types c faults told one only scan checked bad some few is =
+    let s : Scanned = c.names.module_read.source in
+    let tree : Tree (List ℕ) module_text = named_tree_of c.names.module_read in
+    let ill : WellTyped tree → ⊥ = λ w. bad (checked.told.1 w) in
+    let module_of : ModuleOf s tree = checked.resolved.parsed.module_of in
+    let text_of : IsTextOf tree s.text = record { scanned = s; scan = record { of = refl; scan = scan }; module_of = module_of } in
+    (ill_typed s tree one only scan module_of ill, inr (inr (record { tree = tree; text_of = text_of; ill_typed = ill; faults = faults; some = some; few = few; all = is })))
+
+-- the first hundred of some faults
+pub few_of : (n : ℕ) (faults : List Fault) → n ≡ min (length faults) 100 → (faults ≡ [] → ⊥) → (0 < length (take n faults)) × (length (take n faults) ≤ 100)
+few_of n [] is some = absurd (some refl)
+few_of n (f ∷ fs) is some = rw (length-take n (f ∷ fs), is) (omega arith, omega arith)
+
+-- the module that was checked is that of its text
+pub module_in : (m : Parsed) (names : Resolution) → names.module_read ≡ m → IsScan m.source → IsWellTyped names → IsModuleIn m.source.text names
+module_in m names is scan w =
+    record { scan = record { of = ap (λ (p : Parsed). p.source.text) is; scan = subst (λ (p : Parsed). IsScan p.source) (sym is) scan }; well_typed = w }
+
+-- the text of a well-typed module is one
+abbrev pub is_module : (text : List ℕ) (names : Resolution) → IsModuleIn text names → IsWellTypedModule text
+is_module text names h =
+    record { tree = named_tree_of names.module_read; text_of = record { scanned = names.module_read.source; scan = h.scan; module_of = h.well_typed.resolved.parsed.module_of }; well_typed = h.well_typed.well_typed }

@@ -1,0 +1,110 @@
+-- What is told of a text: nothing exactly where it is a well-typed module.
+use Rattle.std.specs.Prelude.{◌≡◌, ◌⊎◌, ◌≤◌, ◌<◌, ◌++◌, ◌∷◌, ℕ, List, [], Option, Some, None, map, length, slice_get, codes, string_bytes}
+use Rattle.ob0_scan.specs.CodeTexts.{code_name, code_message}
+use Rattle.ob0_scan.specs.Refused.{AreFaults}
+use Rattle.ob0_scan.specs.Scanned.{Scanned, IsScannable, IsScanOf}
+use Rattle.ob0_scan.specs.declared.fault.Fault.{Fault}
+use Rattle.ob0_scan.specs.declared.lexeme.Span.{Span}
+use Rattle.ob0_scan.specs.declared.lexeme.Token.{Token}
+use Rattle.ob0_tree.specs.Module.{ModuleOf}
+use Rattle.ob0_tree.specs.Tree.{Tree, module_text}
+use Rattle.ob0_scope.specs.Names.{Name}
+use Rattle.ob0_typing.specs.WellTyped.{WellTyped}
+use Rattle.ob0_parse.specs.RefusedBy.{NoneBegins}
+use Rattle.ob0_parse.specs.declared.refusal.ParseRefusal.{ParseRefusal}
+use Rattle.ob0_parse.specs.declared.refusal.ParseRefusal.TheVariants.{Syntax, TooDeep, Memory}
+use Rattle.ob0_analysis.specs.declared.diagnoses.Diagnosis.{Diagnosis}
+
+-- The text is here the list of its bytes in UTF-8, and spans count these.
+
+-- one thing that is told of a text: its code's name, the message and the place
+pub record Complaint : Type 0 where
+  pub code : List ℕ
+  pub said : List ℕ
+  pub span : Span
+
+abbrev pub complaint_in : Diagnosis → Complaint
+complaint_in d = record { code = d.code.now; said = string_bytes d.message; span = d.span }
+
+-- the text has lexemes, and its tokens are those of this tree
+pub record IsTextOf (tree : Tree Name module_text) (text : List ℕ) : Type 0 where
+  pub scanned : Scanned
+  pub scan : IsScanOf text scanned
+  pub module_of : ModuleOf scanned tree
+
+-- the text is a well-typed module
+pub record IsWellTypedModule (text : List ℕ) : Type 0 where
+  pub tree : Tree Name module_text
+  pub text_of : IsTextOf tree text
+  pub well_typed : WellTyped tree
+
+-- ---- a text without lexemes
+
+abbrev pub complaint_of : Fault → Complaint
+complaint_of fault = record { code = code_name fault.code; said = code_message fault.code; span = fault.span }
+
+-- all the faults of its lexemes, of which there are 1 to 100
+pub record TellsLexemes (text : List ℕ) (told : List Complaint) : Type 0 where
+  pub unscannable : IsScannable text → ⊥
+  pub faults : List Fault
+  pub of_text : AreFaults text faults
+  pub all : told ≡ map complaint_of faults
+
+-- ---- a text with lexemes, and without a tree
+
+-- the place of a token; at the end of the text the empty place there
+abbrev pub place_in : List ℕ → Option Token → Span
+place_in text (Some token) = token.span
+place_in text None = record { start = length text; end = length text }
+
+abbrev pub place_of : Scanned → ℕ → Span
+place_of s token = place_in s.text (slice_get s.tokens token)
+
+-- another token is expected at the place, or that token is nested too deep
+abbrev pub expects : List ℕ → Span → Complaint
+expects word place = record { code = codes "Syntax"; said = codes "expected " ++ word; span = place }
+
+abbrev pub too_deep : Span → Complaint
+too_deep place = record { code = codes "TooDeep"; said = codes "nested too deep"; span = place }
+
+abbrev pub IsOfParser : Complaint → Span → Type 0
+IsOfParser c place = ((word : List ℕ) × (c ≡ expects word place)) ⊎ (c ≡ too_deep place)
+
+-- what the parser's refusal says of these tokens
+abbrev pub IsRefusalAt : Scanned → ParseRefusal → Complaint → Type 0
+IsRefusalAt s (Syntax token expected) c = IsOfParser c (place_of s token)
+IsRefusalAt s (TooDeep token) c = IsOfParser c (place_of s token)
+IsRefusalAt s Memory c = ⊥
+
+-- one complaint, at a token up to which no module begins
+pub record TellsParser (text : List ℕ) (told : List Complaint) : Type 0 where
+  pub scanned : Scanned
+  pub scan : IsScanOf text scanned
+  pub token : ℕ
+  pub within : token ≤ length scanned.tokens
+  pub none_begins : NoneBegins scanned token
+  pub complaint : Complaint
+  pub of_parser : IsOfParser complaint (place_of scanned token)
+  pub alone : told ≡ complaint ∷ []
+
+-- ---- a text with a tree that isn't well-typed
+
+-- faults of its names and types, 1 to 100
+pub record TellsTypes (text : List ℕ) (told : List Complaint) : Type 0 where
+  pub tree : Tree Name module_text
+  pub text_of : IsTextOf tree text
+  pub ill_typed : WellTyped tree → ⊥
+  pub faults : List Fault
+  pub some : 0 < length faults
+  pub few : length faults ≤ 100
+  pub all : told ≡ map complaint_of faults
+
+-- ---- every text
+
+-- what is wrong with the lexemes, or else with the tokens, or else with the names and types
+abbrev pub TellsFaults : List ℕ → List Complaint → Type 0
+TellsFaults text told = TellsLexemes text told ⊎ (TellsParser text told ⊎ TellsTypes text told)
+
+-- nothing is told exactly of a well-typed module
+abbrev pub Tells : List ℕ → List Complaint → Type 0
+Tells text told = (IsWellTypedModule text × (told ≡ [])) ⊎ (¬ IsWellTypedModule text × TellsFaults text told)

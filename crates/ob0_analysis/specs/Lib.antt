@@ -1,0 +1,4 @@
+pub mod Analysed
+pub mod Diagnosed
+pub mod RunsKept
+pub mod Texts

@@ -1,0 +1,6 @@
+-- Where layers meet for which a text is the list of its characters, and others that take it by its bytes.
+use Rattle.std.specs.Prelude.{ℕ, List, encode_utf8_all}
+
+-- the bytes of a text in UTF-8
+abbrev pub utf8 : List ℕ → List ℕ
+utf8 text = encode_utf8_all text

@@ -1,0 +1,89 @@
+//! What is wrong with a text.
+
+ghost use Rattle.std.specs.Prelude.{◌≡◌, IfOk, map};
+ghost use Rattle.ob0_analysis.specs.Diagnosed.{IsRefusalAt, complaint_in, complaint_of, expects as expected_at, too_deep as too_deep_at, place_of as place_in};
+
+use ob0_parse::refusal::ParseRefusal;
+use ob0_scan::{Fault, Span, Tokens};
+use std::alloc::{AllocError, Global};
+
+/// One thing that is wrong with a text: the name of its code, a message, and the place as a range of bytes.
+#[derive(Drop)]
+pub struct Diagnosis {
+    pub code: &'static str,
+    pub message: String,
+    pub span: Span,
+}
+
+/// The faults of lexemes, of names or of types, each by its code.
+pub fn of_faults(alloc: Global, faults: &[Fault]) -> Result<Vec<Diagnosis>, AllocError>
+    ensures { IfOk result (λ list. map complaint_in list.items ≡ map complaint_of faults.now) }
+{
+    let mut list = Vec::new(alloc);
+    for fault in faults {
+        list.push(of_fault(alloc, fault)?)?;
+    }
+    Ok(list)
+}
+
+fn of_fault(alloc: Global, fault: &Fault) -> Result<Diagnosis, AllocError>
+    ensures { IfOk result (λ d. complaint_in d ≡ complaint_of fault.now) }
+{
+    Ok(Diagnosis {
+        code: fault.code.name(),
+        message: String::from_str(alloc, fault.code.message())?,
+        span: fault.span,
+    })
+}
+
+/// What the parser refuses, at the token that it names.
+pub fn of_refusal(
+    alloc: Global,
+    tokens: &Tokens,
+    refusal: ParseRefusal,
+) -> Result<Diagnosis, AllocError>
+    ensures { IfOk result (λ d. IsRefusalAt tokens.now refusal (complaint_in d)) }
+{
+    match refusal {
+        ParseRefusal::Syntax { token, expected } => expects(
+            alloc,
+            expected.text(),
+            place_of(tokens, token),
+        ),
+        ParseRefusal::TooDeep { token } => too_deep(alloc, place_of(tokens, token)),
+        ParseRefusal::Memory => Err(AllocError),
+    }
+}
+
+fn expects(alloc: Global, word: &str, span: Span) -> Result<Diagnosis, AllocError>
+    ensures { IfOk result (λ d. complaint_in d ≡ expected_at word.now span) }
+{
+    Ok(Diagnosis {
+        code: "Syntax",
+        message: format!(in alloc; "expected {word}")?,
+        span,
+    })
+}
+
+fn too_deep(alloc: Global, span: Span) -> Result<Diagnosis, AllocError>
+    ensures { IfOk result (λ d. complaint_in d ≡ too_deep_at span) }
+{
+    Ok(Diagnosis {
+        code: "TooDeep",
+        message: String::from_str(alloc, "nested too deep")?,
+        span,
+    })
+}
+
+/// The place of a token. The end of the text counts as the token after the last.
+fn place_of(tokens: &Tokens, token: usize) -> Span
+    ensures { result ≡ place_in tokens.now token }
+{
+    match tokens.tokens().get(token) {
+        Some(token) => token.span,
+        None => {
+            let end = tokens.text().len();
+            Span { start: end, end }
+        }
+    }
+}

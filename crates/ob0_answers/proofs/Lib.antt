@@ -1,0 +1,6 @@
+pub mod LaidOut
+pub mod Inlined
+pub mod Lists
+pub mod Naming
+pub mod Plain
+pub mod Diagnosing

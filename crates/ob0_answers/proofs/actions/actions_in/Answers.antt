@@ -1,0 +1,28 @@
+use Rattle.std.proofs.Common.{◌∙◌, ℕ, List, ap, inl, inr, subst, sym}
+use Rattle.std.proofs.lemmas.Result.{IfOk-weaker}
+use Rattle.serde_json.specs.Data.{array}
+use Rattle.serde_json.specs.View.{items_view}
+use Rattle.serde_json.specs.declared.value.Value.{Value}
+use Rattle.ob0_answers.specs.Actions.{FindsInlinings, actions_asked, place_of}
+use Rattle.ob0_answers.specs.declared.actions.Inlinings.{Inlinings}
+use Rattle.ob0_analysis.specs.declared.analysis.Asked.{Asked}
+use Rattle.ob0_answers.proofs.Naming.{view-Array}
+use Rattle.ob0_answers.proofs.actions.actions_in.Goals as goal
+
+pub returns-in-Answered : goal.returns-in-Answered
+returns-in-Answered g c =
+    let unit = g.T.TextStore.unit_of c.args.store.now in
+    let text : List ℕ = g.T.TextStore.content c.args.store.now in
+    let asked = actions_asked c.args.request.now in
+    let offset = place_of unit text asked.range in
+    let found = subst (λ (a : Asked Inlinings). FindsInlinings unit text offset a) c.in-Answered.is c.in_ok-found.ensures in
+    IfOk-weaker c.listed.result _ _ (λ v is. inl (c.in-Answered.found.here, c.in-Answered.found.everywhere, sym c.wants_inlining.ensures ∙ c.if-not-wants_inlining.false, found.0, found.1, is)) c.listed.ensures
+
+pub returns : goal.returns
+returns g c =
+    let unit = g.T.TextStore.unit_of c.args.store.now in
+    let text : List ℕ = g.T.TextStore.content c.args.store.now in
+    let asked = actions_asked c.args.request.now in
+    let offset = place_of unit text asked.range in
+    let unfit = subst (λ (a : Asked Inlinings). FindsInlinings unit text offset a) c.in-IllTyped.is c.in_ok-found.ensures in
+    inr (inr unfit, view-Array _ ∙ ap (λ (vs : List Value). array (items_view vs)) c.new-in-IllTyped.ensures.items)

@@ -1,0 +1,53 @@
+use Rattle.std.proofs.Common.{◌∙◌, ℕ, List, Result, Vec, Global, codes, ap, inl, inr, refl, sym, subst}
+use Rattle.std.specs.Str.{chars}
+use Rattle.std.proofs.lemmas.Result.{IfOk-weaker}
+use Rattle.serde_json.specs.Data.{Data}
+use Rattle.ob0_rpc.specs.Seen.{id_data}
+use Rattle.ob0_rpc.specs.Shapes.{result_message}
+use Rattle.ob0_rpc.specs.Writing.{CanBeSent, Writes}
+use Rattle.ob0_text.specs.RefusalTexts.{refusal_text}
+use Rattle.ob0_text.specs.declared.edits.Edit.{Edit}
+use Rattle.ob0_text.specs.declared.refusals.EditRefusal.{EditRefusal}
+use Rattle.ob0_text.specs.declared.refusals.EditRefusal.TheVariants.{TooLong}
+use Rattle.ob0_answers.specs.Formatted.{Formats}
+use Rattle.ob0_answers.specs.Shapes.{edit_refused, edits_value}
+use Rattle.ob0_analysis.specs.declared.analysis.Asked.{Asked}
+use Rattle.ob0_answers.proofs.LaidOut.{FoundOf, found_of}
+use Rattle.ob0_answers.proofs.Plain.{edits_can_be_sent}
+use Rattle.ob0_answers.proofs.formatting.formatted.Goals as goal
+
+pub returns-in-Ok : goal.returns-in-Ok
+returns-in-Ok g c =
+    let unit = g.T.TextStore.unit_of c.args.store.now in
+    let text : List ℕ = g.T.TextStore.content c.args.store.now in
+    let found = found_of unit c.args.indent c.as_str.result.now text c.in_ok-outcome.field-0 c.as_str.utf8 (ap chars c.as_str.ensures.value ∙ c.in_ok-text.ensures) c.in_ok-outcome.ensures in
+    let outcome = subst (λ (o : Asked (Result (Vec Edit Global) EditRefusal)). FoundOf unit c.args.indent text o) c.in-Answered.is found in
+    let laid = subst (λ (o : Result (Vec Edit Global) EditRefusal). Formats unit c.args.indent text o) c.in-Ok.is outcome in
+    let is = c.in_ok-edits_value-in-Ok.ensures ∙ ap edits_value c.as_slice.ensures.value in
+    IfOk-weaker c.result.result _ _ (λ bytes sent. (
+      result_message (id_data c.args.id.now) (edits_value c.in-Ok.edits.items),
+      inl (c.in-Ok.edits.items, laid, refl),
+      subst (λ (d : Data). Writes (result_message (id_data c.args.id.now) d) bytes.items) is (sent (subst CanBeSent (sym is) (edits_can_be_sent c.in-Ok.edits.items))),
+    )) c.result.ensures
+
+pub returns-in-Answered : goal.returns-in-Answered
+returns-in-Answered g c =
+    let unit = g.T.TextStore.unit_of c.args.store.now in
+    let text : List ℕ = g.T.TextStore.content c.args.store.now in
+    let found = found_of unit c.args.indent c.as_str.result.now text c.in_ok-outcome.field-0 c.as_str.utf8 (ap chars c.as_str.ensures.value ∙ c.in_ok-text.ensures) c.in_ok-outcome.ensures in
+    let outcome = subst (λ (o : Asked (Result (Vec Edit Global) EditRefusal)). FoundOf unit c.args.indent text o) c.in-Answered.is found in
+    let long = subst (λ (o : Result (Vec Edit Global) EditRefusal). Formats unit c.args.indent text o) c.in-Err.is outcome in
+    let is = c.as_str-in-Err.ensures.value ∙ (c.in_ok-text-in-Err.ensures ∙ ap refusal_text long.0) in
+    IfOk-weaker c.refused.result _ _ (λ bytes sent. (
+      edit_refused (id_data c.args.id.now) (refusal_text TooLong),
+      inr (inl (long.1, refl)),
+      subst (λ (said : List ℕ). Writes (edit_refused (id_data c.args.id.now) said) bytes.items) is sent,
+    )) c.refused.ensures
+
+pub returns : goal.returns
+returns g c =
+    let unit = g.T.TextStore.unit_of c.args.store.now in
+    let text : List ℕ = g.T.TextStore.content c.args.store.now in
+    let found = found_of unit c.args.indent c.as_str.result.now text c.in_ok-outcome.field-0 c.as_str.utf8 (ap chars c.as_str.ensures.value ∙ c.in_ok-text.ensures) c.in_ok-outcome.ensures in
+    let ill = subst (λ (o : Asked (Result (Vec Edit Global) EditRefusal)). FoundOf unit c.args.indent text o) c.in-IllTyped.is found in
+    IfOk-weaker c.refused_ill_typed.result _ _ (λ bytes sent. (edit_refused (id_data c.args.id.now) (codes "ill-typed"), inr (inr (ill, refl)), sent)) c.refused_ill_typed.ensures

@@ -1,0 +1,232 @@
+//! Code actions on request: a constant is inlined, here or everywhere.
+
+ghost use Rattle.std.specs.Prelude.{◌≡◌, ◌++◌, IfOk, map, string_bytes};
+ghost use Rattle.std.specs.List.{list_any};
+ghost use Rattle.std.specs.Str.{chars};
+ghost use Rattle.serde_json.specs.Data.{Data};
+ghost use Rattle.serde_json.specs.View.{view};
+ghost use Rattle.ob0_rpc.specs.Seen.{kinds_seen};
+ghost use Rattle.ob0_rpc.specs.Writing.{Writes};
+ghost use Rattle.ob0_text.specs.Texts.{offset_of};
+ghost use Rattle.ob0_text.specs.Units.{width_of};
+ghost use Rattle.ob0_answers.specs.Actions.{AnswersActions, FindsInlinings, Inlines, IsOffered, ListsActions, action_of, action_values, actions_asked, actions_value, allows_inlining as allows, is_of_kind as of_kind, place_of as place_in, title, wants_inlining as wants};
+ghost use Rattle.ob0_answers.specs.declared.actions.Inlining.TheVariants as how;
+
+use crate::results::{action_value, workspace_edit};
+use ob0_analysis::{Asked, Question, ask};
+use ob0_inline::{inline_all, inline_here};
+use ob0_rpc::{Client, Id, result};
+use ob0_text::{Edit, EditRefusal, Position, Range, TextStore};
+use ob0_types::checked::WellTyped;
+use serde_json::Value;
+use std::alloc::{AllocError, Global};
+
+/// Where a constant is inlined: at one use, or at all of them, and then its declaration goes.
+#[derive(Clone, Copy, Debug, Drop, PartialEq, Eq)]
+pub enum Inlining {
+    Here,
+    Everywhere,
+}
+
+impl Inlining {
+    fn title(self) -> &'static str
+        ensures { result.now ≡ title self }
+    {
+        match self {
+            Inlining::Here => "Inline here",
+            Inlining::Everywhere => "Inline everywhere",
+        }
+    }
+}
+
+/// The edits of each inlining that isn't refused.
+#[derive(Drop)]
+pub struct Inlinings {
+    pub here: Option<Vec<Edit>>,
+    pub everywhere: Option<Vec<Edit>>,
+}
+
+/// What can be inlined at a place of the text in a store?
+#[derive(Drop)]
+struct InlinedAt<'a, T: TextStore> {
+    store: &'a T,
+    place: Position,
+}
+
+impl<'a, T: TextStore> Question for InlinedAt<'a, T> {
+    type Answer = Inlinings;
+
+    ghost is_about = { λ q text. T.content q.store.now ≡ chars text };
+
+    ghost answers = { λ q names found. Inlines how.Here (T.unit_of q.store.now) (T.content q.store.now) names.module_read (offset_of (width_of (T.unit_of q.store.now)) (T.content q.store.now) q.place) found.here
+        × Inlines how.Everywhere (T.unit_of q.store.now) (T.content q.store.now) names.module_read (offset_of (width_of (T.unit_of q.store.now)) (T.content q.store.now) q.place) found.everywhere };
+
+    fn answer(&self, alloc: Global, module: &WellTyped<'_, '_>) -> Result<Inlinings, AllocError> {
+        let here = offered(inline_here(alloc, self.store, module, self.place))?;
+        let everywhere = offered(inline_all(alloc, self.store, module, self.place))?;
+        Ok(Inlinings { here, everywhere })
+    }
+}
+
+/// The edits of an inliner; none where they are refused. Want of memory is no refusal.
+fn offered(answer: Result<Vec<Edit>, EditRefusal>) -> Result<Option<Vec<Edit>>, AllocError>
+    ensures { IfOk result (λ edits. IsOffered answer edits) }
+{
+    match answer {
+        Ok(edits) => Ok(Some(edits)),
+        Err(refusal) => {
+            if refusal == EditRefusal::Memory {
+                Err(AllocError)
+            } else {
+                Ok(None)
+            }
+        }
+    }
+}
+
+/// What can be inlined at the place of a range of the text in a store, if that is a well-typed module.
+fn inlinings_in<T: TextStore>(
+    alloc: Global,
+    store: &T,
+    range: Range,
+) -> Result<Asked<Inlinings>, AllocError>
+    ensures { IfOk result (λ found. FindsInlinings (T.unit_of store.now) (T.content store.now) (place_in (T.unit_of store.now) (T.content store.now) range) found) }
+{
+    let place = place_of(store, range);
+    let text = store.to_string(alloc)?;
+    ask(alloc, text.as_str(), &InlinedAt { store, place })
+}
+
+/// The start of a range, and the end of one that is swapped.
+fn place_of<T: TextStore>(store: &T, range: Range) -> Position
+    ensures { offset_of (width_of (T.unit_of store.now)) (T.content store.now) result ≡ place_in (T.unit_of store.now) (T.content store.now) range }
+{
+    if store.offset(range.start) <= store.offset(range.end) {
+        range.start
+    } else {
+        range.end
+    }
+}
+
+/// A request for code actions in a range of a document of some version.
+#[derive(Drop)]
+pub struct ActionsRequest<'a> {
+    pub id: &'a Id,
+    pub client: Client,
+    pub uri: &'a str,
+    pub version: i64,
+    pub range: Range,
+    /// The kinds of which the actions must be, where there are such.
+    pub only: &'a Option<Vec<String>>,
+}
+
+/// The answer to a request for code actions in the text in a store.
+pub fn acted<T: TextStore>(
+    alloc: Global,
+    store: &T,
+    request: &ActionsRequest<'_>,
+) -> Result<Vec<u8>, AllocError>
+    ensures { IfOk result (λ bytes. (message : Data) × AnswersActions (T.unit_of store.now) (actions_asked request.now) (T.content store.now) message × Writes message bytes.items) }
+{
+    let value = actions_in(alloc, store, request)?;
+    result(alloc, request.id, value)
+}
+
+fn actions_in<T: TextStore>(
+    alloc: Global,
+    store: &T,
+    request: &ActionsRequest<'_>,
+) -> Result<Value, AllocError>
+    ensures { IfOk result (λ v. ListsActions (T.unit_of store.now) (actions_asked request.now) (T.content store.now) (view v)) }
+{
+    if !wants_inlining(request) {
+        return Ok(Value::Array(Vec::new(alloc)));
+    }
+    match inlinings_in(alloc, store, request.range)? {
+        Asked::Answered(found) => listed(alloc, request, found),
+        Asked::IllTyped(_) => Ok(Value::Array(Vec::new(alloc))),
+    }
+}
+
+/// Whether the client takes actions that are no commands, and these among them.
+fn wants_inlining(request: &ActionsRequest<'_>) -> bool
+    ensures { result ≡ wants (actions_asked request.now) }
+{
+    request.client.takes_literal_actions && allows_inlining(request.only)
+}
+
+fn allows_inlining(only: &Option<Vec<String>>) -> bool
+    ensures { result ≡ allows (kinds_seen only.now) }
+{
+    match only {
+        Some(kinds) => any_of_kind(kinds.as_slice()),
+        None => true,
+    }
+}
+
+fn any_of_kind(kinds: &[String]) -> bool
+    ensures { result ≡ list_any of_kind (map string_bytes kinds.now) }
+{
+    for kind in kinds {
+        if is_of_kind(kind.as_str()) {
+            return true;
+        }
+    }
+    false
+}
+
+/// Whether inlining is of this kind.
+fn is_of_kind(kind: &str) -> bool
+    ensures { result ≡ of_kind kind.now }
+{
+    kind == "" || kind == "refactor" || kind == "refactor.inline"
+}
+
+/// The actions, inlining here before inlining everywhere.
+fn listed(
+    alloc: Global,
+    request: &ActionsRequest<'_>,
+    found: Inlinings,
+) -> Result<Value, AllocError>
+    ensures { IfOk result (λ v. view v ≡ actions_value (actions_asked request.now) found.here found.everywhere) }
+{
+    let mut list = Vec::new(alloc);
+    list_action(alloc, &mut list, request, Inlining::Here, found.here)?;
+    list_action(
+        alloc,
+        &mut list,
+        request,
+        Inlining::Everywhere,
+        found.everywhere,
+    )?;
+    Ok(Value::Array(list))
+}
+
+/// Puts the action that makes these edits behind the others; nothing where there are none.
+fn list_action(
+    alloc: Global,
+    list: &mut Vec<Value>,
+    request: &ActionsRequest<'_>,
+    how: Inlining,
+    edits: Option<Vec<Edit>>,
+) -> Result<(), AllocError>
+    ensures { IfOk result (λ _. map view list.new.items ≡ map view list.old.items ++ action_values (actions_asked request.now) how edits) }
+{
+    if let Some(edits) = edits {
+        list.push(action(alloc, request, how, edits.as_slice())?)?;
+    }
+    Ok(())
+}
+
+/// The action that makes these edits.
+fn action(
+    alloc: Global,
+    request: &ActionsRequest<'_>,
+    how: Inlining,
+    edits: &[Edit],
+) -> Result<Value, AllocError>
+    ensures { IfOk result (λ v. view v ≡ action_of (actions_asked request.now) how edits.now) }
+{
+    let edit = workspace_edit(alloc, request.client, request.uri, request.version, edits)?;
+    action_value(alloc, edit, how.title())
+}

@@ -1,0 +1,72 @@
+// Laying out a text on request.
+ghost use Rattle.std.specs.Prelude.{◌≡◌, IfOk};
+ghost use Rattle.std.specs.Str.{chars};
+ghost use Rattle.serde_json.specs.Data.{Data};
+ghost use Rattle.ob0_rpc.specs.Seen.{id_data};
+ghost use Rattle.ob0_rpc.specs.Writing.{Writes};
+ghost use Rattle.ob0_analysis.specs.Analysed.{IsModuleIn};
+ghost use Rattle.ob0_analysis.specs.Texts.{utf8};
+ghost use Rattle.ob0_answers.specs.Formatted.{AnswersFormatting, Formats};
+
+use crate::results::{edits_value, refused, refused_ill_typed};
+use ob0_analysis::{Asked, Question, ask};
+use ob0_layout::format;
+use ob0_layout::laws::{gaps_make_the_layout, lexemes_stay, module_stays};
+use ob0_rpc::{Id, result};
+use ob0_text::{Edit, EditRefusal, Indent, TextStore};
+use ob0_types::checked::WellTyped;
+use std::alloc::{AllocError, Global};
+
+/// How the text in a store is to be laid out.
+#[derive(Drop)]
+struct Formatting<'a, T: TextStore> {
+    store: &'a T,
+    indent: Indent,
+}
+
+impl<'a, T: TextStore> Question for Formatting<'a, T> {
+    type Answer = Result<Vec<Edit>, EditRefusal>;
+
+    ghost answers = { λ q names outcome. IsModuleIn (utf8 (T.content q.store.now)) names → T.content q.store.now ≡ chars names.module_read.source.text
+        → Formats (T.unit_of q.store.now) q.indent (T.content q.store.now) outcome };
+
+    fn answer(
+        &self,
+        alloc: Global,
+        module: &WellTyped<'_, '_>,
+    ) -> Result<Result<Vec<Edit>, EditRefusal>, AllocError> {
+        lexemes_stay();
+        module_stays();
+        gaps_make_the_layout();
+        let module = module.resolved().module();
+        match format(alloc, self.store, module, self.indent) {
+            Ok(edits) => Ok(Ok(edits)),
+            Err(refusal) => {
+                if refusal == EditRefusal::Memory {
+                    Err(AllocError)
+                } else {
+                    Ok(Err(refusal))
+                }
+            }
+        }
+    }
+}
+
+/// The answer to a request to lay out the text in a store.
+pub fn formatted<T: TextStore>(
+    alloc: Global,
+    id: &Id,
+    store: &T,
+    indent: Indent,
+) -> Result<Vec<u8>, AllocError>
+    ensures { IfOk result (λ bytes. (message : Data) × AnswersFormatting (T.unit_of store.now) (id_data id.now) indent (T.content store.now) message × Writes message bytes.items) }
+{
+    let text = store.to_string(alloc)?;
+    match ask(alloc, text.as_str(), &Formatting { store, indent })? {
+        Asked::Answered(outcome) => match outcome {
+            Ok(edits) => result(alloc, id, edits_value(alloc, edits.as_slice())?),
+            Err(refusal) => refused(alloc, id, refusal.text(alloc)?.as_str()),
+        },
+        Asked::IllTyped(_) => refused_ill_typed(alloc, id),
+    }
+}

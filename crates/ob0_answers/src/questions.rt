@@ -1,0 +1,298 @@
+//! Questions about the name or field at a position.
+
+ghost use Rattle.std.specs.Prelude.{◌≡◌, IfOk, option_map, map};
+ghost use Rattle.serde_json.specs.Data.{Data, array};
+ghost use Rattle.serde_json.specs.View.{view, items_of, items_view};
+ghost use Rattle.ob0_rpc.specs.Seen.{at_seen, id_data};
+ghost use Rattle.ob0_rpc.specs.Shapes.{result_message};
+ghost use Rattle.ob0_rpc.specs.Writing.{Writes};
+ghost use Rattle.ob0_hover.specs.Parts.{hover_in};
+ghost use Rattle.ob0_questions.specs.Questions.{AreReferencesAt, all_shown_at, definition_at};
+ghost use Rattle.ob0_answers.specs.Questions.{AnswersName, can_be_renamed, hover_at, renamable_in, location_at, location_in, range_at, or_null};
+ghost use Rattle.ob0_answers.specs.declared.questions.NameQuestion.TheVariants.{Hover, Definition, References, PrepareRename};
+
+use crate::results::{hover_value, location_value, range_value};
+use ob0_analysis::{Asked, Question, ask};
+use ob0_questions::{at, definition, hover, references};
+use ob0_refs::{Of, ranges};
+use ob0_rpc::{Id, Place, result};
+use ob0_scan::Span;
+use ob0_text::{Range, TextStore};
+use ob0_types::checked::WellTyped;
+use serde_json::Value;
+use std::alloc::{AllocError, Global};
+
+/// What is asked about a name or a field.
+#[derive(Clone, Copy, Debug, Drop, PartialEq, Eq)]
+pub enum NameQuestion {
+    Hover,
+    Definition,
+    References { include_declaration: bool },
+    PrepareRename,
+}
+
+/// What is shown of what is named at this place of the text?
+#[derive(Drop)]
+struct HoverAt {
+    offset: usize,
+}
+
+impl Question for HoverAt {
+    type Answer = Option<ob0_hover::Hover>;
+
+    ghost answers = { λ q names found. option_map hover_in found ≡ all_shown_at names q.offset };
+
+    fn answer(
+        &self,
+        alloc: Global,
+        module: &WellTyped<'_, '_>,
+    ) -> Result<Option<ob0_hover::Hover>, AllocError> {
+        hover(alloc, module, self.offset)
+    }
+}
+
+/// Where is declared what is named at this place of the text?
+#[derive(Drop)]
+struct DefinitionAt {
+    offset: usize,
+}
+
+impl Question for DefinitionAt {
+    type Answer = Option<Span>;
+
+    ghost answers = { λ q names found. found ≡ definition_at names q.offset };
+
+    fn answer(
+        &self,
+        alloc: Global,
+        module: &WellTyped<'_, '_>,
+    ) -> Result<Option<Span>, AllocError> {
+        definition(alloc, module, self.offset)
+    }
+}
+
+/// Where is the declaration named that is named at this place of the text?
+#[derive(Drop)]
+struct ReferencesAt {
+    offset: usize,
+    include_declaration: bool,
+}
+
+impl Question for ReferencesAt {
+    type Answer = Vec<Span>;
+
+    ghost answers = { λ q names found. AreReferencesAt names q.offset q.include_declaration found.items };
+
+    fn answer(&self, alloc: Global, module: &WellTyped<'_, '_>) -> Result<Vec<Span>, AllocError> {
+        references(alloc, module, self.offset, self.include_declaration)
+    }
+}
+
+/// Which name or field at this place of the text could be renamed?
+#[derive(Drop)]
+struct RenamableAt {
+    offset: usize,
+}
+
+impl Question for RenamableAt {
+    type Answer = Option<Span>;
+
+    ghost answers = { λ q names found. found ≡ renamable_in names q.offset };
+
+    fn answer(
+        &self,
+        alloc: Global,
+        module: &WellTyped<'_, '_>,
+    ) -> Result<Option<Span>, AllocError> {
+        match at(alloc, module, self.offset)? {
+            Some(name) => Ok(renamable(name.of, name.span)),
+            None => Ok(None),
+        }
+    }
+}
+
+fn renamable(of: Of, span: Span) -> Option<Span>
+    ensures { result ≡ can_be_renamed of span }
+{
+    match of {
+        Of::Declared(_) => Some(span),
+        Of::Predeclared => None,
+        Of::Field { .. } => Some(span),
+    }
+}
+
+/// The answer to a question about what stands at a position of the text in a store.
+pub fn answered<T: TextStore>(
+    alloc: Global,
+    id: &Id,
+    store: &T,
+    place: &Place,
+    question: NameQuestion,
+) -> Result<Vec<u8>, AllocError>
+    ensures { IfOk result (λ bytes. (value : Data) × AnswersName (T.unit_of store.now) (T.content store.now) (at_seen place.now) question value
+        × Writes (result_message (id_data id.now) value) bytes.items) }
+{
+    let value = answer_value(alloc, store, place, question)?;
+    result(alloc, id, value)
+}
+
+fn answer_value<T: TextStore>(
+    alloc: Global,
+    store: &T,
+    place: &Place,
+    question: NameQuestion,
+) -> Result<Value, AllocError>
+    ensures { IfOk result (λ v. AnswersName (T.unit_of store.now) (T.content store.now) (at_seen place.now) question (view v)) }
+{
+    match question {
+        NameQuestion::Hover => shown_value(alloc, store, place),
+        NameQuestion::Definition => definition_value(alloc, store, place),
+        NameQuestion::References {
+            include_declaration,
+        } => references_value(alloc, store, place, include_declaration),
+        NameQuestion::PrepareRename => renamable_value(alloc, store, place),
+    }
+}
+
+fn shown_value<T: TextStore>(alloc: Global, store: &T, place: &Place) -> Result<Value, AllocError>
+    ensures { IfOk result (λ v. AnswersName (T.unit_of store.now) (T.content store.now) (at_seen place.now) Hover (view v)) }
+{
+    let offset = store.offset(place.position);
+    let text = store.to_string(alloc)?;
+    match ask(alloc, text.as_str(), &HoverAt { offset })? {
+        Asked::Answered(found) => shown_or_null(alloc, store, found),
+        Asked::IllTyped(_told) => Ok(Value::Null),
+    }
+}
+
+fn definition_value<T: TextStore>(
+    alloc: Global,
+    store: &T,
+    place: &Place,
+) -> Result<Value, AllocError>
+    ensures { IfOk result (λ v. AnswersName (T.unit_of store.now) (T.content store.now) (at_seen place.now) Definition (view v)) }
+{
+    let offset = store.offset(place.position);
+    let text = store.to_string(alloc)?;
+    match ask(alloc, text.as_str(), &DefinitionAt { offset })? {
+        Asked::Answered(found) => location_or_null(alloc, store, place.uri.as_str(), found),
+        Asked::IllTyped(_) => Ok(Value::Null),
+    }
+}
+
+fn references_value<T: TextStore>(
+    alloc: Global,
+    store: &T,
+    place: &Place,
+    include_declaration: bool,
+) -> Result<Value, AllocError>
+    ensures { IfOk result (λ v. AnswersName (T.unit_of store.now) (T.content store.now) (at_seen place.now) (References include_declaration) (view v)) }
+{
+    let question = ReferencesAt {
+        offset: store.offset(place.position),
+        include_declaration,
+    };
+    let text = store.to_string(alloc)?;
+    match ask(alloc, text.as_str(), &question)? {
+        Asked::Answered(found) => locations(alloc, store, place.uri.as_str(), found.as_slice()),
+        Asked::IllTyped(_) => {
+            let none = Vec::new(alloc);
+            Ok(Value::Array(none))
+        }
+    }
+}
+
+fn renamable_value<T: TextStore>(
+    alloc: Global,
+    store: &T,
+    place: &Place,
+) -> Result<Value, AllocError>
+    ensures { IfOk result (λ v. AnswersName (T.unit_of store.now) (T.content store.now) (at_seen place.now) PrepareRename (view v)) }
+{
+    let offset = store.offset(place.position);
+    let text = store.to_string(alloc)?;
+    match ask(alloc, text.as_str(), &RenamableAt { offset })? {
+        Asked::Answered(found) => range_or_null(alloc, store, found),
+        Asked::IllTyped(_) => Ok(Value::Null),
+    }
+}
+
+fn shown_or_null<T: TextStore>(
+    alloc: Global,
+    store: &T,
+    found: Option<ob0_hover::Hover>,
+) -> Result<Value, AllocError>
+    ensures { IfOk result (λ v. view v ≡ or_null (option_map (hover_at (T.unit_of store.now) (T.content store.now)) (option_map hover_in found))) }
+{
+    match found {
+        Some(shown) => hover_value(
+            alloc,
+            shown.text.as_str(),
+            span_value(alloc, store, shown.span)?,
+        ),
+        None => Ok(Value::Null),
+    }
+}
+
+fn location_or_null<T: TextStore>(
+    alloc: Global,
+    store: &T,
+    uri: &str,
+    found: Option<Span>,
+) -> Result<Value, AllocError>
+    ensures { IfOk result (λ v. view v ≡ or_null (option_map (location_at (T.unit_of store.now) uri.now (T.content store.now)) found)) }
+{
+    match found {
+        Some(span) => location_value(alloc, uri, span_value(alloc, store, span)?),
+        None => Ok(Value::Null),
+    }
+}
+
+fn range_or_null<T: TextStore>(
+    alloc: Global,
+    store: &T,
+    found: Option<Span>,
+) -> Result<Value, AllocError>
+    ensures { IfOk result (λ v. view v ≡ or_null (option_map (range_at (T.unit_of store.now) (T.content store.now)) found)) }
+{
+    match found {
+        Some(span) => span_value(alloc, store, span),
+        None => Ok(Value::Null),
+    }
+}
+
+/// The range of a span.
+fn span_value<T: TextStore>(alloc: Global, store: &T, span: Span) -> Result<Value, AllocError>
+    ensures { IfOk result (λ v. view v ≡ range_at (T.unit_of store.now) (T.content store.now) span) }
+{
+    range_value(alloc, store.position(span.start), store.position(span.end))
+}
+
+/// Spans in text order as places of a document, found in one pass.
+fn locations<T: TextStore>(
+    alloc: Global,
+    store: &T,
+    uri: &str,
+    spans: &[Span],
+) -> Result<Value, AllocError>
+    ensures { IfOk result (λ v. view v ≡ array (items_of (map (location_at (T.unit_of store.now) uri.now (T.content store.now)) spans.now))) }
+{
+    let ranges = ranges(alloc, store, spans)?;
+    Ok(Value::Array(locations_of(alloc, uri, ranges.as_slice())?))
+}
+
+fn locations_of(alloc: Global, uri: &str, ranges: &[Range]) -> Result<Vec<Value>, AllocError>
+    ensures { IfOk result (λ list. items_view list.items ≡ items_of (map (location_in uri.now) ranges.now)) }
+{
+    let mut list = Vec::new(alloc);
+    for range in ranges {
+        list.push(location_of(alloc, uri, *range)?)?;
+    }
+    Ok(list)
+}
+
+fn location_of(alloc: Global, uri: &str, range: Range) -> Result<Value, AllocError>
+    ensures { IfOk result (λ v. view v ≡ location_in uri.now range) }
+{
+    location_value(alloc, uri, range_value(alloc, range.start, range.end)?)
+}

@@ -1,0 +1,56 @@
+//! Renaming on request.
+
+ghost use Rattle.std.specs.Prelude.{◌≡◌, IfOk};
+ghost use Rattle.serde_json.specs.Data.{Data};
+ghost use Rattle.serde_json.specs.View.{view};
+ghost use Rattle.ob0_rpc.specs.Writing.{Writes};
+ghost use Rattle.ob0_answers.specs.Renamed.{AnswersRenaming, asked_of, edits_for_client};
+
+use crate::results::{refused_because, refused_ill_typed, workspace_edit};
+use ob0_analysis::Asked;
+use ob0_rename::rename_in;
+use ob0_rpc::{Client, Id, Place, result};
+use ob0_text::{Edit, TextStore};
+use serde_json::Value;
+use std::alloc::{AllocError, Global};
+
+/// A request for another name, in a document of some version.
+#[derive(Drop)]
+pub struct RenameRequest<'a> {
+    pub id: &'a Id,
+    pub client: Client,
+    pub place: &'a Place,
+    pub version: i64,
+    pub new: &'a str,
+}
+
+/// The answer to a request for another name in the text in a store.
+pub fn renamed<T: TextStore>(
+    alloc: Global,
+    store: &T,
+    request: &RenameRequest<'_>,
+) -> Result<Vec<u8>, AllocError>
+    ensures { IfOk result (λ bytes. (message : Data) × AnswersRenaming (T.unit_of store.now) (asked_of request.now) (T.content store.now) message × Writes message bytes.items) }
+{
+    let id = request.id;
+    let place = request.place;
+    match rename_in(alloc, store, place.position, request.new)? {
+        Asked::Answered(outcome) => match outcome {
+            Ok(edits) => result(alloc, id, edits_for(alloc, request, edits.as_slice())?),
+            Err(refusal) => refused_because(alloc, id, refusal),
+        },
+        Asked::IllTyped(_) => refused_ill_typed(alloc, id),
+    }
+}
+
+/// The edits in the form that the client takes.
+fn edits_for(
+    alloc: Global,
+    request: &RenameRequest<'_>,
+    edits: &[Edit],
+) -> Result<Value, AllocError>
+    ensures { IfOk result (λ v. view v ≡ edits_for_client (asked_of request.now) edits.now) }
+{
+    let uri = request.place.uri.as_str();
+    workspace_edit(alloc, request.client, uri, request.version, edits)
+}

@@ -1,0 +1,5 @@
+use Rattle.ob0_checker.proofs.Gathered.{Gathered}
+use Rattle.ob0_checker.proofs.denoting.+denoting.Given as goal
+
+abbrev pub invariant-denote_record-loop-group : goal.invariant-denote_record-loop-group
+invariant-denote_record-loop-group l = Gathered l.resolved l.fn.known l.known l.initial.behind l.group-items l.group-index l.behind l.fields.items

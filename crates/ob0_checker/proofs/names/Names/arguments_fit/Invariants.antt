@@ -1,0 +1,12 @@
+use Rattle.std.proofs.Common.{length, map}
+use Rattle.ob0_checker.specs.FittingParts.{all_in_labels}
+use Rattle.ob0_checker.specs.InLabels.{meaning_in}
+use Rattle.ob0_symbols.specs.KnownTables.{shapes_of}
+use Rattle.ob0_symbols.specs.Tables.{formal_in}
+use Rattle.ob0_typing.specs.WellTyped.{arguments_fit}
+use Rattle.ob0_typing.proofs.AllFit.{PairSoFar}
+use Rattle.ob0_checker.proofs.names.Names.arguments_fit.Given as goal
+
+abbrev pub invariant-loop-formal : goal.invariant-loop-formal
+invariant-loop-formal l =
+    PairSoFar (λ fs es. arguments_fit (meaning_in l.self.known.now l.self.only_constants) (map (formal_in (shapes_of l.self.known.now)) fs) (all_in_labels l.self.resolved.now es)) l.formals l.arguments.items (length l.yielded)

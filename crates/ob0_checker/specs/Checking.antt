@@ -1,0 +1,126 @@
+-- The walk over declarations: what is in sight at each place of a module is what its environment there says.
+use Rattle.std.specs.Prelude.{◌≡◌, ℕ, ◌+◌, ◌≤◌, Bool, List, ◌++◌, map, length, if◌then◌else◌, IfSome, is_some, Some, None, Option, option_map}
+use Rattle.ob0_tree.specs.Tree.{Tree, block, further_section, item, items, procedure, section}
+use Rattle.ob0_scope.specs.Names.{Label, Naming, as_labels, declared}
+use Rattle.ob0_scope.specs.Parts.{block_variables, procedure_formals, procedure_name, section_names, section_type}
+use Rattle.ob0_scope.specs.Resolution.{Resolution}
+use Rattle.ob0_symbols.specs.declared.known.Shadowed.{Shadowed}
+use Rattle.ob0_checker.specs.declared.walk.Parameter.{Parameter}
+use Rattle.ob0_typing.specs.Declarations.{after_types, declare_first, formals_constructors}
+use Rattle.ob0_typing.specs.Environments.{from_binding, meanings, newest}
+use Rattle.ob0_typing.specs.Expressions.{a_variable}
+use Rattle.ob0_checker.specs.InLabels.{label_in}
+use Rattle.ob0_symbols.specs.KnownTables.{Tables, before_all, declared_in, known_meaning, seen_object, shapes_of}
+use Rattle.ob0_symbols.specs.Tables.{formal_in}
+use Rattle.ob0_typing.specs.Typing.{constructors, denoted, ◌>>=◌}
+use Rattle.ob0_typing.specs.WellTyped.{TypeEnvironment, TypedParameter, bind_names, bind_typed, declare_typed, heading, procedure_fits, section_mode, typed_parameters}
+use Rattle.ob0_values.specs.Values.{Shape}
+
+-- what names stand for in an environment is what is in sight
+abbrev pub Agrees : TypeEnvironment Label → Tables → Type 0
+Agrees env t = meanings as_labels env ≡ known_meaning t
+
+-- the latest bindings are what was declared last, in sight or not
+abbrev pub Keeps : TypeEnvironment Label → Tables → Type 0
+Keeps all t = (k : ℕ) → newest (from_binding as_labels all (declared k)) ≡ declared_in t k
+
+-- A module on its way through the checker: what is known, the bindings by which it came in sight, and the ordinal of the
+-- next ARRAY or RECORD.
+pub record Walking : Type 0 where
+  pub resolved : Resolution
+  pub known : Tables
+  pub bound : List Shadowed
+  pub next : ℕ
+
+-- farther on in the same module: types were added, and what is now in sight goes back to what was in sight
+pub record Follows (w v : Walking) : Type 0 where
+  pub same : v.resolved ≡ w.resolved
+  pub shapes : (later : List Shape) × (shapes_of v.known ≡ shapes_of w.known ++ later)
+  pub longer : length w.known.shapes ≤ length v.known.shapes
+  pub goes_back : (more : List Shadowed) × (v.bound ≡ w.bound ++ more) × ((k : ℕ) → before_all more (seen_object v.known) k ≡ seen_object w.known k)
+
+-- declarations give an environment, which agrees with what is then in sight; or they give none, and the walk ends
+abbrev pub Leaves : Option (TypeEnvironment Label) → Option Walking → Type 0
+Leaves given None = given ≡ None
+Leaves given (Some v) = (env : TypeEnvironment Label) × (given ≡ Some env) × Agrees env v.known
+
+-- a walk over declarations with n ARRAY and RECORD
+pub record Declares (w : Walking) (n : ℕ) (given : TypeEnvironment Label → Option (TypeEnvironment Label)) (r : Option Walking) : Type 0 where
+  pub leaves : (env : TypeEnvironment Label) → Agrees env w.known → Leaves (given env) r
+  pub follows : IfSome r (Follows w)
+  pub next : IfSome r (λ v. v.next ≡ w.next + n)
+
+-- what is bound on the way is put before what was in sight, and before all that was declared
+abbrev pub Grows : Walking → (TypeEnvironment Label → Option (TypeEnvironment Label)) → Walking → Type 0
+Grows w given v = (env : TypeEnvironment Label) → Agrees env w.known
+    → (bound : TypeEnvironment Label) × (given env ≡ Some (bound ++ env)) × ((all : TypeEnvironment Label) → Keeps all w.known → Keeps (bound ++ all) v.known)
+
+-- all that is bound on the way is put before all that was declared
+abbrev pub KeepsAll : Walking → (TypeEnvironment Label → TypeEnvironment Label) → Walking → Type 0
+KeepsAll w bindings v = (env all : TypeEnvironment Label) → Agrees env w.known → Keeps all w.known → Keeps (bindings env ++ all) v.known
+
+-- a walk over what fits or doesn't
+pub record Decides (w : Walking) (n : ℕ) (fits : TypeEnvironment Label → Bool) (r : Option Walking) : Type 0 where
+  pub decided : (env : TypeEnvironment Label) → Agrees env w.known → is_some r ≡ fits env
+  pub follows : IfSome r (Follows w)
+  pub next : IfSome r (λ v. v.next ≡ w.next + n)
+
+-- the parameters of a heading so far, and the walk behind them
+pub record Heading : Type 0 where
+  pub walk : Walking
+  pub parameters : List Parameter
+
+abbrev pub parameter_in : Resolution → List Shape → Parameter → TypedParameter Label
+parameter_in r shapes p = record { name = label_in r p.name; formal = formal_in shapes p.formal }
+
+abbrev pub parameters_in : Resolution → Tables → List Parameter → List (TypedParameter Label)
+parameters_in r t ps = map (parameter_in r (shapes_of t)) ps
+
+abbrev pub parameters_of : Heading → List (TypedParameter Label)
+parameters_of h = parameters_in h.walk.resolved h.walk.known h.parameters
+
+-- parameters are what was declared last behind their sections; behind the heading it is the procedure
+abbrev pub KeepsParameters : Tables → Heading → Type 0
+KeepsParameters t h = (all : TypeEnvironment Label) → Keeps all t → Keeps (bind_typed (parameters_of h) all) h.walk.known
+
+abbrev pub KeepsHeading : Tables → Label → Heading → Type 0
+KeepsHeading t x h = (all : TypeEnvironment Label) → Keeps all t → Keeps (heading x (parameters_of h) (bind_typed (parameters_of h) all)) h.walk.known
+
+-- parameters of one type
+abbrev pub typed_section : Tree Label section → Shape → List (TypedParameter Label)
+typed_section f s = map (λ x. record { name = x; formal = record { mode = section_mode f; shape = s } }) (section_names f)
+
+abbrev pub LeavesSection : Heading → Tree Label section → TypeEnvironment Label → Option Heading → Type 0
+LeavesSection h f env None = denoted (meanings as_labels env) h.walk.next (section_type f) ≡ None
+LeavesSection h f env (Some g) =
+    (s : Shape) × (denoted (meanings as_labels env) h.walk.next (section_type f) ≡ Some s)
+    × Agrees (bind_names (section_names f) (a_variable s) env) g.walk.known × (parameters_of g ≡ parameters_of h ++ typed_section f s)
+
+pub record DeclaresSection (h : Heading) (f : Tree Label section) (r : Option Heading) : Type 0 where
+  pub leaves : (env : TypeEnvironment Label) → Agrees env h.walk.known → LeavesSection h f env r
+  pub follows : IfSome r (λ g. Follows h.walk g.walk)
+  pub next : IfSome r (λ g. g.walk.next ≡ h.walk.next + constructors (section_type f))
+
+-- the sections of a heading, each in the environment of those before it
+pub record DeclaresSections (w : Walking) (fs : Tree Label (items further_section)) (r : Option Heading) : Type 0 where
+  pub leaves : (env : TypeEnvironment Label) → Agrees env w.known → typed_parameters as_labels env w.next fs ≡ option_map parameters_of r
+  pub follows : IfSome r (λ g. Follows w g.walk)
+  pub next : IfSome r (λ g. g.walk.next ≡ w.next + formals_constructors fs)
+
+-- behind a heading the procedure is in sight, and its parameters aren't yet
+pub record DeclaresHeading (w : Walking) (p : Tree Label (item procedure)) (r : Option Heading) : Type 0 where
+  pub typed : (env : TypeEnvironment Label) → Agrees env w.known → typed_parameters as_labels env w.next (procedure_formals p) ≡ option_map parameters_of r
+  pub leaves : (env : TypeEnvironment Label) → Agrees env w.known → IfSome r (λ g. Agrees (heading (procedure_name p) (parameters_of g) env) g.walk.known)
+  pub follows : IfSome r (λ g. Follows w g.walk)
+  pub next : IfSome r (λ g. g.walk.next ≡ w.next + formals_constructors (procedure_formals p))
+
+-- the environment behind a procedure that fits
+unfoldable pub declare_procedure : {N : Type 0} → Naming N → TypeEnvironment N → ℕ → Tree N (item procedure) → Option (TypeEnvironment N)
+unfolding typed_parameters procedure_fits
+declare_procedure naming env k p = do
+  ps ← typed_parameters naming env k (procedure_formals p)
+  if procedure_fits naming (bind_typed ps (heading (procedure_name p) ps env)) k p then Some (heading (procedure_name p) ps env) else None
+
+-- the environment behind a block's constants, types and variables
+abbrev pub declare_block : {N : Type 0} → Naming N → TypeEnvironment N → ℕ → Tree N block → Option (TypeEnvironment N)
+declare_block naming env k b = declare_first naming env k b >>= declare_typed naming (after_types k b) (block_variables b)

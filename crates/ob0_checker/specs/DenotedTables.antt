@@ -1,0 +1,46 @@
+-- What the checker makes of a type's text: a type in its table, which has grown by shapes alone.
+use Rattle.std.specs.Prelude.{◌≡◌, ℕ, ◌+◌, ◌≤◌, List, ◌++◌, map, length, All, IfSome, Option, option_map}
+use Rattle.ob0_tree.specs.declared.tree.ArrayType.{ArrayType}
+use Rattle.ob0_tree.specs.Tree.{Tree, array_type, written_type}
+use Rattle.ob0_tree.specs.View.{expression_of, type_of}
+use Rattle.ob0_scope.specs.Names.{label_text}
+use Rattle.ob0_scope.specs.Resolution.{Resolution}
+use Rattle.ob0_checker.specs.declared.denoting.Denoted.{Denoted}
+use Rattle.ob0_symbols.specs.declared.known.Field.{Field}
+use Rattle.ob0_symbols.specs.declared.types.TypeId.{TypeId}
+use Rattle.ob0_checker.specs.InLabels.{in_labels, label_in}
+use Rattle.ob0_symbols.specs.KnownTables.{Tables, known_meaning, shapes_of}
+use Rattle.ob0_symbols.specs.Tables.{IsMade, fields_shape, type_shape}
+use Rattle.ob0_typing.specs.Typing.{constructors, denoted, with_fields}
+use Rattle.ob0_values.specs.Values.{FieldShapes, Shape, next_field_shape, no_field_shape}
+
+-- a table with more shapes, and as before but for them: names stand for what they stood for
+pub record Grown (before after : Tables) : Type 0 where
+  pub entries : after.entries ≡ before.entries
+  pub shapes : (later : List Shape) × (shapes_of after ≡ shapes_of before ++ later)
+  pub longer : length before.shapes ≤ length after.shapes
+  pub meaning : known_meaning after ≡ known_meaning before
+
+-- the type that a text denotes by the table before stands in the table after, and the text's ARRAY and RECORD are counted
+pub record Denotes (r : Resolution) (before after : Tables) (k : ℕ) (t : Tree ℕ written_type) (found : Option Denoted) : Type 0 where
+  pub grown : Grown before after
+  pub value : option_map (λ d. type_shape (shapes_of after) d.of) found ≡ denoted (known_meaning before) k (in_labels r t)
+  pub made : IfSome found (λ d. IsMade (length after.shapes) d.of)
+  pub next : IfSome found (λ d. d.next ≡ k + constructors t)
+
+abbrev pub array_in : ArrayType → Tree ℕ written_type
+array_in a = array_type (expression_of a.size) (type_of a.element.value)
+
+-- fields, and others behind them
+abbrev pub joined : FieldShapes → FieldShapes → FieldShapes
+joined no_field_shape others = others
+joined (next_field_shape x s rest) others = next_field_shape x s (joined rest others)
+
+-- the fields of a list of names of one type
+abbrev pub fields_named : Resolution → List ℕ → Shape → FieldShapes
+fields_named r tokens s = with_fields (map label_text (map (label_in r) tokens)) s no_field_shape
+
+-- names of one type are put behind other fields
+pub record AreAdded (r : Resolution) (tokens : List ℕ) (t : TypeId) (before after : List Field) : Type 0 where
+  pub shapes : (shapes : List Shape) → fields_shape shapes after ≡ joined (fields_shape shapes before) (fields_named r tokens (type_shape shapes t))
+  pub made : (n : ℕ) → All (λ f. IsMade n f.of) before → IsMade n t → All (λ f. IsMade n f.of) after

@@ -1,0 +1,39 @@
+-- What the statements of the checker are asked for: designators and lists of expressions in labels, and types with their parts.
+use Rattle.std.specs.Prelude.{ℕ, List, map, Some, None, Option}
+use Rattle.ob0_tree.specs.Tree.{Tree, designator, end, expression, factor, items, product, selector, simple, sum, term}
+use Rattle.ob0_tree.specs.View.{expression_of}
+use Rattle.ob0_tree.specs.declared.tree.Designator.{Designator, out-Designator}
+use Rattle.ob0_tree.specs.declared.tree.Expression.{Expression}
+use Rattle.ob0_scope.specs.Names.{Label}
+use Rattle.ob0_scope.specs.Resolution.{Resolution}
+use Rattle.ob0_checker.specs.InLabels.{in_labels, label_in}
+use Rattle.ob0_typing.specs.Selected.{selectors_in}
+use Rattle.ob0_symbols.specs.Tables.{made_shape, no_shape}
+use Rattle.ob0_symbols.specs.declared.known.Shape.TheVariants as made
+use Rattle.ob0_symbols.specs.declared.sameness.Parts.{Parts}
+use Rattle.ob0_symbols.specs.declared.sameness.Parts.TheVariants as parts
+use Rattle.ob0_values.specs.Values.{Shape, boolean_shape, integer_shape}
+
+-- a designator's name and its selectors
+abbrev pub designator_parts : Designator → ℕ × Tree ℕ (items selector)
+designator_parts d = ((out-Designator d).name, selectors_in d)
+
+abbrev pub designator_in : Resolution → Designator → Label × Tree Label (items selector)
+designator_in r d = (label_in r (out-Designator d).name, in_labels r (selectors_in d))
+
+-- a designator alone, where no sign and no operator stands beside it
+abbrev pub designated_factor : {N : Type 0} → Tree N factor → Option (N × Tree N (items selector))
+designated_factor (designator x path) = Some (x, path)
+designated_factor _ = None
+
+abbrev pub designated_term : {N : Type 0} → Tree N term → Option (N × Tree N (items selector))
+designated_term (product f end) = designated_factor f
+designated_term _ = None
+
+abbrev pub designated_simple : {N : Type 0} → Tree N simple → Option (N × Tree N (items selector))
+designated_simple (sum None t end) = designated_term t
+designated_simple _ = None
+
+-- several expressions, in order
+abbrev pub all_in_labels : Resolution → List Expression → List (Tree Label expression)
+all_in_labels r es = map (λ e. in_labels r (expression_of e)) es

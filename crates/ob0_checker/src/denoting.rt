@@ -1,0 +1,208 @@
+//! The types that texts of types denote. Each ARRAY and RECORD makes a type of its own, told from the others by its
+//! ordinal in the text of the module.
+
+ghost use Rattle.std.specs.Prelude.{◌≡◌, ◌+◌, ◌≤◌, ◌++◌, ◌∷◌, List, IfOk, IfSome, OnOk, length, option_and_then, option_map};
+ghost use Rattle.ob0_tree.specs.Tree.{named_type};
+ghost use Rattle.ob0_tree.specs.View.{expression_of, record_in, type_of};
+ghost use Rattle.ob0_checker.specs.DenotedTables.{AreAdded, Denotes, array_in};
+ghost use Rattle.ob0_checker.specs.InLabels.{in_labels};
+ghost use Rattle.ob0_symbols.specs.KnownTables.{known_meaning, shapes_of};
+ghost use Rattle.ob0_symbols.specs.Tables.{IsMade, type_shape};
+ghost use Rattle.ob0_typing.specs.Typing.{array_length, constant_value, constructors, denoted};
+ghost use Rattle.ob0_values.specs.Scalars.{scalar_value};
+ghost use Rattle.ob0_values.specs.Values.{Shape};
+
+use crate::names::Names;
+use ob0_scope::resolved::Resolved;
+use ob0_symbols::known::{Field, Known, MOST_SCALARS};
+use ob0_symbols::types::TypeId;
+use ob0_tree::tree::{ArrayType, FieldList, Fields, RecordType, WrittenType};
+use ob0_values::scalar::Scalar;
+use std::alloc::{AllocError, Global};
+
+/// A type, and the ordinal of the next ARRAY or RECORD behind its text.
+#[derive(Clone, Copy)]
+pub struct Denoted {
+    pub of: TypeId,
+    pub next: usize,
+}
+
+/// The length of an array, from 1 to 65,536.
+pub fn array_length(value: Scalar) -> Option<usize>
+    ensures { result ≡ array_length (scalar_value value) }
+{
+    match value {
+        Scalar::Number(n) => {
+            if n < 1 {
+                return None;
+            }
+            let length = n as usize;
+            if length <= MOST_SCALARS {
+                Some(length)
+            } else {
+                None
+            }
+        }
+        Scalar::Truth(_) => None,
+    }
+}
+
+/// The type that a text denotes, where all in it fits; `next` is the ordinal of its first ARRAY or RECORD. After an
+/// error the table isn't to be used.
+pub(crate) fn denote<'t>(
+    alloc: Global,
+    known: &mut Known<'t>,
+    resolved: &Resolved<'t>,
+    next: usize,
+    t: &WrittenType,
+) -> Result<Option<Denoted>, AllocError>
+    ensures value { IfOk result (λ r. option_map (λ d. type_shape (shapes_of known.new) d.of) r ≡ denoted (known_meaning known.old) next (in_labels resolved.now (type_of t.now))) }
+    ensures made { IfOk result (λ r. IfSome r (λ d. IsMade (length known.new.shapes) d.of)) }
+    ensures next { IfOk result (λ r. IfSome r (λ d. d.next ≡ next + constructors (type_of t.now))) }
+    ensures entries { OnOk result (known.new.entries ≡ known.old.entries) }
+    ensures shapes { OnOk result ((later : List Shape) × (shapes_of known.new ≡ shapes_of known.old ++ later)) }
+    ensures longer { OnOk result (length known.old.shapes ≤ length known.new.shapes) }
+    ensures meaning { OnOk result (known_meaning known.new ≡ known_meaning known.old) }
+{
+    let found = denote_text(alloc, known, resolved, next, t)?;
+    Ok(found)
+}
+
+#[cycle(denoting)]
+fn denote_text<'t>(
+    alloc: Global,
+    known: &mut Known<'t>,
+    resolved: &Resolved<'t>,
+    next: usize,
+    t: &WrittenType,
+) -> Result<Option<Denoted>, AllocError>
+    ensures { IfOk result (λ r. Denotes resolved.now known.old known.new next (type_of t.now) r) }
+{
+    match t {
+        WrittenType::Named(name) => Ok(denote_name(known, resolved, next, *name)),
+        WrittenType::Array(a) => denote_array(alloc, known, resolved, next, a),
+        WrittenType::Record(r) => denote_record(alloc, known, resolved, next, r),
+    }
+}
+
+fn denote_name<'t>(
+    known: &Known<'t>,
+    resolved: &Resolved<'t>,
+    next: usize,
+    name: usize,
+) -> Option<Denoted>
+    ensures { Denotes resolved.now known.now known.now next (named_type name) result }
+{
+    let names = Names {
+        known,
+        resolved,
+        only_constants: false,
+    };
+    match names.named_type(name) {
+        None => None,
+        Some(of) => Some(Denoted { of, next }),
+    }
+}
+
+/// How many elements an array has, where its text says a length.
+fn length_of<'t>(known: &Known<'t>, resolved: &Resolved<'t>, a: &ArrayType) -> Option<usize>
+    ensures { result ≡ option_and_then array_length (constant_value (known_meaning known.now) (in_labels resolved.now (expression_of a.now.size))) }
+{
+    let names = Names {
+        known,
+        resolved,
+        only_constants: false,
+    };
+    match names.constant_value(&a.size) {
+        None => None,
+        Some(value) => array_length(value),
+    }
+}
+
+#[cycle(denoting)]
+fn denote_array<'t>(
+    alloc: Global,
+    known: &mut Known<'t>,
+    resolved: &Resolved<'t>,
+    next: usize,
+    a: &ArrayType,
+) -> Result<Option<Denoted>, AllocError>
+    ensures { IfOk result (λ r. Denotes resolved.now known.old known.new next (array_in a.now) r) }
+{
+    let Some(length) = length_of(known, resolved, a) else {
+        return Ok(None);
+    };
+    let Some(inner) = next.checked_add(1) else {
+        return Err(AllocError);
+    };
+    let Some(element) = denote_text(alloc, known, resolved, inner, &a.element)? else {
+        return Ok(None);
+    };
+    let Some(of) = known.make_array(next, length, element.of)? else {
+        return Ok(None);
+    };
+    Ok(Some(Denoted {
+        of,
+        next: element.next,
+    }))
+}
+
+#[cycle(denoting)]
+fn denote_record<'t>(
+    alloc: Global,
+    known: &mut Known<'t>,
+    resolved: &Resolved<'t>,
+    next: usize,
+    r: &RecordType,
+) -> Result<Option<Denoted>, AllocError>
+    ensures { IfOk result (λ d. Denotes resolved.now known.old known.new next (record_in r.now) d) }
+{
+    let mut fields = Vec::new(alloc);
+    let Some(mut behind) = next.checked_add(1) else {
+        return Err(AllocError);
+    };
+    for group in &r.groups {
+        match group {
+            Fields::Empty => {}
+            Fields::Listed(list) => {
+                let Some(found) = denote_text(alloc, known, resolved, behind, &list.written)? else {
+                    return Ok(None);
+                };
+                add_fields(known, resolved, list, found.of, &mut fields)?;
+                behind = found.next;
+            }
+        }
+    }
+    let Some(of) = known.make_record(next, fields)? else {
+        return Ok(None);
+    };
+    Ok(Some(Denoted { of, next: behind }))
+}
+
+/// Puts the names of a list behind the fields so far, each of the same type.
+fn add_fields<'t>(
+    known: &Known<'t>,
+    resolved: &Resolved<'t>,
+    list: &FieldList,
+    of: TypeId,
+    fields: &mut Vec<Field<'t>>,
+) -> Result<(), AllocError>
+    ensures { OnOk result (AreAdded resolved.now (list.now.names.first ∷ list.now.names.more.items) of fields.old.items fields.new.items) }
+{
+    let names = Names {
+        known,
+        resolved,
+        only_constants: false,
+    };
+    fields.push(Field {
+        name: names.written(list.names.first),
+        of,
+    })?;
+    for name in &list.names.more {
+        fields.push(Field {
+            name: names.written(*name),
+            of,
+        })?;
+    }
+    Ok(())
+}

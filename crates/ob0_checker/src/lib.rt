@@ -1,0 +1,15 @@
+//! Whether a module is well-typed: the types of expressions, the values of constant ones, which statements fit, and the walk
+//! over the declarations that makes their table.
+#![tactic(auto)]
+
+mod deciding;
+pub mod denoting;
+mod designated;
+mod evaluating;
+mod fitting;
+mod judging;
+pub mod laws;
+mod names;
+mod walk;
+
+pub use deciding::decide;

@@ -1,0 +1,30 @@
+-- What the getters read of a value that passed its parser.
+use Rattle.std.proofs.Common.{◌≡◌, ◌<◌, ◌≤◌, ◌^◌, ℕ, Bool, true, false, List, Option, Some, None, arith, codes, refl}
+use Rattle.std.specs.Prelude.{Result, Err, pos, if◌then◌else◌}
+use Rattle.std.specs.Str.{bytes_eq}
+use Rattle.std.specs.Str.Parse.{ParsesUnsigned}
+use Rattle.clap.specs.Lexer.{without_minus}
+use Rattle.clap.specs.Matches.{ReadsOne}
+use Rattle.clap.specs.Values.{IsSignedIn, IsUnsignedIn}
+use Rattle.clap.proofs.CallerReads.{signed_reads}
+use Rattle.ob0_cli.specs.Given.{most_of}
+
+small : (id : List ℕ) → most_of id < 2 ^ 32
+small id = go (bytes_eq id (codes "calls"))
+  where
+    go : (b : Bool) → (if b then 64 else 100000) < 2 ^ 32
+    go true = omega arith
+    go false = omega arith
+
+module _ {E : Type 0} (G : List ℕ → Result ℕ E → Type 0) where
+  -- a number within the bounds of an argument
+  pub bounded_reads : (id text : List ℕ) (r : Option ℕ) → ((u : List ℕ) (x : Result ℕ E) → G u x → ParsesUnsigned 32 10 u x)
+      → ReadsOne G (without_minus text) r → IsSignedIn (pos 0) (pos (most_of id)) text
+      → (n : ℕ) × (r ≡ Some n) × (0 ≤ n) × (n ≤ most_of id)
+  bounded_reads id text r only read passed = signed_reads E G 32 0 (most_of id) text r read only (small id) passed
+
+  -- a number of 64 bits
+  pub place_reads : (text : List ℕ) (r : Option ℕ) → ((u : List ℕ) (x : Result ℕ E) → G u x → ParsesUnsigned 64 10 u x)
+      → ReadsOne G text r → IsUnsignedIn 0 18446744073709551615 text → (n : ℕ) × (r ≡ Some n)
+  place_reads text (Some n) only read passed = (n, refl)
+  place_reads text None only read passed = absurd (only text (Err read.0) read.1 (passed.0, passed.1))

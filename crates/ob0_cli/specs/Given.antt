@@ -1,0 +1,67 @@
+-- What the words of a command line give.
+use Rattle.std.specs.Prelude.{◌≡◌, ◌⊎◌, ◌≤◌, ℕ, List, [], Option, Some, codes, if◌then◌else◌, pos}
+use Rattle.std.specs.Str.{bytes_eq}
+use Rattle.std.specs.Str.Parse.{digits_value, without_leading_plus}
+use Rattle.clap.specs.Kinds.{HasKind}
+use Rattle.clap.specs.Lexer.{without_minus}
+use Rattle.clap.specs.Values.{IsSignedIn, IsUnsignedIn}
+use Rattle.clap.specs.Words.{Row, Text, fault_of, first_of, one_of, subcommand_of}
+use Rattle.ob0_cli.specs.Lines.{ob0_app}
+use Rattle.ob0_cli.specs.declared.line.CommandLine.{CommandLine}
+use Rattle.ob0_cli.specs.declared.line.CommandLine.TheVariants.{Serve, Check, Run, Rename}
+use Rattle.ob0_cli.specs.declared.line.CommandFault.{CommandFault}
+use Rattle.ob0_cli.specs.declared.line.CommandFault.TheVariants.{Refused, Memory}
+
+-- a subcommand, with what was found for its arguments
+abbrev pub Found : Type 0
+Found = Option (Text × List Row)
+
+-- the number of an argument, given or by default
+abbrev pub IsNumber : Text → List Row → ℕ → Type 0
+IsNumber id rows n = (digits : Text) × (one_of id rows ≡ Some digits) × (n ≡ digits_value 10 (without_leading_plus digits))
+
+-- the line is that of the subcommand of this name, with the values that were found
+abbrev pub HoldsValues : Text → List Row → CommandLine → Type 0
+HoldsValues name rows Serve = name ≡ codes "serve"
+HoldsValues name rows (Check file) = (name ≡ codes "check") × (first_of (codes "file") rows ≡ Some file.now)
+HoldsValues name rows (Run file calls turns) = (name ≡ codes "run") × (first_of (codes "file") rows ≡ Some file.now)
+    × IsNumber (codes "calls") rows calls × (calls ≤ 64) × IsNumber (codes "turns") rows turns × (turns ≤ 100000)
+HoldsValues name rows (Rename file position new) = (name ≡ codes "rename") × (first_of (codes "file") rows ≡ Some file.now)
+    × IsNumber (codes "line") rows position.line × IsNumber (codes "column") rows position.character × (first_of (codes "name") rows ≡ Some new.now)
+
+abbrev pub IsReadFrom : Found → CommandLine → Type 0
+IsReadFrom found line = (name : Text) × (rows : List Row) × (found ≡ Some (name, rows)) × HoldsValues name rows line
+
+-- the words have no fault, and the line is the one that they name
+pub record Gives (words : List Text) (line : CommandLine) : Type 0 where
+  pub fine : fault_of ob0_app words ≡ []
+  pub read : IsReadFrom (subcommand_of ob0_app words) line
+
+-- a refusal is of the kind of the first fault that the words have
+abbrev pub Refuses : List Text → CommandFault → Type 0
+Refuses words (Refused error) = HasKind (fault_of ob0_app words) error
+Refuses words Memory = Unit {0}
+
+-- ---- what the matches are known to have
+
+abbrev pub HasText : Text → List Row → Type 0
+HasText id rows = (text : Text) × (first_of id rows ≡ Some text)
+
+-- the most that `--calls` and `--turns` take
+abbrev pub most_of : Text → ℕ
+most_of id = if bytes_eq id (codes "calls") then 64 else 100000
+
+abbrev pub HasBounded : Text → List Row → Type 0
+HasBounded id rows = (text : Text) × (one_of id rows ≡ Some (without_minus text)) × IsSignedIn (pos 0) (pos (most_of id)) text
+
+abbrev pub HasPlace : Text → List Row → Type 0
+HasPlace id rows = (text : Text) × (one_of id rows ≡ Some text) × IsUnsignedIn 0 18446744073709551615 text
+
+-- what the subcommand of this name needs has values
+abbrev pub NeedsAt : Text → List Row → Type 0
+NeedsAt name rows = (name ≡ codes "serve") ⊎ ((name ≡ codes "check") × HasText (codes "file") rows)
+    ⊎ ((name ≡ codes "run") × HasText (codes "file") rows × HasBounded (codes "calls") rows × HasBounded (codes "turns") rows)
+    ⊎ ((name ≡ codes "rename") × HasText (codes "file") rows × HasPlace (codes "line") rows × HasPlace (codes "column") rows × HasText (codes "name") rows)
+
+abbrev pub HasNeeded : Found → Type 0
+HasNeeded found = (name : Text) × (rows : List Row) × (found ≡ Some (name, rows)) × NeedsAt name rows

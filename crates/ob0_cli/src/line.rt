@@ -1,0 +1,229 @@
+//! The command line.
+
+ghost use Rattle.std.specs.Prelude.{◌≡◌, ◌≤◌, Some, false, IfOk, IfErr, codes, map};
+ghost use Rattle.clap.specs.Words.{app_of, first_of, found_of, rows_of, rule_of, subcommand_rows_of};
+ghost use Rattle.ob0_cli.specs.Given.{Gives, HasNeeded, HasBounded, HasPlace, HasText, HoldsValues, IsNumber, IsReadFrom, NeedsAt, Refuses, most_of};
+ghost use Rattle.ob0_cli.specs.Lines.{ob0_app, calls_rule, check as check_lines, number_rule, rename as rename_lines, run as run_lines, turns_rule, word_rule};
+
+use clap::error::ErrorKind;
+use clap::{Arg, ArgAction, ArgMatches, Command, Error, value_parser};
+use ob0_text::Position;
+use std::alloc::{AllocError, Global};
+
+/// What a command line asks for.
+#[derive(Clone, Copy, Debug, Drop, PartialEq, Eq)]
+pub enum CommandLine<'a> {
+    /// One conversation over standard input and output.
+    Serve,
+    /// What is wrong with a file.
+    Check {
+        file: &'a str,
+    },
+    /// The run of a file's module on the numbers of standard input.
+    Run {
+        file: &'a str,
+        calls: u32,
+        turns: u32,
+    },
+    /// A file's text with another name for the one that stands at a position.
+    Rename {
+        file: &'a str,
+        position: Position,
+        name: &'a str,
+    },
+}
+
+/// Why a command line asks for nothing.
+#[derive(Drop)]
+pub enum CommandFault {
+    /// The words are refused, or they ask for help.
+    Refused(Error),
+    Memory,
+}
+
+/// Reads the words of a command line, the program's name first.
+pub fn command<'a>(alloc: Global, words: &'a [&'a str]) -> Result<CommandLine<'a>, CommandFault>
+    ensures gives { IfOk result (Gives (map (λ w. w.now) words.entry.now)) }
+    ensures refuses { IfErr result (Refuses (map (λ w. w.now) words.entry.now)) }
+{
+    let Ok(definition) = definition(alloc) else {
+        return Err(CommandFault::Memory);
+    };
+    match definition.try_get_matches_from(words) {
+        Ok(matches) => Ok(line_of(&matches)),
+        Err(error) => if error.kind() == ErrorKind::OutOfMemory {
+            Err(CommandFault::Memory)
+        } else {
+            Err(CommandFault::Refused(error))
+        },
+    }
+}
+
+/// What the matches name.
+fn line_of<'a>(matches: &ArgMatches<'a>) -> CommandLine<'a>
+    requires { HasNeeded (subcommand_rows_of matches.now) }
+    ensures { IsReadFrom (subcommand_rows_of matches.now) result }
+{
+    match matches.subcommand() {
+        Some((name, given)) => named(name, given),
+        None => unreachable!(),
+    }
+}
+
+/// The line of a subcommand, with what was found for its arguments.
+fn named<'a>(name: &str, given: &ArgMatches<'a>) -> CommandLine<'a>
+    requires { NeedsAt name.now (rows_of (found_of given.now)) }
+    ensures { HoldsValues name.now (rows_of (found_of given.now)) result }
+{
+    if name == "serve" {
+        CommandLine::Serve
+    } else if name == "check" {
+        CommandLine::Check {
+            file: text_at(given, "file"),
+        }
+    } else if name == "run" {
+        CommandLine::Run {
+            file: text_at(given, "file"),
+            calls: bounded_at(given, "calls"),
+            turns: bounded_at(given, "turns"),
+        }
+    } else {
+        CommandLine::Rename {
+            file: text_at(given, "file"),
+            position: Position {
+                line: place_at(given, "line"),
+                character: place_at(given, "column"),
+            },
+            name: text_at(given, "name"),
+        }
+    }
+}
+
+fn text_at<'a>(given: &ArgMatches<'a>, id: &str) -> &'a str
+    requires { HasText id.now (rows_of (found_of given.now)) }
+    ensures { first_of id.now (rows_of (found_of given.now)) ≡ Some result.now }
+{
+    match given.get_str(id) {
+        Some(text) => text,
+        None => unreachable!(),
+    }
+}
+
+fn bounded_at(given: &ArgMatches<'_>, id: &str) -> u32
+    requires { HasBounded id.now (rows_of (found_of given.now)) }
+    ensures number { IsNumber id.now (rows_of (found_of given.now)) result }
+    ensures bound { result ≤ most_of id.now }
+{
+    match given.get_one::<u32>(id) {
+        Some(number) => number,
+        None => unreachable!(),
+    }
+}
+
+fn place_at(given: &ArgMatches<'_>, id: &str) -> u64
+    requires { HasPlace id.now (rows_of (found_of given.now)) }
+    ensures { IsNumber id.now (rows_of (found_of given.now)) result }
+{
+    match given.get_one::<u64>(id) {
+        Some(number) => number,
+        None => unreachable!(),
+    }
+}
+
+/// The command line has four subcommands, and one of them is needed.
+fn definition<'a>(alloc: Global) -> Result<Command<'a>, AllocError>
+    ensures { IfOk result (λ c. app_of c ≡ ob0_app) }
+{
+    let serve = Command::new(alloc, "serve").about(
+        "Serves one conversation over standard input and output",
+    );
+    let check = check_definition(alloc)?;
+    let run = run_definition(alloc)?;
+    let rename = rename_definition(alloc)?;
+    Command::new(alloc, "ob0")
+        .about("A language server for Oberon-0")
+        .subcommand_required(true)
+        .disable_help_subcommand(true)
+        .subcommand(serve)?
+        .subcommand(check)?
+        .subcommand(run)?
+        .subcommand(rename)
+}
+
+fn check_definition<'a>(alloc: Global) -> Result<Command<'a>, AllocError>
+    ensures { IfOk result (λ c. app_of c ≡ check_lines) }
+{
+    let file = word(alloc, "file", "The file with the module");
+    Command::new(alloc, "check")
+        .about("Prints what is wrong with a module")
+        .arg(file)
+}
+
+fn run_definition<'a>(alloc: Global) -> Result<Command<'a>, AllocError>
+    ensures { IfOk result (λ c. app_of c ≡ run_lines) }
+{
+    let file = word(alloc, "file", "The file with the module");
+    let calls = calls_argument(alloc);
+    let turns = turns_argument(alloc);
+    Command::new(alloc, "run")
+        .about("Runs a module on the numbers of standard input")
+        .arg(file)?
+        .arg(calls)?
+        .arg(turns)
+}
+
+fn rename_definition<'a>(alloc: Global) -> Result<Command<'a>, AllocError>
+    ensures { IfOk result (λ c. app_of c ≡ rename_lines) }
+{
+    let file = word(alloc, "file", "The file with the module");
+    let line = number(alloc, "line", "The line of the name, from 0 on");
+    let column = number(alloc, "column", "Its column in UTF-16 units, from 0 on");
+    let name = word(alloc, "name", "The new name");
+    Command::new(alloc, "rename")
+        .about("Prints a module with another name for one of its names")
+        .arg(file)?
+        .arg(line)?
+        .arg(column)?
+        .arg(name)
+}
+
+/// A word that must stand there.
+fn word<'a>(alloc: Global, id: &'a str, help: &'a str) -> Arg<'a>
+    ensures rule { rule_of result ≡ word_rule id.entry.now }
+    ensures own { result.global ≡ false }
+{
+    Arg::new(alloc, id)
+        .required(true)
+        .action(ArgAction::Set)
+        .help(help)
+}
+
+/// A number that must stand there.
+fn number<'a>(alloc: Global, id: &'a str, help: &'a str) -> Arg<'a>
+    ensures rule { rule_of result ≡ number_rule id.entry.now }
+    ensures own { result.global ≡ false }
+{
+    word(alloc, id, help).value_parser(value_parser!(u64))
+}
+
+fn calls_argument<'a>(alloc: Global) -> Arg<'a>
+    ensures rule { rule_of result ≡ calls_rule }
+    ensures own { result.global ≡ false }
+{
+    Arg::new(alloc, "calls")
+        .long("calls")
+        .value_parser(value_parser!(u32).range(0..65))
+        .default_value("64")
+        .help("How deep calls may be nested")
+}
+
+fn turns_argument<'a>(alloc: Global) -> Arg<'a>
+    ensures rule { rule_of result ≡ turns_rule }
+    ensures own { result.global ≡ false }
+{
+    Arg::new(alloc, "turns")
+        .long("turns")
+        .value_parser(value_parser!(u32).range(0..100001))
+        .default_value("100000")
+        .help("How many turns loops may take")
+}

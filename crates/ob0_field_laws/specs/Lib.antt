@@ -1,0 +1,4 @@
+pub mod Fields
+pub mod Renaming
+pub mod FieldLaws
+pub mod Owners

@@ -1,0 +1,58 @@
+//! Renaming in a text, which is scanned, parsed, resolved and checked first.
+
+ghost use Rattle.std.specs.Prelude.{◌≡◌, IfOk};
+ghost use Rattle.std.specs.Str.{chars};
+ghost use Rattle.ob0_rename.specs.InTexts.{FindsNewName, Settles, renaming_of};
+
+use crate::renaming::rename;
+use ob0_analysis::{Asked, Question, ask};
+use ob0_text::{Edit, EditRefusal, Position, TextStore};
+use ob0_types::checked::WellTyped;
+use std::alloc::{AllocError, Global};
+
+/// Another name for what is named at a place of the text in a store.
+#[derive(Drop)]
+struct NewName<'a, T: TextStore> {
+    store: &'a T,
+    place: Position,
+    new: &'a str,
+}
+
+impl<'a, T: TextStore> Question for NewName<'a, T> {
+    type Answer = Result<Vec<Edit>, EditRefusal>;
+
+    ghost is_about = { λ q text. T.content q.store.now ≡ chars text };
+
+    ghost answers = { λ q names outcome. Settles (renaming_of (T.unit_of q.store.now) (T.content q.store.now) names q.place q.new.now) outcome };
+
+    fn answer(
+        &self,
+        alloc: Global,
+        module: &WellTyped<'_, '_>,
+    ) -> Result<Result<Vec<Edit>, EditRefusal>, AllocError> {
+        match rename(alloc, self.store, module, self.place, self.new) {
+            Ok(edits) => Ok(Ok(edits)),
+            Err(refusal) => {
+                if refusal == EditRefusal::Memory {
+                    Err(AllocError)
+                } else {
+                    Ok(Err(refusal))
+                }
+            }
+        }
+    }
+}
+
+/// The edits that write `new` for what is named at a place of the text in a store, or why there are none; what is wrong with
+/// a text that is no well-typed module. Want of memory is never the reason: it is answered as such.
+pub fn rename_in<T: TextStore>(
+    alloc: Global,
+    store: &T,
+    place: Position,
+    new: &str,
+) -> Result<Asked<Result<Vec<Edit>, EditRefusal>>, AllocError>
+    ensures { IfOk result (λ found. FindsNewName (T.unit_of store.now) (T.content store.now) place new.now found) }
+{
+    let text = store.to_string(alloc)?;
+    ask(alloc, text.as_str(), &NewName { store, place, new })
+}

@@ -1,0 +1,13 @@
+pub mod Soundness
+pub mod WorkedRuns
+pub mod RunNaturality
+pub mod Noted
+pub mod ByOrdinal
+pub mod Proved
+pub mod Sound
+pub mod SoundStatements
+pub mod SoundCalls
+pub mod InlinedStatements
+pub mod RenamedRuns
+pub mod EditedRuns
+pub mod RunsEverywhere

@@ -1,0 +1,9 @@
+-- In which unit positions are counted.
+use Rattle.std.specs.Prelude.{if◌then◌else◌}
+use Rattle.ob0_text.specs.declared.positions.Unit.{Unit}
+use Rattle.ob0_text.specs.declared.positions.Unit.TheVariants.{Utf16, Utf8}
+use Rattle.ob0_rpc.specs.declared.clients.Client.{Client}
+
+-- positions count bytes of UTF-8 where the client offers that
+abbrev pub unit_for : Client → Unit
+unit_for client = if client.counts_utf8 then Utf8 else Utf16

@@ -1,0 +1,6 @@
+pub mod FieldIndex
+pub mod FieldPlaces
+pub mod Tables
+pub mod KnownTables
+pub mod Parts
+pub mod Operators

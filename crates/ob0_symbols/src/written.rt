@@ -1,0 +1,42 @@
+//! How tokens are written.
+
+ghost use Rattle.std.specs.Prelude.{◌≡◌, ◌≤◌, pos};
+ghost use Rattle.ob0_tree.specs.Places.{text_at, value_at, value_of};
+
+use ob0_scan::{TokenKind, Tokens};
+
+/// How a token is written. Nothing where there is no such token.
+pub fn text_at(tokens: &Tokens, token: usize) -> &str
+    ensures { result.now ≡ text_at tokens.now token }
+{
+    if token < tokens.tokens().len() {
+        tokens.token_text(token)
+    } else {
+        ""
+    }
+}
+
+/// The number that a token is, and 0 for every other token.
+pub fn number_at(tokens: &Tokens, token: usize) -> i32
+    ensures { result ≡ pos (value_at tokens.now token) }
+{
+    let _scanned = tokens.text();
+    let tokens = tokens.tokens();
+    if token < tokens.len() {
+        number_of(tokens[token].kind)
+    } else {
+        0
+    }
+}
+
+fn number_of(kind: TokenKind) -> i32
+    requires { value_of kind ≤ 2147483647 }
+    ensures { result ≡ pos (value_of kind) }
+{
+    match kind {
+        TokenKind::Integer(value) => value as i32,
+        TokenKind::Identifier => 0,
+        TokenKind::Reserved(_) => 0,
+        TokenKind::Symbol(_) => 0,
+    }
+}

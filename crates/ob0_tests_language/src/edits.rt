@@ -1,0 +1,341 @@
+//! Renamed, inlined and laid out texts, and why edits are refused.
+
+ghost use Rattle.std.specs.Prelude.{⊤};
+
+use crate::asking::{said, told};
+use ob0_analysis::{Asked, Question};
+use ob0_inline::{inline_all, inline_here};
+use ob0_layout::format;
+use ob0_rename::rename_in;
+use ob0_text::{Edit, EditRefusal, Indent, PatchFault, Position, TextStore, Whole, patch};
+use ob0_types::checked::WellTyped;
+use std::alloc::{AllocError, Global};
+use std::process::Abort;
+use std::test::Fail;
+
+/// What edits make of a text, or why there are none.
+fn made(
+    alloc: Global,
+    store: &Whole,
+    edits: Result<Vec<Edit>, EditRefusal>,
+) -> Result<String, AllocError> {
+    match edits {
+        Ok(edits) => match patch(alloc, store, edits.as_slice()) {
+            Ok(text) => Ok(text),
+            Err(PatchFault::Overlap) => String::from_str(alloc, "Overlap"),
+            Err(PatchFault::Memory) => Err(AllocError),
+        },
+        Err(refusal) => refusal.text(alloc),
+    }
+}
+
+const NESTED: &str =
+    "MODULE M;\nVAR x: INTEGER;\nPROCEDURE P;\nVAR y: INTEGER;\nBEGIN y := 1; x := y END P;\nBEGIN P; Write(x) END M.";
+
+const BLOCKS: &str =
+    "MODULE M;\nVAR Q: INTEGER;\nPROCEDURE A;\nPROCEDURE P; BEGIN Q := 7 END P;\nPROCEDURE R; BEGIN Write(2) END R;\nBEGIN P; R END A;\nBEGIN A; Write(Q) END M.";
+
+const RECURSIVE: &str =
+    "MODULE M;\nPROCEDURE F(n: INTEGER);\nBEGIN IF n > 0 THEN Write(n); F(n - 1) END END F;\nBEGIN F(2) END M.";
+
+const FIELDS: &str =
+    "MODULE M;\nTYPE R = RECORD a, b: INTEGER END;\nVAR r: R; s: RECORD a: INTEGER END; a: INTEGER;\nBEGIN r.a := 1; s.a := 2; a := r.a + s.a; Write(a) END M.";
+
+const PARTS: &str =
+    "MODULE M;\nTYPE P = RECORD x, y: INTEGER END;\nVAR q: ARRAY 2 OF RECORD x: P; n: RECORD x: INTEGER END END;\nBEGIN q[0].x.x := 1; q[q[0].x.x].n.x := 2; q[1].x.y := 3 END M.";
+
+const LOCAL: &str =
+    "MODULE M;\nTYPE R = RECORD a: INTEGER END;\nVAR r: R;\nPROCEDURE P(VAR r: R; s: RECORD a: INTEGER END);\nTYPE R = RECORD b, a: INTEGER END;\nVAR t: R;\nBEGIN r.a := s.a; t.a := t.b END P;\nBEGIN r.a := 1 END M.";
+
+/// A text, a place, a new name, and the text then.
+static RENAMED: &[(&str, u64, u64, &str, &str)] = &[
+    (
+        RECURSIVE,
+        2,
+        47,
+        "G12",
+        "MODULE M;\nPROCEDURE G12(n: INTEGER);\nBEGIN IF n > 0 THEN Write(n); G12(n - 1) END END G12;\nBEGIN G12(2) END M.",
+    ),
+    (
+        RECURSIVE,
+        1,
+        11,
+        "Repeat",
+        "MODULE M;\nPROCEDURE Repeat(n: INTEGER);\nBEGIN IF n > 0 THEN Write(n); Repeat(n - 1) END END Repeat;\nBEGIN Repeat(2) END M.",
+    ),
+    (RECURSIVE, 2, 47, "F", RECURSIVE),
+    (
+        BLOCKS,
+        4,
+        10,
+        "Q",
+        "MODULE M;\nVAR Q: INTEGER;\nPROCEDURE A;\nPROCEDURE P; BEGIN Q := 7 END P;\nPROCEDURE Q; BEGIN Write(2) END Q;\nBEGIN P; Q END A;\nBEGIN A; Write(Q) END M.",
+    ),
+    (BLOCKS, 4, 10, "P", "Duplicate 3:10-3:11"),
+    (BLOCKS, 3, 10, "R", "Duplicate 4:10-4:11"),
+    (BLOCKS, 1, 4, "P", "Captures 3:19-3:20"),
+    (NESTED, 1, 4, "y", "Captures 4:14-4:15"),
+    (NESTED, 1, 4, "Write", "Captures 5:9-5:14"),
+    (RECURSIVE, 2, 47, "n", "Captures 2:30-2:31"),
+    (RECURSIVE, 2, 47, "END", "BadName"),
+    (RECURSIVE, 2, 47, "a b", "BadName"),
+    (RECURSIVE, 0, 7, "END", "NoName"),
+    (RECURSIVE, 2, 15, "END", "NoName"),
+    (RECURSIVE, 2, 22, "END", "Predeclared"),
+    (
+        FIELDS,
+        2,
+        36,
+        "b",
+        "MODULE M;\nTYPE R = RECORD a, b: INTEGER END;\nVAR r: R; s: RECORD a: INTEGER END; b: INTEGER;\nBEGIN r.a := 1; s.a := 2; b := r.a + s.a; Write(b) END M.",
+    ),
+    (
+        FIELDS,
+        3,
+        8,
+        "INTEGER",
+        "MODULE M;\nTYPE R = RECORD INTEGER, b: INTEGER END;\nVAR r: R; s: RECORD a: INTEGER END; a: INTEGER;\nBEGIN r.INTEGER := 1; s.a := 2; a := r.INTEGER + s.a; Write(a) END M.",
+    ),
+    (
+        FIELDS,
+        3,
+        18,
+        "b",
+        "MODULE M;\nTYPE R = RECORD a, b: INTEGER END;\nVAR r: R; s: RECORD b: INTEGER END; a: INTEGER;\nBEGIN r.a := 1; s.b := 2; a := r.a + s.b; Write(a) END M.",
+    ),
+    (FIELDS, 3, 8, "b", "Duplicate 1:19-1:20"),
+    (FIELDS, 3, 8, "1a", "BadName"),
+    (FIELDS, 3, 18, "a", FIELDS),
+    (PARTS, 3, 11, "n", "Duplicate 2:31-2:32"),
+    (
+        PARTS,
+        2,
+        25,
+        "y",
+        "MODULE M;\nTYPE P = RECORD x, y: INTEGER END;\nVAR q: ARRAY 2 OF RECORD y: P; n: RECORD x: INTEGER END END;\nBEGIN q[0].y.x := 1; q[q[0].y.x].n.x := 2; q[1].y.y := 3 END M.",
+    ),
+    (LOCAL, 6, 20, "b", "Duplicate 4:16-4:17"),
+    (
+        LOCAL,
+        7,
+        8,
+        "b",
+        "MODULE M;\nTYPE R = RECORD b: INTEGER END;\nVAR r: R;\nPROCEDURE P(VAR r: R; s: RECORD a: INTEGER END);\nTYPE R = RECORD b, a: INTEGER END;\nVAR t: R;\nBEGIN r.b := s.a; t.a := t.b END P;\nBEGIN r.b := 1 END M.",
+    ),
+    (
+        LOCAL,
+        6,
+        15,
+        "b",
+        "MODULE M;\nTYPE R = RECORD a: INTEGER END;\nVAR r: R;\nPROCEDURE P(VAR r: R; s: RECORD b: INTEGER END);\nTYPE R = RECORD b, a: INTEGER END;\nVAR t: R;\nBEGIN r.a := s.b; t.a := t.b END P;\nBEGIN r.a := 1 END M.",
+    ),
+];
+
+fn renamed(alloc: Global, text: &str, place: Position, new: &str) -> Result<String, AllocError> {
+    let store = Whole::from_str(alloc, text)?;
+    match rename_in(alloc, &store, place, new)? {
+        Asked::Answered(edits) => made(alloc, &store, edits),
+        Asked::IllTyped(faults) => told(alloc, faults.as_slice()),
+    }
+}
+
+#[test]
+fn names_and_fields_are_renamed(rt: HostRuntime) -> Result<(), Fail> {
+    for row in RENAMED {
+        let (text, line, character, new, wanted) = *row;
+        let found = renamed(rt.alloc(), text, Position { line, character }, new)?;
+        assert!(rt;
+            found.as_str() == wanted,
+            "{found} by {new} at {line}:{character}"
+        );
+    }
+    Ok(())
+}
+
+/// The text with a constant inlined, or why it isn't.
+#[derive(Drop)]
+struct Inlined {
+    place: Position,
+    everywhere: bool,
+}
+
+impl Question for Inlined {
+    type Answer = String;
+
+    ghost answers = { λ _ _ _. ⊤ };
+
+    fn answer(&self, alloc: Global, module: &WellTyped<'_, '_>) -> Result<String, AllocError> {
+        let store = Whole::from_str(alloc, module.resolved().tokens().text())?;
+        let edits = if self.everywhere {
+            inline_all(alloc, &store, module, self.place)
+        } else {
+            inline_here(alloc, &store, module, self.place)
+        };
+        made(alloc, &store, edits)
+    }
+}
+
+const LEAST: &str =
+    "MODULE M;\nCONST c = -2147483647 - 1;\nVAR x: INTEGER;\nBEGIN x := 0 + c; Write(x) END M.";
+
+const SHADOWED: &str =
+    "MODULE M;\nCONST on = TRUE;\nPROCEDURE P; VAR TRUE, b: BOOLEAN; BEGIN b := on END P;\nBEGIN P END M.";
+
+const COMMENTED: &str = "MODULE M; CONST c (* five *) = 5; (* on *) BEGIN Write(c) END M.";
+
+const SEVERAL: &str =
+    "MODULE M; CONST a = 9; c = -5; d = c; BEGIN Write(a - c); Write(c DIV 3) END M.";
+
+/// A text, a place, whether everywhere, and the text then.
+static INLINED: &[(&str, u64, u64, bool, &str)] = &[
+    (
+        LEAST,
+        3,
+        15,
+        false,
+        "MODULE M;\nCONST c = -2147483647 - 1;\nVAR x: INTEGER;\nBEGIN x := 0 + (-2147483647 - 1); Write(x) END M.",
+    ),
+    (LEAST, 1, 6, false, "NoName"),
+    (LEAST, 3, 6, false, "NoName"),
+    (
+        LEAST,
+        1,
+        6,
+        true,
+        "MODULE M;\nCONST \nVAR x: INTEGER;\nBEGIN x := 0 + (-2147483647 - 1); Write(x) END M.",
+    ),
+    (
+        LEAST,
+        3,
+        15,
+        true,
+        "MODULE M;\nCONST \nVAR x: INTEGER;\nBEGIN x := 0 + (-2147483647 - 1); Write(x) END M.",
+    ),
+    (LEAST, 2, 4, true, "NoName"),
+    (
+        "MODULE M; CONST t = 1 = 2; VAR b: BOOLEAN; BEGIN b := t END M.",
+        0,
+        54,
+        false,
+        "MODULE M; CONST t = 1 = 2; VAR b: BOOLEAN; BEGIN b := FALSE END M.",
+    ),
+    (
+        "MODULE M; CONST c = 1; PROCEDURE P; CONST c = 2; BEGIN Write(c) END P; BEGIN Write(c) END M.",
+        0,
+        61,
+        false,
+        "MODULE M; CONST c = 1; PROCEDURE P; CONST c = 2; BEGIN Write(2) END P; BEGIN Write(c) END M.",
+    ),
+    (SHADOWED, 2, 46, false, "Shadowed"),
+    (SHADOWED, 1, 8, true, "Shadowed"),
+    (
+        "MODULE M; CONST TRUE = 1 = 1; VAR b: BOOLEAN; BEGIN b := TRUE END M.",
+        0,
+        58,
+        true,
+        "Shadowed",
+    ),
+    (COMMENTED, 0, 16, true, "CommentInside"),
+    (
+        COMMENTED,
+        0,
+        55,
+        false,
+        "MODULE M; CONST c (* five *) = 5; (* on *) BEGIN Write(5) END M.",
+    ),
+    (
+        SEVERAL,
+        0,
+        23,
+        true,
+        "MODULE M; CONST a = 9;  d = (-5); BEGIN Write(a - (-5)); Write((-5) DIV 3) END M.",
+    ),
+    (
+        "MODULE M; CONST c = 1; PROCEDURE P; CONST c = 2; PROCEDURE Q; BEGIN Write(c) END Q; BEGIN Q END P; BEGIN Write(c) END M.",
+        0,
+        42,
+        true,
+        "MODULE M; CONST c = 1; PROCEDURE P; CONST  PROCEDURE Q; BEGIN Write(2) END Q; BEGIN Q END P; BEGIN Write(c) END M.",
+    ),
+    (
+        "MODULE M; CONST on = TRUE; PROCEDURE P; VAR TRUE: BOOLEAN; BEGIN END P; END M.",
+        0,
+        16,
+        true,
+        "MODULE M; CONST  PROCEDURE P; VAR TRUE: BOOLEAN; BEGIN END P; END M.",
+    ),
+];
+
+#[test]
+fn constants_are_inlined(rt: HostRuntime) -> Result<(), Fail> {
+    for row in INLINED {
+        let (text, line, character, everywhere, wanted) = *row;
+        let place = Position { line, character };
+        let found = said(rt.alloc(), text, &Inlined { place, everywhere })?;
+        assert!(rt; found.as_str() == wanted, "{found} at {line}:{character}");
+    }
+    Ok(())
+}
+
+/// The text laid out.
+#[derive(Drop)]
+struct LaidOut {
+    indent: Indent,
+}
+
+impl Question for LaidOut {
+    type Answer = String;
+
+    ghost answers = { λ _ _ _. ⊤ };
+
+    fn answer(&self, alloc: Global, module: &WellTyped<'_, '_>) -> Result<String, AllocError> {
+        let store = Whole::from_str(alloc, module.resolved().tokens().text())?;
+        let edits = format(alloc, &store, module.resolved().module(), self.indent);
+        made(alloc, &store, edits)
+    }
+}
+
+static LAID_OUT: &[(&str, Indent, &str)] = &[
+    (
+        "MODULE M;VAR x:INTEGER;BEGIN x:=-1;IF x<0 THEN Write(x)(* a (* b *) c *)END;WriteLn END M.(* end *)",
+        Indent::Spaces(2),
+        "MODULE M;\nVAR\n  x: INTEGER;\nBEGIN\n  x := -1;\n  IF x < 0 THEN\n    Write(x) (* a (* b *) c *)\n  END;\n  WriteLn\nEND M. (* end *)\n",
+    ),
+    (
+        " \r\n(* 😀 *)(* two *)\r\nMODULE M;VAR x:INTEGER;\r(* own line *)BEGIN x := (\r (* inside\r\n*) 1) (* behind *) ;\n\n(* before END *)END M.\n\n (* last *)",
+        Indent::Spaces(2),
+        "(* 😀 *) (* two *)\nMODULE M;\nVAR\n  x: INTEGER;\n(* own line *)\nBEGIN\n  x := (\n  (* inside\r\n*) 1) (* behind *) ;\n(* before END *)\nEND M.\n(* last *)\n",
+    ),
+    (
+        "MODULE M;CONST a=1;b=-a;TYPE T=RECORD x,y:INTEGER END;PROCEDURE P(VAR t:T;n:INTEGER);BEGIN t.x:=-n+t.y;WHILE ~(n=0)DO P(t,n-1)END END P;END M.",
+        Indent::Tab,
+        "MODULE M;\nCONST\n\ta = 1;\n\tb = -a;\nTYPE\n\tT = RECORD x, y: INTEGER END;\n\tPROCEDURE P(VAR t: T; n: INTEGER);\n\tBEGIN\n\t\tt.x := -n + t.y;\n\t\tWHILE ~(n = 0) DO\n\t\t\tP(t, n - 1)\n\t\tEND\n\tEND P;\nEND M.\n",
+    ),
+    (
+        "MODULE M; BEGIN ; WriteLn; END M.",
+        Indent::Spaces(2),
+        "MODULE M;\nBEGIN;\n  WriteLn;\nEND M.\n",
+    ),
+    (
+        "MODULE M;\nVAR n: INTEGER;\nBEGIN Read(n); REPEAT Write(n); n := n - 1 UNTIL n <= 0 END M.",
+        Indent::Spaces(2),
+        "MODULE M;\nVAR\n  n: INTEGER;\nBEGIN\n  Read(n);\n  REPEAT\n    Write(n);\n    n := n - 1\n  UNTIL n <= 0\nEND M.\n",
+    ),
+    (
+        "MODULE M;VAR a:ARRAY 2 OF INTEGER;PROCEDURE A;PROCEDURE B();END B;BEGIN IF a[0]=1 THEN B() ELSIF a [1]=2 THEN ELSE B;WHILE TRUE DO END END END A;BEGIN A END M.",
+        Indent::Spaces(2),
+        "MODULE M;\nVAR\n  a: ARRAY 2 OF INTEGER;\n  PROCEDURE A;\n    PROCEDURE B();\n    END B;\n  BEGIN\n    IF a[0] = 1 THEN\n      B()\n    ELSIF a[1] = 2 THEN\n    ELSE\n      B;\n      WHILE TRUE DO\n      END\n    END\n  END A;\nBEGIN\n  A\nEND M.\n",
+    ),
+];
+
+#[test]
+fn texts_are_laid_out_once(rt: HostRuntime) -> Result<(), Fail> {
+    for row in LAID_OUT {
+        let (text, indent, wanted) = *row;
+        let found = said(rt.alloc(), text, &LaidOut { indent })?;
+        assert!(rt; found.as_str() == wanted, "{found}");
+        let again = said(rt.alloc(), wanted, &LaidOut { indent })?;
+        assert!(rt; again.as_str() == wanted, "{again}");
+    }
+    Ok(())
+}

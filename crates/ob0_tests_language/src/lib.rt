@@ -1,0 +1,14 @@
+//! Tests of what needs a module: syntax and faults, names, runs, edits that keep the run, layout. They ask what no contract
+//! says, and worked rows.
+#![tactic(auto)]
+
+#[cfg(test)]
+mod asking;
+#[cfg(test)]
+mod edits;
+#[cfg(test)]
+mod faults;
+#[cfg(test)]
+mod names;
+#[cfg(test)]
+mod runs;

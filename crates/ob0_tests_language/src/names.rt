@@ -1,0 +1,286 @@
+//! What is answered of the names of worked modules, and what is shown of them.
+
+ghost use Rattle.std.specs.Prelude.{⊤};
+
+use crate::asking::said;
+use ob0_analysis::Question;
+use ob0_questions::{at, definition, hover, references};
+use ob0_refs::Of;
+use ob0_scan::Span;
+use ob0_types::checked::WellTyped;
+use std::alloc::{AllocError, Global};
+use std::process::Abort;
+use std::test::Fail;
+
+/// What is said of the name at a place, by its byte.
+#[derive(Drop)]
+struct NameAt {
+    offset: usize,
+}
+
+impl Question for NameAt {
+    type Answer = String;
+
+    ghost answers = { λ _ _ _. ⊤ };
+
+    /// What it is a name of, where that is declared, where it is named, and what is shown of it.
+    fn answer(&self, alloc: Global, module: &WellTyped<'_, '_>) -> Result<String, AllocError> {
+        let mut out = String::new(alloc);
+        if let Some(found) = at(alloc, module, self.offset)? {
+            push_of(alloc, &mut out, found.of)?;
+            push_places(alloc, &mut out, module, self.offset)?;
+            push_shown(alloc, &mut out, module, self.offset)?;
+        }
+        Ok(out)
+    }
+}
+
+fn push_of(alloc: Global, out: &mut String, of: Of) -> Result<(), AllocError> {
+    let word = match of {
+        Of::Declared(ordinal) => format!(in alloc; "{ordinal}")?,
+        Of::Predeclared => String::from_str(alloc, "predeclared")?,
+        Of::Field { ordinal, index } => format!(in alloc; "{ordinal}.{index}")?,
+    };
+    out.push_str(word.as_str())
+}
+
+/// Adds where a name is declared, and where else it is named.
+fn push_places(
+    alloc: Global,
+    out: &mut String,
+    module: &WellTyped<'_, '_>,
+    offset: usize,
+) -> Result<(), AllocError> {
+    if let Some(declared) = definition(alloc, module, offset)? {
+        push_spans(alloc, out, " from", &[declared])?;
+    }
+    let named = references(alloc, module, offset, false)?;
+    push_spans(alloc, out, ", at", named.as_slice())
+}
+
+/// Adds what is shown of a name, and where.
+fn push_shown(
+    alloc: Global,
+    out: &mut String,
+    module: &WellTyped<'_, '_>,
+    offset: usize,
+) -> Result<(), AllocError> {
+    if let Some(shown) = hover(alloc, module, offset)? {
+        push_spans(alloc, out, ", shown at", &[shown.span])?;
+        let text = shown.text.as_str();
+        let text = format!(in alloc; ": {text}")?;
+        out.push_str(text.as_str())?;
+    }
+    Ok(())
+}
+
+/// Adds where spans stand.
+fn push_spans(
+    alloc: Global,
+    out: &mut String,
+    before: &str,
+    spans: &[Span],
+) -> Result<(), AllocError> {
+    out.push_str(before)?;
+    for span in spans {
+        let (start, end) = (span.start, span.end);
+        let span = format!(in alloc; " {start}-{end}")?;
+        out.push_str(span.as_str())?;
+    }
+    Ok(())
+}
+
+const RECURSIVE: &str =
+    "MODULE M;\nPROCEDURE F(n: INTEGER);\nBEGIN IF n > 0 THEN Write(n); F(n - 1) END END F;\nBEGIN F(2) END M.";
+
+const FIELDS: &str =
+    "MODULE M;\nTYPE R = RECORD a, b: INTEGER END;\nVAR r: R; s: RECORD a: INTEGER END; a: INTEGER;\nBEGIN r.a := 1; s.a := 2; a := r.a + s.a; Write(a) END M.";
+
+static ROWS: &[(&str, usize, &str)] = &[
+    (
+        RECURSIVE,
+        20,
+        "7 from 20-21, at 65-66 82-83 91-92, shown at 20-21: PROCEDURE F(n: INTEGER)",
+    ),
+    (
+        RECURSIVE,
+        21,
+        "7 from 20-21, at 65-66 82-83 91-92, shown at 20-21: PROCEDURE F(n: INTEGER)",
+    ),
+    (
+        RECURSIVE,
+        82,
+        "7 from 20-21, at 65-66 82-83 91-92, shown at 82-83: PROCEDURE F(n: INTEGER)",
+    ),
+    (
+        RECURSIVE,
+        83,
+        "7 from 20-21, at 65-66 82-83 91-92, shown at 82-83: PROCEDURE F(n: INTEGER)",
+    ),
+    (
+        RECURSIVE,
+        60,
+        "predeclared, at 55-60, shown at 55-60: predeclared Write",
+    ),
+    (RECURSIVE, 0, ""),
+    (RECURSIVE, 7, ""),
+    (RECURSIVE, 34, ""),
+    (RECURSIVE, 104, ""),
+    (
+        FIELDS,
+        26,
+        "0.0 from 26-27, at 101-102 126-127, shown at 26-27: FIELD a: INTEGER",
+    ),
+    (
+        FIELDS,
+        101,
+        "0.0 from 26-27, at 101-102 126-127, shown at 101-102: FIELD a: INTEGER",
+    ),
+    (
+        FIELDS,
+        29,
+        "0.1 from 29-30, at, shown at 29-30: FIELD b: INTEGER",
+    ),
+    (
+        FIELDS,
+        81,
+        "10 from 81-82, at 119-120 141-142, shown at 81-82: VAR a: INTEGER",
+    ),
+    (
+        FIELDS,
+        99,
+        "8 from 49-50, at 99-100 124-125, shown at 99-100: VAR r: RECORD with 2 fields",
+    ),
+];
+
+#[test]
+fn names_and_fields_are_told_of(rt: HostRuntime) -> Result<(), Fail> {
+    for row in ROWS {
+        let (text, offset, wanted) = *row;
+        let found = said(rt.alloc(), text, &NameAt { offset })?;
+        assert!(rt; found.as_str() == wanted, "{found} at {offset}");
+    }
+    Ok(())
+}
+
+/// What is shown of a module's names, a line for each identifier that something is shown of.
+#[derive(Drop)]
+struct Shown;
+
+impl Question for Shown {
+    type Answer = String;
+
+    ghost answers = { λ _ _ _. ⊤ };
+
+    fn answer(&self, alloc: Global, module: &WellTyped<'_, '_>) -> Result<String, AllocError> {
+        let mut lines = String::new(alloc);
+        let mut end = 0;
+        for token in module.resolved().tokens().tokens() {
+            if token.span.start == end {
+                continue;
+            }
+            if let Some(found) = hover(alloc, module, token.span.start)? {
+                end = token.span.end;
+                lines.push_str(found.text.as_str())?;
+                lines.push('\n')?;
+            }
+        }
+        Ok(lines)
+    }
+}
+
+const KINDS: &str =
+    "MODULE M; CONST c = -3; on = TRUE; TYPE R = RECORD x, y: BOOLEAN END; A = ARRAY 2 OF R; VAR a: ARRAY 3 OF A; r: R; PROCEDURE P(a, b: A; VAR c: BOOLEAN); VAR r: INTEGER; BEGIN r := 1; c := a[0].x END P; PROCEDURE Q; BEGIN r.x := on; P(a[0], a[c + 3], r.x) END Q; BEGIN Q END M.";
+
+const KINDS_SHOWN: &str = "CONST c = -3
+CONST on = TRUE
+predeclared TRUE
+TYPE R = RECORD with 2 fields
+FIELD x: BOOLEAN
+FIELD y: BOOLEAN
+predeclared BOOLEAN
+TYPE A = ARRAY 2 OF RECORD with 2 fields
+TYPE R = RECORD with 2 fields
+VAR a: ARRAY 3 OF ARRAY 2 OF RECORD with 2 fields
+TYPE A = ARRAY 2 OF RECORD with 2 fields
+VAR r: RECORD with 2 fields
+TYPE R = RECORD with 2 fields
+PROCEDURE P(a: ARRAY 2 OF RECORD with 2 fields; b: ARRAY 2 OF RECORD with 2 fields; VAR c: BOOLEAN)
+VAR a: ARRAY 2 OF RECORD with 2 fields
+VAR b: ARRAY 2 OF RECORD with 2 fields
+TYPE A = ARRAY 2 OF RECORD with 2 fields
+VAR c: BOOLEAN
+predeclared BOOLEAN
+VAR r: INTEGER
+predeclared INTEGER
+VAR r: INTEGER
+VAR c: BOOLEAN
+VAR a: ARRAY 2 OF RECORD with 2 fields
+FIELD x: BOOLEAN
+PROCEDURE P(a: ARRAY 2 OF RECORD with 2 fields; b: ARRAY 2 OF RECORD with 2 fields; VAR c: BOOLEAN)
+PROCEDURE Q()
+VAR r: RECORD with 2 fields
+FIELD x: BOOLEAN
+CONST on = TRUE
+PROCEDURE P(a: ARRAY 2 OF RECORD with 2 fields; b: ARRAY 2 OF RECORD with 2 fields; VAR c: BOOLEAN)
+VAR a: ARRAY 3 OF ARRAY 2 OF RECORD with 2 fields
+VAR a: ARRAY 3 OF ARRAY 2 OF RECORD with 2 fields
+CONST c = -3
+VAR r: RECORD with 2 fields
+FIELD x: BOOLEAN
+PROCEDURE Q()
+PROCEDURE Q()
+";
+
+// Records within arrays, records and parameters, and a type that is declared anew.
+const PARTS: &str =
+    "MODULE M; TYPE A = ARRAY 2 OF RECORD x: BOOLEAN END; PROCEDURE P(VAR p, q: RECORD x: A; y, z: RECORD x: INTEGER END END); TYPE A = INTEGER; VAR v: RECORD x: A END; BEGIN p.y.x := v.x END P; END M.";
+
+const PARTS_SHOWN: &str = "TYPE A = ARRAY 2 OF RECORD with 1 fields
+FIELD x: BOOLEAN
+predeclared BOOLEAN
+PROCEDURE P(VAR p: RECORD with 3 fields; VAR q: RECORD with 3 fields)
+VAR p: RECORD with 3 fields
+VAR q: RECORD with 3 fields
+FIELD x: ARRAY 2 OF RECORD with 1 fields
+TYPE A = ARRAY 2 OF RECORD with 1 fields
+FIELD y: RECORD with 1 fields
+FIELD z: RECORD with 1 fields
+FIELD x: INTEGER
+predeclared INTEGER
+TYPE A = INTEGER
+predeclared INTEGER
+VAR v: RECORD with 1 fields
+FIELD x: INTEGER
+TYPE A = INTEGER
+VAR p: RECORD with 3 fields
+FIELD y: RECORD with 1 fields
+FIELD x: INTEGER
+VAR v: RECORD with 1 fields
+FIELD x: INTEGER
+PROCEDURE P(VAR p: RECORD with 3 fields; VAR q: RECORD with 3 fields)
+";
+
+static SHOWN: &[(&str, &str)] = &[(KINDS, KINDS_SHOWN), (PARTS, PARTS_SHOWN)];
+
+#[test]
+fn each_kind_of_name_is_shown(rt: HostRuntime) -> Result<(), Fail> {
+    for row in SHOWN {
+        let (text, wanted) = *row;
+        let found = said(rt.alloc(), text, &Shown)?;
+        assert!(rt; found.as_str() == wanted, "{found}");
+    }
+    Ok(())
+}
+
+// To be run with each allocation refused in turn.
+#[test]
+fn a_refused_allocation_changes_no_answer(rt: HostRuntime) {
+    for row in SHOWN {
+        let (text, wanted) = *row;
+        match said(rt.alloc(), text, &Shown) {
+            Ok(found) => assert!(rt; found.as_str() == wanted, "{found}"),
+            Err(_refused) => {}
+        }
+    }
+}

@@ -1,0 +1,193 @@
+//! What worked modules put out, and how they end.
+
+ghost use Rattle.std.specs.Prelude.{⊤};
+
+use crate::asking::said;
+use ob0_analysis::Question;
+use ob0_run::running::{End, run};
+use ob0_run::state::Item;
+use ob0_types::checked::WellTyped;
+use std::alloc::{AllocError, Global};
+use std::process::Abort;
+use std::test::Fail;
+
+/// What a run puts out, a line as `/`, and how it ends.
+#[derive(Drop)]
+struct RunOf<'a> {
+    input: &'a [i32],
+    calls: u32,
+    turns: u32,
+}
+
+impl<'a> Question for RunOf<'a> {
+    type Answer = String;
+
+    ghost answers = { λ _ _ _. ⊤ };
+
+    fn answer(&self, alloc: Global, module: &WellTyped<'_, '_>) -> Result<String, AllocError> {
+        let outcome = run(alloc, module, self.input, self.calls, self.turns)?;
+        shown(alloc, outcome.output.as_slice(), outcome.end)
+    }
+}
+
+fn shown(alloc: Global, output: &[Item], end: End) -> Result<String, AllocError> {
+    let mut out = String::new(alloc);
+    for item in output {
+        push_item(alloc, &mut out, *item)?;
+    }
+    out.push_str("; ")?;
+    out.push_str(name_of(end))?;
+    Ok(out)
+}
+
+fn push_item(alloc: Global, out: &mut String, item: Item) -> Result<(), AllocError> {
+    match item {
+        Item::Number(number) => {
+            let digits = format!(in alloc; " {number}")?;
+            out.push_str(digits.as_str())
+        }
+        Item::Line => out.push('/'),
+    }
+}
+
+fn name_of(end: End) -> &'static str {
+    match end {
+        End::Done => "Done",
+        End::Overflow => "Overflow",
+        End::Divisor => "Divisor",
+        End::Index => "Index",
+        End::InputEnd => "InputEnd",
+        End::CallBound => "CallBound",
+        End::TurnBound => "TurnBound",
+    }
+}
+
+const SHADOWED: &str =
+    "MODULE M;\nVAR Q: INTEGER;\nPROCEDURE A;\nPROCEDURE P; BEGIN Q := 7 END P;\nPROCEDURE R; BEGIN Write(2) END R;\nBEGIN P; R END A;\nBEGIN A; Write(Q) END M.";
+
+const RECURSIVE: &str =
+    "MODULE M;\nPROCEDURE F(n: INTEGER);\nBEGIN IF n > 0 THEN Write(n); F(n - 1) END END F;\nBEGIN F(2) END M.";
+
+const WHILE: &str =
+    "MODULE M;\nVAR n: INTEGER;\nPROCEDURE P; BEGIN Write(n) END P;\nBEGIN Read(n); WHILE n > 0 DO n := n - 1; WriteLn END; P END M.";
+
+const REPEAT: &str =
+    "MODULE M;\nVAR n: INTEGER;\nBEGIN Read(n); REPEAT Write(n); n := n - 1 UNTIL n <= 0 END M.";
+
+const ALIASES: &str =
+    "MODULE M;\nVAR a: ARRAY 2 OF INTEGER; i: INTEGER;\nPROCEDURE S(VAR p: INTEGER; q: INTEGER; VAR r: INTEGER);\nBEGIN i := 1; p := q + 1; r := p * 10; Write(q) END S;\nBEGIN i := 0; S(a[i], a[i], a[i]); Write(a[0]); Write(a[1]); S(i, i, i); Write(i); a[i] := 0 END M.";
+
+const ACTIVATIONS: &str =
+    "MODULE M;\nPROCEDURE P(n: INTEGER);\nVAR k: INTEGER;\nPROCEDURE Q; BEGIN k := k + n END Q;\nBEGIN IF n > 0 THEN P(n - 1) END; Q; Q; Write(k) END P;\nBEGIN P(2) END M.";
+
+const RECORDS: &str =
+    "MODULE M;\nTYPE P = RECORD x, y: INTEGER; on: BOOLEAN END;\nVAR p, q: P; ps: ARRAY 2 OF P;\nPROCEDURE Set(VAR r: P; s: P); BEGIN r.x := 5; Write(s.x); s.x := 9 END Set;\nBEGIN p.x := 1; q := p; q.x := 2; Set(p, p); Write(p.x); Write(q.x); ps[1] := p; Write(ps[1].x + ps[0].y); IF ~ps[0].on THEN WriteLn END END M.";
+
+/// A text, its input, how many calls may be open and how many turns a loop may make, and what is shown.
+static ROWS: &[(&str, &[i32], u32, u32, &str)] = &[
+    (
+        "MODULE M; BEGIN Write(-7 DIV 3); Write((-7) DIV 3); Write((-7) MOD 3); Write(1 MOD 0) END M.",
+        &[],
+        64,
+        100_000,
+        " -2 -3 2; Divisor",
+    ),
+    (
+        "MODULE M; BEGIN Write(7 MOD (-2)) END M.",
+        &[],
+        0,
+        0,
+        "; Divisor",
+    ),
+    (
+        "MODULE M; BEGIN Write(2147483647); Write(2147483647 + 1) END M.",
+        &[],
+        0,
+        0,
+        " 2147483647; Overflow",
+    ),
+    (
+        "MODULE M; BEGIN Write(-(-2147483647 - 1)) END M.",
+        &[],
+        0,
+        0,
+        "; Overflow",
+    ),
+    (
+        "MODULE M;\nVAR x: INTEGER;\nPROCEDURE P;\nVAR y: INTEGER;\nBEGIN y := 1; x := y END P;\nBEGIN P; Write(x) END M.",
+        &[],
+        1,
+        0,
+        " 1; Done",
+    ),
+    (SHADOWED, &[], 64, 0, " 2 7; Done"),
+    (SHADOWED, &[], 1, 0, "; CallBound"),
+    (RECURSIVE, &[], 3, 0, " 2 1; Done"),
+    (RECURSIVE, &[], 2, 0, " 2 1; CallBound"),
+    (
+        "MODULE M; PROCEDURE P; BEGIN Write(1) END P; BEGIN P; P; P END M.",
+        &[],
+        1,
+        0,
+        " 1 1 1; Done",
+    ),
+    (
+        "MODULE M;\nCONST c = -2147483647 - 1;\nVAR x: INTEGER;\nBEGIN x := 0 + c; Write(x) END M.",
+        &[],
+        0,
+        0,
+        " -2147483648; Done",
+    ),
+    (
+        "MODULE M; CONST n = 3; m = n * 2; TYPE T = ARRAY m OF INTEGER; VAR a: T; BEGIN a[m - 1] := n; Write(a[5]); IF TRUE & (m = 6) THEN Write(m) END END M.",
+        &[],
+        0,
+        0,
+        " 3 6; Done",
+    ),
+    (WHILE, &[], 64, 100_000, "; InputEnd"),
+    (WHILE, &[7], 0, 3, "///; TurnBound"),
+    (WHILE, &[2], 0, 3, "//; CallBound"),
+    (WHILE, &[2], 1, 3, "// 0; Done"),
+    (REPEAT, &[0], 0, 0, " 0; Done"),
+    (REPEAT, &[2], 0, 0, " 2; TurnBound"),
+    (REPEAT, &[2], 0, 1, " 2; TurnBound"),
+    (REPEAT, &[2], 0, 2, " 2 1; Done"),
+    (ALIASES, &[], 1, 0, " 0 10 0 1 20; Index"),
+    (ALIASES, &[], 0, 0, "; CallBound"),
+    (ACTIVATIONS, &[], 4, 0, " 0 2 4; Done"),
+    (ACTIVATIONS, &[], 3, 0, "; CallBound"),
+    (RECORDS, &[], 1, 0, " 1 5 2 5/; Done"),
+];
+
+#[test]
+fn worked_modules_are_run(rt: HostRuntime) -> Result<(), Fail> {
+    for row in ROWS {
+        let (text, input, calls, turns, wanted) = *row;
+        let question = RunOf {
+            input,
+            calls,
+            turns,
+        };
+        let found = said(rt.alloc(), text, &question)?;
+        assert!(rt; found.as_str() == wanted, "{found} by {text}");
+    }
+    Ok(())
+}
+
+// To be run with each allocation refused in turn.
+#[test]
+fn a_refused_allocation_changes_no_run(rt: HostRuntime) {
+    for row in ROWS {
+        let (text, input, calls, turns, wanted) = *row;
+        let question = RunOf {
+            input,
+            calls,
+            turns,
+        };
+        match said(rt.alloc(), text, &question) {
+            Ok(found) => assert!(rt; found.as_str() == wanted, "{found} by {text}"),
+            Err(_refused) => {}
+        }
+    }
+}

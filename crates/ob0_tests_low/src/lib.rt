@@ -1,0 +1,13 @@
+//! Tests of the low layers: streams, texts, lexemes, numbers and messages. They ask what no contract says, and worked rows.
+#![tactic(auto)]
+
+#[cfg(test)]
+mod frame;
+#[cfg(test)]
+mod rpc;
+#[cfg(test)]
+mod scan;
+#[cfg(test)]
+mod text;
+#[cfg(test)]
+mod values;

@@ -1,0 +1,276 @@
+//! Messages from outside: what they mean, and which are none; and the bytes of answers.
+
+use ob0_rpc::{Call, Client, Id, Incoming, RpcFault, error, notification, read, request, result};
+use ob0_text::Indent;
+use serde_json::Value;
+use std::alloc::{AllocError, Global};
+use std::process::Abort;
+
+/// In a word what a content is.
+fn kind_of(alloc: Global, content: &str) -> &'static str {
+    match read(alloc, content.as_bytes()) {
+        Ok(Incoming::Request(Id::Unsigned(u64::MAX), _, Value::Null)) => "greatest request",
+        Ok(Incoming::Request(_, _, _)) => "request",
+        Ok(Incoming::Notice(_, _)) => "notice",
+        Ok(Incoming::Ignored) => "ignored",
+        Err(fault) => fault.text(),
+    }
+}
+
+static CONTENTS: &[(&str, &str)] = &[
+    ("", "not JSON"),
+    ("{", "not JSON"),
+    ("[]", "not a message"),
+    ("{}", "not a message"),
+    ("{\"method\":null}", "not a message"),
+    ("{\"id\":null,\"method\":\"m\"}", "not a message"),
+    ("{\"id\":1.5,\"method\":\"m\"}", "not a message"),
+    ("{\"id\":-0,\"method\":\"m\"}", "not a message"),
+    ("{\"id\":1e2,\"method\":\"m\"}", "not a message"),
+    (
+        "{\"id\":18446744073709551616,\"method\":\"m\"}",
+        "not a message",
+    ),
+    (
+        "{\"id\":18446744073709551615,\"method\":\"m\"}",
+        "greatest request",
+    ),
+    ("{\"id\":\"\",\"method\":\"m\"}", "request"),
+    ("{\"method\":\"m\",\"params\":[]}", "notice"),
+    ("{\"error\":{},\"id\":1}", "ignored"),
+];
+
+#[test]
+fn contents_are_told_apart(rt: HostRuntime) {
+    for row in CONTENTS {
+        let (content, kind) = *row;
+        assert!(rt; kind_of(rt.alloc(), content) == kind, "{content}");
+    }
+}
+
+const NOTHING: Client = Client {
+    counts_utf8: false,
+    prepares_renames: false,
+    takes_literal_actions: false,
+    takes_document_changes: false,
+};
+
+const EVERYTHING: Client = Client {
+    counts_utf8: true,
+    prepares_renames: true,
+    takes_literal_actions: true,
+    takes_document_changes: true,
+};
+
+fn said_of(client: Client) -> &'static str {
+    if client == NOTHING {
+        "of a client that can nothing"
+    } else if client == EVERYTHING {
+        "of a client that can everything"
+    } else {
+        "of a client that can something"
+    }
+}
+
+fn said_by(indent: Indent) -> &'static str {
+    match indent {
+        Indent::Tab => "layout by tabs",
+        Indent::Spaces(1) => "layout by 1",
+        Indent::Spaces(4) => "layout by 4",
+        Indent::Spaces(16) => "layout by 16",
+        Indent::Spaces(_) => "layout by more",
+    }
+}
+
+/// In a word what a call asks for.
+fn word_of(call: &Call) -> &'static str {
+    match call {
+        Call::Initialize(client) => said_of(*client),
+        Call::Shutdown => "shutdown",
+        Call::Hover(_place) => "hover",
+        Call::Definition(_place) => "definition",
+        Call::References {
+            place: _place,
+            include_declaration,
+        } => {
+            if *include_declaration {
+                "references and the declaration"
+            } else {
+                "references"
+            }
+        }
+        Call::PrepareRename(_place) => "prepare a rename",
+        Call::Rename {
+            place: _place,
+            new_name: _name,
+        } => "rename",
+        Call::CodeAction {
+            uri: _uri,
+            range: _range,
+            only,
+        } => match only {
+            None => "actions",
+            Some(kinds) => {
+                if kinds.len() == 2 {
+                    "actions of two kinds"
+                } else {
+                    "actions of other kinds"
+                }
+            }
+        },
+        Call::Formatting { uri: _uri, indent } => said_by(*indent),
+    }
+}
+
+/// In a word what a request asks for.
+fn asked(alloc: Global, method: &str, params: &str) -> &'static str {
+    match Value::from_str(alloc, params) {
+        Ok(params) => match request(alloc, method, &params) {
+            Ok(call) => word_of(&call),
+            Err(fault) => fault.text(),
+        },
+        Err(_) => "no value",
+    }
+}
+
+const PLACE: &str = "{\"position\":{\"character\":2,\"line\":1},\"textDocument\":{\"uri\":\"u\"}}";
+
+static REQUESTS: &[(&str, &str, &str)] = &[
+    ("initialize", "null", "bad params"),
+    ("initialize", "{}", "of a client that can nothing"),
+    (
+        "initialize",
+        "{\"capabilities\":7}",
+        "of a client that can nothing",
+    ),
+    (
+        "initialize",
+        "{\"capabilities\":{\"general\":{\"positionEncodings\":[\"utf-32\"]},\"textDocument\":{\"codeAction\":{\"codeActionLiteralSupport\":true},\"rename\":{\"prepareSupport\":1}}}}",
+        "of a client that can nothing",
+    ),
+    (
+        "initialize",
+        "{\"capabilities\":{\"general\":{\"positionEncodings\":[null,\"utf-8\"]},\"textDocument\":{\"codeAction\":{\"codeActionLiteralSupport\":{}},\"rename\":{\"prepareSupport\":true}},\"workspace\":{\"workspaceEdit\":{\"documentChanges\":true}}}}",
+        "of a client that can everything",
+    ),
+    ("shutdown", "null", "shutdown"),
+    ("exit", "{}", "unknown method"),
+    ("textDocument/hover", PLACE, "hover"),
+    ("textDocument/definition", PLACE, "definition"),
+    ("textDocument/prepareRename", PLACE, "prepare a rename"),
+    ("textDocument/hover", "{}", "bad params"),
+    (
+        "textDocument/hover",
+        "{\"position\":{\"character\":1.0,\"line\":0},\"textDocument\":{\"uri\":\"u\"}}",
+        "bad params",
+    ),
+    (
+        "textDocument/hover",
+        "{\"position\":{\"character\":0,\"line\":-1},\"textDocument\":{\"uri\":\"u\"}}",
+        "bad params",
+    ),
+    (
+        "textDocument/hover",
+        "{\"position\":{\"character\":-0,\"line\":0},\"textDocument\":{\"uri\":\"u\"}}",
+        "bad params",
+    ),
+    (
+        "textDocument/hover",
+        "{\"position\":{\"character\":0,\"line\":18446744073709551616},\"textDocument\":{\"uri\":\"u\"}}",
+        "bad params",
+    ),
+    (
+        "textDocument/references",
+        "{\"context\":{\"includeDeclaration\":true},\"position\":{\"character\":0,\"line\":18446744073709551615},\"textDocument\":{\"uri\":\"u\"}}",
+        "references and the declaration",
+    ),
+    ("textDocument/references", PLACE, "bad params"),
+    (
+        "textDocument/rename",
+        "{\"newName\":\"x\",\"position\":{\"character\":0,\"line\":0},\"textDocument\":{\"uri\":\"u\"}}",
+        "rename",
+    ),
+    ("textDocument/rename", PLACE, "bad params"),
+    (
+        "textDocument/codeAction",
+        "{\"range\":{\"end\":{\"character\":0,\"line\":0},\"start\":{\"character\":0,\"line\":0}},\"textDocument\":{\"uri\":\"u\"}}",
+        "bad params",
+    ),
+    (
+        "textDocument/codeAction",
+        "{\"context\":{\"only\":[null]},\"range\":{\"end\":{\"character\":0,\"line\":0},\"start\":{\"character\":0,\"line\":0}},\"textDocument\":{\"uri\":\"u\"}}",
+        "bad params",
+    ),
+    (
+        "textDocument/codeAction",
+        "{\"context\":{\"only\":null},\"range\":{\"end\":{\"character\":0,\"line\":0},\"start\":{\"character\":0,\"line\":0}},\"textDocument\":{\"uri\":\"u\"}}",
+        "actions",
+    ),
+    (
+        "textDocument/codeAction",
+        "{\"context\":{\"only\":[\"\",\"refactor\"]},\"range\":{\"end\":{\"character\":0,\"line\":0},\"start\":{\"character\":0,\"line\":0}},\"textDocument\":{\"uri\":\"u\"}}",
+        "actions of two kinds",
+    ),
+    (
+        "textDocument/formatting",
+        "{\"options\":{\"insertSpaces\":true,\"tabSize\":0},\"textDocument\":{\"uri\":\"u\"}}",
+        "layout by 1",
+    ),
+    (
+        "textDocument/formatting",
+        "{\"options\":{\"insertSpaces\":true,\"tabSize\":4},\"textDocument\":{\"uri\":\"u\"}}",
+        "layout by 4",
+    ),
+    (
+        "textDocument/formatting",
+        "{\"options\":{\"insertSpaces\":true,\"tabSize\":18446744073709551615},\"textDocument\":{\"uri\":\"u\"}}",
+        "layout by 16",
+    ),
+    (
+        "textDocument/formatting",
+        "{\"options\":{\"insertSpaces\":false,\"tabSize\":4},\"textDocument\":{\"uri\":\"u\"}}",
+        "layout by tabs",
+    ),
+    (
+        "textDocument/formatting",
+        "{\"options\":{\"insertSpaces\":true,\"tabSize\":-1},\"textDocument\":{\"uri\":\"u\"}}",
+        "bad params",
+    ),
+];
+
+#[test]
+fn requests_are_told_apart(rt: HostRuntime) {
+    for row in REQUESTS {
+        let (method, params, word) = *row;
+        assert!(rt;
+            asked(rt.alloc(), method, params) == word,
+            "{method} {params}"
+        );
+    }
+}
+
+fn is_written(written: Result<Vec<u8>, AllocError>, wanted: &str) -> bool {
+    match written {
+        Ok(written) => written.as_slice() == wanted.as_bytes(),
+        Err(_refused) => false,
+    }
+}
+
+#[test]
+fn answers_are_written(rt: HostRuntime) {
+    let answer = result(rt.alloc(), &Id::Signed(-7), Value::Null);
+    let wanted = "{\"id\":-7,\"jsonrpc\":\"2.0\",\"result\":null}";
+    assert!(rt; is_written(answer, wanted));
+    let refusal = error(
+        rt.alloc(),
+        None,
+        RpcFault::NotJson.code(),
+        RpcFault::NotJson.text(),
+    );
+    let wanted =
+        "{\"error\":{\"code\":-32700,\"message\":\"not JSON\"},\"id\":null,\"jsonrpc\":\"2.0\"}";
+    assert!(rt; is_written(refusal, wanted));
+    let note = notification(rt.alloc(), "m", Value::Null);
+    let wanted = "{\"jsonrpc\":\"2.0\",\"method\":\"m\",\"params\":null}";
+    assert!(rt; is_written(note, wanted));
+}

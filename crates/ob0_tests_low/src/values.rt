@@ -1,0 +1,52 @@
+//! Worked rows of numbers and truth values.
+
+use ob0_tree::tree::{AddOperator, MultiplyOperator, Relation, Sign};
+use ob0_values::scalar::{Fault, Scalar, add, multiply, negated, relate, signed};
+use std::process::Abort;
+
+fn number(number: i32) -> Scalar {
+    Scalar::Number(number)
+}
+
+const DIVIDE: MultiplyOperator = MultiplyOperator::Divide;
+
+const MODULO: MultiplyOperator = MultiplyOperator::Modulo;
+
+static PRODUCTS: &[(MultiplyOperator, i32, i32, Result<Scalar, Fault>)] = &[
+    (DIVIDE, -7, 3, Ok(Scalar::Number(-3))),
+    (MODULO, -7, 3, Ok(Scalar::Number(2))),
+    (MODULO, 1, 0, Err(Fault::Divisor)),
+    (DIVIDE, 1, -7, Err(Fault::Divisor)),
+];
+
+const ADD: AddOperator = AddOperator::Add;
+
+const SUBTRACT: AddOperator = AddOperator::Subtract;
+
+static SUMS: &[(AddOperator, i32, i32, Result<Scalar, Fault>)] = &[
+    (ADD, i32::MAX, 1, Err(Fault::Overflow)),
+    (SUBTRACT, i32::MIN, 1, Err(Fault::Overflow)),
+    (SUBTRACT, -2147483647, 1, Ok(Scalar::Number(i32::MIN))),
+];
+
+const YES: Scalar = Scalar::Truth(true);
+
+const NO: Scalar = Scalar::Truth(false);
+
+#[test]
+fn numbers_and_truth_values_are_reckoned_with(rt: HostRuntime) {
+    for row in PRODUCTS {
+        let (operator, left, right, wanted) = *row;
+        let found = multiply(operator, number(left), number(right));
+        assert!(rt; found == wanted, "{left} and {right}");
+    }
+    for row in SUMS {
+        let (operator, left, right, wanted) = *row;
+        let found = add(operator, number(left), number(right));
+        assert!(rt; found == wanted, "{left} and {right}");
+    }
+    assert!(rt; signed(Some(Sign::Minus), number(i32::MIN)) == Err(Fault::Overflow));
+    assert!(rt; add(AddOperator::Or, NO, YES) == Ok(YES) && negated(YES) == Ok(NO));
+    assert!(rt; relate(Relation::NotEqual, YES, NO) == Ok(YES));
+    assert!(rt; relate(Relation::Less, YES, NO) == Err(Fault::Operand));
+}

@@ -1,0 +1,211 @@
+//! Worlds as tables: what happens and what is seen of it, and what has come of it all.
+
+ghost use Rattle.std.specs.Prelude.{◌<◌, ◌^◌, ◌-◌, length};
+
+use ob0_text::{Change, Indent, Position, Range, Unit, Whole};
+use ob0_world::{Ask, Event, Played, Seen, World};
+use std::alloc::{AllocError, Global};
+
+/// One event, about the document `u`.
+#[derive(Clone, Copy)]
+pub enum Act {
+    Open(&'static str),
+    /// A change with no changes in it.
+    Touch,
+    /// Another text in place of what is at these characters of a line.
+    Write(u64, u64, u64, &'static str),
+    Close,
+    Rename(u64, u64, &'static str),
+    InlineHere(u64, u64),
+    InlineAll(u64, u64),
+    /// With two spaces a level.
+    Format,
+    Serve,
+    Take,
+    Apply(u64),
+    Discard(u64),
+}
+
+/// What is seen of an event.
+#[derive(Clone, Copy, PartialEq, Eq)]
+pub enum Sight {
+    Nothing,
+    Sent,
+    /// The server took a message, and sent so many.
+    Served(usize),
+    /// The editor took diagnostics, of a well-typed text or of another.
+    Published(bool),
+    /// The editor took the answer to an ask, with edits or without.
+    Answered(u64, bool),
+    Applied(u64),
+    Dropped(u64),
+}
+
+/// A text before an edit was applied, and after.
+#[derive(Clone, Copy)]
+pub struct Edited {
+    pub before: &'static str,
+    pub after: &'static str,
+}
+
+/// A publication with a version, for a text.
+#[derive(Clone, Copy)]
+pub struct Published {
+    pub version: i64,
+    pub text: &'static str,
+    pub empty: bool,
+}
+
+/// What happens, and what has come of it in the end.
+pub struct Story {
+    pub name: &'static str,
+    /// Each event, and what is to be seen of it.
+    pub moments: &'static [(Act, Sight)],
+    pub applied: &'static [Edited],
+    pub made: &'static [Published],
+}
+
+fn at(line: u64, character: u64) -> Position {
+    Position { line, character }
+}
+
+fn named(alloc: Global) -> Result<String, AllocError> {
+    String::from_str(alloc, "u")
+}
+
+/// Another text in place of what is at these characters of a line.
+fn changes(
+    alloc: Global,
+    line: u64,
+    start: u64,
+    end: u64,
+    text: &str,
+) -> Result<Vec<Change>, AllocError> {
+    let range = Range {
+        start: at(line, start),
+        end: at(line, end),
+    };
+    let text = String::from_str(alloc, text)?;
+    let mut changes = Vec::new(alloc);
+    changes.push(Change {
+        range: Some(range),
+        text,
+    })?;
+    Ok(changes)
+}
+
+fn event_of(alloc: Global, act: Act) -> Result<Event, AllocError> {
+    match act {
+        Act::Open(text) => Ok(Event::OpenDoc {
+            uri: named(alloc)?,
+            text: String::from_str(alloc, text)?,
+        }),
+        Act::Touch => Ok(Event::ChangeDoc {
+            uri: named(alloc)?,
+            changes: Vec::new(alloc),
+        }),
+        Act::Write(line, start, end, text) => Ok(Event::ChangeDoc {
+            uri: named(alloc)?,
+            changes: changes(alloc, line, start, end, text)?,
+        }),
+        Act::Close => Ok(Event::CloseDoc { uri: named(alloc)? }),
+        Act::Serve => Ok(Event::Serve),
+        Act::Take => Ok(Event::Take),
+        Act::Apply(k) => Ok(Event::Apply { k }),
+        Act::Discard(k) => Ok(Event::Discard { k }),
+        asking => Ok(Event::Ask {
+            uri: named(alloc)?,
+            ask: ask_of(alloc, asking)?,
+        }),
+    }
+}
+
+/// What the other acts ask of the server.
+fn ask_of(alloc: Global, act: Act) -> Result<Ask, AllocError> {
+    match act {
+        Act::Rename(line, character, name) => Ok(Ask::Rename {
+            position: at(line, character),
+            name: String::from_str(alloc, name)?,
+        }),
+        Act::InlineHere(line, character) => Ok(Ask::InlineHere {
+            position: at(line, character),
+        }),
+        Act::InlineAll(line, character) => Ok(Ask::InlineAll {
+            position: at(line, character),
+        }),
+        _ => Ok(Ask::Format {
+            indent: Indent::Spaces(2),
+        }),
+    }
+}
+
+fn sight_of(seen: &Seen) -> Sight {
+    match seen {
+        Seen::Nothing => Sight::Nothing,
+        Seen::Sent => Sight::Sent,
+        Seen::Served(count) => Sight::Served(*count),
+        Seen::Published { uri: _uri, empty } => Sight::Published(*empty),
+        Seen::Answered { k, edits } => Sight::Answered(*k, *edits),
+        Seen::Applied { k } => Sight::Applied(*k),
+        Seen::Dropped { k } => Sight::Dropped(*k),
+    }
+}
+
+/// Whether each event shows what it is to show.
+pub fn is_seen(alloc: Global, unit: Unit, story: &Story) -> Result<bool, AllocError> {
+    let Ok(mut world) = World::<Whole>::new_in(alloc, unit) else {
+        return Err(AllocError);
+    };
+    for moment in story.moments {
+        let (act, wanted) = *moment;
+        let event = event_of(alloc, act)?;
+        if world.steps() > 1_000_000 {
+            return Ok(false);
+        }
+        match world.step(&event) {
+            Ok(seen) => {
+                if sight_of(&seen) != wanted {
+                    return Ok(false);
+                }
+            }
+            Err(_fault) => return Err(AllocError),
+        }
+    }
+    Ok(true)
+}
+
+/// What comes of a list of events; where no unit is named, positions are in UTF-16 units.
+fn played(alloc: Global, unit: Unit, events: &[Event]) -> Option<Played>
+    requires { length events.now < 2 ^ 63 - 1 }
+{
+    match unit {
+        Unit::Utf16 => World::<Whole>::play(alloc, events).ok(),
+        Unit::Utf8 => World::<Whole>::play_in(alloc, unit, events).ok(),
+    }
+}
+
+/// Whether all events together leave what they are to leave.
+pub fn has_come(alloc: Global, unit: Unit, story: &Story) -> Result<bool, AllocError> {
+    let mut events = Vec::new(alloc);
+    for moment in story.moments {
+        let (act, _seen) = *moment;
+        events.push(event_of(alloc, act)?)?;
+    }
+    match played(alloc, unit, events.as_slice()) {
+        Some(played) => Ok(is_right(story, &played)),
+        None => Err(AllocError),
+    }
+}
+
+fn is_right(story: &Story, played: &Played) -> bool {
+    played.applied.len() == story.applied.len()
+        && played.made.len() == story.made.len()
+        && played.applied.iter().zip(story.applied).all(|(applied, wanted)| {
+            applied.before.as_str() == wanted.before && applied.after.as_str() == wanted.after
+        })
+        && played.made.iter().zip(story.made).all(|(made, wanted)| {
+            made.version == wanted.version
+                && made.text.as_str() == wanted.text
+                && made.empty == wanted.empty
+        })
+}

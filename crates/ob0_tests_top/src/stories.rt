@@ -1,0 +1,547 @@
+//! What happens in worlds of an editor and a server: names, constants, layouts, and answers that are dropped.
+
+use crate::acts::{Act, Edited, Published, Sight, Story};
+use ob0_text::Unit;
+
+const COUNTS: &str =
+    "MODULE M;\nVAR n: INTEGER;\nPROCEDURE P; BEGIN Write(n) END P;\nBEGIN Read(n); WHILE n > 0 DO n := n - 1; WriteLn END; P END M.\n";
+
+const RENAMED: &str =
+    "MODULE M;\nVAR k: INTEGER;\nPROCEDURE P; BEGIN Write(k) END P;\nBEGIN Read(k); WHILE k > 0 DO k := k - 1; WriteLn END; P END M.\n";
+
+const LAID_OUT: &str =
+    "MODULE M;\nVAR\n  n: INTEGER;\n  PROCEDURE P;\n  BEGIN\n    Write(n)\n  END P;\nBEGIN\n  Read(n);\n  WHILE n > 0 DO\n    n := n - 1;\n    WriteLn\n  END;\n  P\nEND M.\n";
+
+const FIELDS: &str =
+    "MODULE M;\nTYPE R = RECORD a, b: INTEGER END;\nVAR r: R; s: RECORD a: INTEGER END; a: INTEGER;\nBEGIN r.a := 1; s.a := 2; a := r.a + s.a; Write(a) END M.\n";
+
+const FIELD_RENAMED: &str =
+    "MODULE M;\nTYPE R = RECORD r, b: INTEGER END;\nVAR r: R; s: RECORD a: INTEGER END; a: INTEGER;\nBEGIN r.r := 1; s.a := 2; a := r.r + s.a; Write(a) END M.\n";
+
+/// No module: the full stop is missing.
+const FAULTY_TEXT: &str = "MODULE M; END M";
+
+const NAME: Act = Act::Rename(1, 4, "k");
+
+const LEAST: &str =
+    "MODULE M;\nCONST c = -2147483647 - 1;\nVAR x: INTEGER;\nBEGIN x := 0 + c; Write(x) END M.\n";
+
+const INLINED_HERE: &str =
+    "MODULE M;\nCONST c = -2147483647 - 1;\nVAR x: INTEGER;\nBEGIN x := 0 + (-2147483647 - 1); Write(x) END M.\n";
+
+const INLINED_EVERYWHERE: &str =
+    "MODULE M;\nCONST \nVAR x: INTEGER;\nBEGIN x := 0 + (-2147483647 - 1); Write(x) END M.\n";
+
+/// What is written in place of the constant would be bound to a variable.
+const SHADOWED: &str =
+    "MODULE M;\nCONST on = TRUE;\nPROCEDURE P; VAR TRUE, b: BOOLEAN; BEGIN b := on END P;\nBEGIN P END M.\n";
+
+const LEAST_MADE: Published = Published {
+    version: 1,
+    text: LEAST,
+    empty: true,
+};
+
+const WIDE: &str = "MODULE M;\nVAR (* 😀 *) n: INTEGER;\nBEGIN (* 😀 *) n := 1 END M.\n";
+
+const WIDE_RENAMED: &str = "MODULE M;\nVAR (* 😀 *) k: INTEGER;\nBEGIN (* 😀 *) k := 1 END M.\n";
+
+/// The first name written over: the second is that of nothing.
+const WIDE_WRITTEN: &str = "MODULE M;\nVAR (* 😀 *) k: INTEGER;\nBEGIN (* 😀 *) n := 1 END M.\n";
+
+const WIDE_USE: &str = "MODULE M;\nCONST c = -5;\nBEGIN (* 😀 *) Write(c DIV 3) END M.\n";
+
+const WIDE_INLINED: &str = "MODULE M;\nCONST c = -5;\nBEGIN (* 😀 *) Write((-5) DIV 3) END M.\n";
+
+const STORIES: &[Story] = &[
+    Story {
+        name: "another name is applied",
+        moments: &[
+            (Act::Open(COUNTS), Sight::Sent),
+            (NAME, Sight::Sent),
+            (Act::Serve, Sight::Served(1)),
+            (Act::Serve, Sight::Served(1)),
+            (Act::Take, Sight::Published(true)),
+            (Act::Take, Sight::Answered(1, true)),
+            (Act::Apply(1), Sight::Applied(1)),
+            (Act::Apply(1), Sight::Nothing),
+            (Act::Serve, Sight::Served(1)),
+            (Act::Take, Sight::Published(true)),
+        ],
+        applied: &[Edited {
+            before: COUNTS,
+            after: RENAMED,
+        }],
+        made: &[
+            Published {
+                version: 1,
+                text: COUNTS,
+                empty: true,
+            },
+            Published {
+                version: 2,
+                text: RENAMED,
+                empty: true,
+            },
+        ],
+    },
+    Story {
+        name: "another name of a field is applied",
+        moments: &[
+            (Act::Open(FIELDS), Sight::Sent),
+            (Act::Rename(3, 8, "r"), Sight::Sent),
+            (Act::Serve, Sight::Served(1)),
+            (Act::Serve, Sight::Served(1)),
+            (Act::Take, Sight::Published(true)),
+            (Act::Take, Sight::Answered(1, true)),
+            (Act::Apply(1), Sight::Applied(1)),
+        ],
+        applied: &[Edited {
+            before: FIELDS,
+            after: FIELD_RENAMED,
+        }],
+        made: &[Published {
+            version: 1,
+            text: FIELDS,
+            empty: true,
+        }],
+    },
+    Story {
+        name: "a layout is applied",
+        moments: &[
+            (Act::Open(COUNTS), Sight::Sent),
+            (Act::Format, Sight::Sent),
+            (Act::Serve, Sight::Served(1)),
+            (Act::Serve, Sight::Served(1)),
+            (Act::Take, Sight::Published(true)),
+            (Act::Take, Sight::Answered(1, true)),
+            (Act::Apply(1), Sight::Applied(1)),
+        ],
+        applied: &[Edited {
+            before: COUNTS,
+            after: LAID_OUT,
+        }],
+        made: &[Published {
+            version: 1,
+            text: COUNTS,
+            empty: true,
+        }],
+    },
+    Story {
+        name: "an answer about an earlier opening is dropped",
+        moments: &[
+            (Act::Open(COUNTS), Sight::Sent),
+            (NAME, Sight::Sent),
+            (Act::Close, Sight::Sent),
+            (Act::Open(FAULTY_TEXT), Sight::Sent),
+            (Act::Serve, Sight::Served(1)),
+            (Act::Serve, Sight::Served(1)),
+            (Act::Serve, Sight::Served(1)),
+            (Act::Serve, Sight::Served(1)),
+            (Act::Take, Sight::Published(true)),
+            (Act::Take, Sight::Answered(1, true)),
+            (Act::Take, Sight::Published(true)),
+            (Act::Take, Sight::Published(false)),
+            (Act::Apply(1), Sight::Dropped(1)),
+            (Act::Apply(1), Sight::Nothing),
+        ],
+        applied: &[],
+        made: &[
+            Published {
+                version: 1,
+                text: COUNTS,
+                empty: true,
+            },
+            Published {
+                version: 1,
+                text: FAULTY_TEXT,
+                empty: false,
+            },
+        ],
+    },
+    Story {
+        name: "of two answers the second is dropped",
+        moments: &[
+            (Act::Open(COUNTS), Sight::Sent),
+            (NAME, Sight::Sent),
+            (Act::Format, Sight::Sent),
+            (Act::Serve, Sight::Served(1)),
+            (Act::Serve, Sight::Served(1)),
+            (Act::Serve, Sight::Served(1)),
+            (Act::Take, Sight::Published(true)),
+            (Act::Take, Sight::Answered(1, true)),
+            (Act::Take, Sight::Answered(2, true)),
+            (Act::Apply(1), Sight::Applied(1)),
+            (Act::Apply(2), Sight::Dropped(2)),
+        ],
+        applied: &[Edited {
+            before: COUNTS,
+            after: RENAMED,
+        }],
+        made: &[Published {
+            version: 1,
+            text: COUNTS,
+            empty: true,
+        }],
+    },
+    Story {
+        name: "a change with no changes raises the version",
+        moments: &[
+            (Act::Open(COUNTS), Sight::Sent),
+            (NAME, Sight::Sent),
+            (Act::Touch, Sight::Sent),
+            (Act::Serve, Sight::Served(1)),
+            (Act::Serve, Sight::Served(1)),
+            (Act::Serve, Sight::Served(1)),
+            (Act::Take, Sight::Published(true)),
+            (Act::Take, Sight::Answered(1, true)),
+            (Act::Take, Sight::Published(true)),
+            (Act::Apply(1), Sight::Dropped(1)),
+        ],
+        applied: &[],
+        made: &[
+            Published {
+                version: 1,
+                text: COUNTS,
+                empty: true,
+            },
+            Published {
+                version: 2,
+                text: COUNTS,
+                empty: true,
+            },
+        ],
+    },
+    Story {
+        name: "nothing happens",
+        moments: &[
+            (Act::Apply(7), Sight::Nothing),
+            (Act::Discard(7), Sight::Nothing),
+            (Act::Take, Sight::Nothing),
+            (Act::Serve, Sight::Nothing),
+            (Act::Touch, Sight::Nothing),
+            (Act::Close, Sight::Nothing),
+            (NAME, Sight::Nothing),
+            (Act::Open(COUNTS), Sight::Sent),
+            (Act::Open(FAULTY_TEXT), Sight::Nothing),
+            (Act::Serve, Sight::Served(1)),
+            (Act::Serve, Sight::Nothing),
+        ],
+        applied: &[],
+        made: &[Published {
+            version: 1,
+            text: COUNTS,
+            empty: true,
+        }],
+    },
+    Story {
+        name: "an answer is let go",
+        moments: &[
+            (Act::Open(COUNTS), Sight::Sent),
+            (NAME, Sight::Sent),
+            (Act::Serve, Sight::Served(1)),
+            (Act::Serve, Sight::Served(1)),
+            (Act::Take, Sight::Published(true)),
+            (Act::Take, Sight::Answered(1, true)),
+            (Act::Discard(1), Sight::Dropped(1)),
+            (Act::Discard(1), Sight::Nothing),
+            (Act::Apply(1), Sight::Nothing),
+        ],
+        applied: &[],
+        made: &[Published {
+            version: 1,
+            text: COUNTS,
+            empty: true,
+        }],
+    },
+    Story {
+        name: "a refused name leaves nothing to apply",
+        moments: &[
+            (Act::Open(COUNTS), Sight::Sent),
+            (Act::Rename(1, 4, "END"), Sight::Sent),
+            (Act::Serve, Sight::Served(1)),
+            (Act::Serve, Sight::Served(1)),
+            (Act::Take, Sight::Published(true)),
+            (Act::Take, Sight::Answered(1, false)),
+            (Act::Apply(1), Sight::Nothing),
+        ],
+        applied: &[],
+        made: &[Published {
+            version: 1,
+            text: COUNTS,
+            empty: true,
+        }],
+    },
+    Story {
+        name: "a constant is inlined at a use",
+        moments: &[
+            (Act::Open(LEAST), Sight::Sent),
+            (Act::InlineHere(3, 15), Sight::Sent),
+            (Act::Serve, Sight::Served(1)),
+            (Act::Serve, Sight::Served(1)),
+            (Act::Take, Sight::Published(true)),
+            (Act::Take, Sight::Answered(1, true)),
+            (Act::Apply(1), Sight::Applied(1)),
+            (Act::Serve, Sight::Served(1)),
+            (Act::Take, Sight::Published(true)),
+        ],
+        applied: &[Edited {
+            before: LEAST,
+            after: INLINED_HERE,
+        }],
+        made: &[
+            LEAST_MADE,
+            Published {
+                version: 2,
+                text: INLINED_HERE,
+                empty: true,
+            },
+        ],
+    },
+    Story {
+        name: "a constant is inlined everywhere, asked for at its declaration",
+        moments: &[
+            (Act::Open(LEAST), Sight::Sent),
+            (Act::InlineAll(1, 6), Sight::Sent),
+            (Act::Serve, Sight::Served(1)),
+            (Act::Serve, Sight::Served(1)),
+            (Act::Take, Sight::Published(true)),
+            (Act::Take, Sight::Answered(1, true)),
+            (Act::Apply(1), Sight::Applied(1)),
+            (Act::Serve, Sight::Served(1)),
+            (Act::Take, Sight::Published(true)),
+        ],
+        applied: &[Edited {
+            before: LEAST,
+            after: INLINED_EVERYWHERE,
+        }],
+        made: &[
+            LEAST_MADE,
+            Published {
+                version: 2,
+                text: INLINED_EVERYWHERE,
+                empty: true,
+            },
+        ],
+    },
+    Story {
+        name: "both are asked for at one use, and the second answer is applied first",
+        moments: &[
+            (Act::Open(LEAST), Sight::Sent),
+            (Act::InlineHere(3, 15), Sight::Sent),
+            (Act::InlineAll(3, 15), Sight::Sent),
+            (Act::Serve, Sight::Served(1)),
+            (Act::Serve, Sight::Served(1)),
+            (Act::Serve, Sight::Served(1)),
+            (Act::Take, Sight::Published(true)),
+            (Act::Take, Sight::Answered(1, true)),
+            (Act::Take, Sight::Answered(2, true)),
+            (Act::Apply(2), Sight::Applied(2)),
+            (Act::Apply(1), Sight::Dropped(1)),
+        ],
+        applied: &[Edited {
+            before: LEAST,
+            after: INLINED_EVERYWHERE,
+        }],
+        made: &[LEAST_MADE],
+    },
+    Story {
+        name: "no use of a constant stands at its declaration",
+        moments: &[
+            (Act::Open(LEAST), Sight::Sent),
+            (Act::InlineHere(1, 6), Sight::Sent),
+            (Act::InlineAll(2, 4), Sight::Sent),
+            (Act::Serve, Sight::Served(1)),
+            (Act::Serve, Sight::Served(1)),
+            (Act::Serve, Sight::Served(1)),
+            (Act::Take, Sight::Published(true)),
+            (Act::Take, Sight::Answered(1, false)),
+            (Act::Take, Sight::Answered(2, false)),
+            (Act::Apply(1), Sight::Nothing),
+            (Act::Apply(2), Sight::Nothing),
+        ],
+        applied: &[],
+        made: &[LEAST_MADE],
+    },
+    Story {
+        name: "an answer about an earlier version is dropped",
+        moments: &[
+            (Act::Open(LEAST), Sight::Sent),
+            (Act::InlineAll(3, 15), Sight::Sent),
+            (Act::Serve, Sight::Served(1)),
+            (Act::Serve, Sight::Served(1)),
+            (Act::Touch, Sight::Sent),
+            (Act::Take, Sight::Published(true)),
+            (Act::Take, Sight::Answered(1, true)),
+            (Act::Apply(1), Sight::Dropped(1)),
+        ],
+        applied: &[],
+        made: &[LEAST_MADE],
+    },
+    Story {
+        name: "a value whose name is another's is not written",
+        moments: &[
+            (Act::Open(SHADOWED), Sight::Sent),
+            (Act::InlineHere(2, 46), Sight::Sent),
+            (Act::InlineAll(2, 46), Sight::Sent),
+            (Act::Serve, Sight::Served(1)),
+            (Act::Serve, Sight::Served(1)),
+            (Act::Serve, Sight::Served(1)),
+            (Act::Take, Sight::Published(true)),
+            (Act::Take, Sight::Answered(1, false)),
+            (Act::Take, Sight::Answered(2, false)),
+        ],
+        applied: &[],
+        made: &[Published {
+            version: 1,
+            text: SHADOWED,
+            empty: true,
+        }],
+    },
+];
+
+/// Characters that count differently in the two units.
+const WIDE_IN_UTF16: &[Story] = &[
+    Story {
+        name: "another name, in UTF-16 units",
+        moments: &[
+            (Act::Open(WIDE), Sight::Sent),
+            (Act::Rename(1, 13, "k"), Sight::Sent),
+            (Act::Serve, Sight::Served(1)),
+            (Act::Serve, Sight::Served(1)),
+            (Act::Take, Sight::Published(true)),
+            (Act::Take, Sight::Answered(1, true)),
+            (Act::Apply(1), Sight::Applied(1)),
+        ],
+        applied: &[Edited {
+            before: WIDE,
+            after: WIDE_RENAMED,
+        }],
+        made: &[Published {
+            version: 1,
+            text: WIDE,
+            empty: true,
+        }],
+    },
+    Story {
+        name: "a change of a range, in UTF-16 units",
+        moments: &[
+            (Act::Open(WIDE), Sight::Sent),
+            (Act::Write(1, 13, 14, "k"), Sight::Sent),
+            (Act::Serve, Sight::Served(1)),
+            (Act::Serve, Sight::Served(1)),
+            (Act::Take, Sight::Published(true)),
+            (Act::Take, Sight::Published(false)),
+        ],
+        applied: &[],
+        made: &[
+            Published {
+                version: 1,
+                text: WIDE,
+                empty: true,
+            },
+            Published {
+                version: 2,
+                text: WIDE_WRITTEN,
+                empty: false,
+            },
+        ],
+    },
+    Story {
+        name: "a use behind a wide character, in UTF-16 units",
+        moments: &[
+            (Act::Open(WIDE_USE), Sight::Sent),
+            (Act::InlineHere(2, 21), Sight::Sent),
+            (Act::Serve, Sight::Served(1)),
+            (Act::Serve, Sight::Served(1)),
+            (Act::Take, Sight::Published(true)),
+            (Act::Take, Sight::Answered(1, true)),
+            (Act::Apply(1), Sight::Applied(1)),
+        ],
+        applied: &[Edited {
+            before: WIDE_USE,
+            after: WIDE_INLINED,
+        }],
+        made: &[Published {
+            version: 1,
+            text: WIDE_USE,
+            empty: true,
+        }],
+    },
+];
+
+const WIDE_IN_UTF8: &[Story] = &[
+    Story {
+        name: "another name, in bytes",
+        moments: &[
+            (Act::Open(WIDE), Sight::Sent),
+            (Act::Rename(1, 15, "k"), Sight::Sent),
+            (Act::Serve, Sight::Served(1)),
+            (Act::Serve, Sight::Served(1)),
+            (Act::Take, Sight::Published(true)),
+            (Act::Take, Sight::Answered(1, true)),
+            (Act::Apply(1), Sight::Applied(1)),
+        ],
+        applied: &[Edited {
+            before: WIDE,
+            after: WIDE_RENAMED,
+        }],
+        made: &[Published {
+            version: 1,
+            text: WIDE,
+            empty: true,
+        }],
+    },
+    Story {
+        name: "a change of a range, in bytes",
+        moments: &[
+            (Act::Open(WIDE), Sight::Sent),
+            (Act::Write(1, 15, 16, "k"), Sight::Sent),
+            (Act::Serve, Sight::Served(1)),
+            (Act::Serve, Sight::Served(1)),
+            (Act::Take, Sight::Published(true)),
+            (Act::Take, Sight::Published(false)),
+        ],
+        applied: &[],
+        made: &[
+            Published {
+                version: 1,
+                text: WIDE,
+                empty: true,
+            },
+            Published {
+                version: 2,
+                text: WIDE_WRITTEN,
+                empty: false,
+            },
+        ],
+    },
+    Story {
+        name: "a use behind a wide character, in bytes",
+        moments: &[
+            (Act::Open(WIDE_USE), Sight::Sent),
+            (Act::InlineHere(2, 23), Sight::Sent),
+            (Act::Serve, Sight::Served(1)),
+            (Act::Serve, Sight::Served(1)),
+            (Act::Take, Sight::Published(true)),
+            (Act::Take, Sight::Answered(1, true)),
+            (Act::Apply(1), Sight::Applied(1)),
+        ],
+        applied: &[Edited {
+            before: WIDE_USE,
+            after: WIDE_INLINED,
+        }],
+        made: &[Published {
+            version: 1,
+            text: WIDE_USE,
+            empty: true,
+        }],
+    },
+];
+
+/// Units of positions, and what happens in worlds that count in them.
+pub static WORLDS: &[(Unit, &[Story])] = &[
+    (Unit::Utf16, STORIES),
+    (Unit::Utf16, WIDE_IN_UTF16),
+    (Unit::Utf8, WIDE_IN_UTF8),
+];

@@ -1,5 +1,0 @@
-use Rattle.ob0_types.proofs.Gathered.{Gathered}
-use Rattle.ob0_types.proofs.denoting.+denoting.Given as goal
-
-abbrev pub invariant-denote_record-loop-group : goal.invariant-denote_record-loop-group
-invariant-denote_record-loop-group l = Gathered l.resolved l.fn.known l.known l.initial.behind l.group-items l.group-index l.behind l.fields.items

@@ -1,0 +1,4 @@
+//! The types of Oberon-0 and its well-typed modules: definitions, and laws over them.
+#![tactic(auto)]
+
+pub mod laws;

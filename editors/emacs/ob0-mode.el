@@ -1,0 +1,221 @@
+;;; ob0-mode.el --- Major mode for Oberon-0  -*- lexical-binding: t -*-
+
+;; Version: 0.1
+;; Package-Requires: ((emacs "26.1"))
+;; Keywords: languages
+
+;;; Commentary:
+
+;; Colours, comments that nest, indentation as the server's layout has it, an
+;; index of procedures, commands that check and run a file, and the language
+;; server `ob0 serve' by eglot or lsp-mode.
+
+;;; Code:
+
+(require 'compile)
+
+(defgroup ob0 nil
+  "Oberon-0, the language of Wirth's Compiler Construction."
+  :group 'languages)
+
+(defcustom ob0-program "ob0"
+  "The program: its name, or the path of its file."
+  :type 'string)
+
+(defcustom ob0-indent-offset 2
+  "How many columns a level has, in indentation and in layouts."
+  :type 'integer
+  :safe #'integerp)
+
+(defvar ob0-mode-syntax-table
+  (let ((table (make-syntax-table)))
+    ;; `(*' and `*)' are comments, which nest
+    (modify-syntax-entry ?\( "()1n" table)
+    (modify-syntax-entry ?\) ")(4n" table)
+    (modify-syntax-entry ?* ". 23n" table)
+    (modify-syntax-entry ?_ "." table)
+    (modify-syntax-entry ?\" "." table)
+    (modify-syntax-entry ?\\ "." table)
+    (modify-syntax-entry ?# "." table)
+    (modify-syntax-entry ?~ "." table)
+    table)
+  "Which characters make words and comments.")
+
+(defconst ob0-keywords
+  '("MODULE" "BEGIN" "END" "CONST" "TYPE" "VAR" "PROCEDURE" "IF" "THEN" "ELSIF"
+    "ELSE" "WHILE" "DO" "REPEAT" "UNTIL" "ARRAY" "OF" "RECORD" "DIV" "MOD" "OR")
+  "The reserved words.")
+
+(defconst ob0-font-lock-keywords
+  `((,(regexp-opt ob0-keywords 'words) . font-lock-keyword-face)
+    (,(regexp-opt '("INTEGER" "BOOLEAN") 'words) . font-lock-type-face)
+    (,(regexp-opt '("TRUE" "FALSE") 'words) . font-lock-constant-face)
+    (,(regexp-opt '("Read" "Write" "WriteLn") 'words) . font-lock-builtin-face)
+    ("\\_<\\(?:PROCEDURE\\|MODULE\\)\\s-+\\([A-Za-z][A-Za-z0-9]*\\)" 1 font-lock-function-name-face)
+    ("\\_<[0-9]+[A-Za-z][A-Za-z0-9]*" 0 font-lock-warning-face))
+  "What is coloured besides comments.")
+
+;;; Checking and running
+
+(defvar-local ob0--checked nil
+  "The file that this buffer's lines are about.")
+
+(defun ob0--one-more (group)
+  "The number that the GROUP of the last match is, counted from 1."
+  (1+ (string-to-number (match-string group))))
+
+;; `ob0 check' counts lines and columns from 0 and names no file
+(add-to-list 'compilation-error-regexp-alist-alist
+             `(ob0 "^\\([0-9]+\\):\\([0-9]+\\): [A-Za-z]+: "
+                   ,(lambda () (or ob0--checked "*unknown*"))
+                   ,(lambda () (ob0--one-more 1))
+                   ,(lambda () (ob0--one-more 2))))
+
+(define-compilation-mode ob0-check-mode "Oberon-0 check"
+  "What is wrong with a file."
+  (setq-local compilation-error-regexp-alist '(ob0)))
+
+(defun ob0-check ()
+  "Check the file of this buffer, and list what is wrong with it."
+  (interactive)
+  (let ((file (or (buffer-file-name) (user-error "This buffer has no file"))))
+    (with-current-buffer
+        (compilation-start (format "%s check %s" (shell-quote-argument ob0-program) (shell-quote-argument file))
+                           #'ob0-check-mode)
+      (setq ob0--checked file))))
+
+(defun ob0-run (numbers)
+  "Run the module of this buffer's file on NUMBERS, and show what it prints."
+  (interactive "sNumbers that it reads: ")
+  (let ((file (or (buffer-file-name) (user-error "This buffer has no file"))))
+    (with-current-buffer (get-buffer-create "*ob0-run*")
+      (erase-buffer)
+      (insert numbers)
+      (call-process-region (point-min) (point-max) ob0-program t t nil "run" file)
+      (display-buffer (current-buffer)))))
+
+;;; Indentation
+
+(defconst ob0--deciding
+  (concat "\\_<"
+          (regexp-opt '("MODULE" "PROCEDURE" "IF" "WHILE" "REPEAT" "RECORD" "END" "UNTIL"
+                        "BEGIN" "THEN" "DO" "ELSE" "CONST" "TYPE" "VAR" "ELSIF"))
+          "\\_>\\|[][();]\\|[A-Za-z0-9]+\\|[^ \t\r\n]")
+  "What decides levels, and every other token.")
+
+(defun ob0--skip-comment ()
+  "Go behind the comment that the match before point is in or opens, if any."
+  (let ((state (save-excursion (syntax-ppss (min (point-max) (1+ (match-beginning 0)))))))
+    (cond ((nth 4 state) (goto-char (nth 8 state)) (forward-comment 1) t)
+          ((and (equal (match-string 0) "(") (eq (char-after) ?*))
+           (goto-char (match-beginning 0))
+           (or (forward-comment 1) (goto-char (point-max)))
+           t))))
+
+(defun ob0--inside (stack)
+  "The level of what is inside the innermost block or statement of STACK."
+  (let ((found (assq-delete-all 'record (copy-alist stack))))
+    (if found (1+ (cdar found)) 0)))
+
+(defun ob0--level (start)
+  "The level of the line that begins at START."
+  (let ((stack nil) (parens 0) (fresh t) (case-fold-search nil) (next ""))
+    (save-excursion
+      (goto-char (point-min))
+      (while (and (< (point) start) (re-search-forward ob0--deciding start t))
+        (unless (ob0--skip-comment)
+          (let ((it (match-string 0)))
+            (pcase it
+              ("MODULE" (push '(block . 0) stack))
+              ("PROCEDURE" (push (cons 'block (ob0--inside stack)) stack))
+              ((or "IF" "WHILE" "REPEAT") (push (cons 'statement (ob0--inside stack)) stack))
+              ("RECORD" (push '(record . 0) stack))
+              ((or "END" "UNTIL") (pop stack))
+              ((or "(" "[") (setq parens (1+ parens)))
+              ((or ")" "]") (setq parens (1- parens))))
+            (setq fresh (and (<= parens 0)
+                             (not (eq (caar stack) 'record))
+                             (member it '(";" "BEGIN" "THEN" "DO" "ELSE" "REPEAT" "CONST" "TYPE" "VAR")))))))
+      ;; (a line of comments is indented as what follows it)
+      (goto-char start)
+      (forward-comment (buffer-size))
+      (when (looking-at ob0--deciding) (setq next (match-string 0))))
+    (cond ((null stack) 0)
+          ((or (and (<= parens 0) (eq (caar stack) 'block) (member next '("CONST" "TYPE" "VAR" "BEGIN")))
+               (and (not (eq (caar stack) 'record)) (member next '("END" "ELSIF" "ELSE" "UNTIL"))))
+           (cdar stack))
+          (t (+ (ob0--inside stack) (if (or fresh (equal next "PROCEDURE")) 0 1))))))
+
+(defun ob0-indent-line ()
+  "Indent this line as the server's layout does."
+  (interactive)
+  (let ((start (line-beginning-position))
+        (from-end (- (point-max) (point))))
+    ;; (inside a comment lines stay as they are)
+    (unless (nth 4 (save-excursion (syntax-ppss start)))
+      (let ((column (* ob0-indent-offset (ob0--level start))))
+        (indent-line-to column)
+        (when (> (- (point-max) from-end) (point))
+          (goto-char (- (point-max) from-end)))))))
+
+;;; The mode
+
+;;;###autoload
+(define-derived-mode ob0-mode prog-mode "Oberon-0"
+  "Major mode for Oberon-0."
+  (setq-local comment-start "(* "
+              comment-end " *)"
+              comment-start-skip "(\\*+[ \t]*"
+              comment-end-skip "[ \t]*\\*+)"
+              font-lock-defaults '(ob0-font-lock-keywords)
+              indent-line-function #'ob0-indent-line
+              indent-tabs-mode nil
+              tab-width ob0-indent-offset
+              standard-indent ob0-indent-offset
+              imenu-generic-expression '((nil "^\\s-*PROCEDURE\\s-+\\([A-Za-z][A-Za-z0-9]*\\)" 1))))
+
+(defun ob0-begins-with-module ()
+  "Whether the first word of this buffer, comments left out, is MODULE."
+  (save-excursion
+    (goto-char (point-min))
+    (with-syntax-table ob0-mode-syntax-table
+      (forward-comment (buffer-size)))
+    (let ((case-fold-search nil))
+      (looking-at "MODULE[ \t\r\n]+[A-Za-z][A-Za-z0-9]*[ \t\r\n]*\\(?:;\\|(\\*\\|\\'\\)"))))
+
+;;;###autoload
+(defun ob0-maybe-mode ()
+  "Take `ob0-mode' if the first word is MODULE, else what Emacs takes without it."
+  (if (ob0-begins-with-module)
+      (ob0-mode)
+    (let ((auto-mode-alist (rassq-delete-all 'ob0-maybe-mode (copy-alist auto-mode-alist))))
+      (set-auto-mode))))
+
+;;;###autoload
+(add-to-list 'auto-mode-alist '("\\.ob0\\'" . ob0-mode))
+;;;###autoload
+(add-to-list 'auto-mode-alist '("\\.[Mm]od\\'" . ob0-maybe-mode))
+
+;;; The language server
+
+(defvar eglot-server-programs)
+(with-eval-after-load 'eglot
+  (add-to-list 'eglot-server-programs
+               (cons 'ob0-mode (lambda (&rest _) (list ob0-program "serve")))))
+
+(defvar lsp-language-id-configuration)
+(defvar lsp--formatting-indent-alist)
+(declare-function lsp-register-client "ext:lsp-mode")
+(declare-function make-lsp-client "ext:lsp-mode")
+(declare-function lsp-stdio-connection "ext:lsp-mode")
+(with-eval-after-load 'lsp-mode
+  (add-to-list 'lsp-language-id-configuration '(ob0-mode . "oberon0"))
+  ;; (the width of a level that lsp-mode sends when it asks for a layout)
+  (add-to-list 'lsp--formatting-indent-alist '(ob0-mode . ob0-indent-offset))
+  (lsp-register-client
+   (make-lsp-client :new-connection (lsp-stdio-connection (lambda () (list ob0-program "serve")))
+                    :major-modes '(ob0-mode)
+                    :server-id 'ob0)))
+
+(provide 'ob0-mode)
+;;; ob0-mode.el ends here

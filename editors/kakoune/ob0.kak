@@ -1,0 +1,38 @@
+# Oberon-0 for Kakoune: file type, colours, comments, and `lint` by `ob0 check`.
+declare-option -docstring 'the program ob0: its name, or the path of its file' str ob0_program ob0
+
+hook global BufCreate .*\.ob0 %{ set-option buffer filetype ob0 }
+# (the endings .mod and .Mod belong to others too: such a file is taken only if its first word is MODULE, behind comments)
+hook global BufCreate .*\.(mod|Mod) %{ try %{
+    evaluate-commands -draft %{
+        execute-keys '%s\A(?:\s|\(\*(?:.|\n)*?\*\)|\*\))*MODULE\s+[A-Za-z]<ret>'
+        set-option buffer filetype ob0
+    }
+} }
+
+hook global WinSetOption filetype=ob0 %{
+    require-module ob0
+    set-option window comment_block_begin '(*'
+    set-option window comment_block_end '*)'
+    set-option window indentwidth 2
+    # `ob0 check` counts lines and columns from 0 and names no file; awk writes its lines as a compiler does
+    set-option window lintcmd "run() { ""%opt{ob0_program}"" check ""$1"" | awk -F: -v f=""$1"" '{ l=$1+1; c=$2+1; sub(/^[0-9]+:[0-9]+: /, """"); print f "":"" l "":"" c "": error: "" $0 }'; } && run"
+}
+
+hook -group ob0-highlight global WinSetOption filetype=ob0 %{
+    require-module ob0
+    add-highlighter window/ob0 ref ob0
+    hook -once -always window WinSetOption filetype=.* %{ remove-highlighter window/ob0 }
+}
+
+provide-module ob0 %§
+add-highlighter shared/ob0 regions
+add-highlighter shared/ob0/code default-region group
+add-highlighter shared/ob0/comment region -recurse \(\* \(\* \*\) fill comment
+add-highlighter shared/ob0/code/ regex \b(MODULE|BEGIN|END|CONST|TYPE|VAR|PROCEDURE|IF|THEN|ELSIF|ELSE|WHILE|DO|REPEAT|UNTIL|ARRAY|OF|RECORD|DIV|MOD|OR)\b 0:keyword
+add-highlighter shared/ob0/code/ regex \b(INTEGER|BOOLEAN)\b 0:type
+add-highlighter shared/ob0/code/ regex \b(TRUE|FALSE)\b 0:value
+add-highlighter shared/ob0/code/ regex \b[0-9]+\b 0:value
+add-highlighter shared/ob0/code/ regex \b[0-9]+[A-Za-z][A-Za-z0-9]* 0:Error
+add-highlighter shared/ob0/code/ regex \b(Read|Write|WriteLn)\b 0:builtin
+§

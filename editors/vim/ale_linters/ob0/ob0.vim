@@ -1,0 +1,10 @@
+" ALE: the server `ob0 serve`, for buffers of Oberon-0
+call ale#Set('ob0_executable', get(g:, 'ob0_program', 'ob0'))
+call ale#linter#Define('ob0', {
+      \ 'name': 'ob0',
+      \ 'lsp': 'stdio',
+      \ 'executable': {buffer -> ale#Var(buffer, 'ob0_executable')},
+      \ 'command': '%e serve',
+      \ 'language': 'oberon0',
+      \ 'project_root': {buffer -> expand('#' . buffer . ':p:h')},
+      \ })

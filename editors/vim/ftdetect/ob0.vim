@@ -1,0 +1,27 @@
+" Oberon-0. The endings .mod and .Mod belong to others too, so such a file is taken only if its first word is MODULE;
+" let g:ob0_mod = 0 leaves them alone. Vim's own rule for them uses setf, which keeps an earlier choice: hence setlocal.
+function! s:BeginsWithModule() abort
+  let l:text = join(getline(1, 100), "\n")
+  let l:at = 0
+  let l:depth = 0
+  " (white space and comments, which nest, may stand before the first word)
+  while 1
+    if l:depth
+      let [l:pair, l:from, l:to] = matchstrpos(l:text, '(\*\|\*)', l:at)
+      if l:from < 0 | return 0 | endif
+      let l:depth += l:pair ==# '(*' ? 1 : -1
+      let l:at = l:to
+    else
+      let l:at = matchend(l:text, '^\_s*', l:at)
+      if l:text[l:at : l:at + 1] !=# '(*' | break | endif
+      let l:depth = 1
+      let l:at += 2
+    endif
+  endwhile
+  return l:text[l:at :] =~# '^MODULE\_s\+\a\w*\_s*\%(;\|(\*\|$\)'
+endfunction
+
+augroup filetypedetect
+  autocmd BufNewFile,BufRead *.ob0 setlocal filetype=ob0
+  autocmd BufNewFile,BufRead *.mod,*.Mod if get(g:, 'ob0_mod', 1) && s:BeginsWithModule() | setlocal filetype=ob0 | endif
+augroup END

@@ -1,0 +1,27 @@
+# Completion of ob0 for bash.
+_ob0() {
+    local word=${COMP_WORDS[COMP_CWORD]} before=${COMP_WORDS[COMP_CWORD - 1]} command="" at place=0
+    COMPREPLY=()
+    for ((at = 1; at < COMP_CWORD; at++)); do
+        case ${COMP_WORDS[at]} in
+            --calls | --turns) at=$((at + 1)) ;;
+            -*) ;;
+            *) if [[ -z $command ]]; then command=${COMP_WORDS[at]}; else place=$((place + 1)); fi ;;
+        esac
+    done
+    case $before in
+        --calls | --turns) return ;;
+    esac
+    if [[ $word == -* ]]; then
+        local options="-h --help"
+        [[ $command == run ]] && options="--calls --turns $options"
+        mapfile -t COMPREPLY < <(compgen -W "$options" -- "$word")
+    elif [[ -z $command ]]; then
+        mapfile -t COMPREPLY < <(compgen -W "serve check run rename" -- "$word")
+    elif [[ $command != serve && $place == 0 ]]; then
+        compopt -o filenames 2>/dev/null
+        mapfile -t COMPREPLY < <(compgen -f -X '!*.@(ob0|mod|Mod)' -- "$word"; compgen -d -- "$word")
+    fi
+}
+shopt -s extglob
+complete -F _ob0 ob0

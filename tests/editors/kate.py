@@ -1,0 +1,164 @@
+#!/usr/bin/env python3
+"""Drives Kate by its keys, on a screen that nobody sees: run by xvfb-run and dbus-run-session.
+
+Variables: OB0_FILE (the file to edit), OB0_REPORT (where the findings go, a line of JSON each), OB0_STEPS (the name of a list
+of steps below), OB0_GIVEN (a place in the file, as JSON), OB0_WIRE (where the messages of the server are kept). What is
+reported is what went over the wire, and what Kate saved."""
+import json
+import os
+import subprocess
+import sys
+import time
+
+FILE, REPORT, WIRE = os.environ["OB0_FILE"], os.environ["OB0_REPORT"], os.environ["OB0_WIRE"]
+GIVEN = json.loads(os.environ["OB0_GIVEN"])
+
+
+def tell(step, found):
+    with open(REPORT, "a", encoding="utf-8") as file:
+        file.write(json.dumps({"step": step, "found": found}) + "\n")
+
+
+def messages(name):
+    """The messages that went one way so far."""
+    try:
+        with open(os.path.join(WIRE, name), "rb") as file:
+            left = file.read()
+    except FileNotFoundError:
+        return []
+    found = []
+    while left:
+        head, _, rest = left.partition(b"\r\n\r\n")
+        length = next((int(it.split(b":")[1]) for it in head.split(b"\r\n") if it.lower().startswith(b"content-length")), None)
+        if length is None or len(rest) < length:
+            break
+        found.append(json.loads(rest[:length]))
+        left = rest[length:]
+    return found
+
+
+def published():
+    return [it["params"]["diagnostics"] for it in messages("out") if it.get("method") == "textDocument/publishDiagnostics"]
+
+
+def answers(method):
+    idents = [it["id"] for it in messages("in") if it.get("method") == method]
+    return [it.get("result", it.get("error")) for it in messages("out") if it.get("id") in idents]
+
+
+def saved():
+    with open(FILE, encoding="utf-8") as file:
+        return file.read()
+
+
+def waited(what, value, seconds=30):
+    """Waits until something has a value that counts as true, and gives that."""
+    end = time.monotonic() + seconds
+    while time.monotonic() < end:
+        found = value()
+        if found:
+            return found
+        time.sleep(0.1)
+    raise RuntimeError(f"waited in vain for {what}")
+
+
+def keys(*names):
+    subprocess.run(["xdotool", "key", "--delay", "60", *names], check=True)
+    time.sleep(0.3)
+
+
+def typed(text):
+    subprocess.run(["xdotool", "type", "--delay", "60", text], check=True)
+    time.sleep(0.3)
+
+
+def command(name, comes):
+    """Chooses a command by its name, as often as it takes to be taken."""
+    for _ in range(4):
+        keys("ctrl+alt+i")
+        time.sleep(1)
+        typed(name)
+        time.sleep(1)
+        keys("Return")
+        try:
+            return waited(name, comes, 6)
+        except RuntimeError:
+            keys("Escape", "Escape")
+    raise RuntimeError(f"{name} was never taken")
+
+
+def codes():
+    return [it["code"] for it in published()[-1]]
+
+
+def after(what, change):
+    """Makes a change and gives the codes of the diagnostics that come for it."""
+    before = len(published())
+    change()
+    waited(f"diagnostics, {what}", lambda: len(published()) > before)
+    time.sleep(0.5)
+    return codes()
+
+
+def saving():
+    """Saves, and gives the text."""
+    before = os.stat(FILE).st_mtime_ns
+    keys("ctrl+s")
+    waited("the saved file", lambda: os.stat(FILE).st_mtime_ns != before)
+    time.sleep(0.3)
+    return saved()
+
+
+def names():
+    tell("typed", after("typed", lambda: typed("$")))
+    tell("undone", after("undone", lambda: keys("ctrl+z")))
+    tell("shown", command("Symbol Info", lambda: answers("textDocument/hover"))[0]["contents"]["value"])
+    listed = command("Find References", lambda: answers("textDocument/references"))[0]
+    tell("listed", [[it["range"]["start"]["line"], it["range"]["start"]["character"]] for it in listed])
+    found = command("Go to Definition", lambda: answers("textDocument/definition"))[0]
+    tell("jumped", [found["range"]["start"]["line"], found["range"]["start"]["character"]])
+    keys("F2")
+    time.sleep(1.5)
+    keys("ctrl+a")
+    typed("G")
+    tell("renamed", after("renamed", lambda: keys("Return")))
+    tell("text", saving())
+    tell("laid out", after("laid out", lambda: command("Format", lambda: answers("textDocument/formatting"))))
+    tell("text", saving())
+
+
+def inlining():
+    # (with the name selected: Kate asks for a whole line else)
+    keys("shift+Right", "alt+Return")
+    found = waited("code actions", lambda: answers("textDocument/codeAction"))[-1]
+    tell("offered", [it["title"] for it in found])
+    time.sleep(1)
+    tell("acted", after("acted", lambda: keys("Down", "Return")))
+    tell("text", saving())
+
+
+def main():
+    line, column = GIVEN["place"]
+    manager = subprocess.Popen(["openbox"], stdout=subprocess.DEVNULL, stderr=subprocess.DEVNULL)
+    time.sleep(1)
+    words = ["kate", "--new", "--line", str(line + 1), "--column", str(column + 1), FILE]
+    kate = subprocess.Popen(words, stdout=subprocess.DEVNULL, stderr=subprocess.DEVNULL)
+    try:
+        waited("the first diagnostics", published, 60)
+        time.sleep(2)
+        tell("opened", codes())
+        {"names": names, "inlining": inlining}[os.environ["OB0_STEPS"]]()
+        keys("ctrl+q")
+        kate.wait(20)
+    finally:
+        for it in (kate, manager):
+            if it.poll() is None:
+                it.kill()
+
+
+if __name__ == "__main__":
+    try:
+        main()
+    except Exception as why:  # pylint: disable=broad-except
+        tell("failed", str(why))
+        sys.exit(1)

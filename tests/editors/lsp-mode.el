@@ -1,0 +1,117 @@
+;;; Drives the server from Emacs by lsp-mode, in batch mode.  -*- lexical-binding: t -*-
+;; It is loaded behind an init file that sets up `ob0-mode' and lsp-mode.
+;; Variables: OB0_FILE (the file to edit), OB0_REPORT (where the findings go, a line of JSON each),
+;; OB0_STEPS (the name of a list of steps below); what a list of steps needs besides is in OB0_GIVEN, as JSON.
+(require 'lsp-mode)
+(require 'flymake)
+(require 'json)
+
+(setq make-backup-files nil
+      create-lockfiles nil
+      auto-save-default nil
+      lsp-idle-delay 0.05
+      lsp-debounce-full-sync-notifications-interval 0.05
+      lsp-diagnostics-provider :none
+      lsp-restart 'ignore
+      lsp-keep-workspace-alive nil
+      lsp-enable-file-watchers nil
+      lsp-enable-suggest-server-download nil
+      lsp-session-file (expand-file-name "session" (getenv "HOME")))
+
+(defvar ob0-given (json-parse-string (or (getenv "OB0_GIVEN") "{}") :object-type 'alist :array-type 'list)
+  "What the steps need besides the text.")
+(defvar ob0-published 0 "How many publications came.")
+
+(defun ob0-tell (step found)
+  "Writes what was FOUND in a STEP."
+  (let ((coding-system-for-write 'utf-8))
+    (write-region (concat (json-serialize `(:step ,step :found ,found)) "\n") nil (getenv "OB0_REPORT") t 'silent)))
+
+(defun ob0-await (what holds)
+  "Waits for WHAT until HOLDS gives something."
+  (with-timeout (20 (error "Waited in vain for %s" what))
+    (while (not (funcall holds))
+      (accept-process-output nil 0.01))))
+
+(advice-add 'lsp--on-diagnostics :after (lambda (&rest _) (setq ob0-published (1+ ob0-published))))
+
+(defun ob0-shown ()
+  "The diagnostics that lsp-mode holds for this buffer."
+  (vconcat
+   (mapcar (lambda (it)
+             (let ((start (gethash "start" (gethash "range" it)))
+                   (end (gethash "end" (gethash "range" it))))
+               (vector (gethash "line" start) (gethash "character" start) (gethash "line" end) (gethash "character" end)
+                       (gethash "code" it) (gethash "message" it))))
+           (lsp--get-buffer-diagnostics))))
+
+(defun ob0-after (change)
+  "Makes a CHANGE and gives what is shown once the server has told something new and all that came was read."
+  (let ((before ob0-published))
+    (funcall change)
+    (ob0-await "diagnostics" (lambda () (> ob0-published before)))
+    ;; (lsp-mode sends a notification for each edit of a list, and the server answers each)
+    (while (accept-process-output nil 0.3))
+    (ob0-shown)))
+
+(defun ob0-goto (line character)
+  "Goes to a place, both counted from 0."
+  (goto-char (point-min))
+  (forward-line line)
+  (forward-char character))
+
+(defun ob0-text ()
+  "The text of the buffer."
+  (buffer-substring-no-properties (point-min) (point-max)))
+
+(defun ob0-mending ()
+  "A faulty text is replaced by a mended one."
+  (ob0-tell "mended" (ob0-after (lambda () (erase-buffer) (insert (alist-get 'mended ob0-given))))))
+
+(defun ob0-looking ()
+  "Questions as lsp-mode asks them, at each of the places that are given."
+  (dolist (place (alist-get 'places ob0-given))
+    (apply #'ob0-goto place)
+    (ob0-tell "shown" (gethash "value" (lsp:hover-contents (lsp-request "textDocument/hover" (lsp--text-document-position-params)))))
+    (ob0-tell "listed" (vconcat (mapcar (lambda (it)
+                                          (let ((at (xref-item-location it)))
+                                            (vector (1- (xref-file-location-line at)) (xref-file-location-column at))))
+                                        (xref-backend-references 'xref-lsp (xref-backend-identifier-at-point 'xref-lsp)))))
+    (xref-find-definitions (xref-backend-identifier-at-point 'xref-lsp))
+    (ob0-tell "jumped" (vector (1- (line-number-at-pos)) (current-column)))))
+
+(defun ob0-rename ()
+  "A rename as lsp-mode asks for it and applies it."
+  (apply #'ob0-goto (alist-get 'place ob0-given))
+  (ob0-tell "renamed" (ob0-after (lambda () (lsp-rename (alist-get 'name ob0-given)))))
+  (ob0-tell "text" (ob0-text)))
+
+(defun ob0-acting ()
+  "A code action of the title that is given is chosen of those that are offered."
+  (apply #'ob0-goto (alist-get 'place ob0-given))
+  (let* ((actions (lsp-code-actions-at-point))
+         (titles (mapcar #'lsp:code-action-title actions))
+         (chosen (seq-find (lambda (it) (equal (lsp:code-action-title it) (alist-get 'title ob0-given))) actions)))
+    (ob0-tell "acted" (ob0-after (lambda () (lsp-execute-code-action chosen))))
+    (ob0-tell "offered" (vconcat titles))
+    (ob0-tell "text" (ob0-text))))
+
+(defun ob0-format ()
+  "A layout as lsp-mode asks for it and applies it."
+  (ob0-tell "formatted" (ob0-after #'lsp-format-buffer))
+  (ob0-tell "text" (ob0-text)))
+
+(defun ob0-run-steps ()
+  "Opens the file, which starts the server on it, takes the steps and ends."
+  (find-file (getenv "OB0_FILE"))
+  (unless (eq major-mode 'ob0-mode) (error "The file was taken as %s" major-mode))
+  (ob0-await "the first diagnostics" (lambda () (> ob0-published 0)))
+  (ob0-tell "opened" (ob0-shown))
+  (funcall (intern (concat "ob0-" (getenv "OB0_STEPS"))))
+  (lsp-disconnect))
+
+(condition-case why
+    (ob0-run-steps)
+  (error (ob0-tell "failed" (error-message-string why))
+         (kill-emacs 1)))
+(kill-emacs 0)

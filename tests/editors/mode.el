@@ -1,0 +1,77 @@
+;;; Tests of ob0-mode without a server.  -*- lexical-binding: t -*-
+;; OB0_FILES, OB0_EXAMPLES: what is looked at, as JSON.
+(require 'ert)
+(require 'imenu)
+(require 'json)
+
+(defun given (name)
+  "The value of the variable NAME."
+  (json-parse-string (getenv name) :array-type 'list :false-object nil))
+
+(defmacro with-text (text &rest body)
+  "Does BODY in a buffer with TEXT."
+  (declare (indent 1))
+  `(with-temp-buffer (insert ,text) (ob0-mode) (font-lock-ensure) (goto-char (point-min)) ,@body))
+
+(defun face-of (word)
+  "The face of the first WORD."
+  (goto-char (point-min))
+  (let ((case-fold-search nil)) (search-forward word))
+  (get-text-property (match-beginning 0) 'face))
+
+(ert-deftest modes ()
+  (pcase-dolist (`(,name ,text ,taken) (given "OB0_FILES"))
+    (with-temp-buffer
+      (insert text)
+      (setq buffer-file-name (concat "/tmp/" name))
+      (set-auto-mode)
+      (setq buffer-file-name nil)
+      (should (equal (list name (eq major-mode 'ob0-mode)) (list name (eq taken t)))))))
+
+(ert-deftest colours ()
+  (with-text "MODULE M; (* a (* b *) still (*) open *) *) VAR Begin: INTEGER; BEGIN Begin := 4x; Write(TRUE) END M."
+    (dolist (it '(("still" font-lock-comment-face) ("open" font-lock-comment-face) ("VAR" font-lock-keyword-face) ("Begin" nil)
+                  ("INTEGER" font-lock-type-face) ("4x" font-lock-warning-face) ("Write" font-lock-builtin-face)
+                  ("TRUE" font-lock-constant-face)))
+      (should (equal it (list (car it) (face-of (car it))))))))
+
+(ert-deftest indents-as-the-server-lays-out ()
+  (dolist (file (given "OB0_EXAMPLES"))
+    (let ((text (with-temp-buffer (insert-file-contents file) (buffer-string))))
+      (with-text text
+        ;; (every line of code without its indentation, and then indented anew; what is inside comments stays)
+        (goto-char (point-min))
+        (while (not (eobp))
+          (unless (nth 4 (syntax-ppss)) (delete-horizontal-space))
+          (forward-line))
+        (let ((inhibit-message t)) (indent-region (point-min) (point-max)))
+        (should (equal (buffer-string) text))))))
+
+(ert-deftest comments ()
+  (with-text "x := 1"
+    (comment-region (point-min) (point-max))
+    (should (equal (buffer-string) "(* x := 1 *)"))))
+
+(ert-deftest index ()
+  (with-text "MODULE M;\nPROCEDURE P; END P;\n  PROCEDURE Q(x: INTEGER); END Q;\nEND M.\n"
+    (should (equal (mapcar #'car (imenu--make-index-alist t)) '("*Rescan*" "P" "Q")))))
+
+(ert-deftest check ()
+  (let ((file (make-temp-file "c" nil ".mod" "MODULE M;\nBEGIN x := 1 END M.\n")))
+    (with-current-buffer (find-file-noselect file)
+      (let ((buffer (save-window-excursion (ob0-check) (get-buffer "*ob0-check*"))))
+        (while (process-live-p (get-buffer-process buffer)) (accept-process-output nil 0.1))
+        (accept-process-output nil 0.2)
+        (with-current-buffer buffer
+          (goto-char (point-min))
+          (compilation-next-error 1)
+          (let* ((message (get-text-property (point) 'compilation-message))
+                 (place (compilation--message->loc message)))
+            (should (equal (list (cadr place) (car place)) '(2 7)))
+            (should (equal (caar (compilation--loc->file-struct place)) file))))))))
+
+(ert-deftest run ()
+  (let ((file (make-temp-file "r" nil ".mod" "MODULE M; VAR x: INTEGER; BEGIN Read(x); Write(x + x) END M.\n")))
+    (with-current-buffer (find-file-noselect file)
+      (save-window-excursion (ob0-run "21"))
+      (with-current-buffer "*ob0-run*" (should (equal (buffer-string) " 42"))))))

@@ -1,0 +1,18 @@
+"""The code in the Markdown pages of this repository: what a page tells its reader to type is what the tests use."""
+import os
+import re
+
+from harness import TOP
+
+FENCED = re.compile(r"^```(\w*)\n(.*?)^```$", re.M | re.S)
+
+
+def fenced(page):
+    """Pairs of a language and the lines in it, for each block of a page."""
+    with open(os.path.join(TOP, page), encoding="utf-8") as file:
+        return FENCED.findall(file.read())
+
+
+def snippets(editor, language):
+    """The blocks of an editor's page in a language."""
+    return [text for name, text in fenced(os.path.join("editors", editor, "README.md")) if name == language]

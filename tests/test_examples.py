@@ -1,0 +1,34 @@
+"""The modules of examples/: each has no fault, prints what its file .out has on the numbers of its file .in, and is laid out
+as the server lays it out. (What they print was written down by other means than this program.)"""
+import os
+
+from harness import TOP, Server, did_open, ends, holds, run, same, test
+from test_syntax_files import examples, text_of
+
+
+def bytes_of(*path):
+    with open(os.path.join(TOP, *path), "rb") as file:
+        return file.read()
+
+
+@test("examples: there are a dozen, each with its input and its output")
+def dozen():
+    holds(len(examples()) >= 12, f"there are {len(examples())}")
+    wanted = sorted(f"{it[:-4]}{end}" for it in examples() for end in (".in", ".mod", ".out"))
+    same(sorted(os.path.join("examples", it) for it in os.listdir(os.path.join(TOP, "examples")) if it != "README.md"), wanted)
+
+
+@test("examples: each is checked and run")
+def run_each():
+    for it in examples():
+        ends(run(["check", os.path.join(TOP, it)]), "", 0)
+        ends(run(["run", os.path.join(TOP, it)], bytes_of(f"{it[:-4]}.in")), bytes_of(f"{it[:-4]}.out"), 0)
+
+
+@test("examples: a layout changes nothing in any of them")
+def laid_out():
+    with Server() as server:
+        for it in examples():
+            same(server.tell(did_open(text_of(it), uri=f"file:///{it}")), [], it)
+            options = {"textDocument": {"uri": f"file:///{it}"}, "options": {"tabSize": 2, "insertSpaces": True}}
+            same(server.ask("textDocument/formatting", options).get("result"), [], it)

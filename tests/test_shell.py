@@ -1,0 +1,192 @@
+"""What belongs to the program in a shell: completions for bash, zsh and fish, the manual page, `make install`, and the commands
+in README.md and the pages of the editors."""
+import os
+import pty
+import re
+import select
+import shlex
+import subprocess
+import tempfile
+import time
+
+import common
+import harness
+from harness import TOP, Skipped, holds, run, same, test, want
+from snippets import fenced
+from test_editors import at_home, run_plainly, write
+from test_syntax_files import text_of
+
+SHARE = os.path.join(TOP, "share")
+COMMANDS = ["check", "rename", "run", "serve"]
+# what is typed behind `ob0`, and what is offered, in a folder with these files
+FILES = ["a.ob0", "b.mod", "c.Mod", "d.txt"]
+MODULES = ["a.ob0", "b.mod", "c.Mod"]
+OFFERED = [
+    ("", COMMANDS),
+    ("r", ["rename", "run"]),
+    ("check ", MODULES),
+    ("run ", MODULES),
+    ("run --", ["--calls", "--help", "--turns"]),
+    ("rename ", MODULES),
+    ("rename a", ["a.ob0"]),
+]
+
+
+def in_folder(function):
+    with tempfile.TemporaryDirectory() as room:
+        for it in FILES:
+            write(os.path.join(room, it), "")
+        return function(room)
+
+
+def environment(room):
+    return {**os.environ, "HOME": room, "LC_ALL": "C.UTF-8", "TERM": "dumb"}
+
+
+@test("shell: the commands of the completions and of the manual page are the program's")
+def commands():
+    found = run(["--help"])
+    listed = re.findall(r"^  (\w+)  +\w", found.out.decode().partition("Commands:")[2].partition("Options:")[0], re.M)
+    same(sorted({*listed} - {"help"}), COMMANDS, "the commands")
+    page = text_of("share", "ob0.1")
+    for it in COMMANDS:
+        holds(re.search(rf'^\.(B|BI) "?{it}\b', page, re.M), f"the manual page has no {it}")
+    for it in ["", *COMMANDS]:
+        options = set(re.findall(r"--\w+", run([*it.split(), "--help"]).out.decode()))
+        holds(all(option.replace("-", "\\-") in page for option in options), f"options of {it}: {options}")
+
+
+@test("shell: completion in bash")
+def in_bash():
+    want("bash")
+
+    def offered(room, typed):
+        words = ["ob0", *typed.split(" ")]
+        given = f"COMP_WORDS=({' '.join(shlex.quote(it) for it in words)}); COMP_CWORD={len(words) - 1}; _ob0"
+        script = f'source {shlex.quote(os.path.join(SHARE, "ob0.bash"))}; {given}; printf "%s\\n" "${{COMPREPLY[@]}}"'
+        status, said = run_plainly(["bash", "--norc", "-c", script], environment(room), room)
+        same(status, 0, said)
+        return sorted(said.split())
+
+    for typed, wanted in OFFERED:
+        same(in_folder(lambda room, typed=typed: offered(room, typed)), sorted(wanted), f"behind `ob0 {typed}`")
+
+
+@test("shell: completion in fish")
+def in_fish():
+    want("fish")
+
+    def offered(room, typed):
+        script = f"source {os.path.join(SHARE, 'ob0.fish')}; complete -C {shlex.quote('ob0 ' + typed)}"
+        status, said = run_plainly(["fish", "--no-config", "-c", script], environment(room), room)
+        same(status, 0, said)
+        return sorted(line.split("\t")[0] for line in said.splitlines() if line.strip())
+
+    for typed, wanted in OFFERED:
+        found = in_folder(lambda room, typed=typed: offered(room, typed))
+        same([it for it in found if it in [*wanted, *COMMANDS, *FILES]], sorted(wanted), f"behind `ob0 {typed}`")
+
+
+@test("shell: completion in zsh")
+def in_zsh():
+    want("zsh")
+
+    setup = f"fpath=({shlex.quote(SHARE)} $fpath); autoload -U compinit; compinit -u -D; zstyle ':completion:*' list-colors ''; "
+    setup += "zstyle ':completion:*' list-prompt ''; setopt no_auto_menu no_list_beep auto_list; PS1=; LISTMAX=0; echo rea''dy\n"
+
+    def all_offered(room):
+        """What zsh shows when Tab is typed behind each line, in a terminal."""
+        process, terminal = pty.fork()
+        if process == 0:
+            os.chdir(room)
+            os.execvpe("zsh", ["zsh", "-f", "-i"], environment(room))
+
+        def said(until, longest):
+            found, end = b"", time.monotonic() + longest
+            while until not in found and time.monotonic() < end:
+                if select.select([terminal], [], [], 0.2)[0]:
+                    found += os.read(terminal, 1 << 16)
+            return found.decode(errors="replace")
+
+        os.write(terminal, setup.encode())
+        said(b"ready", 20)
+        shown = []
+        for at, (typed, _) in enumerate(OFFERED):
+            # (Tab twice: to the longest common beginning, and then the list; then the line is given up)
+            os.write(terminal, f"ob0 {typed}\t\t\x15echo do''ne{at}\n".encode())
+            shown.append(said(f"done{at}".encode(), 20))
+        os.write(terminal, b"exit\n")
+        os.close(terminal)
+        os.waitpid(process, 0)
+        return shown
+
+    for (typed, wanted), shown in zip(OFFERED, in_folder(all_offered)):
+        for it in [*COMMANDS, *FILES, "--calls", "--turns", "--help"]:
+            if it in wanted:
+                holds(it in shown, f"{it} is not offered behind `ob0 {typed}`: {shown!r}")
+            elif it not in typed and (it in FILES or typed in ("", "r")):
+                holds(it not in shown, f"{it} is offered behind `ob0 {typed}`: {shown!r}")
+
+
+@test("shell: the manual page is well formed and says what the program says")
+def manual():
+    want("mandoc")
+    status, said = run_plainly(["mandoc", "-Tlint", "-W", "warning", os.path.join(SHARE, "ob0.1")], dict(os.environ), TOP)
+    same((status, said), (0, ""), "mandoc -Tlint")
+
+
+@test("shell: `make install` installs the proved program, its manual page and its completions")
+def installed():
+    if not common.is_current() or os.path.abspath(harness.BINARY) != common.BINARY:
+        raise Skipped("bin/ob0 is not the proved program of these sources")
+    with tempfile.TemporaryDirectory() as room:
+        words = ["make", "--silent", "install", f"DESTDIR={room}", "PREFIX=/usr"]
+        status, said = run_plainly(words, dict(os.environ), TOP)
+        same(status, 0, said)
+        found = sorted(os.path.relpath(os.path.join(at, it), room) for at, _, files in os.walk(room) for it in files)
+        share = "usr/share"
+        wanted = [
+            "usr/bin/ob0",
+            f"{share}/bash-completion/completions/ob0",
+            f"{share}/fish/vendor_completions.d/ob0.fish",
+            f"{share}/man/man1/ob0.1",
+            f"{share}/zsh/site-functions/_ob0",
+        ]
+        same(found, wanted)
+        same(subprocess.run([os.path.join(room, wanted[0]), "--help"], capture_output=True, check=False).returncode, 0, "the status")
+
+
+PAGES = ["README.md", "examples/README.md"]
+
+
+@test("shell: the transcripts of README are what the program prints")
+def transcripts():
+    blocks = [text for it in PAGES for name, text in fenced(it) if name == "console"]
+    holds(blocks, "there is none")
+    with tempfile.TemporaryDirectory() as room:
+        own = at_home(room, "kate")
+        for block in blocks:
+            said = ""
+            for line in re.findall(r"^\$ (.*)$", block, re.M):
+                said += f"$ {line}\n" + run_plainly(["sh", "-c", line], own, TOP)[1]
+            same(said, block)
+
+
+@test("shell: the links between pages lead somewhere")
+def links():
+    pages = [it for at, _, files in os.walk(TOP) for it in (os.path.relpath(os.path.join(at, name), TOP) for name in files)]
+    pages = [it for it in pages if it.endswith(".md") and not it.startswith(("bin", ".git"))]
+    for page in pages:
+        for target in re.findall(r"\]\(([^)#:]+)(?:#[^)]*)?\)", text_of(page)):
+            path = os.path.join(TOP, os.path.dirname(page), target)
+            holds(os.path.exists(path), f"{page} has a link to {target}")
+
+
+@test("shell: `make demo` plays its conversation with the proved program")
+def demo():
+    if not common.is_current() or os.path.abspath(harness.BINARY) != common.BINARY:
+        raise Skipped("bin/ob0 is not the proved program of these sources")
+    status, said = run_plainly(["make", "--silent", "demo"], dict(os.environ), TOP)
+    same(status, 0, said[-500:])
+    for it in "which is proved", '"newText": "Squared"', '"message": "Captures', "the server ended with status 0":
+        holds(it in said, f"no {it} in what it prints:\n{said}")

@@ -1,0 +1,237 @@
+"""The files of editors/ that colour, detect and indent: each has the words of the scanner and of the language, and each is
+read by the tool that uses it, where that is here."""
+import functools
+import glob
+import json
+import os
+import re
+import subprocess
+import tempfile
+import xml.etree.ElementTree
+
+import snippets
+from harness import TOP, Failed, holds, same, test, want
+from test_editors import at_home, run_in_terminal, run_plainly, write
+
+PREDECLARED = {"INTEGER", "BOOLEAN", "TRUE", "FALSE", "Read", "Write", "WriteLn"}
+OF_LAYOUT = re.compile(r"[A-Z][A-Za-z]*")
+
+
+def text_of(*path):
+    with open(os.path.join(TOP, *path), encoding="utf-8") as file:
+        return file.read()
+
+
+@functools.lru_cache(None)
+def reserved():
+    """The reserved words, as the scanner has them."""
+    found = re.findall(r'b"([A-Z]+)" => Some\(Reserved::', text_of("crates", "ob0_scan", "src", "lexeme.rt"))
+    return sorted(found)
+
+
+@test("syntax files: the language's page has the scanner's reserved words")
+def page():
+    block = re.search(r"The reserved words:\n\n```\n(.*?)```", text_of("docs", "LANGUAGE.md"), re.S)[1]
+    same(sorted(block.split()), reserved())
+    same(len(reserved()), 21, "how many reserved words")
+
+
+def vim_words():
+    return [word for line in re.findall(r"^syn keyword (?!ob0Todo)\w+ (.*)$", text_of("editors", "vim", "syntax", "ob0.vim"), re.M) for word in line.split()]
+
+
+def emacs_words():
+    text = text_of("editors", "emacs", "ob0-mode.el")
+    lists = re.findall(r"regexp-opt '\(([^)]*)\) 'words\)", text) + [re.search(r"defconst ob0-keywords\s*'\(([^)]*)\)", text)[1]]
+    return [word for it in lists for word in re.findall(r'"(\w+)"', it)]
+
+
+def kate_words():
+    tree = xml.etree.ElementTree.fromstring(text_of("editors", "kate", "oberon0.xml"))
+    lists = {it.get("name") for it in tree.iter("list")}
+    same({it.get("String") for it in tree.iter("keyword")}, lists, "the lists that are used")
+    return [it.text for it in tree.iter("item")]
+
+
+def textmate_words():
+    grammar = json.loads(text_of("editors", "vscode", "syntaxes", "oberon0.tmLanguage.json"))
+    found = [re.fullmatch(r"\\b\(\?:([A-Za-z|]+)\)\\b", it.get("match", "")) for it in grammar["patterns"]]
+    return [word for it in found if it for word in it[1].split("|")]
+
+
+def kakoune_words():
+    return [word for it in re.findall(r"regex \\b\(([A-Za-z|]+)\)\\b", text_of("editors", "kakoune", "ob0.kak")) for word in it.split("|")]
+
+
+for name, words in ("Vim", vim_words), ("Emacs", emacs_words), ("Kate", kate_words), ("TextMate", textmate_words), ("Kakoune", kakoune_words):
+    test(f"syntax files: the words of {name}'s are the language's, each once")(
+        lambda words=words: same(sorted(words()), sorted([*reserved(), *PREDECLARED]))
+    )
+
+
+SAMPLE = """MODULE M; (* a (* nested *) still (*) open *) *)
+VAR Begin: INTEGER; BEGIN Begin := 12 DIV 3; Write(4x) END M.
+"""
+
+
+@test("syntax files: Kate's, by KDE's highlighter")
+def kate():
+    want("kate-syntax-highlighter")
+    with tempfile.TemporaryDirectory() as room:
+        own = at_home(room, "kate")
+        for ending in "ob0", "mod", "Mod":
+            file = os.path.join(room, f"sample.{ending}")
+            write(file, SAMPLE)
+            words = ["kate-syntax-highlighter", "--output-format", "ansi", "--syntax-trace", "format", file]
+            status, said = run_plainly(words, own, room)
+            said = re.sub(r"\x1b\[[0-9;]*[mK]", "", said)
+            same(status, 0, said)
+            for it in "Keyword", "Comment", "Type", "OperatorWord", "Builtin", "Number", "Error":
+                holds(it in said, f"no {it} in what was shown of {file}: {said}")
+
+
+@test("syntax files: TextMate's, by the regular expressions of its kind")
+def textmate():
+    want("Ruby")
+    with tempfile.TemporaryDirectory() as room:
+        file = os.path.join(room, "sample.mod")
+        write(file, SAMPLE)
+        words = ["ruby", os.path.join(TOP, "tests", "editors", "tokens.rb"), os.path.join(TOP, "editors", "vscode", "syntaxes", "oberon0.tmLanguage.json"), file]
+        status, said = run_plainly(words, {**os.environ, "LC_ALL": "C.UTF-8"}, room)
+        same(status, 0, said)
+        for it in (
+            '0:0-6 keyword.declaration.oberon0 "MODULE"',
+            '" still "',
+            '1:11-18 support.type.oberon0 "INTEGER"',
+            '1:35-37 constant.numeric.integer.oberon0 "12"',
+            '1:38-41 keyword.operator.word.oberon0 "DIV"',
+            '1:45-50 support.function.oberon0 "Write"',
+            '1:51-53 invalid.illegal.number.oberon0 "4x"',
+        ):
+            holds(it in said, f"no {it} in\n{said}")
+        holds("comment.block.oberon0 comment.block.oberon0 \") open" in said, f"(*) does not open a comment:\n{said}")
+        holds("Begin" not in said, f"a plain name has a colour:\n{said}")
+
+
+# a file's name, its text, and whether it is Oberon-0
+FILES = [
+    ("a.ob0", "x", True),
+    ("a.mod", "MODULE M;", True),
+    ("a.Mod", "(* two\n (* lines *) *)\n\n  MODULE M;", True),
+    ("go.mod", "module example.com/x", False),
+    ("b.mod", "IMPLEMENTATION MODULE M;", False),
+    ("c.mod", "DEFINITION MODULE M;", False),
+    ("d.mod", "(* MODULE M; *) x", False),
+]
+COLOURS = [
+    (1, "MODULE", "Keyword"),
+    (1, "nested", "Comment"),
+    (1, "still", "Comment"),
+    (1, "open", "Comment"),
+    (2, "Begin", ""),
+    (2, "INTEGER", "Type"),
+    (2, "12", "Number"),
+    (2, "DIV", "Operator"),
+    (2, "4x", "Error"),
+    (2, "Write", "Builtin"),
+]
+
+
+def by_vim(editor, words, name):
+    """Vim's files, in Vim or Neovim: file types, colours, :make, indentation."""
+    with tempfile.TemporaryDirectory() as room:
+        own = at_home(room, editor)
+        rc = os.path.join(room, "rc.vim")
+        write(rc, "set nocompatible\nsyntax on\nfiletype plugin indent on\n")
+        work = os.path.join(room, "work")
+        for file, text, _ in FILES:
+            write(os.path.join(work, file), text)
+        write(os.path.join(work, "sample.mod"), SAMPLE)
+        write(os.path.join(work, "faulty.ob0"), "MODULE M;\nBEGIN x := 1 END M.\n")
+        for it in examples():
+            write(os.path.join(work, os.path.basename(it)), text_of(it))
+        report = os.path.join(room, "report")
+        own.update(OB0_REPORT=report, OB0_WORK=work, OB0_FILES=json.dumps([it[0] for it in FILES]), OB0_COLOURS=json.dumps(COLOURS))
+        own["OB0_EXAMPLES"] = json.dumps([os.path.basename(it) for it in examples()])
+        words = [it.replace("RC", rc) for it in words]
+        status, said = run_in_terminal([*words, "-S", os.path.join(TOP, "tests", "editors", "files.vim")], own, room)
+        same(status, 0, said[-500:])
+        found = json.loads(text_of(report))
+    same([it == "ob0" for it in found["types"]], [it[2] for it in FILES], f"what {name} takes as Oberon-0: {found['types']}")
+    same(found["colours"], [f"ob0{it[2]}" if it[2] else "" for it in COLOURS], "the colours")
+    same(found["faults"], [[2, 7, "Undeclared: not declared"]], "what :make finds")
+    same(found["indented"], [], "examples that are indented in another way than the server lays them out")
+    same(found["commented"], "(* x := 1 *)", "a comment by 'commentstring'")
+
+
+@test("syntax files: Vim's file types, colours, :make and indentation, in Vim")
+def in_vim():
+    want("Vim")
+    by_vim("vim", ["vim.nox", "-n", "-i", "NONE", "-u", "RC"], "Vim")
+
+
+@test("syntax files: Vim's file types, colours, :make and indentation, in Neovim")
+def in_neovim():
+    want("Neovim")
+    by_vim("neovim", ["nvim", "-n", "-i", "NONE", "-u", "RC"], "Neovim")
+
+
+def examples():
+    return sorted(os.path.relpath(it, TOP) for it in glob.glob(os.path.join(TOP, "examples", "*.mod")))
+
+
+@test("syntax files: Emacs's mode: file types, colours, indentation, index, check and run")
+def in_emacs():
+    want("Emacs")
+    with tempfile.TemporaryDirectory() as room:
+        own = at_home(room, "emacs")
+        own.update(OB0_TOP=TOP, OB0_EXAMPLES=json.dumps([os.path.join(TOP, it) for it in examples()]))
+        own["OB0_FILES"] = json.dumps([[it[0], it[1], it[2]] for it in FILES])
+        words = ["emacs", "--batch", "-L", os.path.join(room, ".emacs.d", "lisp"), "-l", "ob0-mode"]
+        status, said = run_plainly([*words, "-l", os.path.join(TOP, "tests", "editors", "mode.el"), "-f", "ert-run-tests-batch-and-exit"], own, room)
+        same(status, 0, said[-3000:])
+        compile_words = ["emacs", "--batch", "--eval", "(setq byte-compile-error-on-warn t)", "-f", "batch-byte-compile"]
+        status, said = run_plainly([*compile_words, os.path.join(room, ".emacs.d", "lisp", "ob0-mode.el")], own, room)
+        same(status, 0, said[-2000:])
+
+
+@test("syntax files: Kakoune's file type, and faults that come and go by its lint")
+def in_kakoune():
+    want("Kakoune")
+    with tempfile.TemporaryDirectory() as room:
+        own = at_home(room, "kakoune")
+        write(os.path.join(room, ".config", "kak", "kakrc"), "\n".join(snippets.snippets("kakoune", "kak")))
+        work = os.path.join(room, "work")
+        for file, text, _ in FILES:
+            write(os.path.join(work, file), text)
+        write(os.path.join(work, "faulty.Mod"), "MODULE M;\nBEGIN x := 1 END M.\n")
+        report = os.path.join(room, "report")
+        os.makedirs(report)
+        own.update(OB0_WORK=work, OB0_REPORT=report)
+        script = os.path.join(TOP, "tests", "editors", "kakoune.sh")
+        status, said = run_plainly(["sh", script, *(it[0] for it in FILES)], own, work)
+        same(status, 0, said[-2000:])
+        types = [text_of(report, it[0]) == "ob0" for it in FILES]
+        same(types, [it[2] for it in FILES], f"what Kakoune takes as Oberon-0: {said}")
+        holds("2|error: Undeclared: not declared(col 7)" in text_of(report, "faulty"), "lint: " + text_of(report, "faulty"))
+        holds("Undeclared" not in text_of(report, "mended"), "lint: " + text_of(report, "mended"))
+
+
+@test("syntax files: settings of Kate, Helix, kak-lsp and VS Code name the server and what is there")
+def settings():
+    server = json.loads(text_of("editors", "kate", "settings.json"))["servers"]["oberon0"]
+    same(server["command"], ["ob0", "serve"], "Kate's command")
+    holds(re.search(server["highlightingModeRegex"], "Oberon-0"), "Kate's mode")
+    package = json.loads(text_of("editors", "vscode", "package.json"))
+    for it in package["main"], package["contributes"]["languages"][0]["configuration"], package["contributes"]["grammars"][0]["path"]:
+        holds(os.path.isfile(os.path.join(TOP, "editors", "vscode", it)), f"package.json names {it}")
+    json.loads(text_of("editors", "vscode", "language-configuration.json"))
+    try:
+        import tomllib
+    except ImportError:
+        return
+    helix = tomllib.loads(text_of("editors", "helix", "languages.toml"))
+    same(helix["language-server"]["ob0"], {"command": "ob0", "args": ["serve"]}, "Helix's server")
+    same(helix["language"][0]["language-servers"], ["ob0"], "Helix's language")
+    kak = tomllib.loads(text_of("editors", "kakoune", "kak-lsp.toml"))["language"]["ob0"]
+    same((kak["command"], kak["args"]), ("ob0", ["serve"]), "kak-lsp's server")
