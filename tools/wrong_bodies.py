@@ -227,11 +227,11 @@ def is_held(edit, said, source):
     return any(said.verdicts[it] != "proved" for it in verdicts_of(edit, said, source))
 
 
-def try_crate(name, word, named, jobs, is_quiet):
+def try_crate(name, wanted, named, jobs, is_quiet):
     """Tries a crate's wrong bodies, prints a line for each and one for all, and returns their counts."""
     timer = time.monotonic()
     source = reading.Source(name)
-    all_edits = [it for it in edits.edits_of(name, source) if word in it.name]
+    all_edits = [it for it in edits.edits_of(name, source) if any(word in it.name for word in wanted)]
     if not all_edits:
         return 0, 0, 0
     found = {it: (NOT_JUDGED, it.why) for it in all_edits if it.why}
@@ -265,14 +265,17 @@ def main(words):
         jobs = int(words[at + 1])
         del words[at : at + 2]
     named = common.libraries()
-    chosen = [it.partition("/")[::2] for it in words] or [(it, "") for it in named]
-    unknown = [name for name, _ in chosen if name not in named]
+    chosen = {}
+    for it in words or named:
+        name, _, word = it.partition("/")
+        chosen.setdefault(name, []).append(word)
+    unknown = [it for it in chosen if it not in named]
     if unknown:
         common.stop(f"crates.txt names no crate {', '.join(unknown)}")
     total = [0, 0, 0]
     try:
-        for name, word in chosen:
-            total = [a + b for a, b in zip(total, try_crate(name, word, named, jobs, is_quiet))]
+        for name, wanted in chosen.items():
+            total = [a + b for a, b in zip(total, try_crate(name, wanted, named, jobs, is_quiet))]
     except KeyboardInterrupt:
         return 130
     print(f"{total[0]} refused, {total[1]} proved, {total[2]} not judged")
