@@ -11,10 +11,10 @@ use std::alloc::{AllocError, Global};
 
 /// A place that a pass has reached: its offset, and the line and the units of that line that it counted.
 #[derive(Clone, Copy)]
-struct Place {
-    offset: usize,
-    line: u64,
-    character: u64,
+pub struct Place {
+    pub offset: usize,
+    pub line: u64,
+    pub character: u64,
 }
 
 const START: Place = Place {
@@ -79,7 +79,7 @@ pub fn offset_of(text: &str, unit: Unit, position: Position) -> usize
     onward_to_position(text, unit, START, position).offset
 }
 
-fn position_at(place: Place) -> Position
+pub fn position_at(place: Place) -> Position
     ensures { result ≡ at place.line place.character }
 {
     Position {
@@ -119,7 +119,7 @@ fn width(c: char, unit: Unit) -> u64
 }
 
 /// The last place at or before an offset that isn't inside a character.
-fn onward_to_offset(text: &str, unit: Unit, from: Place, offset: usize) -> Place
+pub fn onward_to_offset(text: &str, unit: Unit, from: Place, offset: usize) -> Place
     requires place { IsPlace (width_of unit) text.now from }
     requires behind { from.offset ≤ offset }
     ensures place { IsPlace (width_of unit) text.now result }
@@ -148,7 +148,7 @@ fn onward_to_offset(text: &str, unit: Unit, from: Place, offset: usize) -> Place
 }
 
 /// The place of a position.
-fn onward_to_position(text: &str, unit: Unit, from: Place, position: Position) -> Place
+pub fn onward_to_position(text: &str, unit: Unit, from: Place, position: Position) -> Place
     requires place { IsPlaceBefore (width_of unit) text.now position from }
     ensures place { IsPlaceBefore (width_of unit) text.now position result }
     ensures offset { result.offset ≡ offset_of (width_of unit) (chars text.now) position }

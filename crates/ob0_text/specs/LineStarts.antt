@@ -1,0 +1,42 @@
+-- Where the lines of a text start, in bytes.
+use Rattle.std.specs.Prelude.{ℕ, suc, ◌+◌, ◌<◌, ◌≤◌, if◌then◌else◌, List, [], ◌∷◌, ◌++◌, length, slice_index, refl}
+use Rattle.std.specs.Coded.{Coded, code_by, coded×, coded_list, coded_ℕ}
+use Rattle.ob0_text.specs.declared.positions.Unit.{Unit}
+use Rattle.ob0_text.specs.Units.{unit_code}
+use Rattle.ob0_text.specs.Texts.{Line, lines, ends_line, byte_len}
+
+-- a line's characters with those of its ending
+abbrev pub with_ending : Line → List ℕ
+with_ending l = l.body ++ l.ending
+
+-- where lines that stand one after another start, the first of them at some offset
+unfoldable pub starts_from : ℕ → List Line → List ℕ
+starts_from at [] = []
+starts_from at (l ∷ ls) = at ∷ starts_from (at + byte_len (with_ending l)) ls
+
+-- the running lengths of a text's lines
+abbrev pub line_starts : List ℕ → List ℕ
+line_starts text = starts_from 0 (lines text)
+
+-- The offsets at which a line starts right behind one of these bytes. The first byte stands before the offset `at`,
+-- and `next` follows on the last
+unfoldable pub starts_behind : ℕ → List ℕ → List ℕ → List ℕ
+starts_behind at [] next = []
+starts_behind at (b ∷ bs) next =
+    if ends_line b (bs ++ next) then at ∷ starts_behind (suc at) bs next else starts_behind (suc at) bs next
+
+-- each number of a list is below a bound, or from it on
+abbrev pub AllUnder : ℕ → List ℕ → Type 0
+AllUnder bound ns = (k : ℕ) → k < length ns → slice_index ns k < bound
+
+abbrev pub AllFrom : ℕ → List ℕ → Type 0
+AllFrom bound ns = (k : ℕ) → k < length ns → bound ≤ slice_index ns k
+
+-- a text, and the unit in which its positions are counted
+pub record TextInUnit : Type 0 where
+  pub text : List ℕ
+  pub unit : Unit
+
+abbrev pub text_code : Coded TextInUnit
+text_code =
+    code_by (List ℕ × Unit) (coded× (coded_list coded_ℕ) unit_code) (λ t. (t.text, t.unit)) (λ p. record { text = p.0; unit = p.1 }) (λ t. refl)
