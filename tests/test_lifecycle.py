@@ -156,7 +156,7 @@ def refused_lines():
 
 @test("program: help is told on standard output, status 0")
 def helped():
-    for words in ([], *([it] for it in ("serve", "check", "run", "rename"))):
+    for words in ([], ["serve"], ["check"], ["run"], ["rename"]):
         found = run(["help", *words])
         same((b"Usage:" in found.out, found.err, found.status), (True, b"", 0), f"ob0 help {' '.join(words)}")
         for flag in ("--help", "-h"):
