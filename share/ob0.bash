@@ -14,11 +14,14 @@ _ob0() {
     esac
     if [[ $word == -* ]]; then
         local options="-h --help"
+        [[ -z $command ]] && options="$options -V --version"
         [[ $command == run ]] && options="--calls --turns $options"
         mapfile -t COMPREPLY < <(compgen -W "$options" -- "$word")
     elif [[ -z $command ]]; then
+        mapfile -t COMPREPLY < <(compgen -W "serve check run rename help" -- "$word")
+    elif [[ $command == help && $place == 0 ]]; then
         mapfile -t COMPREPLY < <(compgen -W "serve check run rename" -- "$word")
-    elif [[ $command != serve && $place == 0 ]]; then
+    elif [[ $command != serve && $command != help && $place == 0 ]]; then
         compopt -o filenames 2>/dev/null
         mapfile -t COMPREPLY < <(compgen -f -X '!*.@(ob0|mod|Mod)' -- "$word"; compgen -d -- "$word")
     fi

@@ -1,6 +1,11 @@
-"""The order of checks and the table of errors: JSON, shape, lifecycle, method, params."""
+"""The order of checks and the table of errors: JSON, shape, lifecycle, method, params; the command line itself."""
+import re
+import subprocess
+
+import harness
 from harness import EXIT, SHUTDOWN, answer, did_close, did_open, error, frame, initialize, notice, published, request
-from harness import capabilities, run, same, serve, test
+from harness import capabilities, holds, run, same, serve, test
+from test_syntax_files import text_of
 
 FIRST = answer(1, {"capabilities": capabilities()})
 SHUT = answer(2, None)
@@ -144,13 +149,63 @@ for key, given in TALKS.items():
 
 @test("program: command lines that are refused are status 2, on standard error")
 def refused_lines():
-    for words in ([], ["x"], ["serve", "x"], ["serve", "--x"], ["--x"], ["help"], ["help", "serve"]):
+    for words in ([], ["x"], ["serve", "x"], ["serve", "--x"], ["--x"], ["help", "x"], ["check", "--version"]):
         found = run(words)
         same((found.out, bool(found.err), found.status), (b"", True, 2), f"ob0 {' '.join(words)}")
 
 
 @test("program: help is told on standard output, status 0")
 def helped():
-    for words in (["--help"], ["-h"], ["serve", "--help"]):
-        found = run(words)
-        same((b"Usage:" in found.out, found.err, found.status), (True, b"", 0), f"ob0 {' '.join(words)}")
+    for words in ([], ["serve"], ["check"], ["run"], ["rename"]):
+        found = run(["help", *words])
+        same((b"Usage:" in found.out, found.err, found.status), (True, b"", 0), f"ob0 help {' '.join(words)}")
+        for flag in ("--help", "-h"):
+            same(run([*words, flag]).out, found.out, f"ob0 {' '.join(words)} {flag}")
+
+
+@test("program: help says from where lines and columns count, what the statuses are, and names values in capitals")
+def explained():
+    values = {"check": ["<FILE>"], "run": ["<FILE>", "--calls <N>", "--turns <N>"], "rename": ["<FILE> <LINE> <COLUMN> <NAME>"]}
+    for command in (None, "serve", *values):
+        said = run([command, "--help"] if command else ["--help"]).out.decode()
+        holds("Lines and columns count from 0, columns in UTF-16 units." in said, f"{command}: from where is not said: {said}")
+        same(re.findall(r"^  (\d)  \S", said.partition("Exit status:")[2], re.M), list("012345"), f"the statuses of {command}")
+        for it in values.get(command, []):
+            holds(it in said, f"{command}: no {it}: {said}")
+
+
+@test("program: the version is told on standard output, status 0, and is that of CHANGELOG.md and of the manual page")
+def version():
+    # (where no version was released yet, it is the first one)
+    released = re.search(r"^## (\d+\.\d+\.\d+)", text_of("CHANGELOG.md"), re.M)
+    number = released.group(1) if released else "0.1.0"
+    for flag in ("--version", "-V"):
+        found = run([flag])
+        same((found.out, found.err, found.status), (f"ob0 {number}\n".encode(), b"", 0), f"ob0 {flag}")
+    heading = re.search(r'^\.TH OB0 1 \S+ "ob0 (\S+)"', text_of("share", "ob0.1"), re.M)
+    same(heading and heading.group(1), number, "the version of the manual page")
+
+
+@test("program: a word that is not UTF-8 is a command line that is refused, the program's name too")
+def no_text():
+    for words in ([b"ob0", b"check", b"\xff"], [b"ob0", b"\xc3"], [b"ob0", b"help", b"a\xed\xa0\x80"], [b"\xff", b"--help"], [b"o\xfe", b"serve"]):
+        how = {"executable": harness.BINARY, "stdin": subprocess.DEVNULL, "capture_output": True, "timeout": harness.SECONDS}
+        ran = subprocess.run(words, check=False, **how)
+        same((ran.stdout, ran.stderr, ran.returncode), (b"", b"error: a word of the command line isn't UTF-8\n", 2), repr(words))
+
+
+@test("program: help or a version that can't be written is a fault of writing")
+def not_written():
+    for words in (["--help"], ["help"], ["help", "run"], ["rename", "-h"], ["--version"]):
+        with open("/dev/full", "wb") as device:
+            how = {"stdin": subprocess.DEVNULL, "stdout": device, "stderr": subprocess.PIPE, "timeout": harness.SECONDS}
+            ran = subprocess.run([harness.BINARY, *words], check=False, **how)
+        same((ran.stderr, ran.returncode), (b"fault: Write\n", 4), f"ob0 {' '.join(words)}")
+
+
+@test("program: a refusal that can't be written keeps its status")
+def not_told():
+    with open("/dev/full", "wb") as device:
+        how = {"stdin": subprocess.DEVNULL, "stdout": subprocess.PIPE, "stderr": device, "timeout": harness.SECONDS}
+        ran = subprocess.run([harness.BINARY, "check"], check=False, **how)
+    same((ran.stdout, ran.returncode), (b"", 2))

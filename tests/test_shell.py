@@ -23,7 +23,10 @@ COMMANDS = ["check", "rename", "run", "serve"]
 FILES = ["a.ob0", "b.mod", "c.Mod", "d.txt"]
 MODULES = ["a.ob0", "b.mod", "c.Mod"]
 OFFERED = [
-    ("", COMMANDS),
+    ("", [*COMMANDS, "help"]),
+    ("help ", COMMANDS),
+    ("help r", ["rename", "run"]),
+    ("--v", ["--version"]),
     ("r", ["rename", "run"]),
     ("check ", MODULES),
     ("run ", MODULES),
@@ -48,7 +51,7 @@ def environment(room):
 def commands():
     found = run(["--help"])
     listed = re.findall(r"^  (\w+)  +\w", found.out.decode().partition("Commands:")[2].partition("Options:")[0], re.M)
-    same(sorted({*listed} - {"help"}), COMMANDS, "the commands")
+    same(sorted(listed), sorted([*COMMANDS, "help"]), "the commands")
     page = text_of("share", "ob0.1")
     for it in COMMANDS:
         holds(re.search(rf'^\.(B|BI) "?{it}\b', page, re.M), f"the manual page has no {it}")
@@ -85,7 +88,7 @@ def in_fish():
 
     for typed, wanted in OFFERED:
         found = in_folder(lambda room, typed=typed: offered(room, typed))
-        same([it for it in found if it in [*wanted, *COMMANDS, *FILES]], sorted(wanted), f"behind `ob0 {typed}`")
+        same([it for it in found if it in [*wanted, *COMMANDS, "help", *FILES]], sorted(wanted), f"behind `ob0 {typed}`")
 
 
 @test("shell: completion in zsh")
@@ -123,7 +126,7 @@ def in_zsh():
         return shown
 
     for (typed, wanted), shown in zip(OFFERED, in_folder(all_offered)):
-        for it in [*COMMANDS, *FILES, "--calls", "--turns", "--help"]:
+        for it in [*COMMANDS, *FILES, "--calls", "--turns", "--help", "--version"]:
             if it in wanted:
                 holds(it in shown, f"{it} is not offered behind `ob0 {typed}`: {shown!r}")
             elif it not in typed and (it in FILES or typed in ("", "r")):

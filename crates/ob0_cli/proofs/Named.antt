@@ -1,7 +1,9 @@
 -- What clap's matches say of the subcommand.
 use Rattle.std.proofs.Common.{zero, suc, ◌≡◌, ◌∙◌, ℕ, List, [], ◌∷◌, true, false, Bool, Option, Some, None, codes, refl, sym, ap, ap₂, subst, inl, inr}
-use Rattle.std.specs.Prelude.{Box, pos, is_some, not, ◌&&◌, find, option_map}
+use Rattle.std.specs.Prelude.{Box, pos, is_some, not, ◌&&◌, ◌||◌, find, option_map}
 use Rattle.std.specs.Option.{option_map_or}
+use Rattle.std.specs.Str.{bytes_eq}
+use Rattle.std.proofs.lemmas.Slice.Eq.{bytes_eq-Decides}
 use Rattle.clap.specs.Words.{App, Row, Rule, Shape, Text, IsParsedFrom, app_of, fault_of, found_of as found_in, has_subcommand, is_simple, rows_of, subcommand_name_of, subcommand_of, subcommand_rows, subcommand_rows_of}
 use Rattle.clap.specs.Facts.{parser_of_value}
 use Rattle.clap.specs.Values.{reading_of}
@@ -21,6 +23,7 @@ use Rattle.clap.proofs.OnLiterals.{clap_on_literals}
 use Rattle.ob0_cli.specs.Given.{Found, HasBounded, HasNeeded, HasPlace, HasText, NeedsAt, most_of}
 use Rattle.ob0_cli.specs.Lines.{calls_rule, number_rule, ob0_app, turns_rule, word_rule}
 use Rattle.ob0_cli.proofs.Rows.{Each, Fits, HasPassed, default_passed, found_of, passed_by, required_passed}
+use Rattle.ob0_cli.proofs.Stops.{IsNoHelp, walk_stops}
 use Rattle.ob0_cli.proofs.Walked.{neither}
 
 pub simple : is_simple ob0_app ≡ true
@@ -36,6 +39,10 @@ simple_and_free = refl
 -- what a subcommand of this name needs is there, where its words have no fault
 abbrev Needs : Shape → Type 0
 Needs s = (words : List Text) → level_fault s [] nothing_held words false [] ≡ [] → NeedsAt s.name (rows_after s.rules [] words)
+
+-- so it is where another word than `help` names it
+abbrev NeedsNamed : Shape → Type 0
+NeedsNamed s = (word : Text) → answers_to word (label_of s) ≡ true → bytes_eq word (codes "help") ≡ false → Needs s
 
 nth : ℕ → List Shape → Shape
 nth n [] = new_shape []
@@ -145,23 +152,41 @@ rename_needs words e =
       has_text at_rename.rules rows (codes "name") (required_passed at_rename words refl e rename_fits (placed 4 (word_rule (codes "name"))) refl refl),
     )))
 
-all_need : Each Needs subs
+-- no other word than `help` names the subcommand that clap adds
+help_needs : NeedsNamed (nth 4 subs)
 unfolding clap_on_literals nth
-all_need = (serve_needs, (check_needs, (run_needs, (rename_needs, tt))))
+help_needs word named other words e = absurd (unnamed (bytes_eq (codes "help") word) refl named)
+  where
+    unnamed : (b : Bool) → bytes_eq (codes "help") word ≡ b → (b || false) ≡ true → ⊥
+    unnamed false is e = cc
+    unnamed true is e =
+        let same : codes "help" ≡ word = (bytes_eq-Decides (codes "help") word).0 is in
+        let bad : false ≡ true = sym other ∙ (bytes_eq-Decides word (codes "help")).1 (sym same) in
+        cc
+
+all_need : Each NeedsNamed subs
+unfolding clap_on_literals nth
+all_need = (λ _ _ _. serve_needs, (λ _ _ _. check_needs, (λ _ _ _. run_needs, (λ _ _ _. rename_needs, (help_needs, tt)))))
+
+enabled : (built ob0_app).top.disable_help_subcommand ≡ false
+unfolding clap_on_literals
+enabled = refl
 
 -- ---- from the words
 
 -- the subcommand that was entered has no fault of its own
-entered_needs : (stop : Option (Text × List Text)) → entered_fault (built ob0_app) stop ≡ [] → is_some (entered (built ob0_app) stop) ≡ true
+entered_needs : (stop : Option (Text × List Text)) → IsNoHelp stop → entered_fault (built ob0_app) stop ≡ [] → is_some (entered (built ob0_app) stop) ≡ true
     → HasNeeded (entered (built ob0_app) stop)
-entered_needs None e there = cc
-entered_needs (Some p) e there = go (find (λ s. answers_to p.0 (label_of s)) subs) refl e there
+entered_needs None other e there = cc
+entered_needs (Some p) other e there = go (find (λ s. answers_to p.0 (label_of s)) subs) refl e there
   where
     go : (o : Option Shape) → find (λ s. answers_to p.0 (label_of s)) subs ≡ o
         → option_map_or (λ s. level_fault s [] nothing_held p.1 false []) o [] ≡ [] → is_some (option_map (λ s. rows_at s p.1) o) ≡ true
         → HasNeeded (option_map (λ s. rows_at s p.1) o)
     go None is e there = cc
-    go (Some s) is e there = (s.name, rows_after s.rules [] p.1, refl, (found_of Needs subs all_need (λ s. answers_to p.0 (label_of s)) s is).0 p.1 e)
+    go (Some s) is e there =
+        let found = found_of NeedsNamed subs all_need (λ s. answers_to p.0 (label_of s)) s is in
+        (s.name, rows_after s.rules [] p.1, refl, found.0 p.0 found.1 other p.1 e)
 
 -- words without a fault that name a subcommand give it what it needs
 words_need : (words : List Text) → fault_of ob0_app words ≡ [] → is_some (subcommand_of ob0_app words) ≡ true → HasNeeded (subcommand_of ob0_app words)
@@ -169,8 +194,10 @@ words_need words e there =
     let top = (built ob0_app).top in
     let names = names_of (built ob0_app) in
     let stop : Option (Text × List Text) = stop_after top.rules names (argument_words ob0_app words) in
-    let below = (neither (walk_fault top names (walk_from nothing_held) (argument_words ob0_app words)) _ e).1 in
-    entered_needs stop (neither (entered_fault (built ob0_app) stop) _ below).0 there
+    let parts = neither (walk_fault top names (walk_from nothing_held) (argument_words ob0_app words)) _ e in
+    let other : IsNoHelp stop = walk_stops top names enabled (argument_words ob0_app words) (walk_from nothing_held) parts.0 tt in
+    let below = parts.1 in
+    entered_needs stop other (neither (entered_fault (built ob0_app) stop) _ below).0 there
 
 -- ---- after a parse
 

@@ -4,9 +4,9 @@ use Rattle.clap.specs.Words.{App, Rule, Text, new_app, new_rule, with_rule, with
 use Rattle.clap.specs.declared.builder.ArgAction.TheVariants.{Set}
 use Rattle.clap.specs.declared.builder.value_parser.ValueParser.TheVariants.{Signed, Unsigned}
 
--- a word that must stand there
+-- a word that must stand there; help has a name for its value, as for each value
 abbrev pub word_rule : Text → Rule
-word_rule id = record (new_rule id) { action = Some Set; required = true }
+word_rule id = record (new_rule id) { action = Some Set; value_names = 1; required = true }
 
 -- a number of 64 bits that must stand there
 abbrev pub number_rule : Text → Rule
@@ -17,6 +17,7 @@ abbrev pub calls_rule : Rule
 calls_rule = record (new_rule (codes "calls")) {
   long = Some (codes "calls");
   parser = Some (Signed (pos 0) (pos 64));
+  value_names = 1;
   defaults = codes "64" ∷ [];
 }
 
@@ -25,6 +26,7 @@ abbrev pub turns_rule : Rule
 turns_rule = record (new_rule (codes "turns")) {
   long = Some (codes "turns");
   parser = Some (Signed (pos 0) (pos 100000));
+  value_names = 1;
   defaults = codes "100000" ∷ [];
 }
 
@@ -42,9 +44,10 @@ abbrev pub rename : App
 rename = with_rule (with_rule (with_rule (with_rule (new_app (codes "rename")) (word_rule (codes "file"))) (number_rule (codes "line")))
     (number_rule (codes "column"))) (word_rule (codes "name"))
 
--- one subcommand is required, and none of them is `help`
+-- it has a version, and one subcommand is required
 abbrev pub ob0_alone : App
-ob0_alone = record (new_app (codes "ob0")) { top = record (new_app (codes "ob0")).top { subcommand_required = true; disable_help_subcommand = true } }
+ob0_alone = record (new_app (codes "ob0")) { top = record (new_app (codes "ob0")).top { subcommand_required = true; has_version = true } }
 
+-- these four subcommands, and `help`, which clap adds
 abbrev pub ob0_app : App
 ob0_app = with_subcommand (with_subcommand (with_subcommand (with_subcommand ob0_alone serve.top) check.top) run.top) rename.top

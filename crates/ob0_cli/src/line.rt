@@ -10,6 +10,23 @@ use clap::{Arg, ArgAction, ArgMatches, Command, Error, value_parser};
 use ob0_text::Position;
 use std::alloc::{AllocError, Global};
 
+const VERSION: &str = "0.1.0";
+
+/// What stands below each help.
+const NOTES: &str = "\
+Lines and columns count from 0, columns in UTF-16 units.
+Where its client offers UTF-8, serve counts columns in bytes of it.
+
+Exit status:
+  0  all went well
+  1  the module is wrong, its run ends with a fault or the edit is refused;
+     of serve: exit without shutdown, or the input ends between messages
+  2  the command line is refused
+  3  of serve: the stream of messages is damaged
+  4  something can't be read or written, a file isn't UTF-8,
+     or the input of run is no list of numbers
+  5  out of memory";
+
 /// What a command line asks for.
 #[derive(Clone, Copy, Debug, Drop, PartialEq, Eq)]
 pub enum CommandLine<'a> {
@@ -36,7 +53,7 @@ pub enum CommandLine<'a> {
 /// Why a command line asks for nothing.
 #[derive(Drop)]
 pub enum CommandFault {
-    /// The words are refused, or they ask for help.
+    /// The words are refused, or they ask for help or the version.
     Refused(Error),
     Memory,
 }
@@ -130,20 +147,21 @@ fn place_at(given: &ArgMatches<'_>, id: &str) -> u64
     }
 }
 
-/// The command line has four subcommands, and one of them is needed.
+/// The command line has four subcommands and `help`, and one of them is needed.
 fn definition<'a>(alloc: Global) -> Result<Command<'a>, AllocError>
     ensures { IfOk result (λ c. app_of c ≡ ob0_app) }
 {
-    let serve = Command::new(alloc, "serve").about(
-        "Serves one conversation over standard input and output",
-    );
+    let serve = Command::new(alloc, "serve")
+        .about("Serves one conversation over standard input and output")
+        .after_help(NOTES);
     let check = check_definition(alloc)?;
     let run = run_definition(alloc)?;
     let rename = rename_definition(alloc)?;
     Command::new(alloc, "ob0")
         .about("A language server for Oberon-0")
+        .version(VERSION)
+        .after_help(NOTES)
         .subcommand_required(true)
-        .disable_help_subcommand(true)
         .subcommand(serve)?
         .subcommand(check)?
         .subcommand(run)?
@@ -153,20 +171,22 @@ fn definition<'a>(alloc: Global) -> Result<Command<'a>, AllocError>
 fn check_definition<'a>(alloc: Global) -> Result<Command<'a>, AllocError>
     ensures { IfOk result (λ c. app_of c ≡ check_lines) }
 {
-    let file = word(alloc, "file", "The file with the module");
+    let file = word(alloc, "file", "FILE", "The file with the module");
     Command::new(alloc, "check")
         .about("Prints what is wrong with a module")
+        .after_help(NOTES)
         .arg(file)
 }
 
 fn run_definition<'a>(alloc: Global) -> Result<Command<'a>, AllocError>
     ensures { IfOk result (λ c. app_of c ≡ run_lines) }
 {
-    let file = word(alloc, "file", "The file with the module");
+    let file = word(alloc, "file", "FILE", "The file with the module");
     let calls = calls_argument(alloc);
     let turns = turns_argument(alloc);
     Command::new(alloc, "run")
         .about("Runs a module on the numbers of standard input")
+        .after_help(NOTES)
         .arg(file)?
         .arg(calls)?
         .arg(turns)
@@ -175,35 +195,47 @@ fn run_definition<'a>(alloc: Global) -> Result<Command<'a>, AllocError>
 fn rename_definition<'a>(alloc: Global) -> Result<Command<'a>, AllocError>
     ensures { IfOk result (λ c. app_of c ≡ rename_lines) }
 {
-    let file = word(alloc, "file", "The file with the module");
-    let line = number(alloc, "line", "The line of the name, from 0 on");
-    let column = number(alloc, "column", "Its column in UTF-16 units, from 0 on");
-    let name = word(alloc, "name", "The new name");
+    let file = word(alloc, "file", "FILE", "The file with the module");
+    let line = number(
+        alloc,
+        "line",
+        "LINE",
+        "The line of the name, counted from 0",
+    );
+    let column = number(
+        alloc,
+        "column",
+        "COLUMN",
+        "Its column, counted from 0 in UTF-16 units",
+    );
+    let name = word(alloc, "name", "NAME", "The new name");
     Command::new(alloc, "rename")
         .about("Prints a module with another name for one of its names")
+        .after_help(NOTES)
         .arg(file)?
         .arg(line)?
         .arg(column)?
         .arg(name)
 }
 
-/// A word that must stand there.
-fn word<'a>(alloc: Global, id: &'a str, help: &'a str) -> Arg<'a>
+/// A word that must stand there, and what help calls it.
+fn word<'a>(alloc: Global, id: &'a str, shown: &'a str, help: &'a str) -> Arg<'a>
     ensures rule { rule_of result ≡ word_rule id.entry.now }
     ensures own { result.global ≡ false }
 {
     Arg::new(alloc, id)
         .required(true)
         .action(ArgAction::Set)
+        .value_name(shown)
         .help(help)
 }
 
-/// A number that must stand there.
-fn number<'a>(alloc: Global, id: &'a str, help: &'a str) -> Arg<'a>
+/// A number that must stand there, and what help calls it.
+fn number<'a>(alloc: Global, id: &'a str, shown: &'a str, help: &'a str) -> Arg<'a>
     ensures rule { rule_of result ≡ number_rule id.entry.now }
     ensures own { result.global ≡ false }
 {
-    word(alloc, id, help).value_parser(value_parser!(u64))
+    word(alloc, id, shown, help).value_parser(value_parser!(u64))
 }
 
 fn calls_argument<'a>(alloc: Global) -> Arg<'a>
@@ -214,7 +246,8 @@ fn calls_argument<'a>(alloc: Global) -> Arg<'a>
         .long("calls")
         .value_parser(value_parser!(u32).range(0..65))
         .default_value("64")
-        .help("How deep calls may be nested")
+        .value_name("N")
+        .help("How many calls may be open at a time, 0 to 64")
 }
 
 fn turns_argument<'a>(alloc: Global) -> Arg<'a>
@@ -225,5 +258,6 @@ fn turns_argument<'a>(alloc: Global) -> Arg<'a>
         .long("turns")
         .value_parser(value_parser!(u32).range(0..100001))
         .default_value("100000")
-        .help("How many turns loops may take")
+        .value_name("N")
+        .help("How many turns a loop may make, 0 to 100000")
 }

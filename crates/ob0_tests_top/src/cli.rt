@@ -52,8 +52,12 @@ static READ: &[(&[&str], CommandLine<'static>)] = &[
 static REFUSED: &[(&[&str], i32)] = &[
     (&["ob0"], 2),
     (&["ob0", "format"], 2),
-    (&["ob0", "help"], 2),
+    (&["ob0", "help"], 0),
+    (&["ob0", "help", "run"], 0),
+    (&["ob0", "help", "format"], 2),
     (&["ob0", "--help"], 0),
+    (&["ob0", "--version"], 0),
+    (&["ob0", "check", "--version"], 2),
     (&["ob0", "check", "-h"], 0),
     (&["ob0", "serve", "M.mod"], 2),
     (&["ob0", "check"], 2),

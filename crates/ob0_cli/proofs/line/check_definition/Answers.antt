@@ -5,5 +5,5 @@ use Rattle.ob0_cli.proofs.line.check_definition.Goals as goal
 
 pub returns : goal.returns
 returns c =
-    let new_is : app_of c.about.result ≡ new_app (codes "check") = search rules in
+    let new_is : app_of c.after_help.result ≡ new_app (codes "check") = search rules in
     IfOk-weaker c.arg.result _ _ (λ r h. h.shape c.word-file.ensures.own ∙ ap₂ with_rule new_is c.word-file.ensures.rule) c.arg.ensures

@@ -7,8 +7,8 @@ use Rattle.ob0_cli.proofs.line.definition.Goals as goal
 
 pub returns : goal.returns
 returns c =
-    let serve_is : app_of c.about-serve.result ≡ lines.serve = search rules in
-    let alone_is : app_of c.disable_help_subcommand.result ≡ lines.ob0_alone = search rules in
+    let serve_is : app_of c.after_help-serve.result ≡ lines.serve = search rules in
+    let alone_is : app_of c.subcommand_required.result ≡ lines.ob0_alone = search rules in
     let check_is : app_of c.in_ok-check.check ≡ lines.check = c.in_ok-check.ensures in
     let run_is : app_of c.in_ok-run.run' ≡ lines.run = c.in_ok-run.ensures in
     let rename_is : app_of c.in_ok-rename.rename ≡ lines.rename = c.in_ok-rename.ensures in
