@@ -47,9 +47,10 @@ endfunction
 " Does something that changes the buffer, and gives what is shown then.
 function! s:After(Change) abort
   let l:tick = b:changedtick
+  " (what is published for the change may come at once, and is published once)
+  let l:before = s:linted
   call a:Change()
   call s:Await('a change', {-> b:changedtick != l:tick})
-  let l:before = s:linted
   ALELint
   return s:Diagnosed(l:before)
 endfunction
