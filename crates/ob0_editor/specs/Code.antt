@@ -1,13 +1,12 @@
 -- What the values of the code stand for.
-use Rattle.std.specs.Prelude.{List, map, string_bytes}
+use Rattle.std.specs.Prelude.{string_bytes}
 use Rattle.std.specs.Str.{chars}
-use Rattle.ob0_text.specs.declared.edits.Edit as text_edit
 use Rattle.ob0_editor.specs.declared.asks.Ask as ask
 use Rattle.ob0_editor.specs.declared.editor.Asked as asked
 use Rattle.ob0_editor.specs.declared.editor.Answer as answer
 use Rattle.ob0_editor.specs.declared.reading.Message as message
 use Rattle.ob0_editor.specs.declared.applied.Applied as applied
-use Rattle.ob0_ends.specs.Edited.{Replacement}
+use Rattle.ob0_ends.specs.Edited.{replacements}
 use Rattle.ob0_ends.specs.Asks.{Ask, rename, inline_here, inline_all, format}
 use Rattle.ob0_ends.specs.Ends.{Asked, Answer, Applied, ToEditor, publishes, answers}
 
@@ -16,12 +15,6 @@ ask_of (ask.TheVariants.Rename position name) = rename position (string_bytes na
 ask_of (ask.TheVariants.InlineHere position) = inline_here position
 ask_of (ask.TheVariants.InlineAll position) = inline_all position
 ask_of (ask.TheVariants.Format indent) = format indent
-
-abbrev pub replacement_of : text_edit.Edit → Replacement
-replacement_of e = record { range = e.range; text = chars (string_bytes e.text) }
-
-abbrev pub replacements : List text_edit.Edit → List Replacement
-replacements edits = map replacement_of edits
 
 abbrev pub asked_of : asked.Asked → Asked
 asked_of a = record { ask = ask_of a.ask; uri = string_bytes a.uri; opening = a.opening; version = a.version }

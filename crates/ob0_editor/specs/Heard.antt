@@ -1,17 +1,15 @@
 -- What a content tells the server, in the words of the protocol's reader.
-use Rattle.std.specs.Prelude.{◌≡◌, ⊤, ℕ, List, Option, Some, None, Ok, max, min, option_and_then, option_map, if◌then◌else◌}
+use Rattle.std.specs.Prelude.{◌≡◌, ⊤, ℕ, List, Option, Some, None, Ok, option_and_then, option_map, if◌then◌else◌}
 use Rattle.std.specs.Str.{is_utf8}
 use Rattle.serde_json.specs.Data.{Data, null, boolean, number, string, array, object, unsigned, negative, float}
 use Rattle.serde_json.specs.Find.{as_i64, of_integer}
 use Rattle.serde_json.specs.Read.{read}
-use Rattle.ob0_text.specs.declared.edits.Indent.{Indent}
-use Rattle.ob0_text.specs.declared.edits.Indent.TheVariants.{Tab, Spaces}
 use Rattle.ob0_text.specs.OpenDocuments.{DocumentNote, Opened, Changed, Lost, Closed}
 use Rattle.ob0_rpc.specs.Asks as wire
 use Rattle.ob0_rpc.specs.Asks.{call_of}
 use Rattle.ob0_rpc.specs.Messages.{Reads, Meaning, not_json, not_a_message, response, request, notice, meaning_of}
 use Rattle.ob0_rpc.specs.Notes.{Told, exits, opens, changes, closes, unreadable, other, note_of}
-use Rattle.ob0_ends.specs.Asks.{Ask, rename, inline_here, inline_all, format}
+use Rattle.ob0_ends.specs.Asks.{Ask, rename, inline_here, inline_all, format, indent_read}
 use Rattle.ob0_ends.specs.Ends.{Asked, numbered, ToServer, tells, asks}
 use Rattle.ob0_editor.specs.Shapes.{method_of, empty_at}
 
@@ -57,11 +55,6 @@ told_as (Opened uri version text) = opens uri version text
 told_as (Changed uri version all) = changes uri version all
 told_as (Lost uri) = unreadable (Some uri)
 told_as (Closed uri) = closes uri
-
--- the server reads a count of spaces as one from 1 to 16
-abbrev pub indent_read : Indent → Indent
-indent_read Tab = Tab
-indent_read (Spaces n) = Spaces (max 1 (min n 16))
 
 abbrev pub call_for : List ℕ → Ask → wire.Ask
 call_for uri (rename position name) = wire.rename (record { uri = uri; position = position }) name

@@ -13,14 +13,15 @@ use Rattle.ob0_text.specs.OpenDocuments.{OpenDocuments, Document, InStep, OutOfS
 use Rattle.ob0_text.proofs.EntryLaws.{updated-some, updated-none}
 use Rattle.ob0_ends.specs.Language.{WellTypedText, SameRun}
 use Rattle.ob0_ends.specs.Edited.{Replacement, edited, whole_text, after_changes}
-use Rattle.ob0_ends.specs.Asks.{Ask, KeepTheRun, MayAnswer}
+use Rattle.ob0_ends.specs.Asks.{Ask, IsAnswer}
 use Rattle.ob0_ends.specs.Ends.{Open, Asked, Answer, Editor, numbered, open_at, ToServer, tells, asks, ToEditor, publishes, answers, Applied, Made, Ends, start, after_message, will_hold, as_held}
 use Rattle.ob0_ends.specs.Editing.{opens_document, changes_text, changes_document, closes_document, asks_about, keeps, held_answer, all_but, without_answer, discards, if_same, applies_text, applies_edits, applies_asked, applies_answer, Move, idle, sends, Outcome, not_held, lets_go, makes}
 use Rattle.ob0_ends.specs.Serving.{MayPublish, taken_back, MayTell, MaySend}
 use Rattle.ob0_ends.specs.Happens.{Event, open_document, change_document, close_document, ask_about, serve, take_message, apply, discard, Seen, moved, takes, comes_of, Serves, Happens, Run}
-use Rattle.ob0_ends.specs.Headline.{KeepsTheRun, IsRight, IsMadeFor, latest, IsUpToDate, Holds}
+use Rattle.ob0_ends.specs.Headline.{KeepTheRun, KeepsTheRun, IsRight, IsMadeFor, latest, IsUpToDate, Holds}
 use Rattle.ob0_ends.proofs.UriLaws.{get_put, get_removed, same_uri, uri_itself, latest_push}
 use Rattle.ob0_ends.proofs.SameDocument.{Known, Same, same_from, still_known, later_answers, later_open, later_close, later_ask, slice_get_last, found, left}
+use Rattle.ob0_ends.proofs.KeptRuns.{answer_keeps}
 use Rattle.ob0_ends.proofs.Keeping.{Fits, AnswerFits, HeldFits, AsksSee, Kept, message_unit, sends_kept, put_mirrors, remove_mirrors, rewrites_kept, answers_kept, held_known}
 
 -- ---- the editor's events
@@ -278,13 +279,13 @@ module _ (unit : Unit) where
       }
 
   -- an ask is answered for the document that the editor meant, where that is still the same
-  ask_fits : (e : Editor) (held : OpenDocuments) (k : ℕ) (uri : List ℕ) (ask : Ask) (edits : List Replacement) → held.unit ≡ unit → Known e k (λ d. document_at held uri ≡ Some (as_held d)) → MayAnswer held.unit (document_at held uri) ask edits
+  ask_fits : (e : Editor) (held : OpenDocuments) (k : ℕ) (uri : List ℕ) (ask : Ask) (edits : List Replacement) → held.unit ≡ unit → Known e k (λ d. document_at held uri ≡ Some (as_held d)) → IsAnswer held.unit (document_at held uri) ask edits
       → Known e k (Fits unit edits)
   ask_fits e held k uri ask edits same_unit known may =
-      record { asked = known.asked; is = known.is; past = known.past; still = λ d same. go (document_at held uri) d (known.still d same) (subst (λ u. MayAnswer u (document_at held uri) ask edits) same_unit may) }
+      record { asked = known.asked; is = known.is; past = known.past; still = λ d same. go (document_at held uri) d (known.still d same) (subst (λ u. IsAnswer u (document_at held uri) ask edits) same_unit may) }
     where
-      go : (o : Option Document) (d : Open) → o ≡ Some (as_held d) → MayAnswer unit o ask edits → Fits unit edits d
-      go o d is may = let fits : MayAnswer unit (Some (as_held d)) ask edits = subst (λ x. MayAnswer unit x ask edits) is may in fits
+      go : (o : Option Document) (d : Open) → o ≡ Some (as_held d) → IsAnswer unit o ask edits → Fits unit edits d
+      go o d is may = answer_keeps unit d.text ask edits (subst (λ x. IsAnswer unit x ask edits) is may)
 
   -- the server, as it takes this message, meets what the editor asked about
   abbrev Meets : Editor → OpenDocuments → ToServer → Type 0

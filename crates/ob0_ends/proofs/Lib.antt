@@ -1,4 +1,7 @@
 pub mod UriLaws
 pub mod SameDocument
+pub mod Trees
+pub mod KeptRuns
+pub mod OneRun
 mod Keeping
 pub mod Interleavings

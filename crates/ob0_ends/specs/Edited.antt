@@ -1,5 +1,7 @@
 -- What edits and changes make of a text.
-use Rattle.std.specs.Prelude.{ℕ, List, map, fold, Option, None}
+use Rattle.std.specs.Prelude.{ℕ, List, map, fold, Option, None, string_bytes}
+use Rattle.std.specs.Str.{chars}
+use Rattle.ob0_text.specs.declared.edits.Edit.{Edit}
 use Rattle.ob0_text.specs.declared.positions.Range.{Range}
 use Rattle.ob0_text.specs.declared.positions.Unit.{Unit}
 use Rattle.ob0_text.specs.Units.{width_of}
@@ -10,6 +12,13 @@ use Rattle.ob0_text.specs.OpenDocuments.{TextChange, changed_text}
 pub record Replacement : Type 0 where
   pub range : Range
   pub text : List ℕ
+
+-- the edits of the code, by the characters of their texts
+abbrev pub replacement_of : Edit → Replacement
+replacement_of e = record { range = e.range; text = chars (string_bytes e.text) }
+
+abbrev pub replacements : List Edit → List Replacement
+replacements edits = map replacement_of edits
 
 -- the text with all edits made, which is defined where no two of them share a character
 unfoldable pub edited : Unit → List ℕ → List Replacement → Option (List ℕ)

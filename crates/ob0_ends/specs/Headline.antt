@@ -2,7 +2,10 @@
 use Rattle.std.specs.Prelude.{◌↔◌, IsTrue, ◌≡◌, ℕ, ℤ, pos, List, [], ◌∷◌, All, Option, Some, None, if◌then◌else◌}
 use Rattle.std.specs.Str.{bytes_eq}
 use Rattle.ob0_text.specs.declared.positions.Unit.{Unit}
+use Rattle.ob0_text.specs.declared.edits.Edit.{Edit}
 use Rattle.ob0_ends.specs.Language.{WellTypedText, SameRun}
+use Rattle.ob0_ends.specs.Edited.{Replacement, replacements, edited}
+use Rattle.ob0_ends.specs.Asks.{Ask, HandsOut}
 use Rattle.ob0_ends.specs.Ends.{Open, open_at, Applied, Made, Ends, start, Mirrors}
 use Rattle.ob0_ends.specs.Happens.{Event, Run}
 
@@ -11,6 +14,18 @@ pub record KeepsTheRun (a : Applied) : Type 0 where
   pub before_fits : WellTypedText a.before
   pub after_fits : WellTypedText a.after
   pub same : SameRun a.before a.after
+
+-- the edits, at positions of a unit, leave of this text a well-typed module with the same run
+pub record KeepTheRun (unit : Unit) (text : List ℕ) (edits : List Replacement) : Type 0 where
+  pub before_fits : WellTypedText text
+  pub after : List ℕ
+  pub makes : edited unit text edits ≡ Some after
+  pub after_fits : WellTypedText after
+  pub same : SameRun text after
+
+-- whatever is handed out for an ask keeps the run of the text
+abbrev pub EditsKeepTheRun : Type 0
+EditsKeepTheRun = (unit : Unit) (text : List ℕ) (ask : Ask) (edits : List Edit) → HandsOut unit text ask edits → KeepTheRun unit text (replacements edits)
 
 -- diagnostics that are empty exactly where the text that they were made for is a well-typed module
 abbrev pub IsRight : Made → Type 0

@@ -6,3 +6,4 @@ pub mod Editing
 pub mod Serving
 pub mod Happens
 pub mod Headline
+pub mod OneRun

@@ -1,8 +1,8 @@
--- What a server may send for each message that it takes.
+-- What a server sends for each message that it takes.
 use Rattle.std.specs.Prelude.{◌≡◌, ℕ, List, [], ◌∷◌, Bool, true, false, Option, Some, None, is_some}
 use Rattle.ob0_text.specs.OpenDocuments.{OpenDocuments, Document, InStep, OutOfStep, DocumentNote, Opened, Changed, Lost, Closed, document_at, after_note}
 use Rattle.ob0_ends.specs.Edited.{Replacement}
-use Rattle.ob0_ends.specs.Asks.{MayAnswer, TellsOf}
+use Rattle.ob0_ends.specs.Asks.{IsAnswer, TellsOf}
 use Rattle.ob0_ends.specs.Ends.{ToServer, tells, asks, ToEditor, publishes, answers, Made}
 
 -- a document in step is diagnosed, with its version
@@ -28,4 +28,4 @@ MayTell held (Closed uri) sent made = (sent ≡ taken_back uri (is_some (documen
 abbrev pub MaySend : OpenDocuments → ToServer → List ToEditor → List Made → Type 0
 MaySend held (tells note) sent made = MayTell held note sent made
 MaySend held (asks number uri ask) sent made =
-    (edits : List Replacement) × MayAnswer held.unit (document_at held uri) ask edits × (sent ≡ answers number edits ∷ []) × (made ≡ [])
+    (edits : List Replacement) × IsAnswer held.unit (document_at held uri) ask edits × (sent ≡ answers number edits ∷ []) × (made ≡ [])

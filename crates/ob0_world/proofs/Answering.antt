@@ -1,6 +1,6 @@
 -- What a session promises, in the words of the two ends.
 use Rattle.std.proofs.Common.{◌≡◌, ◌∙◌, ℕ, Bool, true, false, cond, List, [], ◌∷◌, length, refl, sym, ap, subst, inl, inr, arith, ◌<◌}
-use Rattle.std.specs.Prelude.{◌⊎◌, ℤ, Vec, All, Option, Some, None, is_some, map, fold, filter_map, option_map, option_and_then, unwrap_or, codes, Ok}
+use Rattle.std.specs.Prelude.{◌⊎◌, ◌&&◌, min, ℤ, Vec, All, Option, Some, None, is_some, map, fold, filter_map, option_map, option_and_then, unwrap_or, codes, Ok}
 use Rattle.std.specs.List.{cons_option}
 use Rattle.std.specs.Option.{option_to_list}
 use Rattle.std.specs.FinMap as map_of
@@ -11,8 +11,6 @@ use Rattle.serde_json.specs.Find.{as_i64, of_integer}
 use Rattle.serde_json.specs.View.{items_of}
 use Rattle.ob0_text.specs.declared.edits.Edit.{Edit}
 use Rattle.ob0_text.specs.declared.edits.Indent.{Indent}
-use Rattle.ob0_text.specs.Patches.{patched}
-use Rattle.ob0_text.specs.Units.{width_of}
 use Rattle.ob0_text.specs.declared.positions.Position.{Position}
 use Rattle.ob0_text.specs.declared.positions.Unit.{Unit}
 use Rattle.ob0_text.specs.OpenDocuments.{OpenDocuments, Document, InStep, OutOfStep, DocumentNote, Opened, Changed, Lost, Closed, TextChange, changed_text, text_of, document, document_at, opened, changed, changed_document}
@@ -24,30 +22,28 @@ use Rattle.ob0_rpc.specs.Faults.{minus}
 use Rattle.ob0_rpc.specs.Messages.{Reads, meaning, meaning_of}
 use Rattle.ob0_rpc.specs.Shapes.{result_message, error_message}
 use Rattle.ob0_rpc.specs.declared.clients.Client.{Client}
-use Rattle.ob0_answers.specs.Actions.{ActionsAsked, ListsActions, Offers, place_of, actions_value}
+use Rattle.ob0_answers.specs.Actions.{ActionsAsked, ListsActions, Offers, wants_inlining, place_of, actions_value}
 use Rattle.ob0_session.specs.Answers as answers_of
 use Rattle.ob0_session.specs.Answers.{State, Say, Says, Sends, Reaction, reacts, told, hears, requested, asked as asked_in, calls, of_document, lays_out, renames, offers_actions, published, Answers, AnswersIn, AnswersGoingOn, says}
-use Rattle.ob0_analysis.specs.Diagnosed.{Complaint, Tells, TellsFaults, complaint_of}
+use Rattle.ob0_analysis.specs.Diagnosed.{Complaint, IsWellTypedModule, Tells, TellsFaults, complaint_of}
 use Rattle.ob0_answers.specs.Diagnostics.{Diagnoses, diagnostic_of}
 use Rattle.ob0_analysis.specs.Texts.{utf8}
 use Rattle.ob0_answers.specs.Formatted.{AnswersFormatting}
 use Rattle.ob0_answers.specs.Renamed.{RenameAsked, AnswersRenaming}
-use Rattle.ob0_analysis.specs.RunsKept.{RunsAsBefore}
 use Rattle.ob0_answers.specs.Shapes.{Diagnostic, diagnostic_value, edit_value, edits_value, document_edit, workspace_edit, publication}
 use Rattle.ob0_answers.specs.declared.actions.Inlining.{Inlining}
 use Rattle.ob0_answers.specs.declared.actions.Inlining.TheVariants.{Here, Everywhere}
 use Rattle.ob0_session.specs.declared.server.Phase.TheVariants.{Running}
-use Rattle.ob0_editor.specs.Code.{replacement_of, replacements}
 use Rattle.ob0_editor.specs.Heard as heard_as
-use Rattle.ob0_editor.specs.Heard.{told_as, HasVersion, IsAsk, call_for, indent_read}
+use Rattle.ob0_editor.specs.Heard.{told_as, HasVersion, IsAsk, call_for}
 use Rattle.ob0_editor.specs.Shapes.{method_of, empty_at}
 use Rattle.ob0_editor.specs.Understood.{understood, value_understood, edits_in, workspace_items, edits_for, has_none}
 use Rattle.ob0_editor.proofs.Hearing.{understood_as}
-use Rattle.ob0_editor.proofs.Patching.{edited_as_patched}
-use Rattle.ob0_ends.specs.Edited.{Replacement}
-use Rattle.ob0_ends.specs.Asks.{Ask, rename, inline_here, inline_all, format, KeepTheRun, MayAnswer, TellsOf}
+use Rattle.ob0_ends.specs.Edited.{Replacement, replacement_of, replacements}
+use Rattle.ob0_ends.specs.Asks.{Ask, rename, inline_here, inline_all, format, indent_read, place_at, AnswersFor, IsAnswer, TellsOf}
 use Rattle.ob0_ends.specs.Ends.{Asked, numbered, ToServer, tells, asks, ToEditor, publishes, answers, after_message}
 use Rattle.ob0_ends.specs.Serving.{MayPublish, taken_back, MaySend}
+use Rattle.ob0_ends.proofs.Trees.{fits, module_of}
 use Rattle.ob0_ends.proofs.UriLaws.{get_put, uri_itself}
 use Rattle.ob0_world.specs.Queues.{IsRunning, made_of_document, made_first}
 
@@ -108,8 +104,8 @@ tells_right unit text ds (told, telling, is) =
     subst (λ ds. TellsOf text (has_none (items_of (map diagnostic_value ds)))) (sym is) (go telling)
   where
     go : Tells (utf8 text) told → TellsOf text (has_none (items_of (map diagnostic_value (map (diagnostic_of unit text) told))))
-    go (inl (fits, none)) = (λ empty. fits, λ fits. empty_none (diagnostic_of unit text) told none)
-    go (inr (unfit, faults)) = (λ empty. absurd (some_told (utf8 text) told faults (none_empty (diagnostic_of unit text) told empty)), λ fits. absurd (unfit fits))
+    go (inl (found, none)) = (λ empty. fits text found, λ well_typed. empty_none (diagnostic_of unit text) told none)
+    go (inr (unfit, faults)) = (λ empty. absurd (some_told (utf8 text) told faults (none_empty (diagnostic_of unit text) told empty)), λ well_typed. absurd (unfit (module_of text well_typed)))
 
 -- ---- publications
 
@@ -213,53 +209,41 @@ edits_read_back (e ∷ edits) = ap (option_map (λ es. replacement_of e ∷ es))
 answered : (asked : List Asked) (k : ℕ) (uri : List ℕ) (ask : Ask) (answer : Data) → IsAsk asked k uri ask → option_map (λ (a : Asked). answers k (edits_for a.ask answer)) (numbered asked k) ≡ Some (answers k (edits_for ask answer))
 answered asked k uri ask answer of = ap (option_map (λ (a : Asked). answers k (edits_for a.ask answer))) of.is ∙ ap (λ x. Some (answers k (edits_for x answer))) of.asks_this
 
--- edits that leave a text which runs as before
-keeps_the_run : (unit : Unit) (text after : List ℕ) (edits : List Edit) → patched (width_of unit) text edits ≡ Some after → RunsAsBefore (utf8 text) (utf8 after) → KeepTheRun unit text (replacements edits)
-keeps_the_run unit text after edits made runs =
-    record {
-      before_fits = runs.old;
-      after = after;
-      makes = edited_as_patched unit text edits ∙ made;
-      after_fits = runs.new;
-      same = record { before = runs.old.tree; before_of = runs.old.text_of; after = runs.new.tree; after_of = runs.new.text_of; same = λ input c t. sym (runs.same input c t) };
-    }
-
 -- the answer to an ask
 record Answered (asked : List Asked) (k : ℕ) (ask : Ask) (unit : Unit) (o : Option Document) (sent : List (List ℕ)) : Type 0 where
   edits : List Replacement
   heard : Heard asked sent (answers k edits ∷ [])
-  may : MayAnswer unit o ask edits
+  may : IsAnswer unit o ask edits
 
 -- a refusal has no edits
 refused : (asked : List Asked) (k : ℕ) (uri : List ℕ) (ask : Ask) (unit : Unit) (o : Option Document) (code : ℤ) (why : List ℕ) (sent : List (List ℕ)) → IsAsk asked k uri ask → Sends (error_message (number (unsigned k)) code why) sent
-    → Answered asked k ask unit o sent
-refused asked k uri ask unit o code why sent of sends =
+    → IsAnswer unit o ask [] → Answered asked k ask unit o sent
+refused asked k uri ask unit o code why sent of sends none =
     record {
       edits = [];
       heard = heard_one asked sent (error_message (number (unsigned k)) code why) (answers k []) sends (answered asked k uri ask (error_message (number (unsigned k)) code why) of);
-      may = none o;
+      may = none;
     }
-  where
-    none : (o : Option Document) → MayAnswer unit o ask []
-    none (Some (InStep version text)) = inl refl
-    none (Some OutOfStep) = refl
-    none None = refl
 
-formatted : (asked : List Asked) (k : ℕ) (uri : List ℕ) (indent read_as : Indent) (unit : Unit) (version : ℤ) (text : List ℕ) (sent : List (List ℕ)) → IsAsk asked k uri (format indent)
-    → Says (lays_out unit (number (unsigned k)) read_as text) sent → Answered asked k (format indent) unit (Some (InStep version text)) sent
-formatted asked k uri indent read_as unit version text sent of (message, how, sends) = go how
+-- nothing is handed out for a text that is no well-typed module
+unfit_answer : (unit : Unit) (text : List ℕ) (ask : Ask) → ¬ IsWellTypedModule (utf8 text) → AnswersFor unit text ask []
+unfit_answer unit text ask unfit = inr (inr (λ well_typed. unfit (module_of text well_typed)), refl)
+
+formatted : (asked : List Asked) (k : ℕ) (uri : List ℕ) (indent : Indent) (unit : Unit) (version : ℤ) (text : List ℕ) (sent : List (List ℕ)) → IsAsk asked k uri (format indent)
+    → Says (lays_out unit (number (unsigned k)) (indent_read indent) text) sent → Answered asked k (format indent) unit (Some (InStep version text)) sent
+formatted asked k uri indent unit version text sent of (message, how, sends) = go how
   where
-    go : AnswersFormatting unit (number (unsigned k)) read_as text message → Answered asked k (format indent) unit (Some (InStep version text)) sent
+    go : AnswersFormatting unit (number (unsigned k)) (indent_read indent) text message → Answered asked k (format indent) unit (Some (InStep version text)) sent
     go (inl (edits, laid, is)) =
         let answer : Data = result_message (number (unsigned k)) (edits_value edits) in
         let these : edits_for (format indent) answer ≡ replacements edits = ap (λ o. unwrap_or o []) (edits_read_back edits) in
         record {
           edits = replacements edits;
           heard = heard_one asked sent answer (answers k (replacements edits)) (subst (λ m. Sends m sent) is sends) (answered asked k uri (format indent) answer of ∙ ap (λ es. Some (answers k es)) these);
-          may = inr (keeps_the_run unit text laid.after edits laid.made laid.runs);
+          may = inl (edits, laid, refl);
         }
-    go (inr (inl (long, is))) = refused asked k uri (format indent) unit (Some (InStep version text)) (minus 32803) (refusal_text TooLong) sent of (subst (λ m. Sends m sent) is sends)
-    go (inr (inr (unfit, is))) = refused asked k uri (format indent) unit (Some (InStep version text)) (minus 32803) (codes "ill-typed") sent of (subst (λ m. Sends m sent) is sends)
+    go (inr (inl (long, is))) = refused asked k uri (format indent) unit (Some (InStep version text)) (minus 32803) (refusal_text TooLong) sent of (subst (λ m. Sends m sent) is sends) (inr (inl long, refl))
+    go (inr (inr (unfit, is))) = refused asked k uri (format indent) unit (Some (InStep version text)) (minus 32803) (codes "ill-typed") sent of (subst (λ m. Sends m sent) is sends) (unfit_answer unit text (format indent) unfit)
 
 -- edits of a versioned document are read back
 workspace_read_back : (client : Client) (uri : List ℕ) (version : ℤ) (edits : List Edit) → client.takes_document_changes ≡ true
@@ -292,10 +276,10 @@ renamed asked k uri position name client unit version text sent takes of (messag
         record {
           edits = replacements edits;
           heard = heard_one asked sent answer (answers k (replacements edits)) (subst (λ m. Sends m sent) is sends) (answered asked k uri (rename position name) answer of ∙ ap (λ es. Some (answers k es)) these);
-          may = inr (keeps_the_run unit text found.after edits found.made found.runs);
+          may = inl (edits, found, refl);
         }
-    go (inr (inl (refusal, why, is))) = refused asked k uri (rename position name) unit (Some (InStep version text)) (minus 32803) (refusal_text refusal) sent of (subst (λ m. Sends m sent) is sends)
-    go (inr (inr (unfit, is))) = refused asked k uri (rename position name) unit (Some (InStep version text)) (minus 32803) (codes "ill-typed") sent of (subst (λ m. Sends m sent) is sends)
+    go (inr (inl (refusal, why, is))) = refused asked k uri (rename position name) unit (Some (InStep version text)) (minus 32803) (refusal_text refusal) sent of (subst (λ m. Sends m sent) is sends) (inr (inl (refusal, why), refl))
+    go (inr (inr (unfit, is))) = refused asked k uri (rename position name) unit (Some (InStep version text)) (minus 32803) (codes "ill-typed") sent of (subst (λ m. Sends m sent) is sends) (unfit_answer unit text (rename position name) unfit)
 
 -- ---- inlining
 
@@ -328,45 +312,66 @@ none_read_back : (how : Inlining) (position : Position) (id : Data) → edits_fo
 none_read_back Here position id = refl
 none_read_back Everywhere position id = refl
 
--- edits that are offered keep the run
-offered_keep : (how : Inlining) (unit : Unit) (text : List ℕ) (offset : ℕ) (o : Option (Vec Edit Global)) → Offers how unit text offset o → (edits_offered o ≡ []) ⊎ KeepTheRun unit text (edits_offered o)
-offered_keep how unit text offset None refused = inl refl
-offered_keep how unit text offset (Some edits) found = inr (keeps_the_run unit text found.after edits.items found.made found.runs)
+-- what is offered is what is answered: the edits of the one that was asked for, or none for the reason why it isn't offered
+offered_here : (unit : Unit) (text : List ℕ) (position : Position) (o : Option (Vec Edit Global)) → Offers Here unit text (place_at unit text position) o → AnswersFor unit text (inline_here position) (edits_offered o)
+offered_here unit text position None refused = inr (inl refused, refl)
+offered_here unit text position (Some found) inlines = inl (found.items, (found, inlines, refl), refl)
 
-asked_keep : (how : Inlining) (unit : Unit) (text : List ℕ) (offset : ℕ) (here everywhere : Option (Vec Edit Global)) → Offers Here unit text offset here → Offers Everywhere unit text offset everywhere
-    → (edits_offered (asked_for how here everywhere) ≡ []) ⊎ KeepTheRun unit text (edits_offered (asked_for how here everywhere))
-asked_keep Here unit text offset here everywhere one other = offered_keep Here unit text offset here one
-asked_keep Everywhere unit text offset here everywhere one other = offered_keep Everywhere unit text offset everywhere other
+offered_everywhere : (unit : Unit) (text : List ℕ) (position : Position) (o : Option (Vec Edit Global)) → Offers Everywhere unit text (place_at unit text position) o → AnswersFor unit text (inline_all position) (edits_offered o)
+offered_everywhere unit text position None refused = inr (inl refused, refl)
+offered_everywhere unit text position (Some found) inlines = inl (found.items, (found, inlines, refl), refl)
+
+least : (n : ℕ) → min n n ≡ n
+least n = omega arith
+
+-- the place of an empty range is that of its position
+place_is : (unit : Unit) (text : List ℕ) (position : Position) → place_of unit text (empty_at position) ≡ place_at unit text position
+place_is unit text position = least (place_at unit text position)
+
+asked_offered : (how : Inlining) (unit : Unit) (text : List ℕ) (position : Position) (here everywhere : Option (Vec Edit Global)) → Offers Here unit text (place_of unit text (empty_at position)) here
+    → Offers Everywhere unit text (place_of unit text (empty_at position)) everywhere → AnswersFor unit text (inlining_at how position) (edits_offered (asked_for how here everywhere))
+asked_offered Here unit text position here everywhere one other = offered_here unit text position here (subst (λ place. Offers Here unit text place here) (place_is unit text position) one)
+asked_offered Everywhere unit text position here everywhere one other = offered_everywhere unit text position everywhere (subst (λ place. Offers Everywhere unit text place everywhere) (place_is unit text position) other)
 
 -- the request as the session takes it
 abbrev actions_asked_at : Client → ℕ → List ℕ → Position → ℤ → ActionsAsked
 actions_asked_at client k uri position version =
     record { id = number (unsigned k); client = client; uri = uri; version = version; range = empty_at position; only = None }
 
-inlined : (how : Inlining) (asked : List Asked) (k : ℕ) (uri : List ℕ) (position : Position) (client : Client) (unit : Unit) (version : ℤ) (text : List ℕ) (sent : List (List ℕ)) → client.takes_document_changes ≡ true → IsAsk asked k uri (inlining_at how position)
+inlined : (how : Inlining) (asked : List Asked) (k : ℕ) (uri : List ℕ) (position : Position) (client : Client) (unit : Unit) (version : ℤ) (text : List ℕ) (sent : List (List ℕ)) → client.takes_document_changes ≡ true → client.takes_literal_actions ≡ true
+    → IsAsk asked k uri (inlining_at how position)
     → Says (offers_actions unit (actions_asked_at client k uri position version) text) sent → Answered asked k (inlining_at how position) unit (Some (InStep version text)) sent
-inlined how asked k uri position client unit version text sent takes of (message, (value, how_listed, is), sends) = go how_listed
+inlined how asked k uri position client unit version text sent takes literal of (message, (value, how_listed, is), sends) = go how_listed
   where
     request : ActionsAsked
     request = actions_asked_at client k uri position version
 
-    with_edits : (edits : List Replacement) → edits_for (inlining_at how position) (result_message (number (unsigned k)) value) ≡ edits → (edits ≡ []) ⊎ KeepTheRun unit text edits
+    with_edits : (edits : List Replacement) → edits_for (inlining_at how position) (result_message (number (unsigned k)) value) ≡ edits → AnswersFor unit text (inlining_at how position) edits
         → Answered asked k (inlining_at how position) unit (Some (InStep version text)) sent
-    with_edits edits these keep =
+    with_edits edits these answer_is =
         let answer : Data = result_message (number (unsigned k)) value in
         record {
           edits = edits;
           heard = heard_one asked sent answer (answers k edits) (subst (λ m. Sends m sent) is sends) (answered asked k uri (inlining_at how position) answer of ∙ ap (λ es. Some (answers k es)) these);
-          may = keep;
+          may = answer_is;
         }
+
+    -- this editor wants actions that are no commands
+    wants : (b : Bool) → b ≡ true → (b && true) ≡ false → ⊥
+    wants true is not = let no : true ≡ false = not in cc
+    wants false is not = cc
+
+    unfit : (wants_inlining request ≡ false) ⊎ ¬ IsWellTypedModule (utf8 text) → ¬ IsWellTypedModule (utf8 text)
+    unfit (inl unwanted) = absurd (wants client.takes_literal_actions literal unwanted)
+    unfit (inr ill_typed) = ill_typed
 
     go : ListsActions unit request text value → Answered asked k (inlining_at how position) unit (Some (InStep version text)) sent
     go (inl (here, everywhere, wanted, offers_here, offers_everywhere, listed)) =
         with_edits (edits_offered (asked_for how here everywhere))
         (ap (λ v. edits_for (inlining_at how position) (result_message (number (unsigned k)) v)) listed ∙ actions_read_back how position request here everywhere takes)
-        (asked_keep how unit text (place_of unit text request.range) here everywhere offers_here offers_everywhere)
+        (asked_offered how unit text position here everywhere offers_here offers_everywhere)
     go (inr (why, listed)) =
-        with_edits [] (ap (λ v. edits_for (inlining_at how position) (result_message (number (unsigned k)) v)) listed ∙ none_read_back how position (number (unsigned k))) (inl refl)
+        with_edits [] (ap (λ v. edits_for (inlining_at how position) (result_message (number (unsigned k)) v)) listed ∙ none_read_back how position (number (unsigned k))) (unfit_answer unit text (inlining_at how position) (unfit why))
 
 -- ---- asks
 
@@ -381,9 +386,9 @@ about_document : (asked : List Asked) (k : ℕ) (uri : List ℕ) (ask : Ask) (sa
     → ((version : ℤ) (text : List ℕ) → Says (say version text) sent → Answered asked k ask before.held.unit (Some (InStep version text)) sent)
     → (o : Option Document) → document_at before.held uri ≡ o → after ≡ (of_document before (number (unsigned k)) o say).after → Says (of_document before (number (unsigned k)) o say).say sent → Served asked (asks k uri ask) before after sent
 about_document asked k uri ask say before after sent running of in_step None at same saying =
-    asks_served asked k uri ask before after sent running same (refused asked k uri ask before.held.unit (document_at before.held uri) (minus 32803) (codes "unopened") sent of saying)
+    asks_served asked k uri ask before after sent running same (refused asked k uri ask before.held.unit (document_at before.held uri) (minus 32803) (codes "unopened") sent of saying (subst (λ o. IsAnswer before.held.unit o ask []) (sym at) refl))
 about_document asked k uri ask say before after sent running of in_step (Some OutOfStep) at same saying =
-    asks_served asked k uri ask before after sent running same (refused asked k uri ask before.held.unit (document_at before.held uri) (minus 32803) (codes "out of step") sent of saying)
+    asks_served asked k uri ask before after sent running same (refused asked k uri ask before.held.unit (document_at before.held uri) (minus 32803) (codes "out of step") sent of saying (subst (λ o. IsAnswer before.held.unit o ask []) (sym at) refl))
 about_document asked k uri ask say before after sent running of in_step (Some (InStep version text)) at same saying =
     asks_served asked k uri ask before after sent running same (subst (λ o. Answered asked k ask before.held.unit o sent) (sym at) (in_step version text saying))
 
@@ -402,21 +407,21 @@ request_served asked k uri (inline_here position) params before after sent runni
     let say : ℤ → List ℕ → Say = λ version. offers_actions before.held.unit (actions_asked_at before.client k uri position version) in
     let so : requested before id (method_of (inline_here position)) params ≡ of_document before id (document_at before.held uri) say = ap (calls before id) call in
     about_document asked k uri (inline_here position) say before after sent running of
-    (λ version text. inlined Here asked k uri position before.client before.held.unit version text sent running.1 of) (document_at before.held uri) refl
+    (λ version text. inlined Here asked k uri position before.client before.held.unit version text sent running.1 running.2 of) (document_at before.held uri) refl
     (is ∙ ap (λ (x : Reaction). x.after) so) (subst (λ (x : Reaction). Says x.say sent) so saying)
 request_served asked k uri (inline_all position) params before after sent running of call is saying =
     let id : Data = number (unsigned k) in
     let say : ℤ → List ℕ → Say = λ version. offers_actions before.held.unit (actions_asked_at before.client k uri position version) in
     let so : requested before id (method_of (inline_all position)) params ≡ of_document before id (document_at before.held uri) say = ap (calls before id) call in
     about_document asked k uri (inline_all position) say before after sent running of
-    (λ version text. inlined Everywhere asked k uri position before.client before.held.unit version text sent running.1 of) (document_at before.held uri) refl
+    (λ version text. inlined Everywhere asked k uri position before.client before.held.unit version text sent running.1 running.2 of) (document_at before.held uri) refl
     (is ∙ ap (λ (x : Reaction). x.after) so) (subst (λ (x : Reaction). Says x.say sent) so saying)
 request_served asked k uri (format indent) params before after sent running of call is saying =
     let id : Data = number (unsigned k) in
     let say : ℤ → List ℕ → Say = λ version. lays_out before.held.unit id (indent_read indent) in
     let so : requested before id (method_of (format indent)) params ≡ of_document before id (document_at before.held uri) say = ap (calls before id) call in
     about_document asked k uri (format indent) say before after sent running of
-    (λ version text. formatted asked k uri indent (indent_read indent) before.held.unit version text sent of) (document_at before.held uri) refl
+    (λ version text. formatted asked k uri indent before.held.unit version text sent of) (document_at before.held uri) refl
     (is ∙ ap (λ (x : Reaction). x.after) so) (subst (λ (x : Reaction). Says x.say sent) so saying)
 
 -- ---- messages

@@ -32,4 +32,4 @@ begins_so unit content sent session reads (before, after, was, is, how) =
     let from_start : Answers start content (bytes sent) after = subst (λ s. Answers s content (bytes sent) after) (sym same) how in
     let so : after ≡ begins (client_for unit) = (reacts_so start after content (bytes sent) (initialize_message unit) from_start reads).0 ∙ begun unit in
     let standing : session ≡ serving (begins (client_for unit)) = is ∙ ap serving so in
-    record { stands = subst Stands (sym standing) (refl, refl); held = ap held_by standing ∙ holds_none unit }
+    record { stands = subst Stands (sym standing) (refl, refl, refl); held = ap held_by standing ∙ holds_none unit }

@@ -5,3 +5,4 @@ mod Serving
 mod Beginning
 mod Counting
 mod RunLaws
+mod Stepping

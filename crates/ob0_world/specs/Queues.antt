@@ -38,9 +38,10 @@ IsUnderstood asked content = (m : ToEditor) × (understood asked content.items �
 
 -- ---- the session
 
--- A session that has begun with this editor and isn't at its end. It writes a workspace's edits with the versions of their documents.
+-- A session that has begun with this editor and isn't at its end: it writes a workspace's edits with the versions of
+-- their documents, and offers actions that are no commands.
 abbrev pub IsRunning : State → Type 0
-IsRunning s = (s.phase ≡ Running) × (s.client.takes_document_changes ≡ true)
+IsRunning s = (s.phase ≡ Running) × (s.client.takes_document_changes ≡ true) × (s.client.takes_literal_actions ≡ true)
 
 abbrev pub Stands : Standing → Type 0
 Stands (serving s) = IsRunning s

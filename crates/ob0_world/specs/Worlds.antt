@@ -1,5 +1,5 @@
 -- The two ends as the code keeps them, and what a list of events makes of them.
-use Rattle.std.specs.Prelude.{◌≡◌, ◌≤◌, ℕ, List, map, take, length, Bool, true, false, Some}
+use Rattle.std.specs.Prelude.{◌≡◌, ◌≤◌, ◌<◌, ◌+◌, ◌⊎◌, ℕ, List, map, take, length, Bool, true, false, Some}
 use Rattle.ob0_text.specs.declared.positions.Unit.{Unit}
 use Rattle.ob0_world.specs.declared.events.Event as event
 use Rattle.ob0_world.specs.declared.played.Played as played
@@ -7,7 +7,7 @@ use Rattle.ob0_world.specs.declared.faults.WorldFault.{WorldFault}
 use Rattle.ob0_world.specs.declared.faults.WorldFault.TheVariants.{Memory, Ended}
 use Rattle.ob0_world.specs.Code.{event_of, all_applied, all_made}
 use Rattle.ob0_ends.specs.Ends.{Open, Editor, open_at, Ends, start}
-use Rattle.ob0_ends.specs.Happens.{Run}
+use Rattle.ob0_ends.specs.Happens.{Event, Seen, Happens, Run}
 use Rattle.ob0_ends.specs.Headline.{Holds}
 
 pub record World : Type 0 where
@@ -27,6 +27,38 @@ pub record Within (n : ℕ) (e : Editor) : Type 0 where
   pub asks : length e.asked ≤ n
   pub versions : (uri : List ℕ) (d : Open) → open_at e uri ≡ Some d → d.version ≤ n
 
+-- some events make these ends of the beginning
+abbrev pub IsReached : Ends → Type 0
+IsReached w = (unit : Unit) × (events : List Event) × Run (start unit) events w
+
+-- ---- one step
+
+-- memory was refused: what has come of the events before stays
+pub record SameHistory (old new : Ends) : Type 0 where
+  pub applied : new.applied ≡ old.applied
+  pub made : new.made ≡ old.made
+
+-- A world that hasn't ended makes the step, and counts it; one that has ended makes none.
+abbrev pub StepsFrom : Bool → World → Event → Seen → World → Type 0
+StepsFrom false old event seen new = Happens old.ends event seen new.ends × (new.steps ≡ old.steps + 1) × (new.ended ≡ false)
+StepsFrom true old event seen new = ⊥
+
+abbrev pub Steps : World → Event → Seen → World → Type 0
+Steps old event seen new = StepsFrom old.ended old event seen new
+
+-- A step isn't made where memory is refused, which ends the world: what has come so far stays, and nothing is counted.
+-- A world that has ended says so at each step, and stays as it is.
+abbrev pub FailsFrom : Bool → World → WorldFault → World → Type 0
+FailsFrom false old Memory new = SameHistory old.ends new.ends × (new.steps ≡ old.steps) × (new.ended ≡ true)
+FailsFrom false old Ended new = ⊥
+FailsFrom true old Memory new = ⊥
+FailsFrom true old Ended new = new ≡ old
+
+abbrev pub Fails : World → WorldFault → World → Type 0
+Fails old fault new = FailsFrom old.ended old fault new
+
+-- ---- lists of events
+
 -- this is what has come of it at these ends
 abbrev pub HasCome : Ends → played.Played → Type 0
 HasCome w p = (all_applied p ≡ w.applied) × (all_made p ≡ w.made)
@@ -40,15 +72,6 @@ pub record Plays (unit : Unit) (events : List event.Event) (p : played.Played) :
   pub has_come : HasCome end p
   pub holds : Holds end
 
--- the same for the events before the one at which memory was refused
+-- the same for a beginning of the list: fewer events than it has, or none
 abbrev pub PlaysBefore : Unit → List event.Event → played.Played → Type 0
-PlaysBefore unit events p = (n : ℕ) × Plays unit (take n events) p
-
--- a step that isn't made: want of memory ends the two ends for good, and what has come so far stays
-abbrev pub Stops : Bool → WorldFault → Bool → Type 0
-Stops had_ended Memory ended = (had_ended ≡ false) × (ended ≡ true)
-Stops had_ended Ended ended = (had_ended ≡ true) × (ended ≡ true)
-
-pub record SameHistory (old new : Ends) : Type 0 where
-  pub applied : new.applied ≡ old.applied
-  pub made : new.made ≡ old.made
+PlaysBefore unit events p = (n : ℕ) × ((n < length events) ⊎ (n ≡ 0)) × Plays unit (take n events) p

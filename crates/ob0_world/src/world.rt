@@ -1,12 +1,11 @@
 //! The two ends, and whole lists of events.
-ghost use Rattle.std.specs.Prelude.{◌≡◌, ◌<◌, ◌+◌, ◌-◌, ◌^◌, false, length, All, IfOk, OnOk, IfErr, OnErr};
+ghost use Rattle.std.specs.Prelude.{◌≡◌, ◌<◌, ◌-◌, ◌^◌, length, All, IfOk, OnOk, IfErr};
 ghost use Rattle.ob0_text.specs.declared.positions.Unit as units;
 ghost use Rattle.ob0_text.specs.declared.positions.Unit.TheVariants.{Utf16};
 ghost use Rattle.ob0_ends.specs.Ends.{start};
-ghost use Rattle.ob0_ends.specs.Happens.{Happens};
-ghost use Rattle.ob0_ends.specs.Headline.{KeepsTheRun, IsRight};
+ghost use Rattle.ob0_ends.specs.Headline.{Holds, KeepsTheRun, IsRight};
 ghost use Rattle.ob0_world.specs.Code.{event_of, seen_of, all_applied, all_made};
-ghost use Rattle.ob0_world.specs.Worlds.{new_world, HasCome, Plays, PlaysBefore, Stops, SameHistory};
+ghost use Rattle.ob0_world.specs.Worlds.{new_world, HasCome, Plays, PlaysBefore, Steps, Fails};
 ghost use Rattle.ob0_world.specs.declared.faults.WorldFault.TheVariants.{Memory};
 
 use crate::ends::Ends;
@@ -31,7 +30,7 @@ impl<T: TextStore> Model for World<T> {
     ghost use Rattle.ob0_text.specs.OpenDocuments.{documents_code};
     ghost use Rattle.ob0_editor.specs.Entries.{open_documents_code};
     ghost use Rattle.ob0_world.specs.Worlds as worlds;
-    ghost use Rattle.ob0_world.specs.Worlds.{Within};
+    ghost use Rattle.ob0_world.specs.Worlds.{Within, IsReached};
 
     ghost Value = { worlds.World };
 
@@ -39,7 +38,7 @@ impl<T: TextStore> Model for World<T> {
 
     ghost view = { λ w. record { ends = w.ends; steps = w.steps; ended = w.has_ended } };
 
-    ghost invariant = { λ w. w.has_ended ≡ false → Within w.steps w.ends.editor };
+    ghost invariant = { λ w. w.has_ended ≡ false → Within w.steps w.ends.editor × IsReached w.ends };
 }
 
 impl<T: TextStore> World<T> {
@@ -73,14 +72,13 @@ impl<T: TextStore> World<T> {
         self.steps
     }
 
-    /// Makes one event happen.
+    /// Makes one event happen. After it the server holds, once it has taken what waits for it, the editor's documents, and
+    /// where nothing waits for it, the last publication of an open document is that of its present text and version.
     pub fn step(&mut self, event: &Event) -> Result<Seen, WorldFault>
         requires few { self.old.steps < 2 ^ 63 - 1 }
-        ensures happens { IfOk result (λ seen. Happens self.old.ends (event_of event.now) (seen_of seen) self.new.ends) }
-        ensures counted { OnOk result (self.new.steps ≡ self.old.steps + 1) }
-        ensures goes_on { OnOk result (self.new.ended ≡ false) }
-        ensures stops { IfErr result (λ fault. Stops self.old.ended fault self.new.ended) }
-        ensures kept { OnErr result (SameHistory self.old.ends self.new.ends) }
+        ensures ok { IfOk result (λ seen. Steps self.old (event_of event.now) (seen_of seen) self.new) }
+        ensures holds { OnOk result (Holds self.new.ends) }
+        ensures err { IfErr result (λ fault. Fails self.old fault self.new) }
     {
         if self.has_ended {
             return Err(WorldFault::Ended);

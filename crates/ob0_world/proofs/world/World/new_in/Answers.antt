@@ -1,8 +1,9 @@
 use Rattle.std.proofs.Common.{subst, sym}
 use Rattle.ob0_ends.specs.Ends.{Ends}
-use Rattle.ob0_world.specs.Worlds.{Within}
+use Rattle.ob0_world.specs.Worlds.{Within, IsReached}
 use Rattle.ob0_world.proofs.Counting.{within_start}
+use Rattle.ob0_world.proofs.Stepping.{reached_start}
 use Rattle.ob0_world.proofs.world.World.new_in.Goals as goal
 
 pub invariant_of-result : goal.invariant_of-result
-invariant_of-result g c = λ goes_on. subst (λ (w : Ends). Within 0 w.editor) (sym c.in-Ok.ensures) (within_start c.args.unit)
+invariant_of-result g c = λ goes_on. (subst (λ (w : Ends). Within 0 w.editor) (sym c.in-Ok.ensures) (within_start c.args.unit), subst IsReached (sym c.in-Ok.ensures) (reached_start c.args.unit))

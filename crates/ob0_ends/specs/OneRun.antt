@@ -1,0 +1,15 @@
+-- Whether a list of events has one run.
+use Rattle.std.specs.Prelude.{◌≡◌, ℕ, List}
+use Rattle.ob0_text.specs.declared.positions.Unit.{Unit}
+use Rattle.ob0_ends.specs.Edited.{Replacement}
+use Rattle.ob0_ends.specs.Asks.{Ask, AnswersFor}
+use Rattle.ob0_ends.specs.Ends.{Ends, start}
+use Rattle.ob0_ends.specs.Happens.{Event, Run}
+
+-- an ask about a text has one answer
+abbrev pub AnswersAreOne : Type 0
+AnswersAreOne = (unit : Unit) (text : List ℕ) (ask : Ask) (given other : List Replacement) → AnswersFor unit text ask given → AnswersFor unit text ask other → given ≡ other
+
+-- Where it has, two runs of one list of events from the beginning are equal: documents, queues, edits applied and publications.
+abbrev pub OneRun : Type 0
+OneRun = AnswersAreOne → (unit : Unit) (events : List Event) (end other : Ends) → Run (start unit) events end → Run (start unit) events other → end ≡ other
