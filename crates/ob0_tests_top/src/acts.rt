@@ -1,7 +1,5 @@
 //! Worlds as tables: what happens and what is seen of it, and what has come of it all.
 
-ghost use Rattle.std.specs.Prelude.{◌<◌, ◌^◌, ◌-◌, length};
-
 use ob0_text::{Change, Indent, Position, Range, Unit, Whole};
 use ob0_world::{Ask, Event, Played, Seen, World};
 use std::alloc::{AllocError, Global};
@@ -151,49 +149,51 @@ fn sight_of(seen: &Seen) -> Sight {
     }
 }
 
+/// Whether an act shows what it is to show.
+fn shows(
+    alloc: Global,
+    world: &mut World<Whole>,
+    act: Act,
+    wanted: Sight,
+) -> Result<bool, AllocError> {
+    let event = event_of(alloc, act)?;
+    if world.steps() > 1_000_000 {
+        return Ok(false);
+    }
+    match world.step(&event) {
+        Ok(seen) => Ok(sight_of(&seen) == wanted),
+        Err(_fault) => Err(AllocError),
+    }
+}
+
 /// Whether each event shows what it is to show.
 pub fn is_seen(alloc: Global, unit: Unit, story: &Story) -> Result<bool, AllocError> {
-    let Ok(mut world) = World::<Whole>::new_in(alloc, unit) else {
+    let begun = match unit {
+        Unit::Utf16 => World::<Whole>::new(alloc),
+        Unit::Utf8 => World::<Whole>::new_in(alloc, unit),
+    };
+    let Ok(mut world) = begun else {
         return Err(AllocError);
     };
     for moment in story.moments {
         let (act, wanted) = *moment;
-        let event = event_of(alloc, act)?;
-        if world.steps() > 1_000_000 {
+        if !shows(alloc, &mut world, act, wanted)? {
             return Ok(false);
-        }
-        match world.step(&event) {
-            Ok(seen) => {
-                if sight_of(&seen) != wanted {
-                    return Ok(false);
-                }
-            }
-            Err(_fault) => return Err(AllocError),
         }
     }
     Ok(true)
 }
 
-/// What comes of a list of events; where no unit is named, positions are in UTF-16 units.
-fn played(alloc: Global, unit: Unit, events: &[Event]) -> Option<Played>
-    requires { length events.now < 2 ^ 63 - 1 }
-{
-    match unit {
-        Unit::Utf16 => World::<Whole>::play(alloc, events).ok(),
-        Unit::Utf8 => World::<Whole>::play_in(alloc, unit, events).ok(),
-    }
-}
-
-/// Whether all events together leave what they are to leave.
-pub fn has_come(alloc: Global, unit: Unit, story: &Story) -> Result<bool, AllocError> {
+/// Whether all events together leave what they are to leave, where positions are in UTF-16 units.
+pub fn has_come(alloc: Global, story: &Story) -> Result<bool, AllocError> {
     let mut events = Vec::new(alloc);
     for moment in story.moments {
         let (act, _seen) = *moment;
         events.push(event_of(alloc, act)?)?;
     }
-    match played(alloc, unit, events.as_slice()) {
-        Some(played) => Ok(is_right(story, &played)),
-        None => Err(AllocError),
+    match World::<Whole>::play(alloc, events.as_slice()) {
+        Ok(played) => Ok(is_right(story, &played)),
+        Err(_fault) => Err(AllocError),
     }
 }
 

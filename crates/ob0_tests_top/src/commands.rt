@@ -1,6 +1,6 @@
 //! The commands over the bytes of files, and files, inputs and outputs that fail.
 
-use crate::devices::{Sink, Source};
+use crate::devices::{Sink, Source, written};
 use ob0_commands::{Fault, check_text, read_file, rename_text, run_text, tell_fault};
 use ob0_text::Position;
 use std::alloc::Global;
@@ -16,53 +16,36 @@ enum Command {
     Rename(u64, &'static str),
 }
 
-/// The status of a command on the bytes of a file.
+/// The status of a command on the bytes of a file, whose output takes so many bytes.
 fn status_of(
     alloc: Global,
     command: Command,
     file: &[u8],
-    out: &mut Sink<'_>,
-    err: &mut Sink<'_>,
+    taken: u32,
+    printed: &mut [u8],
+    told: &mut [u8],
 ) -> u8 {
+    let mut out = Sink::new(printed, 1, taken, u32::MAX);
+    let mut err = Sink::new(told, 1000, u32::MAX, u32::MAX);
     match command {
-        Command::Check => check_text(alloc, file, out, err),
+        Command::Check => check_text(alloc, file, &mut out, &mut err),
         Command::Run(input, calls, turns) => {
             let mut input = input;
-            run_text(alloc, file, &mut input, calls, turns, out, err)
+            run_text(alloc, file, &mut input, calls, turns, &mut out, &mut err)
         }
         Command::Rename(character, new) => {
             let position = Position { line: 0, character };
-            rename_text(alloc, file, position, new, out, err)
+            rename_text(alloc, file, position, new, &mut out, &mut err)
         }
     }
 }
 
-/// Whether a command, whose output takes so many bytes, prints this, tells this and ends with this.
-fn ends(
-    alloc: Global,
-    command: Command,
-    file: &[u8],
-    calls_left: u32,
-    wanted: (&str, &str, u8),
-) -> bool {
-    let (mut printed, mut told) = (Vec::new(alloc), Vec::new(alloc));
-    let mut out = Sink {
-        written: &mut printed,
-        most: 1,
-        calls_left,
-        flushes_left: u32::MAX,
-    };
-    let mut err = Sink {
-        written: &mut told,
-        most: 1000,
-        calls_left: u32::MAX,
-        flushes_left: u32::MAX,
-    };
-    let status = status_of(alloc, command, file, &mut out, &mut err);
-    let (out, err, wanted_status) = wanted;
-    status == wanted_status
-        && printed.as_slice() == out.as_bytes()
-        && told.as_slice() == err.as_bytes()
+/// Whether a command prints this, tells this and ends with this.
+fn ends(alloc: Global, command: Command, file: &[u8], wanted: (&str, &str, u8)) -> bool {
+    let (mut printed, mut told) = ([0u8; 128], [0u8; 128]);
+    let found = status_of(alloc, command, file, u32::MAX, &mut printed, &mut told);
+    let (out, err, status) = wanted;
+    found == status && written(&printed) == out.as_bytes() && written(&told) == err.as_bytes()
 }
 
 const COUNTS_DOWN: &[u8] =
@@ -160,56 +143,54 @@ static ROWS: &[(Command, &[u8], (&str, &str, u8))] = &[
 fn files_are_checked_run_and_renamed(rt: HostRuntime) {
     for row in ROWS {
         let (command, file, wanted) = *row;
-        assert!(rt;
-            ends(rt.alloc(), command, file, u32::MAX, wanted),
-            "{file:?}"
-        );
+        assert!(rt; ends(rt.alloc(), command, file, wanted), "{file:?}");
     }
 }
 
 static EMPTY_FILE: &str = "0:0: Syntax: expected MODULE\n";
 
+/// Whether a command whose output fails after so many bytes tells it, and has printed just these.
+fn tells_the_write(alloc: Global, taken: u32) -> bool {
+    let (mut printed, mut told) = ([0u8; 128], [0u8; 128]);
+    let status = status_of(alloc, Command::Check, b"", taken, &mut printed, &mut told);
+    let printed = written(&printed);
+    status == 4
+        && printed.len() == taken as usize
+        && EMPTY_FILE.as_bytes().starts_with(printed)
+        && written(&told) == b"fault: Write\n".as_slice()
+}
+
 #[test]
 fn a_write_that_fails_is_told(rt: HostRuntime) {
     for taken in 0..29 {
-        let printed = &EMPTY_FILE[..taken];
-        let wanted = (printed, "fault: Write\n", 4);
-        assert!(rt;
-            ends(rt.alloc(), Command::Check, b"", taken as u32, wanted),
-            "after {taken}"
-        );
+        assert!(rt; tells_the_write(rt.alloc(), taken), "after {taken}");
     }
 }
 
 #[test]
-fn a_file_or_an_input_that_fails_is_told(rt: HostRuntime) {
-    let mut told = Vec::new(rt.alloc());
-    let mut err = Sink {
-        written: &mut told,
-        most: 1000,
-        calls_left: u32::MAX,
-        flushes_left: u32::MAX,
-    };
+fn a_file_that_fails_is_told(rt: HostRuntime) {
     let mut file = Source {
         bytes: b"MODULE",
         most: 3,
         calls_left: 1,
     };
     assert!(rt; matches!(read_file(rt.alloc(), &mut file), Err(Fault::File)));
+    let mut told = [0u8; 128];
+    let mut err = Sink::new(&mut told, 1000, u32::MAX, u32::MAX);
     assert!(rt; tell_fault(Fault::File, &mut err) == 4);
+    assert!(rt; written(&told) == b"fault: File\n".as_slice());
+}
+
+#[test]
+fn an_input_that_fails_is_told(rt: HostRuntime) {
     let mut input = Source {
         bytes: b"1 2",
         most: 2,
         calls_left: 1,
     };
-    let mut printed = Vec::new(rt.alloc());
-    let mut out = Sink {
-        written: &mut printed,
-        most: 1000,
-        calls_left: u32::MAX,
-        flushes_left: u32::MAX,
-    };
+    let (mut printed, mut told) = ([0u8; 128], [0u8; 128]);
+    let mut out = Sink::new(&mut printed, 1000, u32::MAX, u32::MAX);
+    let mut err = Sink::new(&mut told, 1000, u32::MAX, u32::MAX);
     let status = run_text(rt.alloc(), DIVIDES, &mut input, 0, 0, &mut out, &mut err);
-    assert!(rt; status == 4 && printed.is_empty());
-    assert!(rt; told.as_slice() == b"fault: File\nfault: Input\n".as_slice());
+    assert!(rt; status == 4 && written(&told) == b"fault: Input\n".as_slice());
 }

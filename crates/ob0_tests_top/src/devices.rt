@@ -21,25 +21,39 @@ impl<'a> Read for Source<'a> {
     }
 }
 
-/// A writer that takes so many bytes a call at most, and fails once it has been called, or flushed, so often.
+/// A writer into these bytes, so many a call at most, which fails where no room is left, and once it has been called, or
+/// flushed, so often.
 #[derive(Drop)]
 pub struct Sink<'a> {
-    pub written: &'a mut Vec<u8>,
-    pub most: usize,
-    pub calls_left: u32,
-    pub flushes_left: u32,
+    bytes: &'a mut [u8],
+    len: usize,
+    most: usize,
+    calls_left: u32,
+    flushes_left: u32,
+}
+
+impl<'a> Sink<'a> {
+    pub fn new(bytes: &'a mut [u8], most: usize, calls_left: u32, flushes_left: u32) -> Sink<'a> {
+        Sink {
+            bytes,
+            len: 0,
+            most,
+            calls_left,
+            flushes_left,
+        }
+    }
 }
 
 impl<'a> Write for Sink<'a> {
     fn write(&mut self, buf: &[u8]) -> io::Result<usize> {
-        if self.calls_left == 0 {
+        if self.calls_left == 0 || self.len >= self.bytes.len() {
             return Err(io::ErrorKind::Other.into());
         }
         self.calls_left -= 1;
-        let count = self.most.min(buf.len());
-        if self.written.extend_from_slice(&buf[..count]).is_err() {
-            return Err(io::ErrorKind::OutOfMemory.into());
-        }
+        let count = self.most.min(buf.len()).min(self.bytes.len() - self.len);
+        let end = self.len + count;
+        self.bytes[self.len..end].copy_from_slice(&buf[..count]);
+        self.len = end;
         Ok(count)
     }
 
@@ -50,4 +64,14 @@ impl<'a> Write for Sink<'a> {
         self.flushes_left -= 1;
         Ok(())
     }
+}
+
+/// What was written into bytes that were all 0.
+pub fn written(bytes: &[u8]) -> &[u8] {
+    for end in 0..bytes.len() {
+        if bytes[end] == 0 {
+            return &bytes[..end];
+        }
+    }
+    bytes
 }

@@ -12,12 +12,6 @@ const RENAMED: &str =
 const LAID_OUT: &str =
     "MODULE M;\nVAR\n  n: INTEGER;\n  PROCEDURE P;\n  BEGIN\n    Write(n)\n  END P;\nBEGIN\n  Read(n);\n  WHILE n > 0 DO\n    n := n - 1;\n    WriteLn\n  END;\n  P\nEND M.\n";
 
-const FIELDS: &str =
-    "MODULE M;\nTYPE R = RECORD a, b: INTEGER END;\nVAR r: R; s: RECORD a: INTEGER END; a: INTEGER;\nBEGIN r.a := 1; s.a := 2; a := r.a + s.a; Write(a) END M.\n";
-
-const FIELD_RENAMED: &str =
-    "MODULE M;\nTYPE R = RECORD r, b: INTEGER END;\nVAR r: R; s: RECORD a: INTEGER END; a: INTEGER;\nBEGIN r.r := 1; s.a := 2; a := r.r + s.a; Write(a) END M.\n";
-
 /// No module: the full stop is missing.
 const FAULTY_TEXT: &str = "MODULE M; END M";
 
@@ -25,9 +19,6 @@ const NAME: Act = Act::Rename(1, 4, "k");
 
 const LEAST: &str =
     "MODULE M;\nCONST c = -2147483647 - 1;\nVAR x: INTEGER;\nBEGIN x := 0 + c; Write(x) END M.\n";
-
-const INLINED_HERE: &str =
-    "MODULE M;\nCONST c = -2147483647 - 1;\nVAR x: INTEGER;\nBEGIN x := 0 + (-2147483647 - 1); Write(x) END M.\n";
 
 const INLINED_EVERYWHERE: &str =
     "MODULE M;\nCONST \nVAR x: INTEGER;\nBEGIN x := 0 + (-2147483647 - 1); Write(x) END M.\n";
@@ -48,10 +39,6 @@ const WIDE_RENAMED: &str = "MODULE M;\nVAR (* 😀 *) k: INTEGER;\nBEGIN (* 😀
 
 /// The first name written over: the second is that of nothing.
 const WIDE_WRITTEN: &str = "MODULE M;\nVAR (* 😀 *) k: INTEGER;\nBEGIN (* 😀 *) n := 1 END M.\n";
-
-const WIDE_USE: &str = "MODULE M;\nCONST c = -5;\nBEGIN (* 😀 *) Write(c DIV 3) END M.\n";
-
-const WIDE_INLINED: &str = "MODULE M;\nCONST c = -5;\nBEGIN (* 😀 *) Write((-5) DIV 3) END M.\n";
 
 const STORIES: &[Story] = &[
     Story {
@@ -84,27 +71,6 @@ const STORIES: &[Story] = &[
                 empty: true,
             },
         ],
-    },
-    Story {
-        name: "another name of a field is applied",
-        moments: &[
-            (Act::Open(FIELDS), Sight::Sent),
-            (Act::Rename(3, 8, "r"), Sight::Sent),
-            (Act::Serve, Sight::Served(1)),
-            (Act::Serve, Sight::Served(1)),
-            (Act::Take, Sight::Published(true)),
-            (Act::Take, Sight::Answered(1, true)),
-            (Act::Apply(1), Sight::Applied(1)),
-        ],
-        applied: &[Edited {
-            before: FIELDS,
-            after: FIELD_RENAMED,
-        }],
-        made: &[Published {
-            version: 1,
-            text: FIELDS,
-            empty: true,
-        }],
     },
     Story {
         name: "a layout is applied",
@@ -185,34 +151,6 @@ const STORIES: &[Story] = &[
         }],
     },
     Story {
-        name: "a change with no changes raises the version",
-        moments: &[
-            (Act::Open(COUNTS), Sight::Sent),
-            (NAME, Sight::Sent),
-            (Act::Touch, Sight::Sent),
-            (Act::Serve, Sight::Served(1)),
-            (Act::Serve, Sight::Served(1)),
-            (Act::Serve, Sight::Served(1)),
-            (Act::Take, Sight::Published(true)),
-            (Act::Take, Sight::Answered(1, true)),
-            (Act::Take, Sight::Published(true)),
-            (Act::Apply(1), Sight::Dropped(1)),
-        ],
-        applied: &[],
-        made: &[
-            Published {
-                version: 1,
-                text: COUNTS,
-                empty: true,
-            },
-            Published {
-                version: 2,
-                text: COUNTS,
-                empty: true,
-            },
-        ],
-    },
-    Story {
         name: "nothing happens",
         moments: &[
             (Act::Apply(7), Sight::Nothing),
@@ -255,50 +193,6 @@ const STORIES: &[Story] = &[
         }],
     },
     Story {
-        name: "a refused name leaves nothing to apply",
-        moments: &[
-            (Act::Open(COUNTS), Sight::Sent),
-            (Act::Rename(1, 4, "END"), Sight::Sent),
-            (Act::Serve, Sight::Served(1)),
-            (Act::Serve, Sight::Served(1)),
-            (Act::Take, Sight::Published(true)),
-            (Act::Take, Sight::Answered(1, false)),
-            (Act::Apply(1), Sight::Nothing),
-        ],
-        applied: &[],
-        made: &[Published {
-            version: 1,
-            text: COUNTS,
-            empty: true,
-        }],
-    },
-    Story {
-        name: "a constant is inlined at a use",
-        moments: &[
-            (Act::Open(LEAST), Sight::Sent),
-            (Act::InlineHere(3, 15), Sight::Sent),
-            (Act::Serve, Sight::Served(1)),
-            (Act::Serve, Sight::Served(1)),
-            (Act::Take, Sight::Published(true)),
-            (Act::Take, Sight::Answered(1, true)),
-            (Act::Apply(1), Sight::Applied(1)),
-            (Act::Serve, Sight::Served(1)),
-            (Act::Take, Sight::Published(true)),
-        ],
-        applied: &[Edited {
-            before: LEAST,
-            after: INLINED_HERE,
-        }],
-        made: &[
-            LEAST_MADE,
-            Published {
-                version: 2,
-                text: INLINED_HERE,
-                empty: true,
-            },
-        ],
-    },
-    Story {
         name: "a constant is inlined everywhere, asked for at its declaration",
         moments: &[
             (Act::Open(LEAST), Sight::Sent),
@@ -323,60 +217,6 @@ const STORIES: &[Story] = &[
                 empty: true,
             },
         ],
-    },
-    Story {
-        name: "both are asked for at one use, and the second answer is applied first",
-        moments: &[
-            (Act::Open(LEAST), Sight::Sent),
-            (Act::InlineHere(3, 15), Sight::Sent),
-            (Act::InlineAll(3, 15), Sight::Sent),
-            (Act::Serve, Sight::Served(1)),
-            (Act::Serve, Sight::Served(1)),
-            (Act::Serve, Sight::Served(1)),
-            (Act::Take, Sight::Published(true)),
-            (Act::Take, Sight::Answered(1, true)),
-            (Act::Take, Sight::Answered(2, true)),
-            (Act::Apply(2), Sight::Applied(2)),
-            (Act::Apply(1), Sight::Dropped(1)),
-        ],
-        applied: &[Edited {
-            before: LEAST,
-            after: INLINED_EVERYWHERE,
-        }],
-        made: &[LEAST_MADE],
-    },
-    Story {
-        name: "no use of a constant stands at its declaration",
-        moments: &[
-            (Act::Open(LEAST), Sight::Sent),
-            (Act::InlineHere(1, 6), Sight::Sent),
-            (Act::InlineAll(2, 4), Sight::Sent),
-            (Act::Serve, Sight::Served(1)),
-            (Act::Serve, Sight::Served(1)),
-            (Act::Serve, Sight::Served(1)),
-            (Act::Take, Sight::Published(true)),
-            (Act::Take, Sight::Answered(1, false)),
-            (Act::Take, Sight::Answered(2, false)),
-            (Act::Apply(1), Sight::Nothing),
-            (Act::Apply(2), Sight::Nothing),
-        ],
-        applied: &[],
-        made: &[LEAST_MADE],
-    },
-    Story {
-        name: "an answer about an earlier version is dropped",
-        moments: &[
-            (Act::Open(LEAST), Sight::Sent),
-            (Act::InlineAll(3, 15), Sight::Sent),
-            (Act::Serve, Sight::Served(1)),
-            (Act::Serve, Sight::Served(1)),
-            (Act::Touch, Sight::Sent),
-            (Act::Take, Sight::Published(true)),
-            (Act::Take, Sight::Answered(1, true)),
-            (Act::Apply(1), Sight::Dropped(1)),
-        ],
-        applied: &[],
-        made: &[LEAST_MADE],
     },
     Story {
         name: "a value whose name is another's is not written",
@@ -447,27 +287,6 @@ const WIDE_IN_UTF16: &[Story] = &[
             },
         ],
     },
-    Story {
-        name: "a use behind a wide character, in UTF-16 units",
-        moments: &[
-            (Act::Open(WIDE_USE), Sight::Sent),
-            (Act::InlineHere(2, 21), Sight::Sent),
-            (Act::Serve, Sight::Served(1)),
-            (Act::Serve, Sight::Served(1)),
-            (Act::Take, Sight::Published(true)),
-            (Act::Take, Sight::Answered(1, true)),
-            (Act::Apply(1), Sight::Applied(1)),
-        ],
-        applied: &[Edited {
-            before: WIDE_USE,
-            after: WIDE_INLINED,
-        }],
-        made: &[Published {
-            version: 1,
-            text: WIDE_USE,
-            empty: true,
-        }],
-    },
 ];
 
 const WIDE_IN_UTF8: &[Story] = &[
@@ -515,27 +334,6 @@ const WIDE_IN_UTF8: &[Story] = &[
                 empty: false,
             },
         ],
-    },
-    Story {
-        name: "a use behind a wide character, in bytes",
-        moments: &[
-            (Act::Open(WIDE_USE), Sight::Sent),
-            (Act::InlineHere(2, 23), Sight::Sent),
-            (Act::Serve, Sight::Served(1)),
-            (Act::Serve, Sight::Served(1)),
-            (Act::Take, Sight::Published(true)),
-            (Act::Take, Sight::Answered(1, true)),
-            (Act::Apply(1), Sight::Applied(1)),
-        ],
-        applied: &[Edited {
-            before: WIDE_USE,
-            after: WIDE_INLINED,
-        }],
-        made: &[Published {
-            version: 1,
-            text: WIDE_USE,
-            empty: true,
-        }],
     },
 ];
 

@@ -2,6 +2,7 @@
 
 use crate::acts::{has_come, is_seen};
 use crate::stories::WORLDS;
+use ob0_text::Unit;
 use std::process::Abort;
 use std::test::Fail;
 
@@ -11,7 +12,9 @@ fn worlds_go_as_they_are_told(rt: HostRuntime) -> Result<(), Fail> {
         let (unit, stories) = *row;
         for story in stories {
             assert!(rt; is_seen(rt.alloc(), unit, story)?, "{}", story.name);
-            assert!(rt; has_come(rt.alloc(), unit, story)?, "{}", story.name);
+            if unit == Unit::Utf16 {
+                assert!(rt; has_come(rt.alloc(), story)?, "{}", story.name);
+            }
         }
     }
     Ok(())
