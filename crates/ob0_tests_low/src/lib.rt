@@ -1,4 +1,4 @@
-//! Tests of the low layers: streams, texts, lexemes, numbers and messages. They ask what no contract says, and worked rows.
+//! Tests of the low layers: streams, texts, lexemes, numbers and messages. They ask what no contract says, and examples with known answers.
 #![tactic(auto)]
 
 #[cfg(test)]

@@ -1,5 +1,5 @@
 //! Tests of the session and of what stands on it: conversations, commands, command lines, and worlds of an editor and a
-//! server. They ask what no contract says, and worked rows.
+//! server. They ask what no contract says, and examples with known answers.
 #![tactic(auto)]
 
 #[cfg(test)]
