@@ -7,8 +7,8 @@ use Rattle.serde_json.specs.View.{view, items_of, items_view}
 use Rattle.serde_json.specs.declared.value.Value.{Value, Null, Array, the_lemmas}
 use Rattle.ob0_rpc.specs.Asks.{At}
 use Rattle.ob0_rpc.specs.Writing.{CanBeSent}
-use Rattle.ob0_hover.specs.Shown.{Shown}
-use Rattle.ob0_questions.specs.Questions.{all_shown_at, definition_at}
+use Rattle.ob0_refs.specs.Shown.{Shown}
+use Rattle.ob0_refs.specs.Questions.{all_shown_at, definition_at}
 use Rattle.ob0_scan.specs.declared.lexeme.Span.{Span}
 use Rattle.ob0_scope.specs.Resolution.{Resolution}
 use Rattle.ob0_text.specs.declared.positions.Unit.{Unit}

@@ -6,15 +6,15 @@ ghost use Rattle.serde_json.specs.View.{view, items_of, items_view};
 ghost use Rattle.ob0_rpc.specs.Seen.{at_seen, id_data};
 ghost use Rattle.ob0_rpc.specs.Shapes.{result_message};
 ghost use Rattle.ob0_rpc.specs.Writing.{Writes};
-ghost use Rattle.ob0_hover.specs.Parts.{hover_in};
-ghost use Rattle.ob0_questions.specs.Questions.{AreReferencesAt, all_shown_at, definition_at};
+ghost use Rattle.ob0_refs.specs.Parts.{hover_in};
+ghost use Rattle.ob0_refs.specs.Questions.{AreReferencesAt, all_shown_at, definition_at};
 ghost use Rattle.ob0_answers.specs.Questions.{AnswersName, can_be_renamed, hover_at, renamable_in, location_at, location_in, range_at, or_null};
 ghost use Rattle.ob0_answers.specs.declared.questions.NameQuestion.TheVariants.{Hover, Definition, References, PrepareRename};
 
 use crate::results::{hover_value, location_value, range_value};
 use ob0_analysis::{Asked, Question, ask};
-use ob0_questions::{at, definition, hover, references};
-use ob0_refs::{Of, ranges};
+use ob0_edits::ranges;
+use ob0_refs::{Of, at, definition, hover, references};
 use ob0_rpc::{Id, Place, result};
 use ob0_scan::Span;
 use ob0_text::{Range, TextStore};
@@ -38,7 +38,7 @@ struct HoverAt {
 }
 
 impl Question for HoverAt {
-    type Answer = Option<ob0_hover::Hover>;
+    type Answer = Option<ob0_refs::Hover>;
 
     ghost answers = { λ q names found. option_map hover_in found ≡ all_shown_at names q.offset };
 
@@ -46,7 +46,7 @@ impl Question for HoverAt {
         &self,
         alloc: Global,
         module: &WellTyped<'_, '_>,
-    ) -> Result<Option<ob0_hover::Hover>, AllocError> {
+    ) -> Result<Option<ob0_refs::Hover>, AllocError> {
         hover(alloc, module, self.offset)
     }
 }
@@ -220,7 +220,7 @@ fn renamable_value<T: TextStore>(
 fn shown_or_null<T: TextStore>(
     alloc: Global,
     store: &T,
-    found: Option<ob0_hover::Hover>,
+    found: Option<ob0_refs::Hover>,
 ) -> Result<Value, AllocError>
     ensures { IfOk result (λ v. view v ≡ or_null (option_map (hover_at (T.unit_of store.now) (T.content store.now)) (option_map hover_in found))) }
 {

@@ -1,19 +1,21 @@
 -- The tokens of one field: they are identifiers in text order, and the module with the field renamed has the new name there.
 use Rattle.std.proofs.Common.{◌≡◌, ◌≢◌, ℕ, zero, suc, ◌+◌, ◌<◌, ◌≤◌, Bool, true, false, ◌&&◌, ◌||◌, ◌==◌, if◌then◌else◌, List, [], ◌∷◌, map, length, replicate, set, Some, None, Option, refl, ap, ◌∙◌, sym, subst, arith, get_or-set_other, get_or-set_same, eq-eqb, eqb-true}
 use Rattle.std.specs.List.{list_any}
+use Rattle.std.specs.Prelude.{IfSome}
 use Rattle.std.proofs.Math.ListN.{length-set}
 use Rattle.std.proofs.lemmas.List.{length-replicate}
 use Rattle.ob0_scan.specs.Scanned.{Scanned}
 use Rattle.ob0_scan.specs.declared.lexeme.Token.{Token}
-use Rattle.ob0_tree.specs.Order.{AreIdentifiers, Ascending}
+use Rattle.ob0_tree.specs.Order.{AreIdentifiers, Ascending, IsIdentifier}
 use Rattle.ob0_tree.specs.Parsed.{IsParsed, tree_of}
 use Rattle.ob0_tree.specs.Places.{text_at, value_at}
 use Rattle.ob0_tree.specs.Tree.{mapped}
 use Rattle.ob0_tree.proofs.Leaves.{ascending_lower, leaves_are_identifiers, leaves_ascend}
 use Rattle.ob0_scope.specs.Names.{Name, same_name}
-use Rattle.ob0_scope.specs.Resolution.{Resolution, ordinal_in}
+use Rattle.ob0_scope.specs.Resolution.{Resolution, ordinal_in, span_at}
+use Rattle.ob0_scope.specs.Standing.{is_on}
 use Rattle.ob0_scope.specs.Scopes.{same_ordinal}
-use Rattle.ob0_fields.specs.Identifiers.{RenamedAtTokens, field_identifiers, field_tokens, is_field, tokens_among}
+use Rattle.ob0_fields.specs.Identifiers.{RenamedAtTokens, field_identifiers, field_on, field_tokens, is_field, tokens_among}
 use Rattle.ob0_fields.specs.Owned.{fields_among, owned_tokens, with_fields_at}
 use Rattle.ob0_field_laws.specs.Owners.{is_of_field}
 use Rattle.ob0_field_laws.proofs.ByToken.{renamed_by_token-holds}
@@ -150,3 +152,13 @@ renamed_at_tokens-holds r k f new well =
     let among : (i : ℕ) → is_of_field m.source table k f i ≡ list_any (λ token. i == token) (field_tokens r k f) = λ i. ap (owned_here m.source k f i) (at i) ∙ here_among m.source k f i (field_identifiers r) 0 n ascend in
     renamed_by_token-holds m table k f new (owners_of_fields-holds r well)
     ∙ (λ j. mapped (λ i. if among i j then new else text_at m.source i) (value_at m.source) (tree_of m))
+
+-- so is the one that a place is on
+pub field_stands : (source : Scanned) (ts : List Token) (offset : ℕ) (xs : List (ℕ × ℕ)) → AreIdentifiers ts (firsts xs) → IfSome (field_on source offset xs) (λ x. IsIdentifier ts x.0)
+field_stands source ts offset [] stand = tt
+field_stands source ts offset (x ∷ xs) stand = one (is_on offset (span_at source x.0)) stand.0 (field_stands source ts offset xs stand.1)
+  where
+    one : (b : Bool) → IsIdentifier ts x.0 → IfSome (field_on source offset xs) (λ y. IsIdentifier ts y.0)
+        → IfSome (if b then Some x else field_on source offset xs) (λ y. IsIdentifier ts y.0)
+    one true h later = h
+    one false h later = later

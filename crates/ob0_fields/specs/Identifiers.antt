@@ -1,13 +1,14 @@
 -- The identifiers of one field: the one that declares it, and those that select it. The names of these trees are tokens.
 use Rattle.std.specs.Prelude.{◌≡◌, ℕ, ◌+◌, ◌==◌, ◌&&◌, Bool, not, is_some, List, [], ◌∷◌, ◌++◌, Option, Some, None, if◌then◌else◌}
-use Rattle.std.specs.List.{list_any}
+use Rattle.std.specs.List.{list_any, position_from}
 use Rattle.ob0_scan.specs.Scanned.{Scanned}
 use Rattle.ob0_tree.specs.Tree.{Tree, block, declares, declares_procedure, end, has_body, item, items, mapped, more, procedure}
 use Rattle.ob0_tree.specs.Parsed.{Parsed, named_tree_of, tree_of}
 use Rattle.ob0_tree.specs.Places.{text_at, value_at}
 use Rattle.ob0_scope.specs.Names.{Name, same_name}
 use Rattle.ob0_scope.specs.Parts.{formal_sections, module_block, section_types, section_variables}
-use Rattle.ob0_scope.specs.Resolution.{Resolution}
+use Rattle.ob0_scope.specs.Resolution.{Resolution, span_at}
+use Rattle.ob0_scope.specs.Standing.{is_on}
 use Rattle.ob0_types.specs.CheckedModules.{IsWellTyped}
 use Rattle.ob0_typing.specs.Declarations.{after_formals, after_types, after_variables, procedure_constructors}
 use Rattle.ob0_fields.specs.Owned.{fields_among, marked_sections, marked_types, marked_variables, owned_tokens}
@@ -29,6 +30,15 @@ tokens_among source k x (found ∷ rest) = if is_field source k x found then fou
 -- all tokens of the field x of the record k
 abbrev pub field_tokens : Resolution → ℕ → Name → List ℕ
 field_tokens r k x = tokens_among r.module_read.source k x (field_identifiers r)
+
+-- the first identifier of a field that a place is on, in it or at its end
+abbrev pub field_on : Scanned → ℕ → List (ℕ × ℕ) → Option (ℕ × ℕ)
+field_on source offset [] = None
+field_on source offset (x ∷ xs) = if is_on offset (span_at source x.0) then Some x else field_on source offset xs
+
+-- the field at a place: its identifier there, and the ordinal of its record
+abbrev pub field_at : Resolution → ℕ → Option (ℕ × ℕ)
+field_at r offset = field_on r.module_read.source offset (field_identifiers r)
 
 -- ---- those that declare
 
@@ -59,6 +69,15 @@ first (token ∷ tokens) = Some token
 -- the token that declares the field x of the record k
 abbrev pub declaring_field : Parsed → ℕ → Name → Option ℕ
 declaring_field m k x = first (tokens_among m.source k x (declared_fields m))
+
+-- the tokens that declare the fields of the record k among some
+abbrev pub record_tokens : ℕ → List (ℕ × ℕ) → List ℕ
+record_tokens k [] = []
+record_tokens k (found ∷ rest) = if found.1 == k then found.0 ∷ record_tokens k rest else record_tokens k rest
+
+-- the place of the field x among the fields of the record k, counted from 0
+abbrev pub field_place : Parsed → ℕ → Name → Option ℕ
+field_place m k x = position_from (λ token. same_name (text_at m.source token) x) 0 (record_tokens k (declared_fields m))
 
 -- ---- laws
 

@@ -8,5 +8,5 @@ pub mod laws;
 mod owners;
 mod owning;
 
-pub use identifiers::{declaring_field, field_identifiers, field_tokens};
+pub use identifiers::{declaring_field, field_at, field_identifiers, field_place, field_tokens};
 pub use owners::field_owners;

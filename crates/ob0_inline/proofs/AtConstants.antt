@@ -17,8 +17,8 @@ use Rattle.ob0_scope.specs.Names.{Label, Name}
 use Rattle.ob0_scope.specs.Occurrences.{bindings, binds, label_ordinal}
 use Rattle.ob0_scope.specs.Resolution.{Resolution}
 use Rattle.ob0_scope.specs.Scopes.{same_ordinal}
-use Rattle.ob0_refs.specs.declared.answers.Named as named
-use Rattle.ob0_refs.specs.Standing.{name_on}
+use Rattle.ob0_scope.specs.declared.naming.Named as named
+use Rattle.ob0_scope.specs.Standing.{name_on}
 use Rattle.ob0_types.specs.CheckedModules.{IsWellTyped}
 use Rattle.ob0_typing.specs.EditLaws.{ConstantsStandAlone, IsConstantWritten, IsScalar, IsShown}
 use Rattle.ob0_semantics.specs.EditLaws.{InliningEverywhereKeepsModules}

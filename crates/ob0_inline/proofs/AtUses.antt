@@ -16,10 +16,10 @@ use Rattle.ob0_scope.specs.Occurrences.{binds}
 use Rattle.ob0_scope.specs.Resolution.{IsResolution, Resolution, ordinal_in}
 use Rattle.ob0_scope.specs.Scopes.{same_ordinal}
 use Rattle.ob0_scope.proofs.Bound.{bound_at}
-use Rattle.ob0_refs.specs.declared.answers.Named as named
-use Rattle.ob0_refs.specs.Listing.{is_name_on}
-use Rattle.ob0_refs.specs.Standing.{name_on}
-use Rattle.ob0_refs.proofs.Placed.{name_found, named_so}
+use Rattle.ob0_scope.specs.declared.naming.Named as named
+use Rattle.ob0_scope.specs.Listing.{is_name_on}
+use Rattle.ob0_scope.specs.Standing.{name_on}
+use Rattle.ob0_scope.proofs.Placed.{name_found, named_so}
 use Rattle.ob0_typing.specs.ConstantValues.{value_of_constant}
 use Rattle.ob0_types.specs.CheckedModules.{IsWellTyped}
 use Rattle.ob0_typing.specs.EditLaws.{AreUsesOf, ConstantsStandAlone, IsConstantWritten, IsScalar, IsShown}

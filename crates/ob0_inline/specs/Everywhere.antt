@@ -21,8 +21,8 @@ use Rattle.ob0_scope.specs.Occurrences.{bindings, binds}
 use Rattle.ob0_scope.specs.Resolution.{declaring_only, token_declaring}
 use Rattle.ob0_scope.specs.Scopes.{numbered, same_ordinal}
 use Rattle.ob0_values.specs.Scalars.{scalar_value}
-use Rattle.ob0_refs.specs.declared.answers.Named as named
-use Rattle.ob0_refs.specs.Standing.{name_on}
+use Rattle.ob0_scope.specs.declared.naming.Named as named
+use Rattle.ob0_scope.specs.Standing.{name_on}
 use Rattle.ob0_typing.specs.ConstantValues.{value_of_constant}
 use Rattle.ob0_typing.specs.WellTyped.{WellTyped}
 use Rattle.ob0_semantics.specs.EditLaws.{SameRuns}

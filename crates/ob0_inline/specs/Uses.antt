@@ -18,7 +18,7 @@ use Rattle.ob0_scope.specs.SeenNames.{sees}
 use Rattle.ob0_values.specs.declared.scalar.Scalar.{Scalar}
 use Rattle.ob0_values.specs.declared.scalar.Scalar.TheVariants as scalar
 use Rattle.ob0_values.specs.Scalars.{scalar_value}
-use Rattle.ob0_refs.specs.Standing.{name_on}
+use Rattle.ob0_scope.specs.Standing.{name_on}
 use Rattle.ob0_typing.specs.ConstantValues.{value_of_constant}
 use Rattle.ob0_typing.specs.WellTyped.{WellTyped}
 use Rattle.ob0_semantics.specs.EditLaws.{SameRuns}

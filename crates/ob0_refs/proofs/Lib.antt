@@ -1,3 +1,7 @@
-pub mod Alike
-pub mod Placed
-pub mod Written
+pub mod Counted
+pub mod DeclaringWalks
+pub mod FieldWalks
+pub mod Parameters
+pub mod Paths
+pub mod Selected
+pub mod SelectingWalks

@@ -2,21 +2,13 @@
 
 use ob0_scan::Span;
 
-/// An identifier that is bound to a declaration: its token, and the declaration's ordinal.
-#[derive(Clone, Copy, PartialEq, Eq)]
-pub struct Named {
-    pub token: usize,
-    pub ordinal: usize,
-}
-
 /// What an identifier is a name of.
 #[derive(Clone, Copy, PartialEq, Eq)]
 pub enum Of {
     /// A declaration of the text, by its ordinal.
     Declared(usize),
     Predeclared,
-    /// A field of a record, by the record's ordinal and the field's place in it. Only what knows the types of
-    /// designators can tell of it: `at` doesn't.
+    /// A field of a record, by the record's ordinal and the field's place in it.
     Field { ordinal: usize, index: usize },
 }
 
@@ -25,4 +17,18 @@ pub enum Of {
 pub struct At {
     pub span: Span,
     pub of: Of,
+}
+
+/// What is shown of a name, and where the name stands.
+#[derive(Drop)]
+pub struct Hover {
+    pub span: Span,
+    /// Plain text, of one line.
+    pub text: String,
+}
+
+/// An identifier at which another name for a declaration isn't free.
+#[derive(Clone, Copy, PartialEq, Eq)]
+pub struct Capture {
+    pub span: Span,
 }

@@ -10,28 +10,28 @@ use std::alloc::{AllocError, Global};
 
 /// A formal parameter, with the text of its type.
 #[derive(Drop)]
-pub struct Parameter<'a> {
-    pub by_place: bool,
-    pub name: &'a str,
-    pub of: String,
+pub(crate) struct Parameter<'a> {
+    pub(crate) by_place: bool,
+    pub(crate) name: &'a str,
+    pub(crate) of: String,
 }
 
 /// The text of an array type, whose element has this text.
-pub fn array_text(alloc: Global, length: usize, element: &str) -> Result<String, AllocError>
+pub(crate) fn array_text(alloc: Global, length: usize, element: &str) -> Result<String, AllocError>
     ensures { IfOk result (λ text. (k : ℕ) (s : Shape) → element.now ≡ type_text s → string_bytes text ≡ type_text (array_shape k length s)) }
 {
     format!(in alloc; "ARRAY {length} OF {element}")
 }
 
 /// The text of a record type with so many fields.
-pub fn record_text(alloc: Global, fields: usize) -> Result<String, AllocError>
+pub(crate) fn record_text(alloc: Global, fields: usize) -> Result<String, AllocError>
     ensures { IfOk result (λ text. (k : ℕ) (fs : FieldShapes) → fields ≡ fields_count fs → string_bytes text ≡ type_text (record_shape k fs)) }
 {
     format!(in alloc; "RECORD with {fields} fields")
 }
 
 /// What is shown of a constant.
-pub fn constant_text(alloc: Global, name: &str, value: Scalar) -> Result<String, AllocError>
+pub(crate) fn constant_text(alloc: Global, name: &str, value: Scalar) -> Result<String, AllocError>
     ensures { IfOk result (λ text. string_bytes text ≡ constant_shown name.now value) }
 {
     match value {
@@ -50,28 +50,28 @@ fn truth_word(b: bool) -> &'static str
 }
 
 /// What is shown of a type, whose text is known.
-pub fn named_type_text(alloc: Global, name: &str, of: &str) -> Result<String, AllocError>
+pub(crate) fn named_type_text(alloc: Global, name: &str, of: &str) -> Result<String, AllocError>
     ensures { IfOk result (λ text. string_bytes text ≡ type_shown name.now of.now) }
 {
     format!(in alloc; "TYPE {name} = {of}")
 }
 
 /// What is shown of a variable or parameter of a type.
-pub fn variable_text(alloc: Global, name: &str, of: &str) -> Result<String, AllocError>
+pub(crate) fn variable_text(alloc: Global, name: &str, of: &str) -> Result<String, AllocError>
     ensures { IfOk result (λ text. string_bytes text ≡ variable_shown name.now of.now) }
 {
     format!(in alloc; "VAR {name}: {of}")
 }
 
 /// What is shown of a predeclared name.
-pub fn predeclared_text(alloc: Global, name: &str) -> Result<String, AllocError>
+pub(crate) fn predeclared_text(alloc: Global, name: &str) -> Result<String, AllocError>
     ensures { IfOk result (λ text. string_bytes text ≡ predeclared_shown name.now) }
 {
     format!(in alloc; "predeclared {name}")
 }
 
 /// What is shown of a procedure.
-pub fn procedure_text(
+pub(crate) fn procedure_text(
     alloc: Global,
     name: &str,
     parameters: &[Parameter<'_>],

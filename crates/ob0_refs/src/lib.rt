@@ -1,18 +1,21 @@
-//! Questions about the names of a module's text: what stands at a place, where it is declared, where else it is named,
-//! and what stands against another name for it.
+//! Questions about the names and fields at the places of a well-typed module: what stands at a place, where it is declared,
+//! where else it is named, what is shown of it, and what stands against another name for a declaration.
 #![tactic(auto)]
 
 mod answers;
+mod captures;
+mod declaring;
+mod field_hovers;
+mod hovering;
 mod hovers;
-mod naming;
-mod places;
+mod names;
+mod questions;
+mod selecting;
+mod selections;
+mod showing;
+mod typing;
 
-pub use answers::{At, Named, Of};
-pub use hovers::{
-    Parameter, array_text, constant_text, named_type_text, predeclared_text, procedure_text,
-    record_text, variable_text,
-};
-pub use naming::{references, references_to, renamed_tokens, tokens_bound};
-pub use ob0_edits::ranges;
-pub use ob0_scope::captures::{Capture, captures};
-pub use places::{at, definition, name_at};
+pub use answers::{At, Capture, Hover, Of};
+pub use captures::captures;
+pub use field_hovers::hover;
+pub use questions::{at, definition, references};

@@ -28,13 +28,13 @@ use Rattle.ob0_edits.specs.Changed.{at_each, changed, words_of}
 use Rattle.ob0_edits.specs.OfTrees.{RenamedWordsSpell}
 use Rattle.ob0_edits.specs.Replaced.{AreNames, LeavesWords, StandsForName, edit_at, parts, with_text_at}
 use Rattle.ob0_edits.specs.Written.{name_word}
-use Rattle.ob0_refs.specs.Standing.{name_on, tokens_bound}
-use Rattle.ob0_refs.specs.declared.answers.Named as named
-use Rattle.ob0_fields.specs.Identifiers.{field_identifiers}
-use Rattle.ob0_refs.proofs.Written.{renamed_there}
+use Rattle.ob0_scope.specs.Standing.{name_on, tokens_bound}
+use Rattle.ob0_scope.specs.declared.naming.Named as named
+use Rattle.ob0_fields.specs.Identifiers.{field_at}
+use Rattle.ob0_scope.proofs.Written.{renamed_there}
 use Rattle.ob0_tree.specs.Module.{ModuleOf}
 use Rattle.ob0_rename.specs.Answers.{Answers, AnswersFor, IsRefused, IsRefusedTo, OnlyMemory, TakesOwnName, Writes}
-use Rattle.ob0_rename.specs.Renaming.{Means, MeansField, Renaming, by_ordinal, by_token, declaration, field_on, meant_at, meant_by, declaring_token, field_of, is_declared_as, meant, module_of, nothing, predeclared, token_range, tokens_renamed}
+use Rattle.ob0_rename.specs.Renaming.{Means, MeansField, Renaming, by_ordinal, by_token, declaration, meant_at, meant_by, declaring_token, field_of, is_declared_as, meant, module_of, nothing, predeclared, token_range, tokens_renamed}
 use Rattle.ob0_rename.proofs.Owned.{other_stands}
 use Rattle.ob0_rename.proofs.Rewritten.{of_renamed}
 use Rattle.ob0_rename.proofs.Told.{occurrence_stands}
@@ -175,9 +175,9 @@ own_predeclared a result is =
 -- ---- what stands at the place
 
 pub meant_named : (r : Resolution) (offset : ℕ) (n : named.Named) → name_on r.module_read offset ≡ Some n → meant_at r offset ≡ by_ordinal n.ordinal
-meant_named r offset n is = ap (λ o. meant_by r.module_read.source o (field_on r.module_read.source offset (field_identifiers r))) is
+meant_named r offset n is = ap (λ o. meant_by r.module_read.source o (field_at r offset)) is
 
-pub meant_unnamed : (r : Resolution) (offset : ℕ) (found : Option (ℕ × ℕ)) → name_on r.module_read offset ≡ None → field_on r.module_read.source offset (field_identifiers r) ≡ found
+pub meant_unnamed : (r : Resolution) (offset : ℕ) (found : Option (ℕ × ℕ)) → name_on r.module_read offset ≡ None → field_at r offset ≡ found
     → meant_at r offset ≡ by_token r.module_read.source found
 meant_unnamed r offset found is there = (λ i. meant_by r.module_read.source (is i) (there i))
 

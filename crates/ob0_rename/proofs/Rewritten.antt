@@ -18,8 +18,8 @@ use Rattle.ob0_edits.specs.OfTrees.{RenamedWordsSpell, number_at, placed, rename
 use Rattle.ob0_edits.specs.Replaced.{AreNames}
 use Rattle.ob0_edits.specs.Words.{word_lexeme}
 use Rattle.ob0_edits.specs.Written.{name_word}
-use Rattle.ob0_refs.specs.Standing as standing
-use Rattle.ob0_refs.specs.Standing.{IsRenamedAt, tokens_bound}
+use Rattle.ob0_scope.specs.Standing as standing
+use Rattle.ob0_scope.specs.Standing.{IsRenamedAt, tokens_bound}
 use Rattle.ob0_rename.specs.Renaming.{is_declared_as, tokens_renamed}
 use Rattle.ob0_rename.proofs.Named.{among_same}
 use Rattle.ob0_rename.proofs.Owned.{own_module}

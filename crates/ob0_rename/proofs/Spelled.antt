@@ -1,5 +1,5 @@
 -- The name that something is declared by is an identifier.
-use Rattle.std.proofs.Common.{◌≡◌, ℕ, zero, suc, ◌-◌, ◌<◌, Bool, false, if◌then◌else◌, List, [], ◌∷◌, ◌++◌, Some, length, map, slice_get, refl, sym, ◌∙◌, subst, arith, true}
+use Rattle.std.proofs.Common.{◌≡◌, ℕ, zero, suc, ◌-◌, ◌<◌, Bool, false, if◌then◌else◌, List, [], ◌∷◌, ◌++◌, Option, None, Some, length, map, slice_get, refl, sym, ◌∙◌, subst, arith, true}
 use Rattle.std.specs.Prelude.{IfSome}
 use Rattle.std.proofs.lemmas.List.{length-map}
 use Rattle.ob0_scan.specs.Classes.{Belongs, IsIdentifier}
@@ -19,12 +19,11 @@ use Rattle.ob0_tree.specs.Tree.{identifiers}
 use Rattle.ob0_tree.specs.declared.tree.Role.{Role}
 use Rattle.ob0_tree.specs.declared.tree.Role.TheVariants as role
 use Rattle.ob0_scope.specs.Names.{Name}
-use Rattle.ob0_scope.specs.Resolution.{declaring_only, span_at}
-use Rattle.ob0_refs.specs.Standing.{is_on}
+use Rattle.ob0_scope.specs.Resolution.{declaring_only}
 use Rattle.ob0_edits.specs.Changed.{words_of}
 use Rattle.ob0_edits.specs.OfTrees.{text_at, word_at}
 use Rattle.ob0_edits.specs.Replaced as edit
-use Rattle.ob0_rename.specs.Renaming.{field_on, is_declared_as}
+use Rattle.ob0_rename.specs.Renaming.{is_declared_as}
 use Rattle.ob0_rename.proofs.Owned.{IsDeclaredBy, declared_by, declaring_tokens}
 use Rattle.ob0_rename.proofs.Rewritten.{text_same}
 
@@ -86,12 +85,6 @@ own_identifier m d new is scan e =
     subst IsIdentifier by.written (spelled_at m found.0 scan stands)
 
 -- so is a field that a place is on
-pub field_spelled : (m : Parsed) (offset : ℕ) (xs : List (ℕ × ℕ)) → IsScan m.source → AreIdentifiers m.source.tokens (map (λ x. x.0) xs)
-    → IfSome (field_on m.source offset xs) (λ x. IsIdentifier (place.text_at m.source x.0))
-field_spelled m offset [] scan stand = tt
-field_spelled m offset (x ∷ xs) scan stand = one (is_on offset (span_at m.source x.0)) (spelled_at m x.0 scan stand.0) (field_spelled m offset xs scan stand.1)
-  where
-    one : (b : Bool) → IsIdentifier (place.text_at m.source x.0) → IfSome (field_on m.source offset xs) (λ x. IsIdentifier (place.text_at m.source x.0))
-        → IfSome (if b then Some x else field_on m.source offset xs) (λ x. IsIdentifier (place.text_at m.source x.0))
-    one true h later = h
-    one false h later = later
+pub field_spelled : (m : Parsed) (found : Option (ℕ × ℕ)) → IsScan m.source → IfSome found (λ x. order.IsIdentifier m.source.tokens x.0) → IfSome found (λ x. IsIdentifier (place.text_at m.source x.0))
+field_spelled m None scan stand = tt
+field_spelled m (Some x) scan stand = spelled_at m x.0 scan stand

@@ -16,9 +16,9 @@ use Rattle.ob0_scope.specs.Renames.{namesake}
 use Rattle.ob0_scope.specs.Resolution.{Resolution, declaring_only, span_at, token_declaring}
 use Rattle.ob0_edits.specs.Replaced.{with_text_at}
 use Rattle.ob0_edits.specs.Ranges.{range_of}
-use Rattle.ob0_refs.specs.Standing.{is_on, name_on, tokens_bound}
-use Rattle.ob0_refs.specs.declared.answers.Named as named
-use Rattle.ob0_fields.specs.Identifiers.{declaring_field, field_identifiers, field_tokens}
+use Rattle.ob0_scope.specs.Standing.{name_on, tokens_bound}
+use Rattle.ob0_scope.specs.declared.naming.Named as named
+use Rattle.ob0_fields.specs.Identifiers.{declaring_field, field_at, field_tokens}
 
 -- A module's text, by characters, whose positions are counted in a unit; a place of it, and the new name.
 pub record Renaming : Type 0 where
@@ -44,11 +44,6 @@ pub data Meant : Type 0 where
   -- the field of this name of the record with this ordinal
   field_of : ℕ → Name → Meant
 
--- the first identifier of a field that a place is on, in it or at its end
-abbrev pub field_on : Scanned → ℕ → List (ℕ × ℕ) → Option (ℕ × ℕ)
-field_on source offset [] = None
-field_on source offset (x ∷ xs) = if is_on offset (span_at source x.0) then Some x else field_on source offset xs
-
 -- the predeclared names come first
 abbrev pub by_ordinal : ℕ → Meant
 by_ordinal ordinal = if nat_lt ordinal 7 then predeclared else declaration ordinal
@@ -64,7 +59,7 @@ meant_by source None f = by_token source f
 -- what an identifier at an offset names: a name of the module, or else a field
 abbrev pub meant_at : Resolution → ℕ → Meant
 meant_at names offset =
-    meant_by names.module_read.source (name_on names.module_read offset) (field_on names.module_read.source offset (field_identifiers names))
+    meant_by names.module_read.source (name_on names.module_read offset) (field_at names offset)
 
 abbrev pub meant : Renaming → Meant
 meant r = meant_at r.names (offset_of (width_of r.unit) r.text r.place)

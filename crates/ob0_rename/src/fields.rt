@@ -7,55 +7,35 @@ ghost use Rattle.ob0_text.specs.declared.positions.Position as positions;
 ghost use Rattle.ob0_tree.specs.Places.{text_at};
 ghost use Rattle.ob0_scope.specs.Names.{same_name};
 ghost use Rattle.ob0_edits.specs.Replaced.{AreNames};
-ghost use Rattle.ob0_refs.specs.Standing.{is_on};
-ghost use Rattle.ob0_fields.specs.Identifiers.{declaring_field, field_identifiers};
+ghost use Rattle.ob0_fields.specs.Identifiers.{declaring_field, field_at};
 ghost use Rattle.ob0_rename.specs.Answers.{AnswersForField, OnlyMemory};
-ghost use Rattle.ob0_rename.specs.Renaming.{field_on, field_tokens_renamed};
+ghost use Rattle.ob0_rename.specs.Renaming.{field_tokens_renamed};
 
-use crate::places::{span_of, token_range};
+use crate::places::token_range;
 use ob0_edits::edits_for;
 use ob0_edits::laws::{names_stand_for_names, renamed_words_spell};
 use ob0_field_laws::laws::free_field_keeps_modules;
 use ob0_fields::laws::{duplicate_by_token, renamed_at_tokens};
-use ob0_fields::{declaring_field, field_identifiers, field_tokens};
-use ob0_scan::{Span, Tokens, is_identifier};
+use ob0_fields::{declaring_field, field_at, field_tokens};
+use ob0_scan::is_identifier;
 use ob0_scope::resolved::Resolved;
 use ob0_symbols::written::text_at;
 use ob0_text::{Edit, EditRefusal, TextStore};
 use ob0_types::checked::WellTyped;
 use std::alloc::{AllocError, Global};
 
-/// The field whose identifier a place is on: the identifier's token, and the ordinal of the field's record.
-pub(crate) fn field_at(
+/// The field that a place is on: the identifier's token, and the ordinal of the field's record.
+pub(crate) fn field_named_at(
     alloc: Global,
     well_typed: &WellTyped<'_, '_>,
     offset: usize,
 ) -> Result<Option<(usize, usize)>, AllocError>
-    ensures found { IfOk result (λ found. found ≡ field_on well_typed.now.module_read.source offset (field_identifiers well_typed.now)) }
+    ensures found { IfOk result (λ found. found ≡ field_at well_typed.now offset) }
     ensures spelled { IfOk result (λ found. IfSome found (λ x. IsIdentifier (text_at well_typed.now.module_read.source x.0))) }
 {
-    let tokens = well_typed.resolved().tokens();
-    let _text = tokens.text();
-    let found = field_identifiers(alloc, well_typed)?;
-    Ok(field_on(tokens, offset, &found))
-}
-
-/// The first identifier that a place is on.
-fn field_on(tokens: &Tokens, offset: usize, found: &[(usize, usize)]) -> Option<(usize, usize)>
-    ensures { result ≡ field_on tokens.now offset found.now }
-{
-    for field in found {
-        if is_on(offset, span_of(tokens, field.0)) {
-            return Some(*field);
-        }
-    }
-    None
-}
-
-fn is_on(offset: usize, span: Span) -> bool
-    ensures { result ≡ is_on offset span }
-{
-    span.start <= offset && offset <= span.end
+    let _text = well_typed.resolved().tokens().text();
+    let found = field_at(alloc, well_typed, offset)?;
+    Ok(found)
 }
 
 /// The edits for the field that is named at a token, of the record with an ordinal.

@@ -8,11 +8,11 @@ ghost use Rattle.ob0_tree.specs.Order.{AreIdentifiers, Ascending};
 ghost use Rattle.ob0_tree.specs.Places.{text_at};
 ghost use Rattle.ob0_edits.specs.Ranges.{range_of};
 ghost use Rattle.ob0_edits.specs.Replaced.{AreNames};
-ghost use Rattle.ob0_refs.specs.Standing.{IsRenamedAt, tokens_bound};
+ghost use Rattle.ob0_scope.specs.Standing.{IsRenamedAt, tokens_bound};
 ghost use Rattle.ob0_rename.specs.Renaming.{is_declared_as, tokens_renamed};
 
-use ob0_refs::renamed_tokens;
 use ob0_scan::{Span, Tokens};
+use ob0_scope::renamed_tokens;
 use ob0_scope::resolved::Resolved;
 use ob0_text::{Range, TextStore};
 use std::alloc::{AllocError, Global};

@@ -13,12 +13,13 @@ ghost use Rattle.ob0_edits.specs.Ranges.{range_of};
 ghost use Rattle.ob0_rename.specs.Answers.{Answers, AnswersFor, OnlyMemory, TakesOwnName};
 ghost use Rattle.ob0_rename.specs.Renaming.{declaring_token, is_declared_as};
 
-use crate::fields::{field_at, rename_field};
+use crate::fields::{field_named_at, rename_field};
 use crate::places::{token_range, tokens_renamed};
 use ob0_edits::edits_for;
 use ob0_edits::laws::{names_stand_for_names, renamed_words_spell};
-use ob0_refs::{Capture, captures, name_at};
 use ob0_scan::is_identifier;
+use ob0_scope::captures::{Capture, captures};
+use ob0_scope::name_at;
 use ob0_scope::resolved::{PREDECLARED, Resolved};
 use ob0_semantics::laws::free_keeps_modules;
 use ob0_text::{Edit, EditRefusal, Position, TextStore};
@@ -51,7 +52,7 @@ pub fn rename<T: TextStore>(
                 rename_declaration(alloc, store, well_typed, name.ordinal, new)
             }
         }
-        None => match field_at(alloc, well_typed, offset)? {
+        None => match field_named_at(alloc, well_typed, offset)? {
             Some(field) => rename_field(alloc, store, well_typed, field, new),
             None => Err(EditRefusal::NoName),
         },

@@ -2,10 +2,8 @@
 use Rattle.std.proofs.Common.{◌≡◌, ℕ, Bool, true, false, not, ◌||◌, Option, Some, None, List, [], ◌∷◌, ◌++◌, map, length, refl, sym, ap, ◌∙◌, subst, option_map, option_and_then, is_some, slice_get, if◌then◌else◌, le_refl, replicate, ◌≤◌}
 use Rattle.std.proofs.lemmas.List.{length-replicate}
 use Rattle.std.proofs.lemmas.List.Folds.{list_any-append}
-use Rattle.std.proofs.lemmas.List.Sorted.{list_any-IsPermutation}
 use Rattle.std.proofs.lemmas.Option.{slice_get-map}
-use Rattle.std.specs.List.{list_any}
-use Rattle.std.specs.List.Sorted.{IsPermutation}
+use Rattle.std.specs.List.{filter, list_any}
 use Rattle.ob0_scan.specs.declared.fault.Code.TheVariants as code
 use Rattle.ob0_scan.specs.declared.fault.Fault.{Fault}
 use Rattle.ob0_scan.specs.declared.fault.Code.{Code}
@@ -18,7 +16,7 @@ use Rattle.ob0_tree.specs.Places.{text_at, value_at}
 use Rattle.ob0_scope.specs.DeclaredOnce.{declared_once}
 use Rattle.ob0_scope.specs.Names.{Name, as_names}
 use Rattle.ob0_scope.specs.Occurrences.{bindings, binds, label_ordinal}
-use Rattle.ob0_scope.specs.Resolution.{AreFaultsOf, IsNumbering, IsResolution, Resolution, is_of_declarations, is_of_occurrences, is_unbound, label_at, ordinal_in, span_at, undeclared_at, with_ordinal}
+use Rattle.ob0_scope.specs.Resolution.{AreFaultsOf, IsNumbering, IsResolution, Resolution, is_of_declarations, is_of_occurrences, is_unbound, label_at, ordinal_in, span_at, unbound_at, undeclared_at, with_ordinal}
 use Rattle.ob0_scope.specs.Scopes.{as_label}
 use Rattle.ob0_scope.specs.Visiting.{Visit, started, visit_module, with_marks}
 use Rattle.ob0_scope.specs.Written.{as_in}
@@ -57,15 +55,24 @@ undeclared_declares : (source : Scanned) (ordinals : List (Option ℕ)) (is : Li
 undeclared_declares source ordinals [] = refl
 undeclared_declares source ordinals (i ∷ is) = undeclared_none (ordinal_in ordinals i) (span_at source i) (undeclared_at source ordinals is) (undeclared_declares source ordinals is)
 
-undeclared_one : (o : Option ℕ) (x : Name) (s : Span) (rest : List Fault) (b : Bool) → list_any is_of_occurrences rest ≡ b
-    → list_any is_of_occurrences (if is_some o then rest else record { code = code.Undeclared; span = s } ∷ rest) ≡ (is_unbound (as_label as_names o x) || b)
-undeclared_one None x s rest b e = refl
-undeclared_one (Some k) x s rest b e = e
+unbound_one : (o : Option ℕ) (x : Name) (s : Span) (rest other : List Fault) → rest ≡ other
+    → (if is_some o then rest else record { code = code.Undeclared; span = s } ∷ rest) ≡ (if is_unbound (as_label as_names o x) then record { code = code.Undeclared; span = s } ∷ other else other)
+unbound_one None x s rest other e = ap (λ fs. record { code = code.Undeclared; span = s } ∷ fs) e
+unbound_one (Some k) x s rest other e = e
 
-undeclared_all : (source : Scanned) (ordinals : List (Option ℕ)) (is : List ℕ) → list_any is_of_occurrences (undeclared_at source ordinals is) ≡ list_any is_unbound (map (label_at source ordinals) is)
-undeclared_all source ordinals [] = refl
-undeclared_all source ordinals (i ∷ is) =
-    undeclared_one (ordinal_in ordinals i) (text_at source i) (span_at source i) (undeclared_at source ordinals is) (list_any is_unbound (map (label_at source ordinals) is)) (undeclared_all source ordinals is)
+unbound_all : (source : Scanned) (ordinals : List (Option ℕ)) (is : List ℕ) → undeclared_at source ordinals is ≡ unbound_at source is (map (label_at source ordinals) is)
+unbound_all source ordinals [] = refl
+unbound_all source ordinals (i ∷ is) =
+    unbound_one (ordinal_in ordinals i) (text_at source i) (span_at source i) (undeclared_at source ordinals is) (unbound_at source is (map (label_at source ordinals) is)) (unbound_all source ordinals is)
+
+occurrences_kept : (o : Option ℕ) (s : Span) (rest : List Fault) → filter is_of_occurrences rest ≡ rest
+    → filter is_of_occurrences (if is_some o then rest else record { code = code.Undeclared; span = s } ∷ rest) ≡ (if is_some o then rest else record { code = code.Undeclared; span = s } ∷ rest)
+occurrences_kept None s rest e = ap (λ fs. record { code = code.Undeclared; span = s } ∷ fs) e
+occurrences_kept (Some k) s rest e = e
+
+all_occurrences : (source : Scanned) (ordinals : List (Option ℕ)) (is : List ℕ) → filter is_of_occurrences (undeclared_at source ordinals is) ≡ undeclared_at source ordinals is
+all_occurrences source ordinals [] = refl
+all_occurrences source ordinals (i ∷ is) = occurrences_kept (ordinal_in ordinals i) (span_at source i) (undeclared_at source ordinals is) (all_occurrences source ordinals is)
 
 abbrev is_other : Fault → Bool
 is_other fault = not (is_of_declarations fault || is_of_occurrences fault)
@@ -94,11 +101,15 @@ neither : (a b c : Bool) → a ≡ false → b ≡ c → (a || b) ≡ c
 neither true b c e f = absurd (cc)
 neither false b c e f = f
 
-declarations_alone : (fs : List Fault) → list_any (λ f. not (is_of_declarations f)) fs ≡ false → list_any is_of_occurrences fs ≡ false
-declarations_alone [] e = refl
-declarations_alone (f ∷ fs) e =
+left_out : (b : Bool) (f : Fault) (fs gs : List Fault) → b ≡ false → fs ≡ gs → (if b then f ∷ fs else fs) ≡ gs
+left_out true f fs gs e h = absurd (cc)
+left_out false f fs gs e h = h
+
+declarations_left_out : (fs gs : List Fault) → list_any (λ f. not (is_of_declarations f)) fs ≡ false → filter is_of_occurrences (fs ++ gs) ≡ filter is_of_occurrences gs
+declarations_left_out [] gs e = refl
+declarations_left_out (f ∷ fs) gs e =
     let h = both_false (not (is_of_declarations f)) (list_any (λ f. not (is_of_declarations f)) fs) e in
-    neither (is_of_occurrences f) (list_any is_of_occurrences fs) false (apart f.code f.span (not_false (is_of_declarations f) h.0)) (declarations_alone fs h.1)
+    left_out (is_of_occurrences f) f (filter is_of_occurrences (fs ++ gs)) (filter is_of_occurrences gs) (apart f.code f.span (not_false (is_of_declarations f) h.0)) (declarations_left_out fs gs h.1)
 
 known : (a b : Bool) → not a ≡ false → not (a || b) ≡ false
 known true b e = refl
@@ -114,25 +125,26 @@ no_more : (a b : Bool) → b ≡ false → (a || b) ≡ a
 no_more true b e = refl
 no_more false b e = e
 
--- the faults of declarations and those of occurrences, in whatever order
-pub faults_told : (m : Parsed) (ordinals : List (Option ℕ)) (once sorted : List Fault) → IsNumbering m ordinals → list_any is_of_declarations once ≡ not (declared_once (named_tree_of m))
-    → list_any (λ f. not (is_of_declarations f)) once ≡ false → IsPermutation (once ++ undeclared_at m.source ordinals (occurrences (tree_of m))) sorted → AreFaultsOf (named_tree_of m) sorted
-faults_told m ordinals once sorted numbering told alone permuted =
+-- the faults of declarations, and behind them those of occurrences
+pub faults_told : (m : Parsed) (ordinals : List (Option ℕ)) (once : List Fault) → IsNumbering m ordinals → list_any is_of_declarations once ≡ not (declared_once (named_tree_of m))
+    → list_any (λ f. not (is_of_declarations f)) once ≡ false → AreFaultsOf m (once ++ undeclared_at m.source ordinals (occurrences (tree_of m)))
+faults_told m ordinals once numbering told alone =
     let unbound = undeclared_at m.source ordinals (occurrences (tree_of m)) in
-    let total = λ (p : Fault → Bool). sym (list_any-IsPermutation p (once ++ unbound) sorted permuted) ∙ list_any-append p once unbound in
     record {
-      declared_twice = total is_of_declarations ∙ (no_more (list_any is_of_declarations once) (list_any is_of_declarations unbound) (undeclared_declares m.source ordinals (occurrences (tree_of m))) ∙ told);
-      undeclared = total is_of_occurrences ∙ (neither (list_any is_of_occurrences once) (list_any is_of_occurrences unbound) _ (declarations_alone once alone) (undeclared_all m.source ordinals (occurrences (tree_of m)))
-          ∙ ap (list_any is_unbound) (sym (bindings_by_table m ordinals numbering)));
-      no_other = total is_other ∙ neither (list_any is_other once) (list_any is_other unbound) false (declarations_known once alone) (undeclared_other m.source ordinals (occurrences (tree_of m)));
+      declared_twice = list_any-append is_of_declarations once unbound
+          ∙ (no_more (list_any is_of_declarations once) (list_any is_of_declarations unbound) (undeclared_declares m.source ordinals (occurrences (tree_of m))) ∙ told);
+      undeclared = declarations_left_out once unbound alone ∙ (all_occurrences m.source ordinals (occurrences (tree_of m)) ∙ (unbound_all m.source ordinals (occurrences (tree_of m))
+          ∙ ap (unbound_at m.source (occurrences (tree_of m))) (sym (bindings_by_table m ordinals numbering))));
+      no_other = list_any-append is_other once unbound
+          ∙ neither (list_any is_other once) (list_any is_other unbound) false (declarations_known once alone) (undeclared_other m.source ordinals (occurrences (tree_of m)));
     }
 
 -- a module gone through, with the table of its marks and its faults, is resolved
-pub resolution_made : (m : Parsed) (v : Visit) (ordinals : List (Option ℕ)) (declarations uses : List ℕ) (once sorted : List Fault) → IsParsed m → v ≡ visit_module (tree_of m) (started (as_in m.source))
+pub resolution_made : (m : Parsed) (v : Visit) (ordinals : List (Option ℕ)) (declarations uses : List ℕ) (once faults : List Fault) → IsParsed m → v ≡ visit_module (tree_of m) (started (as_in m.source))
     → ordinals ≡ with_marks (replicate (length m.source.tokens) None) v.marks → declarations ≡ v.declarations → uses ≡ v.uses → list_any is_of_declarations once ≡ not (declared_once (named_tree_of m))
-    → list_any (λ f. not (is_of_declarations f)) once ≡ false → IsPermutation (once ++ undeclared_at m.source ordinals uses) sorted
-    → IsResolution (record { module_read = m; ordinals = ordinals; declarations = declarations; uses = uses; faults = sorted })
-resolution_made m v ordinals declarations uses once sorted parsed gone tabled declares occurs told alone permuted =
+    → list_any (λ f. not (is_of_declarations f)) once ≡ false → faults ≡ once ++ undeclared_at m.source ordinals uses
+    → IsResolution (record { module_read = m; ordinals = ordinals; declarations = declarations; uses = uses; faults = faults })
+resolution_made m v ordinals declarations uses once faults parsed gone tabled declares occurs told alone all =
     let w = visit_module (tree_of m) (started (as_in m.source)) in
     let count = length-replicate (length m.source.tokens) (let nothing : Option ℕ = None in nothing) in
     let numbered_so = module_passed (ordinal_in ordinals) (as_label as_names) (as_in m.source) (tree_of m) (started (as_in m.source)) (record { writing = refl; scope = refl; next = refl }) in
@@ -149,5 +161,5 @@ resolution_made m v ordinals declarations uses once sorted parsed gone tabled de
       binding = (paired.agree stand).1;
       declaring = declares ∙ (ap (λ (v : Visit). v.declarations) gone ∙ numbered_so.declared);
       occurring = occurring;
-      told = faults_told m ordinals once sorted numbering told alone (subst (λ us. IsPermutation (once ++ undeclared_at m.source ordinals us) sorted) occurring permuted);
+      told = subst (AreFaultsOf m) (sym (all ∙ ap (λ us. once ++ undeclared_at m.source ordinals us) occurring)) (faults_told m ordinals once numbering told alone);
     }

@@ -1,6 +1,6 @@
 -- What is known of a module's names: to which declaration each is bound, and what is wrong with them.
 use Rattle.std.specs.Prelude.{◌≡◌, ℕ, ◌-◌, nat_lt, Bool, true, false, not, ◌||◌, List, [], ◌∷◌, Option, Some, None, slice_get, slice_index_or, if◌then◌else◌, is_some}
-use Rattle.std.specs.List.{list_any}
+use Rattle.std.specs.List.{filter, list_any}
 use Rattle.ob0_scan.specs.declared.fault.Code.TheVariants as code
 use Rattle.ob0_scan.specs.declared.fault.Fault.{Fault}
 use Rattle.ob0_scan.specs.declared.lexeme.Span.{Span}
@@ -8,7 +8,7 @@ use Rattle.ob0_scan.specs.declared.lexeme.Token.{Token}
 use Rattle.ob0_scan.specs.Scanned.{Scanned}
 use Rattle.ob0_tree.specs.declared.tree.Role.{Role}
 use Rattle.ob0_tree.specs.declared.tree.Role.TheVariants as role
-use Rattle.ob0_tree.specs.Tree.{Tree, module_text, mapped, occurrences, identifiers}
+use Rattle.ob0_tree.specs.Tree.{mapped, occurrences, identifiers}
 use Rattle.ob0_tree.specs.Parsed.{Parsed, IsParsed, tree_of, named_tree_of}
 use Rattle.ob0_tree.specs.Places.{text_at, value_at}
 use Rattle.ob0_scope.specs.Names.{Label, Name, as_names, as_written, declared}
@@ -88,10 +88,23 @@ bound_at source ordinals token = (ordinal_in ordinals token, text_at source toke
 abbrev pub IsBinding : Parsed → List (Option ℕ) → Type 0
 IsBinding m ordinals = relabelled as_names with_ordinal (named_tree_of m) ≡ mapped (bound_at m.source ordinals) (value_at m.source) (tree_of m)
 
--- The faults tell whether each name is declared once and each occurrence is bound, and nothing else.
-pub record AreFaultsOf (m : Tree Name module_text) (faults : List Fault) : Type 0 where
-  pub declared_twice : list_any is_of_declarations faults ≡ not (declared_once m)
-  pub undeclared : list_any is_of_occurrences faults ≡ list_any is_unbound (bindings m)
+-- a fault at each of some occurrences that is bound to nothing
+abbrev pub unbound_at : Scanned → List ℕ → List Label → List Fault
+unbound_at source [] labels = []
+unbound_at source (token ∷ tokens) [] = []
+unbound_at source (token ∷ tokens) (label ∷ labels) =
+    if is_unbound label then record { code = code.Undeclared; span = span_at source token } ∷ unbound_at source tokens labels
+    else unbound_at source tokens labels
+
+-- the occurrences that no declaration binds, in text order
+abbrev pub unbound_in : Parsed → List Fault
+unbound_in m = unbound_at m.source (occurrences (tree_of m)) (bindings (named_tree_of m))
+
+-- The faults are one for each occurrence that no declaration binds, in text order, and some where a name is declared twice
+-- or closes what another name opened, and no others.
+pub record AreFaultsOf (m : Parsed) (faults : List Fault) : Type 0 where
+  pub declared_twice : list_any is_of_declarations faults ≡ not (declared_once (named_tree_of m))
+  pub undeclared : filter is_of_occurrences faults ≡ unbound_in m
   pub no_other : list_any (λ fault. not (is_of_declarations fault || is_of_occurrences fault)) faults ≡ false
 
 pub record IsResolution (r : Resolution) : Type 0 where
@@ -100,4 +113,4 @@ pub record IsResolution (r : Resolution) : Type 0 where
   pub binding : IsBinding r.module_read r.ordinals
   pub declaring : r.declarations ≡ declaring_only (identifiers role.Declaring (tree_of r.module_read))
   pub occurring : r.uses ≡ occurrences (tree_of r.module_read)
-  pub told : AreFaultsOf (named_tree_of r.module_read) r.faults
+  pub told : AreFaultsOf r.module_read r.faults

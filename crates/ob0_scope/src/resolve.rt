@@ -22,7 +22,6 @@ pub fn resolve<'t>(alloc: Global, module: &'t Module<'t>) -> Result<Resolved<'t>
     let ordinals = table(alloc, tokens.tokens().len(), &marks)?;
     let mut faults = check(alloc, module)?;
     undeclared(&mut faults, tokens, &ordinals, &occurrences)?;
-    faults.sort_by_key(|fault| fault.span.start)?;
     Ok(Resolved {
         module,
         ordinals,

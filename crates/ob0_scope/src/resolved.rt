@@ -107,8 +107,8 @@ impl<'t> Resolved<'t> {
         self.occurrences.as_slice()
     }
 
-    /// Second declarations in a block or record, names that no declaration binds, and closing names that differ, in text
-    /// order.
+    /// Second declarations in a block or record and closing names that differ; behind these the names that no declaration
+    /// binds, in text order.
     pub fn faults(&self) -> &[Fault]
         ensures { result.now ≡ self.now.faults }
     {

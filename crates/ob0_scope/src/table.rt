@@ -36,7 +36,7 @@ pub(crate) fn ordinal_at(ordinals: &[Option<usize>], token: usize) -> Option<usi
 }
 
 /// Where a token stands; the text's start where there is no such token.
-pub(crate) fn token_span(tokens: &Tokens, token: usize) -> Span
+pub fn token_span(tokens: &Tokens, token: usize) -> Span
     ensures { result ≡ span_at tokens.now token }
 {
     match tokens.tokens().get(token) {

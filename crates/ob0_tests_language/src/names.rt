@@ -4,8 +4,7 @@ ghost use Rattle.std.specs.Prelude.{⊤};
 
 use crate::asking::said;
 use ob0_analysis::Question;
-use ob0_questions::{at, definition, hover, references};
-use ob0_refs::Of;
+use ob0_refs::{Of, at, definition, hover, references};
 use ob0_scan::Span;
 use ob0_types::checked::WellTyped;
 use std::alloc::{AllocError, Global};

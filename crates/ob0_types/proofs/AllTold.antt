@@ -7,6 +7,7 @@ use Rattle.ob0_scope.specs.Names.{as_labels, as_names}
 use Rattle.ob0_scope.specs.DeclaredOnce.{declared_once}
 use Rattle.ob0_scope.specs.Resolution.{IsResolution, Resolution, is_of_declarations}
 use Rattle.ob0_tree.specs.Parsed.{named_tree_of, tree_of}
+use Rattle.ob0_types.specs.FaultOrder.{AreFirstFaults}
 use Rattle.ob0_types.specs.CheckedModules.{IsChecked, IsTold}
 use Rattle.ob0_checker.specs.Bindings.{module_bindings, object_bound}
 use Rattle.ob0_checker.specs.Checking.{Keeps}
@@ -75,9 +76,9 @@ if_some (Some a) f h = f a h
 -- where nothing is told exactly of a module that fits and declares each name once, it is told exactly of a well-typed one
 pub checked_told : (r : Resolution) (fits : Bool) (faults : List Fault) → FitsByOrdinal → IsResolution r → fits ≡ fits_over as_labels (in_labels r (tree_of r.module_read))
     → IsTold (fits && not (list_any is_of_declarations r.faults)) faults
-    → (known : Option Tables) → fits ≡ is_some known → IfSome known (Keeps (module_bindings as_labels (in_labels r (tree_of r.module_read)))) → length faults ≤ 100 → IsChecked (record { names = r; faults = faults; known = known })
+    → (known : Option Tables) → fits ≡ is_some known → IfSome known (Keeps (module_bindings as_labels (in_labels r (tree_of r.module_read)))) → length faults ≤ 100 → AreFirstFaults r.faults faults → IsChecked (record { names = r; faults = faults; known = known })
 unfolding WellTyped
-checked_told r fits faults law h e told known some keeps few =
+checked_told r fits faults law h e told known some keeps few first =
     let m = named_tree_of r.module_read in
     let any = list_any is_of_declarations r.faults in
     let by_names : fits ≡ fits_over as_names m = e ∙ ap (fits_over as_labels) (sym h.numbering) ∙ sym (law m) in
@@ -92,4 +93,5 @@ checked_told r fits faults law h e told known some keeps few =
       holds = if_some known (λ t kept d. sym (kept d) ∙ ap (λ z. object_bound (module_bindings as_labels z) d) (sym h.numbering)) keeps;
       kept = λ none. sym some ∙ first_right fits any (told.0 none);
       few = few;
+      first = first;
     }

@@ -8,6 +8,7 @@ use Rattle.ob0_tree.specs.Tree.{Tree, module_text}
 use Rattle.ob0_checker.specs.Bindings.{declared_object}
 use Rattle.ob0_symbols.specs.KnownTables.{Tables, declared_in}
 use Rattle.ob0_typing.specs.WellTyped.{WellTyped}
+use Rattle.ob0_types.specs.FaultOrder.{AreFirstFaults}
 
 pub record CheckedModule : Type 0 where
   pub names : Resolution
@@ -22,13 +23,15 @@ HoldsDeclarations m t = (k : ℕ) → declared_in t k ≡ declared_object m k
 abbrev pub IsTold : Bool → List Fault → Type 0
 IsTold right faults = (faults ≡ []) ↔ (right ≡ true)
 
--- no fault is told exactly where the module is well-typed; then what its declarations are is kept
+-- No fault is told exactly where the module is well-typed; then what its declarations are is kept. Faults are told in order,
+-- the first 100.
 pub record IsChecked (c : CheckedModule) : Type 0 where
   pub resolved : IsResolution c.names
   pub told : (c.faults ≡ []) ↔ WellTyped (named_tree_of c.names.module_read)
   pub holds : IfSome c.known (HoldsDeclarations (named_tree_of c.names.module_read))
   pub kept : c.faults ≡ [] → is_some c.known ≡ true
   pub few : length c.faults ≤ 100
+  pub first : AreFirstFaults c.names.faults c.faults
 
 -- a module that is well-typed
 pub record IsWellTyped (names : Resolution) : Type 0 where

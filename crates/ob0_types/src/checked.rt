@@ -1,7 +1,8 @@
 //! Checking a module, and what is known of a well-typed one.
 
 ghost use Rattle.ob0_scope.specs.Resolution.{is_of_declarations};
-ghost use Rattle.ob0_types.specs.CheckedModules.{IsTold};
+ghost use Rattle.ob0_types.specs.CheckedModules.{IsChecked, IsTold};
+ghost use Rattle.ob0_types.specs.FaultOrder.{AreFirstFaults, code_number};
 ghost use Rattle.std.specs.List.{filter, list_any};
 ghost use Rattle.std.specs.Prelude.{◌≡◌, ◌≤◌, ◌&&◌, ◌++◌, [], length, not, IfOk, OnOk, MatchOption};
 
@@ -11,6 +12,7 @@ use ob0_scan::{Code, Fault, Span};
 use ob0_scope::resolved::{PREDECLARED, Resolved};
 use ob0_symbols::known::Known;
 use ob0_symbols::sameness::Parts;
+use ob0_symbols::types::TypeId;
 use ob0_typing::laws::fits_by_ordinal;
 use ob0_values::scalar::Scalar;
 use std::alloc::{AllocError, Global};
@@ -63,12 +65,20 @@ impl<'c, 't> Model for WellTyped<'c, 't> {
     ghost invariant = { λ w. IsWellTyped w.checked.now.names × HoldsDeclarations (named_tree_of w.checked.now.names.module_read) w.known.now };
 }
 
+/// A type of a module, with the table that knows its parts.
+#[derive(Clone, Copy)]
+pub struct Shape<'c, 't> {
+    pub known: &'c Known<'t>,
+    pub of: TypeId,
+}
+
 /// The most faults that are kept.
 pub const MOST_FAULTS: usize = 100;
 
 /// Checks the types of a module. Its faults are those of its scopes and its types.
 pub fn check<'t>(alloc: Global, resolved: &'t Resolved<'t>) -> Result<Checked<'t>, AllocError>
-    ensures { IfOk result (λ c. c.names ≡ resolved.now) }
+    ensures names { IfOk result (λ c. c.names ≡ resolved.now) }
+    ensures checked { IfOk result IsChecked }
 {
     fits_by_ordinal();
     let _module = resolved.module();
@@ -90,10 +100,11 @@ fn faults_of<'t>(
 ) -> Result<Vec<Fault>, AllocError>
     ensures told { IfOk result (λ faults. IsTold (fits && not (list_any is_of_declarations resolved.now.faults)) faults.items) }
     ensures few { IfOk result (λ faults. length faults.items ≤ 100) }
+    ensures first { IfOk result (λ faults. AreFirstFaults resolved.now.faults faults.items) }
 {
     let mut faults = of_types(alloc, resolved, fits)?;
     add_declarations(&mut faults, resolved.faults())?;
-    faults.sort_by_key(|fault| (fault.span.start, fault.span.end, fault.code))?;
+    faults.sort_by_key(|fault| (fault.span.start, fault.span.end, number_of(fault.code)))?;
     faults.truncate(MOST_FAULTS);
     Ok(faults)
 }
@@ -134,6 +145,33 @@ fn is_of_declarations(fault: &Fault) -> bool
     ensures { result ≡ is_of_declarations fault.now }
 {
     fault.code == Code::Duplicate || fault.code == Code::EndName
+}
+
+/// The number of a code, by which the faults of one place are ordered.
+fn number_of(code: Code) -> u8
+    ensures { result ≡ code_number code }
+{
+    match code {
+        Code::TooLong => 1,
+        Code::BadChar => 2,
+        Code::OpenComment => 3,
+        Code::NumberTooLarge => 4,
+        Code::NumberJoinsLetter => 5,
+        Code::Duplicate => 10,
+        Code::Undeclared => 11,
+        Code::EndName => 12,
+        Code::WrongKind => 13,
+        Code::TypeMismatch => 14,
+        Code::NotConstant => 15,
+        Code::ConstFault => 16,
+        Code::ArrayLength => 17,
+        Code::TypeTooLarge => 18,
+        Code::ArgumentCount => 19,
+        Code::NotVariable => 20,
+        Code::NoField => 21,
+        Code::NotArray => 22,
+        Code::NotRecord => 23,
+    }
 }
 
 /// The fault of a module that doesn't fit, at its name.
@@ -192,7 +230,9 @@ impl<'c, 't> WellTyped<'c, 't> {
     ghost use Rattle.ob0_tree.specs.Parsed.{named_tree_of};
     ghost use Rattle.ob0_types.specs.CheckedModules.{HoldsDeclarations, IsWellTyped};
     ghost use Rattle.ob0_typing.specs.ConstantValues.{value_of_constant};
-    ghost use Rattle.ob0_types.specs.DeclaredShapes.{IsShapeOf};
+    ghost use Rattle.ob0_checker.specs.Bindings.{declared_object};
+    ghost use Rattle.ob0_types.specs.DeclaredShapes.{shape_of};
+    ghost use Rattle.ob0_typing.specs.Typing.{type_declared};
     ghost use Rattle.ob0_values.specs.Scalars.{scalar_value};
 
     /// The module with its names bound.
@@ -224,16 +264,26 @@ impl<'c, 't> WellTyped<'c, 't> {
         }
     }
 
-    /// The type of a declaration with its parts, by its ordinal: of a type, of a variable or parameter, and of a constant.
-    /// None for a procedure, and for a number that no declaration has. To go on to the types of the parts, begin with
-    /// `Known::declared_type` and `Known::parts`: they promise of which table these are.
-    pub fn shape(&self, declaration: usize) -> Option<Parts<'c, 't>>
-        ensures { IsShapeOf (named_tree_of self.now.module_read) declaration result }
+    /// The type of a declaration, by its ordinal: of a type, of a variable or parameter, and of a constant. None for a
+    /// procedure, and for a number that no declaration has.
+    pub fn shape(&self, declaration: usize) -> Option<Shape<'c, 't>>
+        ensures { option_map shape_of result ≡ type_declared (declared_object (named_tree_of self.now.module_read) declaration) }
     {
         let known = self.known();
-        let Some(of) = known.declared_type(declaration) else {
-            return None;
-        };
-        Some(known.parts(of))
+        let of = known.declared_type(declaration)?;
+        Some(Shape { known, of })
+    }
+}
+
+impl<'c, 't> Shape<'c, 't> {
+    ghost use Rattle.ob0_symbols.specs.KnownTables.{shapes_of};
+    ghost use Rattle.ob0_symbols.specs.Parts.{parts_shape};
+    ghost use Rattle.ob0_types.specs.DeclaredShapes.{shape_of};
+
+    /// What the type is made of; the types of its parts are in the same table.
+    pub fn parts(&self) -> Parts<'c, 't>
+        ensures { parts_shape (shapes_of self.now.known.now) result ≡ shape_of self.now }
+    {
+        self.known.parts(self.of)
     }
 }

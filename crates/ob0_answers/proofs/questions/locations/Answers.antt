@@ -3,7 +3,7 @@ use mathlib.Core.List.{map-map}
 use Rattle.serde_json.specs.Data.{array}
 use Rattle.serde_json.specs.View.{items_of}
 use Rattle.ob0_text.specs.Units.{width_of}
-use Rattle.ob0_refs.specs.Ranges.{range_of}
+use Rattle.ob0_edits.specs.Ranges.{range_of}
 use Rattle.ob0_answers.specs.Questions.{location_in}
 use Rattle.ob0_answers.proofs.Naming.{view-Array}
 use Rattle.ob0_answers.proofs.questions.locations.Goals as goal

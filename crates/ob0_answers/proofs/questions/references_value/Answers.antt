@@ -6,7 +6,7 @@ use Rattle.serde_json.specs.View.{items_of, items_view}
 use Rattle.serde_json.specs.declared.value.Value.{Value}
 use Rattle.ob0_rpc.specs.Seen.{at_seen}
 use Rattle.ob0_scan.specs.declared.lexeme.Span.{Span}
-use Rattle.ob0_questions.specs.Questions.{AreReferencesAt}
+use Rattle.ob0_refs.specs.Questions.{AreReferencesAt}
 use Rattle.ob0_scope.specs.Resolution.{Resolution}
 use Rattle.ob0_answers.specs.Questions.{location_at}
 use Rattle.ob0_analysis.specs.declared.analysis.Asked.{Asked}

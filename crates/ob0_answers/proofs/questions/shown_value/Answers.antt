@@ -1,10 +1,10 @@
 use Rattle.std.proofs.Common.{◌≡◌, ◌∙◌, ℕ, List, Option, ap, option_map, inl, inr, subst}
 use Rattle.std.specs.Str.{chars}
 use Rattle.std.proofs.lemmas.Result.{IfOk-weaker}
-use Rattle.ob0_hover.specs.Parts.{hover_in}
-use Rattle.ob0_hover.specs.Shown.{Shown}
-use Rattle.ob0_hover.specs.declared.answers.Hover.{Hover}
-use Rattle.ob0_questions.specs.Questions.{all_shown_at}
+use Rattle.ob0_refs.specs.Parts.{hover_in}
+use Rattle.ob0_refs.specs.Shown.{Shown}
+use Rattle.ob0_refs.specs.declared.answers.Hover.{Hover}
+use Rattle.ob0_refs.specs.Questions.{all_shown_at}
 use Rattle.ob0_scope.specs.Resolution.{Resolution}
 use Rattle.ob0_answers.specs.Questions.{hover_at, or_null}
 use Rattle.ob0_analysis.specs.declared.analysis.Asked.{Asked}

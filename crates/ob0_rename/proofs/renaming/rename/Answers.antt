@@ -1,7 +1,7 @@
 use Rattle.std.proofs.Common.{◌≤◌, ◌∙◌, ℕ, Some, sym, ap, arith}
 use Rattle.ob0_tree.specs.Places.{text_at}
 use Rattle.ob0_scope.specs.Resolution.{Resolution}
-use Rattle.ob0_refs.specs.Standing.{name_on}
+use Rattle.ob0_scope.specs.Standing.{name_on}
 use Rattle.ob0_rename.specs.Renaming.{meant_at}
 use Rattle.ob0_rename.proofs.FieldOutcomes.{field_answered_there}
 use Rattle.ob0_rename.proofs.Outcomes.{answered_there, asked, is_declaration, meant_named, meant_unnamed}

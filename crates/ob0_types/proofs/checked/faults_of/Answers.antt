@@ -1,7 +1,10 @@
-use Rattle.std.proofs.Common.{◌≡◌, ◌&&◌, ◌++◌, length, not, arith, subst, sym, ap, ◌∙◌, ◌+◌, ◌-◌}
+use Rattle.std.proofs.Common.{rules, ◌≡◌, ◌&&◌, ◌++◌, length, not, arith, subst, sym, ap, ◌∙◌, ◌+◌, ◌-◌}
+use Rattle.std.proofs.lemmas.List.Sorted.{answers_always}
 use Rattle.std.specs.List.{filter, list_any}
+use Rattle.std.specs.List.Sorted.{IsPermutation}
 use Rattle.ob0_scope.specs.Resolution.{is_of_declarations}
 use Rattle.ob0_types.specs.CheckedModules.{IsTold}
+use Rattle.ob0_types.specs.FaultOrder.{code_number}
 use Rattle.ob0_types.proofs.AllTold.{told_alike, told_with}
 use Rattle.ob0_types.proofs.checked.faults_of.Goals as goal
 
@@ -26,3 +29,16 @@ returns-clause-few c =
     let s = c.sort_by_key.new.self.ok.0 in
     let k = c.truncate.new.self.ok.0 in
     omega (arith, c.truncate.ensures.len, k, s)
+
+pub returns-clause-first : goal.returns-clause-first
+returns-clause-first c =
+    let first = c.in_ok-faults.faults.items in
+    let scopes = c.args.resolved.now.faults in
+    let all = c.in_ok-add_declarations.ensures ∙ ap (λ fs. first ++ filter is_of_declarations fs) c.faults.ensures in
+    record {
+      types = first;
+      all = c.sort_by_key.new.self.items;
+      joined = subst (λ fs. IsPermutation fs c.sort_by_key.new.self.items) all c.in_ok-sort_by_key.ensures.permutation;
+      in_order = c.in_ok-sort_by_key.ensures.sorted (λ x. (x.span.start, x.span.end, code_number x.code)) (answers_always _ _ _ (λ f a r f2 q. search rules));
+      first = c.truncate.ensures.items;
+    }

@@ -1,4 +1,0 @@
-pub mod FieldWalks
-pub mod Selected
-pub mod Walks
-pub mod Written

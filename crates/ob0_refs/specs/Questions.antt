@@ -1,0 +1,103 @@
+-- What is answered of a place: of the name that stands there, or else of the field.
+use Rattle.std.specs.Prelude.{◌≡◌, ◌==◌, ℕ, Bool, true, false, not, List, [], ◌∷◌, ◌++◌, codes, if◌then◌else◌, map, Option, Some, None, option_map, option_and_then, unwrap_or}
+use Rattle.std.specs.List.{filter}
+use Rattle.ob0_scan.specs.Scanned.{Scanned}
+use Rattle.ob0_scan.specs.declared.lexeme.Span.{Span}
+use Rattle.ob0_tree.specs.Parsed.{Parsed}
+use Rattle.ob0_tree.specs.Places.{text_at}
+use Rattle.ob0_scope.specs.Resolution.{Resolution, span_at}
+use Rattle.ob0_scope.specs.Standing.{is_on, name_on}
+use Rattle.ob0_scope.specs.declared.naming.Named as named
+use Rattle.ob0_fields.specs.Identifiers.{declaring_field, field_at, field_place, field_tokens}
+use Rattle.ob0_refs.specs.Answered.{at_name, declared_at, references_to}
+use Rattle.ob0_refs.specs.FieldTypes.{module_typed}
+use Rattle.ob0_refs.specs.Hovers.{type_text}
+use Rattle.ob0_refs.specs.Selections.{Selected, module_selections}
+use Rattle.ob0_refs.specs.Shown.{Shown, shown_at}
+use Rattle.ob0_refs.specs.declared.answers.At as told
+use Rattle.ob0_refs.specs.declared.answers.Of.TheVariants as tells
+
+-- the identifier of a field: its token, and the ordinal of the field's record
+abbrev pub Identified : Type 0
+Identified = ℕ × ℕ
+
+-- the field's place in its record, which is found by its name
+abbrev pub index_of : Parsed → Identified → ℕ
+index_of m x = unwrap_or (field_place m x.1 (text_at m.source x.0)) 0
+
+abbrev pub at_field : Parsed → Identified → told.At
+at_field m x = record { span = span_at m.source x.0; of = tells.Field x.1 (index_of m x) }
+
+abbrev pub stands : Parsed → Option named.Named → Option Identified → Option told.At
+stands m (Some n) f = Some (at_name m n)
+stands m None f = option_map (at_field m) f
+
+-- what stands at a place
+abbrev pub stands_at : Resolution → ℕ → Option told.At
+stands_at r offset = stands r.module_read (name_on r.module_read offset) (field_at r offset)
+
+-- where the identifier stands that declares a field
+abbrev pub field_declared : Parsed → Identified → Option Span
+field_declared m x = option_map (span_at m.source) (declaring_field m x.1 (text_at m.source x.0))
+
+abbrev pub declared : Parsed → Option named.Named → Option Identified → Option Span
+declared m (Some n) f = declared_at m n.ordinal
+declared m None f = option_and_then (field_declared m) f
+
+-- where it is declared what stands at a place
+abbrev pub definition_at : Resolution → ℕ → Option Span
+definition_at r offset = declared r.module_read (name_on r.module_read offset) (field_at r offset)
+
+-- the tokens other than one
+abbrev pub without : Option ℕ → List ℕ → List ℕ
+without None tokens = tokens
+without (Some token) tokens = filter (λ other. not (other == token)) tokens
+
+-- the tokens of a field in text order: with the one that declares it or without
+abbrev pub field_references : Resolution → Identified → Bool → List ℕ
+field_references r x true = field_tokens r x.1 (text_at r.module_read.source x.0)
+field_references r x false =
+    without (declaring_field r.module_read x.1 (text_at r.module_read.source x.0)) (field_tokens r x.1 (text_at r.module_read.source x.0))
+
+abbrev pub field_named_at : Resolution → Bool → Option Identified → List Span
+field_named_at r include None = []
+field_named_at r include (Some x) = map (span_at r.module_read.source) (field_references r x include)
+
+abbrev pub named_at : Resolution → Bool → Option named.Named → Option Identified → List Span
+named_at r include (Some n) f = references_to r.module_read n.ordinal include
+named_at r include None f = field_named_at r include f
+
+-- where it is named what stands at a place
+abbrev pub references_at : Resolution → ℕ → Bool → List Span
+references_at r offset include = named_at r include (name_on r.module_read offset) (field_at r offset)
+
+abbrev pub AreReferencesAt : Resolution → ℕ → Bool → List Span → Type 0
+AreReferencesAt r offset include spans = spans ≡ references_at r offset include
+
+abbrev pub or_else : {A : Type 0} → Option A → Option A → Option A
+or_else (Some a) other = Some a
+or_else None other = other
+
+-- the first identifier of some fields that a place is on, with its field's type
+abbrev pub selected_on : Scanned → ℕ → List (Selected ℕ) → Option (Selected ℕ)
+selected_on source offset [] = None
+selected_on source offset (s ∷ found) = if is_on offset (span_at source s.name) then Some s else selected_on source offset found
+
+-- FIELD f: T
+abbrev pub field_text : List ℕ → List ℕ → List ℕ
+field_text name of = codes "FIELD " ++ (name ++ (codes ": " ++ of))
+
+abbrev pub selection_shown : Resolution → Selected ℕ → Shown
+selection_shown r s = record { span = span_at r.module_read.source s.name; text = field_text (text_at r.module_read.source s.name) (type_text s.shape) }
+
+-- what is shown of the one of some fields that a place is on
+abbrev pub selected_shown : Resolution → ℕ → List (Selected ℕ) → Option Shown
+selected_shown r offset found = option_map (selection_shown r) (selected_on r.module_read.source offset found)
+
+-- what is shown of a field, where it is declared and where it is selected
+abbrev pub field_shown : Resolution → ℕ → Option Shown
+field_shown r offset = or_else (selected_shown r offset (module_typed r)) (selected_shown r offset (module_selections r))
+
+-- what is shown at a place: of a name, or else of a field
+abbrev pub all_shown_at : Resolution → ℕ → Option Shown
+all_shown_at r offset = or_else (shown_at r.module_read offset) (field_shown r offset)

@@ -1,2 +1,0 @@
--- Spans of a text as ranges of positions.
-pub use Rattle.ob0_edits.specs.Ranges.{range_of}

@@ -1,0 +1,49 @@
+//! Where another name for a declaration isn't free.
+
+ghost use Rattle.std.specs.Prelude.{◌≡◌, IfOk, option_and_then, option_map, slice_get};
+ghost use Rattle.ob0_scope.specs.Renames.{place_of};
+ghost use Rattle.ob0_refs.specs.Captured.{capture_at, capture_span, captured_span};
+
+use crate::answers::Capture;
+use crate::names::declared_at;
+use ob0_scan::Span;
+use ob0_scope::resolved::Resolved;
+use ob0_scope::{captures as scopes, token_span};
+use std::alloc::{AllocError, Global};
+
+/// Where another name for a declaration isn't free: the identifier that declares it, where another declaration of its
+/// block has the name; else the first occurrence, in text order, that would be bound to another declaration. None where
+/// there is neither.
+pub fn captures(
+    alloc: Global,
+    names: &Resolved,
+    declaration: usize,
+    new: &str,
+) -> Result<Option<Capture>, AllocError>
+    ensures { IfOk result (λ found. option_map capture_at found ≡ captured_span names.now.module_read declaration new.now) }
+{
+    match scopes::captures(alloc, names, declaration, new)? {
+        None => Ok(None),
+        Some(capture) => match capture_span(names, declaration, capture) {
+            None => Ok(None),
+            Some(span) => Ok(Some(Capture { span })),
+        },
+    }
+}
+
+fn capture_span(names: &Resolved, declaration: usize, capture: scopes::Capture) -> Option<Span>
+    ensures { result ≡ capture_span names.now.module_read declaration (place_of capture) }
+{
+    match capture {
+        scopes::Capture::Duplicate(_) => declared_at(names, declaration),
+        scopes::Capture::Occurrence(k) => occurrence_span(names, k),
+    }
+}
+
+fn occurrence_span(names: &Resolved, k: usize) -> Option<Span>
+    ensures { result ≡ capture_span names.now.module_read 0 (place_of (scopes::Capture::Occurrence k)) }
+{
+    let _module = names.module();
+    let token = *names.occurrences().get(k)?;
+    Some(token_span(names.tokens(), token))
+}

@@ -1,0 +1,140 @@
+//! What is shown at a place: of a name, or else of a field.
+
+ghost use Rattle.std.specs.Prelude.{◌≡◌, IfOk, map, option_map, string_bytes};
+ghost use Rattle.ob0_refs.specs.Parts.{hover_in};
+ghost use Rattle.ob0_refs.specs.Hovers.{type_text};
+ghost use Rattle.ob0_refs.specs.Selections.{module_selections};
+ghost use Rattle.ob0_refs.specs.SelectionParts.{selection_in};
+ghost use Rattle.ob0_symbols.specs.KnownTables.{shapes_of};
+ghost use Rattle.ob0_symbols.specs.Tables.{type_shape};
+ghost use Rattle.ob0_refs.specs.FieldTypes.{module_typed};
+ghost use Rattle.ob0_refs.specs.Questions.{all_shown_at, field_shown, field_text, selected_shown, selection_shown};
+ghost use Rattle.ob0_refs.specs.FieldParts.{selection_on};
+
+use crate::answers::Hover;
+use crate::declaring::declared_by;
+use crate::hovering::hover as hover_name;
+use crate::names::is_on;
+use crate::selecting::Selection;
+use crate::selections::selections_by;
+use crate::typing::type_text;
+use ob0_scan::Tokens;
+use ob0_scope::resolved::Resolved;
+use ob0_scope::token_span;
+use ob0_symbols::known::Known;
+use ob0_symbols::types::TypeId;
+use ob0_symbols::written::text_at;
+use ob0_types::checked::WellTyped;
+use std::alloc::{AllocError, Global};
+
+/// What is shown at a place, where it lies in a name or at its end: of a name its declaration, and of a field its type,
+/// where it is declared and where it is selected. None elsewhere.
+pub fn hover(
+    alloc: Global,
+    well_typed: &WellTyped<'_, '_>,
+    offset: usize,
+) -> Result<Option<Hover>, AllocError>
+    ensures { IfOk result (λ h. option_map hover_in h ≡ all_shown_at well_typed.now offset) }
+{
+    match hover_name(alloc, well_typed, offset)? {
+        Some(found) => Ok(Some(found)),
+        None => hover_field(alloc, well_typed, offset),
+    }
+}
+
+fn hover_field(
+    alloc: Global,
+    well_typed: &WellTyped<'_, '_>,
+    offset: usize,
+) -> Result<Option<Hover>, AllocError>
+    ensures { IfOk result (λ h. option_map hover_in h ≡ field_shown well_typed.now offset) }
+{
+    match hover_declared(alloc, well_typed, offset)? {
+        Some(found) => Ok(Some(found)),
+        None => hover_selected(alloc, well_typed, offset),
+    }
+}
+
+/// What is shown of a field where it is declared.
+fn hover_declared(
+    alloc: Global,
+    well_typed: &WellTyped<'_, '_>,
+    offset: usize,
+) -> Result<Option<Hover>, AllocError>
+    ensures { IfOk result (λ h. option_map hover_in h ≡ selected_shown well_typed.now offset (module_typed well_typed.now)) }
+{
+    let known = well_typed.known();
+    let names = well_typed.resolved();
+    let found = declared_by(alloc, known, names)?;
+    hover_among(alloc, known, names, offset, &found)
+}
+
+/// What is shown of a field where it is selected.
+fn hover_selected(
+    alloc: Global,
+    well_typed: &WellTyped<'_, '_>,
+    offset: usize,
+) -> Result<Option<Hover>, AllocError>
+    ensures { IfOk result (λ h. option_map hover_in h ≡ selected_shown well_typed.now offset (module_selections well_typed.now)) }
+{
+    let known = well_typed.known();
+    let names = well_typed.resolved();
+    let found = selections_by(alloc, known, names)?;
+    hover_among(alloc, known, names, offset, &found)
+}
+
+fn hover_among(
+    alloc: Global,
+    known: &Known<'_>,
+    names: &Resolved<'_>,
+    offset: usize,
+    found: &[Selection],
+) -> Result<Option<Hover>, AllocError>
+    ensures { IfOk result (λ h. option_map hover_in h ≡ selected_shown names.now offset (map (selection_in (shapes_of known.now)) found.now)) }
+{
+    match selection_on(names.tokens(), offset, found) {
+        None => Ok(None),
+        Some(selection) => Ok(Some(hover_of(alloc, known, names, selection)?)),
+    }
+}
+
+fn hover_of(
+    alloc: Global,
+    known: &Known<'_>,
+    names: &Resolved<'_>,
+    selection: Selection,
+) -> Result<Hover, AllocError>
+    ensures { IfOk result (λ h. hover_in h ≡ selection_shown names.now (selection_in (shapes_of known.now) selection)) }
+{
+    let tokens = names.tokens();
+    let text = field_line(alloc, known, text_at(tokens, selection.token), selection.of)?;
+    Ok(Hover {
+        span: token_span(tokens, selection.token),
+        text,
+    })
+}
+
+fn field_line(
+    alloc: Global,
+    known: &Known<'_>,
+    name: &str,
+    of: TypeId,
+) -> Result<String, AllocError>
+    ensures { IfOk result (λ text. string_bytes text ≡ field_text name.now (type_text (type_shape (shapes_of known.now) of))) }
+{
+    let of = type_text(alloc, known, of)?;
+    let of = of.as_str();
+    format!(in alloc; "FIELD {name}: {of}")
+}
+
+/// The first selection that a place is on.
+fn selection_on(tokens: &Tokens, offset: usize, found: &[Selection]) -> Option<Selection>
+    ensures { result ≡ selection_on tokens.now offset found.now }
+{
+    for selection in found {
+        if is_on(offset, token_span(tokens, selection.token)) {
+            return Some(*selection);
+        }
+    }
+    None
+}

@@ -1,0 +1,129 @@
+//! The names of a module: the one at a place of its text, and where a declaration is named.
+
+ghost use Rattle.std.specs.Prelude.{◌≡◌, IfOk, length, true};
+ghost use Rattle.std.specs.List.{position_from};
+ghost use Rattle.ob0_tree.specs.Order.{AreIdentifiers, Ascending};
+ghost use Rattle.ob0_scope.specs.Listing.{is_identifier, is_name_on, tokens_listed};
+ghost use Rattle.ob0_scope.specs.Resolution.{ordinal_in};
+ghost use Rattle.ob0_scope.specs.Scopes.{same_ordinal};
+ghost use Rattle.ob0_scope.specs.Standing.{IsRenamedAt, is_declaring, name_on, tokens_bound};
+
+use crate::resolved::Resolved;
+use ob0_scan::{Token, TokenKind};
+use ob0_tree::tree::Role;
+use std::alloc::{AllocError, Global};
+
+/// An identifier that is bound to a declaration: its token, and the declaration's ordinal.
+#[derive(Clone, Copy, PartialEq, Eq)]
+pub struct Named {
+    pub token: usize,
+    pub ordinal: usize,
+}
+
+/// The name that a place of the text is on, where it lies in the name or at its end, predeclared names too. A closing name
+/// of a procedure is the procedure's. None at a field, at the module's name and at a name that nothing binds.
+pub fn name_at(names: &Resolved, offset: usize) -> Option<Named>
+    ensures { result ≡ name_on names.now.module_read offset }
+{
+    let tokens = names.module().tokens();
+    match first_on(tokens.tokens(), offset) {
+        Some(token) => match names.ordinal_at(token) {
+            Some(ordinal) => Some(Named { token, ordinal }),
+            None => None,
+        },
+        None => None,
+    }
+}
+
+/// The tokens at which a declaration is named, in text order.
+pub fn tokens_bound(
+    alloc: Global,
+    names: &Resolved,
+    declaration: usize,
+    include: bool,
+) -> Result<Vec<usize>, AllocError>
+    ensures { IfOk result (λ found. found.items ≡ tokens_bound names.now.module_read declaration include) }
+{
+    let identifiers = names.module().identifiers(alloc)?;
+    tokens_of(alloc, names, declaration, include, &identifiers)
+}
+
+/// The tokens at which another name for a declaration is written: the one that declares it, its closing name, and all
+/// that are bound to it.
+pub fn renamed_tokens(
+    alloc: Global,
+    names: &Resolved,
+    declaration: usize,
+) -> Result<Vec<usize>, AllocError>
+    ensures bound { IfOk result (λ found. found.items ≡ tokens_bound names.now.module_read declaration true) }
+    ensures ascend { IfOk result (λ found. Ascending 0 found.items (length names.now.module_read.source.tokens)) }
+    ensures stand { IfOk result (λ found. AreIdentifiers names.now.module_read.source.tokens found.items) }
+    ensures renamed { IfOk result (λ found. IsRenamedAt names.now.module_read declaration found.items) }
+{
+    let _ = names.module();
+    tokens_bound(alloc, names, declaration, true)
+}
+
+/// The tokens of those of some identifiers that a declaration binds.
+fn tokens_of(
+    alloc: Global,
+    names: &Resolved,
+    declaration: usize,
+    include: bool,
+    identifiers: &[(Role, usize)],
+) -> Result<Vec<usize>, AllocError>
+    ensures { IfOk result (λ found. found.items ≡ tokens_listed names.now.ordinals include declaration identifiers.now) }
+{
+    let mut found = Vec::new(alloc);
+    for (role, token) in identifiers {
+        if is_bound(names, declaration, *token) && (include || !is_declaring(*role)) {
+            found.push(*token)?;
+        }
+    }
+    Ok(found)
+}
+
+fn is_bound(names: &Resolved, declaration: usize, token: usize) -> bool
+    ensures { result ≡ same_ordinal (ordinal_in names.now.ordinals token) declaration }
+{
+    match names.ordinal_at(token) {
+        Some(ordinal) => ordinal == declaration,
+        None => false,
+    }
+}
+
+fn is_declaring(role: Role) -> bool
+    ensures { result ≡ is_declaring role }
+{
+    match role {
+        Role::Declaring => true,
+        Role::LookedUp => false,
+        Role::ClosingName => false,
+        Role::FieldName => false,
+        Role::ModuleName => false,
+    }
+}
+
+/// The index of the first identifier that a place is on.
+fn first_on(tokens: &[Token], offset: usize) -> Option<usize>
+    ensures { result ≡ position_from (is_name_on offset) 0 tokens.now }
+{
+    tokens.iter().position(|token| is_name_on(token, offset))
+}
+
+fn is_name_on(token: &Token, offset: usize) -> bool
+    ensures { result ≡ is_name_on offset token.now }
+{
+    is_identifier(token.kind) && token.span.start <= offset && offset <= token.span.end
+}
+
+fn is_identifier(kind: TokenKind) -> bool
+    ensures { result ≡ is_identifier kind }
+{
+    match kind {
+        TokenKind::Identifier => true,
+        TokenKind::Reserved(_) => false,
+        TokenKind::Integer(_) => false,
+        TokenKind::Symbol(_) => false,
+    }
+}

@@ -1,3 +1,0 @@
-pub mod Walks
-pub mod Paths
-pub mod ByDeclarations
