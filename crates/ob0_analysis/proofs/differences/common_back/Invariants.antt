@@ -1,4 +1,4 @@
-use Rattle.std.proofs.Common.{◌≡◌, ◌-◌, ◌≤◌, ℕ, length, drop}
+use Rattle.std.proofs.Common.{◌≡◌, ◌-◌, ◌≤◌, length, drop}
 use Rattle.ob0_analysis.proofs.differences.common_back.Given as goal
 
 abbrev pub invariant-loop-count : goal.invariant-loop-count

@@ -1,4 +1,4 @@
-use Rattle.std.proofs.Common.{◌≡◌, ◌-◌, ◌≤◌, ℕ, length, take}
+use Rattle.std.proofs.Common.{◌≡◌, ◌-◌, ◌≤◌, length, take}
 use Rattle.ob0_analysis.proofs.differences.common_front.Given as goal
 
 abbrev pub invariant-loop-count : goal.invariant-loop-count
