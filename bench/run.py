@@ -114,12 +114,24 @@ def best(count, run):
     return min((run() for _ in range(count)), key=lambda it: it.processor)
 
 
+def place_in_the_middle(text):
+    """The line and the column of a place in the middle of a text where a blank changes nothing."""
+    middle = text.index("(", len(text) // 2)
+    return text.count("\n", 0, middle), middle - (text.rfind("\n", 0, middle) + 1)
+
+
 def letter_at(text, version):
     """A change of one letter in the middle of a text."""
-    middle = text.index("(", len(text) // 2)
-    line = text.count("\n", 0, middle)
-    column = middle - (text.rfind("\n", 0, middle) + 1)
+    line, column = place_in_the_middle(text)
     return did_change([{"range": extent(f"{line}:{column}-{line}:{column}"), "text": " "}], version=version)
+
+
+def letters_at(text, count):
+    """So many changes in one note: in the middle of a text a blank is put in and taken out in turn."""
+    line, column = place_in_the_middle(text)
+    put = {"range": extent(f"{line}:{column}-{line}:{column}"), "text": " "}
+    take = {"range": extent(f"{line}:{column}-{line}:{column + 1}"), "text": ""}
+    return did_change([put, take] * (count // 2), version=2)
 
 
 @measure("serve: 1 MiB opened and changed 20 times")
@@ -244,6 +256,15 @@ def keystroke():
         with Talk(text) as talk:
             taken = [talk.after(letter_at(text, version))[0] for version in range(2, 22)]
         said(f"{name}: milliseconds, least, middle, most", spread(taken))
+
+
+@measure("serve: 10,000 changes in one note, on 100 KB")
+def changed_often():
+    for name, on_line in (("on many lines", False), ("on one line", True)):
+        text = corpus.module(100_000, on_line=on_line)
+        for count in (1_000, 10_000):
+            with Talk(text) as talk:
+                said(f"{name}, {count:,} changes: seconds to the diagnostics", f"{talk.after(letters_at(text, count))[0]:.3f}")
 
 
 def on_file(words, text, given=b"", times=3):

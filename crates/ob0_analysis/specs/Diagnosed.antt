@@ -108,3 +108,10 @@ TellsFaults text told = TellsLexemes text told ⊎ (TellsParser text told ⊎ Te
 -- nothing is told exactly of a well-typed module
 abbrev pub Tells : List ℕ → List Complaint → Type 0
 Tells text told = (IsWellTypedModule text × (told ≡ [])) ⊎ (¬ IsWellTypedModule text × TellsFaults text told)
+
+-- ---- what a text leaves for the next scan
+
+-- its tokens and comments, exactly where it has lexemes and isn't too long
+abbrev pub TokensOf : List ℕ → Option Scanned → Type 0
+TokensOf text (Some scanned) = IsScanOf text scanned
+TokensOf text None = IsScannable text → ⊥

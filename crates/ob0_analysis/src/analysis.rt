@@ -1,9 +1,8 @@
 //! Asking a text: it is scanned, parsed, resolved and checked once.
 
-ghost use Rattle.std.specs.Prelude.{◌≡◌, ⊤, ℕ, List, IfOk, map};
+ghost use Rattle.std.specs.Prelude.{⊤, ℕ, List, IfOk};
 ghost use Rattle.ob0_scope.specs.Resolution.{Resolution};
 ghost use Rattle.ob0_analysis.specs.Analysed.{Finds};
-ghost use Rattle.ob0_analysis.specs.Diagnosed.{Tells, complaint_in};
 
 use crate::diagnoses::{Diagnosis, of_faults, of_refusal};
 use ob0_parse::{one_tree, parse};
@@ -39,8 +38,24 @@ pub enum Asked<A> {
     IllTyped(Vec<Diagnosis>),
 }
 
-/// Asks the module of a text, which lives as long as the question is answered.
+/// Asks the module of a text, which lives as long as the question is answered. Where the tokens that were kept are this text's, it
+/// isn't scanned again.
 pub fn ask<Q: Question>(
+    alloc: Global,
+    text: &str,
+    kept: Option<&Tokens>,
+    question: &Q,
+) -> Result<Asked<Q::Answer>, AllocError>
+    requires { Q.is_about question.now text.now }
+    ensures { IfOk result (Finds text.now (Q.answers question.now)) }
+{
+    match kept {
+        Some(tokens) if tokens.text() == text => ask_tokens(alloc, tokens, question),
+        _ => ask_text(alloc, text, question),
+    }
+}
+
+fn ask_text<Q: Question>(
     alloc: Global,
     text: &str,
     question: &Q,
@@ -59,7 +74,7 @@ pub fn ask<Q: Question>(
     }
 }
 
-fn ask_tokens<Q: Question>(
+pub(crate) fn ask_tokens<Q: Question>(
     alloc: Global,
     tokens: &Tokens,
     question: &Q,
@@ -102,31 +117,5 @@ fn ask_module<Q: Question>(
             let most = faults.len().min(MOST_TOLD);
             Ok(Asked::IllTyped(of_faults(alloc, &faults[..most])?))
         }
-    }
-}
-
-/// Asks nothing but whether the text is a well-typed module.
-#[derive(Drop)]
-struct IsModule;
-
-impl Question for IsModule {
-    type Answer = ();
-
-    ghost answers = { λ _ _ _. ⊤ };
-
-    fn answer(&self, _alloc: Global, _module: &WellTyped<'_, '_>) -> Result<(), AllocError> {
-        Ok(())
-    }
-}
-
-/// What is wrong with a text, which is nothing exactly for a well-typed module. Faults of its lexemes are told in text order, the
-/// first hundred, and then nothing else; a text that has lexemes and no tree is told by the one place at which the parser
-/// refuses it; of one with a tree the faults of names and types are told, the first hundred.
-pub fn diagnose(alloc: Global, text: &str) -> Result<Vec<Diagnosis>, AllocError>
-    ensures { IfOk result (λ list. Tells text.now (map complaint_in list.items)) }
-{
-    match ask(alloc, text, &IsModule)? {
-        Asked::Answered(_) => Ok(Vec::new(alloc)),
-        Asked::IllTyped(told) => Ok(told),
     }
 }

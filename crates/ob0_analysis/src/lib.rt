@@ -3,6 +3,9 @@
 
 mod analysis;
 mod diagnoses;
+mod diagnosing;
+mod differences;
 
-pub use analysis::{Asked, Question, ask, diagnose};
+pub use analysis::{Asked, Question, ask};
 pub use diagnoses::Diagnosis;
+pub use diagnosing::{Diagnosed, diagnose, diagnose_again};

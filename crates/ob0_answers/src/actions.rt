@@ -16,6 +16,7 @@ use crate::results::{action_value, workspace_edit};
 use ob0_analysis::{Asked, Question, ask};
 use ob0_inline::{inline_all, inline_here};
 use ob0_rpc::{Client, Id, result};
+use ob0_scan::Tokens;
 use ob0_text::{Edit, EditRefusal, Position, Range, TextStore};
 use ob0_types::checked::WellTyped;
 use serde_json::Value;
@@ -88,13 +89,14 @@ fn offered(answer: Result<Vec<Edit>, EditRefusal>) -> Result<Option<Vec<Edit>>, 
 fn inlinings_in<T: TextStore>(
     alloc: Global,
     store: &T,
+    kept: Option<&Tokens>,
     range: Range,
 ) -> Result<Asked<Inlinings>, AllocError>
     ensures { IfOk result (λ found. FindsInlinings (T.unit_of store.now) (T.content store.now) (place_in (T.unit_of store.now) (T.content store.now) range) found) }
 {
     let place = place_of(store, range);
     let text = store.to_string(alloc)?;
-    ask(alloc, text.as_str(), &InlinedAt { store, place })
+    ask(alloc, text.as_str(), kept, &InlinedAt { store, place })
 }
 
 /// The start of a range, and the end of one that is swapped.
@@ -120,21 +122,24 @@ pub struct ActionsRequest<'a> {
     pub only: &'a Option<Vec<String>>,
 }
 
-/// The answer to a request for code actions in the text in a store.
+/// The answer to a request for code actions in the text in a store. Where the tokens that were kept are the text's, it isn't
+/// scanned again.
 pub fn acted<T: TextStore>(
     alloc: Global,
     store: &T,
+    kept: Option<&Tokens>,
     request: &ActionsRequest<'_>,
 ) -> Result<Vec<u8>, AllocError>
     ensures { IfOk result (λ bytes. (message : Data) × AnswersActions (T.unit_of store.now) (actions_asked request.now) (T.content store.now) message × Writes message bytes.items) }
 {
-    let value = actions_in(alloc, store, request)?;
+    let value = actions_in(alloc, store, kept, request)?;
     result(alloc, request.id, value)
 }
 
 fn actions_in<T: TextStore>(
     alloc: Global,
     store: &T,
+    kept: Option<&Tokens>,
     request: &ActionsRequest<'_>,
 ) -> Result<Value, AllocError>
     ensures { IfOk result (λ v. ListsActions (T.unit_of store.now) (actions_asked request.now) (T.content store.now) (view v)) }
@@ -142,7 +147,7 @@ fn actions_in<T: TextStore>(
     if !wants_inlining(request) {
         return Ok(Value::Array(Vec::new(alloc)));
     }
-    match inlinings_in(alloc, store, request.range)? {
+    match inlinings_in(alloc, store, kept, request.range)? {
         Asked::Answered(found) => listed(alloc, request, found),
         Asked::IllTyped(_) => Ok(Value::Array(Vec::new(alloc))),
     }

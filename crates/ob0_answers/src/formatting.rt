@@ -13,6 +13,7 @@ use ob0_analysis::{Asked, Question, ask};
 use ob0_layout::format;
 use ob0_layout::laws::{gaps_make_the_layout, lexemes_stay, module_stays};
 use ob0_rpc::{Id, result};
+use ob0_scan::Tokens;
 use ob0_text::{Edit, EditRefusal, Indent, TextStore};
 use ob0_types::checked::WellTyped;
 use std::alloc::{AllocError, Global};
@@ -52,17 +53,18 @@ impl<'a, T: TextStore> Question for Formatting<'a, T> {
     }
 }
 
-/// The answer to a request to lay out the text in a store.
+/// The answer to a request to lay out the text in a store. Where the tokens that were kept are the text's, it isn't scanned again.
 pub fn formatted<T: TextStore>(
     alloc: Global,
     id: &Id,
     store: &T,
+    kept: Option<&Tokens>,
     indent: Indent,
 ) -> Result<Vec<u8>, AllocError>
     ensures { IfOk result (λ bytes. (message : Data) × AnswersFormatting (T.unit_of store.now) (id_data id.now) indent (T.content store.now) message × Writes message bytes.items) }
 {
     let text = store.to_string(alloc)?;
-    match ask(alloc, text.as_str(), &Formatting { store, indent })? {
+    match ask(alloc, text.as_str(), kept, &Formatting { store, indent })? {
         Asked::Answered(outcome) => match outcome {
             Ok(edits) => result(alloc, id, edits_value(alloc, edits.as_slice())?),
             Err(refusal) => refused(alloc, id, refusal.text(alloc)?.as_str()),

@@ -16,7 +16,7 @@ use ob0_analysis::{Asked, Question, ask};
 use ob0_edits::ranges;
 use ob0_refs::{Of, at, definition, hover, references};
 use ob0_rpc::{Id, Place, result};
-use ob0_scan::Span;
+use ob0_scan::{Span, Tokens};
 use ob0_text::{Range, TextStore};
 use ob0_types::checked::WellTyped;
 use serde_json::Value;
@@ -121,45 +121,53 @@ fn renamable(of: Of, span: Span) -> Option<Span>
     }
 }
 
-/// The answer to a question about what stands at a position of the text in a store.
+/// The answer to a question about what stands at a position of the text in a store. Where the tokens that were kept are the text's,
+/// it isn't scanned again.
 pub fn answered<T: TextStore>(
     alloc: Global,
     id: &Id,
     store: &T,
+    kept: Option<&Tokens>,
     place: &Place,
     question: NameQuestion,
 ) -> Result<Vec<u8>, AllocError>
     ensures { IfOk result (λ bytes. (value : Data) × AnswersName (T.unit_of store.now) (T.content store.now) (at_seen place.now) question value
         × Writes (result_message (id_data id.now) value) bytes.items) }
 {
-    let value = answer_value(alloc, store, place, question)?;
+    let value = answer_value(alloc, store, kept, place, question)?;
     result(alloc, id, value)
 }
 
 fn answer_value<T: TextStore>(
     alloc: Global,
     store: &T,
+    kept: Option<&Tokens>,
     place: &Place,
     question: NameQuestion,
 ) -> Result<Value, AllocError>
     ensures { IfOk result (λ v. AnswersName (T.unit_of store.now) (T.content store.now) (at_seen place.now) question (view v)) }
 {
     match question {
-        NameQuestion::Hover => shown_value(alloc, store, place),
-        NameQuestion::Definition => definition_value(alloc, store, place),
+        NameQuestion::Hover => shown_value(alloc, store, kept, place),
+        NameQuestion::Definition => definition_value(alloc, store, kept, place),
         NameQuestion::References {
             include_declaration,
-        } => references_value(alloc, store, place, include_declaration),
-        NameQuestion::PrepareRename => renamable_value(alloc, store, place),
+        } => references_value(alloc, store, kept, place, include_declaration),
+        NameQuestion::PrepareRename => renamable_value(alloc, store, kept, place),
     }
 }
 
-fn shown_value<T: TextStore>(alloc: Global, store: &T, place: &Place) -> Result<Value, AllocError>
+fn shown_value<T: TextStore>(
+    alloc: Global,
+    store: &T,
+    kept: Option<&Tokens>,
+    place: &Place,
+) -> Result<Value, AllocError>
     ensures { IfOk result (λ v. AnswersName (T.unit_of store.now) (T.content store.now) (at_seen place.now) Hover (view v)) }
 {
     let offset = store.offset(place.position);
     let text = store.to_string(alloc)?;
-    match ask(alloc, text.as_str(), &HoverAt { offset })? {
+    match ask(alloc, text.as_str(), kept, &HoverAt { offset })? {
         Asked::Answered(found) => shown_or_null(alloc, store, found),
         Asked::IllTyped(_told) => Ok(Value::Null),
     }
@@ -168,13 +176,14 @@ fn shown_value<T: TextStore>(alloc: Global, store: &T, place: &Place) -> Result<
 fn definition_value<T: TextStore>(
     alloc: Global,
     store: &T,
+    kept: Option<&Tokens>,
     place: &Place,
 ) -> Result<Value, AllocError>
     ensures { IfOk result (λ v. AnswersName (T.unit_of store.now) (T.content store.now) (at_seen place.now) Definition (view v)) }
 {
     let offset = store.offset(place.position);
     let text = store.to_string(alloc)?;
-    match ask(alloc, text.as_str(), &DefinitionAt { offset })? {
+    match ask(alloc, text.as_str(), kept, &DefinitionAt { offset })? {
         Asked::Answered(found) => location_or_null(alloc, store, place.uri.as_str(), found),
         Asked::IllTyped(_) => Ok(Value::Null),
     }
@@ -183,6 +192,7 @@ fn definition_value<T: TextStore>(
 fn references_value<T: TextStore>(
     alloc: Global,
     store: &T,
+    kept: Option<&Tokens>,
     place: &Place,
     include_declaration: bool,
 ) -> Result<Value, AllocError>
@@ -193,7 +203,7 @@ fn references_value<T: TextStore>(
         include_declaration,
     };
     let text = store.to_string(alloc)?;
-    match ask(alloc, text.as_str(), &question)? {
+    match ask(alloc, text.as_str(), kept, &question)? {
         Asked::Answered(found) => locations(alloc, store, place.uri.as_str(), found.as_slice()),
         Asked::IllTyped(_) => {
             let none = Vec::new(alloc);
@@ -205,13 +215,14 @@ fn references_value<T: TextStore>(
 fn renamable_value<T: TextStore>(
     alloc: Global,
     store: &T,
+    kept: Option<&Tokens>,
     place: &Place,
 ) -> Result<Value, AllocError>
     ensures { IfOk result (λ v. AnswersName (T.unit_of store.now) (T.content store.now) (at_seen place.now) PrepareRename (view v)) }
 {
     let offset = store.offset(place.position);
     let text = store.to_string(alloc)?;
-    match ask(alloc, text.as_str(), &RenamableAt { offset })? {
+    match ask(alloc, text.as_str(), kept, &RenamableAt { offset })? {
         Asked::Answered(found) => range_or_null(alloc, store, found),
         Asked::IllTyped(_) => Ok(Value::Null),
     }

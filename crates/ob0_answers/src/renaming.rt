@@ -10,6 +10,7 @@ use crate::results::{refused_because, refused_ill_typed, workspace_edit};
 use ob0_analysis::Asked;
 use ob0_rename::rename_in;
 use ob0_rpc::{Client, Id, Place, result};
+use ob0_scan::Tokens;
 use ob0_text::{Edit, TextStore};
 use serde_json::Value;
 use std::alloc::{AllocError, Global};
@@ -24,17 +25,19 @@ pub struct RenameRequest<'a> {
     pub new: &'a str,
 }
 
-/// The answer to a request for another name in the text in a store.
+/// The answer to a request for another name in the text in a store. Where the tokens that were kept are the text's, it isn't
+/// scanned again.
 pub fn renamed<T: TextStore>(
     alloc: Global,
     store: &T,
+    kept: Option<&Tokens>,
     request: &RenameRequest<'_>,
 ) -> Result<Vec<u8>, AllocError>
     ensures { IfOk result (λ bytes. (message : Data) × AnswersRenaming (T.unit_of store.now) (asked_of request.now) (T.content store.now) message × Writes message bytes.items) }
 {
     let id = request.id;
     let place = request.place;
-    match rename_in(alloc, store, place.position, request.new)? {
+    match rename_in(alloc, store, kept, place.position, request.new)? {
         Asked::Answered(outcome) => match outcome {
             Ok(edits) => result(alloc, id, edits_for(alloc, request, edits.as_slice())?),
             Err(refusal) => refused_because(alloc, id, refusal),

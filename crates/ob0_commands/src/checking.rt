@@ -11,7 +11,7 @@ use crate::faults::{Fault, tell_fault};
 use crate::printing::print;
 use crate::reading::MAX_FILE;
 use ob0_analysis::{Diagnosis, diagnose};
-use ob0_text::{Position, TextStore, Whole};
+use ob0_text::{Lines, Position, TextStore};
 use std::alloc::{AllocError, Global};
 use std::io::Write;
 
@@ -84,7 +84,7 @@ pub fn print_diagnoses<O: Write>(
 fn lines_of(alloc: Global, text: &str, told: &[Diagnosis]) -> Result<String, AllocError>
     ensures { IfOk result (λ lines. string_bytes lines ≡ complaint_lines text.now (map complaint_in told.now)) }
 {
-    let store = Whole::from_str(alloc, text)?;
+    let store = Lines::from_str(alloc, text)?;
     let starts = starts_of(alloc, told)?;
     let positions = store.positions(alloc, starts.as_slice())?;
     lines_at(alloc, told, positions.as_slice())

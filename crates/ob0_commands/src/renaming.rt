@@ -9,7 +9,7 @@ use crate::faults::{Fault, tell_fault};
 use crate::printing::print;
 use ob0_analysis::Asked;
 use ob0_rename::rename_in;
-use ob0_text::{Edit, EditRefusal, Position, TextStore, Whole, patch};
+use ob0_text::{Edit, EditRefusal, Lines, Position, TextStore, patch};
 use std::alloc::Global;
 use std::io::Write;
 
@@ -62,8 +62,8 @@ fn rename_in_text<O: Write, E: Write>(
     ensures renamed { IfOk result (λ status. status ≡ 0 → PrintsRenamed text.now position new.now (O.contents out.old) (O.contents out.new)) }
     ensures other { IfOk result (λ status. status ≡ 1 → PrintsNoName text.now position new.now (O.contents out.old) (O.contents out.new)) }
 {
-    let store = Whole::from_str(alloc, text)?;
-    match rename_in(alloc, &store, position, new)? {
+    let store = Lines::from_str(alloc, text)?;
+    match rename_in(alloc, &store, None, position, new)? {
         Asked::Answered(outcome) => print_edited(alloc, &store, outcome, out, err),
         Asked::IllTyped(told) => {
             print_diagnoses(alloc, text, told.as_slice(), out)?;

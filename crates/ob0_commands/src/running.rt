@@ -99,7 +99,7 @@ fn run_module(
         calls,
         turns,
     };
-    match ask(alloc, text, &question)? {
+    match ask(alloc, text, None, &question)? {
         Asked::Answered(outcome) => Ok(outcome),
         Asked::IllTyped(_) => unreachable!(),
     }

@@ -6,6 +6,7 @@ ghost use Rattle.ob0_rename.specs.InTexts.{FindsNewName, Settles, renaming_of};
 
 use crate::renaming::rename;
 use ob0_analysis::{Asked, Question, ask};
+use ob0_scan::Tokens;
 use ob0_text::{Edit, EditRefusal, Position, TextStore};
 use ob0_types::checked::WellTyped;
 use std::alloc::{AllocError, Global};
@@ -44,15 +45,18 @@ impl<'a, T: TextStore> Question for NewName<'a, T> {
 }
 
 /// The edits that write `new` for what is named at a place of the text in a store, or why there are none; what is wrong with
-/// a text that is no well-typed module. Want of memory is never the reason: it is answered as such.
+/// a text that is no well-typed module. Want of memory is never the reason: it is answered as such. Where the tokens that were
+/// kept are the text's, it isn't scanned again.
 pub fn rename_in<T: TextStore>(
     alloc: Global,
     store: &T,
+    kept: Option<&Tokens>,
     place: Position,
     new: &str,
 ) -> Result<Asked<Result<Vec<Edit>, EditRefusal>>, AllocError>
     ensures { IfOk result (λ found. FindsNewName (T.unit_of store.now) (T.content store.now) place new.now found) }
 {
     let text = store.to_string(alloc)?;
-    ask(alloc, text.as_str(), &NewName { store, place, new })
+    let question = NewName { store, place, new };
+    ask(alloc, text.as_str(), kept, &question)
 }

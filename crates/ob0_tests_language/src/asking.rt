@@ -11,7 +11,7 @@ pub fn said<Q: Question<Answer = String>>(
 ) -> Result<String, AllocError>
     requires { Q.is_about question.now text.now }
 {
-    match ask(alloc, text, question)? {
+    match ask(alloc, text, None, question)? {
         Asked::Answered(answer) => Ok(answer),
         Asked::IllTyped(faults) => told(alloc, faults.as_slice()),
     }

@@ -133,7 +133,7 @@ static RENAMED: &[(&str, u64, u64, &str, &str)] = &[
 
 fn renamed(alloc: Global, text: &str, place: Position, new: &str) -> Result<String, AllocError> {
     let store = Whole::from_str(alloc, text)?;
-    match rename_in(alloc, &store, place, new)? {
+    match rename_in(alloc, &store, None, place, new)? {
         Asked::Answered(edits) => made(alloc, &store, edits),
         Asked::IllTyped(faults) => told(alloc, faults.as_slice()),
     }

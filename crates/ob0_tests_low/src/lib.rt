@@ -4,6 +4,10 @@
 #[cfg(test)]
 mod frame;
 #[cfg(test)]
+mod lines;
+#[cfg(test)]
+mod rescan;
+#[cfg(test)]
 mod rpc;
 #[cfg(test)]
 mod scan;

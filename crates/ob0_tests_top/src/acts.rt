@@ -1,6 +1,6 @@
 //! Worlds as tables: what happens and what is seen of it, and what has come of it all.
 
-use ob0_text::{Change, Indent, Position, Range, Unit, Whole};
+use ob0_text::{Change, Indent, Position, Range, TextStore, Unit};
 use ob0_world::{Ask, Event, Played, Seen, World};
 use std::alloc::{AllocError, Global};
 
@@ -150,9 +150,9 @@ fn sight_of(seen: &Seen) -> Sight {
 }
 
 /// Whether an act shows what it is to show.
-fn shows(
+fn shows<T: TextStore>(
     alloc: Global,
-    world: &mut World<Whole>,
+    world: &mut World<T>,
     act: Act,
     wanted: Sight,
 ) -> Result<bool, AllocError> {
@@ -167,10 +167,10 @@ fn shows(
 }
 
 /// Whether each event shows what it is to show.
-pub fn is_seen(alloc: Global, unit: Unit, story: &Story) -> Result<bool, AllocError> {
+pub fn is_seen<T: TextStore>(alloc: Global, unit: Unit, story: &Story) -> Result<bool, AllocError> {
     let begun = match unit {
-        Unit::Utf16 => World::<Whole>::new(alloc),
-        Unit::Utf8 => World::<Whole>::new_in(alloc, unit),
+        Unit::Utf16 => World::<T>::new(alloc),
+        Unit::Utf8 => World::<T>::new_in(alloc, unit),
     };
     let Ok(mut world) = begun else {
         return Err(AllocError);
@@ -185,13 +185,13 @@ pub fn is_seen(alloc: Global, unit: Unit, story: &Story) -> Result<bool, AllocEr
 }
 
 /// Whether all events together leave what they are to leave, where positions are in UTF-16 units.
-pub fn has_come(alloc: Global, story: &Story) -> Result<bool, AllocError> {
+pub fn has_come<T: TextStore>(alloc: Global, story: &Story) -> Result<bool, AllocError> {
     let mut events = Vec::new(alloc);
     for moment in story.moments {
         let (act, _seen) = *moment;
         events.push(event_of(alloc, act)?)?;
     }
-    match World::<Whole>::play(alloc, events.as_slice()) {
+    match World::<T>::play(alloc, events.as_slice()) {
         Ok(played) => Ok(is_right(story, &played)),
         Err(_fault) => Err(AllocError),
     }

@@ -2,7 +2,7 @@
 
 use crate::acts::{has_come, is_seen};
 use crate::stories::WORLDS;
-use ob0_text::Unit;
+use ob0_text::{Lines, Unit, Whole};
 use std::process::Abort;
 use std::test::Fail;
 
@@ -11,10 +11,29 @@ fn worlds_go_as_they_are_told(rt: HostRuntime) -> Result<(), Fail> {
     for row in WORLDS {
         let (unit, stories) = *row;
         for story in stories {
-            assert!(rt; is_seen(rt.alloc(), unit, story)?, "{}", story.name);
+            assert!(rt;
+                is_seen::<Lines>(rt.alloc(), unit, story)?,
+                "{}",
+                story.name
+            );
             if unit == Unit::Utf16 {
-                assert!(rt; has_come(rt.alloc(), story)?, "{}", story.name);
+                assert!(rt; has_come::<Lines>(rt.alloc(), story)?, "{}", story.name);
             }
+        }
+    }
+    Ok(())
+}
+
+#[test]
+fn worlds_go_alike_over_whole_texts(rt: HostRuntime) -> Result<(), Fail> {
+    for row in WORLDS {
+        let (unit, stories) = *row;
+        for story in stories {
+            assert!(rt;
+                is_seen::<Whole>(rt.alloc(), unit, story)?,
+                "{}",
+                story.name
+            );
         }
     }
     Ok(())

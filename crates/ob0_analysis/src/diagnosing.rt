@@ -1,0 +1,95 @@
+//! What is wrong with a text.
+
+ghost use Rattle.std.specs.Prelude.{◌≡◌, ⊤, IfOk, IfErr, map};
+ghost use Rattle.ob0_scan.specs.Scanned.{IsScanOf};
+ghost use Rattle.ob0_scan.specs.Refused.{IsRightRefusal};
+ghost use Rattle.ob0_analysis.specs.Diagnosed.{Tells, TokensOf, complaint_in};
+
+use crate::analysis::{Asked, Question, ask_tokens};
+use crate::diagnoses::{Diagnosis, of_faults};
+use crate::differences::Difference;
+use ob0_scan::{ScanRefusal, Tokens, rescan, scan};
+use ob0_types::checked::WellTyped;
+use std::alloc::{AllocError, Global};
+
+/// Asks nothing but whether the text is a well-typed module.
+#[derive(Drop)]
+struct IsModule;
+
+impl Question for IsModule {
+    type Answer = ();
+
+    ghost answers = { λ _ _ _. ⊤ };
+
+    fn answer(&self, _alloc: Global, _module: &WellTyped<'_, '_>) -> Result<(), AllocError> {
+        Ok(())
+    }
+}
+
+/// What is wrong with a text, and its tokens where it has lexemes.
+#[derive(Drop)]
+pub struct Diagnosed {
+    pub told: Vec<Diagnosis>,
+    pub tokens: Option<Tokens>,
+}
+
+/// What is wrong with a text, which is nothing exactly for a well-typed module. Faults of its lexemes are told in text order, the
+/// first hundred, and then nothing else; a text that has lexemes and no tree is told by the one place at which the parser
+/// refuses it; of one with a tree the faults of names and types are told, the first hundred.
+pub fn diagnose(alloc: Global, text: &str) -> Result<Vec<Diagnosis>, AllocError>
+    ensures { IfOk result (λ list. Tells text.now (map complaint_in list.items)) }
+{
+    let found = diagnose_again(alloc, text, None)?;
+    Ok(found.told)
+}
+
+/// The same, and the text's tokens. What it has in common with the text of other tokens is taken over from these.
+pub fn diagnose_again(
+    alloc: Global,
+    text: &str,
+    kept: Option<&Tokens>,
+) -> Result<Diagnosed, AllocError>
+    ensures told { IfOk result (λ found. Tells text.now (map complaint_in found.told.items)) }
+    ensures tokens { IfOk result (λ found. TokensOf text.now found.tokens) }
+{
+    match scan_again(alloc, text, kept) {
+        Ok(tokens) => {
+            let told = diagnose_tokens(alloc, &tokens)?;
+            Ok(Diagnosed {
+                told,
+                tokens: Some(tokens),
+            })
+        }
+        Err(refusal) => match refusal {
+            ScanRefusal::Faults(faults) => Ok(Diagnosed {
+                told: of_faults(alloc, faults.as_slice())?,
+                tokens: None,
+            }),
+            ScanRefusal::Memory => Err(AllocError),
+        },
+    }
+}
+
+/// The tokens and comments of a text, or its faults.
+fn scan_again(alloc: Global, text: &str, kept: Option<&Tokens>) -> Result<Tokens, ScanRefusal>
+    ensures ok { IfOk result (IsScanOf text.now) }
+    ensures err { IfErr result (IsRightRefusal text.now) }
+{
+    match kept {
+        Some(old) => {
+            let change = Difference::between(old.text(), text);
+            let found = rescan(alloc, old, text, change.from, change.removed, change.added)?;
+            Ok(found.tokens)
+        }
+        None => scan(alloc, text),
+    }
+}
+
+fn diagnose_tokens(alloc: Global, tokens: &Tokens) -> Result<Vec<Diagnosis>, AllocError>
+    ensures { IfOk result (λ list. Tells tokens.now.text (map complaint_in list.items)) }
+{
+    match ask_tokens(alloc, tokens, &IsModule)? {
+        Asked::Answered(_) => Ok(Vec::new(alloc)),
+        Asked::IllTyped(told) => Ok(told),
+    }
+}
