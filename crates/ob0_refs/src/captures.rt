@@ -1,6 +1,7 @@
 //! Where another name for a declaration isn't free.
 
-ghost use Rattle.std.specs.Prelude.{◌≡◌, IfOk, option_and_then, option_map, slice_get};
+ghost use Rattle.std.specs.Prelude.{◌≡◌, IfOk, option_map};
+ghost use Rattle.ob0_scope.specs.Occurrences.{at_occurrence};
 ghost use Rattle.ob0_scope.specs.Renames.{place_of};
 ghost use Rattle.ob0_refs.specs.Captured.{capture_at, capture_span, captured_span};
 
@@ -41,9 +42,11 @@ fn capture_span(names: &Resolved, declaration: usize, capture: scopes::Capture) 
 }
 
 fn occurrence_span(names: &Resolved, k: usize) -> Option<Span>
-    ensures { result ≡ capture_span names.now.module_read 0 (place_of (scopes::Capture::Occurrence k)) }
+    ensures { result ≡ capture_span names.now.module_read 0 (at_occurrence k) }
 {
-    let _module = names.module();
-    let token = *names.occurrences().get(k)?;
-    Some(token_span(names.tokens(), token))
+    let tokens = names.module().tokens();
+    match names.occurrences().get(k) {
+        Some(token) => Some(token_span(tokens, *token)),
+        None => None,
+    }
 }

@@ -2,7 +2,7 @@
 
 ghost use Rattle.ob0_scope.specs.Resolution.{is_of_declarations};
 ghost use Rattle.ob0_types.specs.CheckedModules.{IsChecked, IsTold};
-ghost use Rattle.ob0_types.specs.FaultOrder.{AreFirstFaults, code_number};
+ghost use Rattle.ob0_types.specs.FaultOrder.{AreFirstFaults};
 ghost use Rattle.std.specs.List.{filter, list_any};
 ghost use Rattle.std.specs.Prelude.{◌≡◌, ◌≤◌, ◌&&◌, ◌++◌, [], length, not, IfOk, OnOk, MatchOption};
 
@@ -104,7 +104,7 @@ fn faults_of<'t>(
 {
     let mut faults = of_types(alloc, resolved, fits)?;
     add_declarations(&mut faults, resolved.faults())?;
-    faults.sort_by_key(|fault| (fault.span.start, fault.span.end, number_of(fault.code)))?;
+    faults.sort_by_key(|fault| (fault.span.start, fault.span.end, fault.code))?;
     faults.truncate(MOST_FAULTS);
     Ok(faults)
 }
@@ -145,33 +145,6 @@ fn is_of_declarations(fault: &Fault) -> bool
     ensures { result ≡ is_of_declarations fault.now }
 {
     fault.code == Code::Duplicate || fault.code == Code::EndName
-}
-
-/// The number of a code, by which the faults of one place are ordered.
-fn number_of(code: Code) -> u8
-    ensures { result ≡ code_number code }
-{
-    match code {
-        Code::TooLong => 1,
-        Code::BadChar => 2,
-        Code::OpenComment => 3,
-        Code::NumberTooLarge => 4,
-        Code::NumberJoinsLetter => 5,
-        Code::Duplicate => 10,
-        Code::Undeclared => 11,
-        Code::EndName => 12,
-        Code::WrongKind => 13,
-        Code::TypeMismatch => 14,
-        Code::NotConstant => 15,
-        Code::ConstFault => 16,
-        Code::ArrayLength => 17,
-        Code::TypeTooLarge => 18,
-        Code::ArgumentCount => 19,
-        Code::NotVariable => 20,
-        Code::NoField => 21,
-        Code::NotArray => 22,
-        Code::NotRecord => 23,
-    }
 }
 
 /// The fault of a module that doesn't fit, at its name.
