@@ -1,13 +1,9 @@
 use Rattle.std.proofs.Common.{sym, subst}
 use Rattle.std.proofs.lemmas.Result.{IfOk-weaker}
-use Rattle.serde_json.specs.Data.{Data}
 use Rattle.serde_json.specs.View.{view}
-use Rattle.ob0_rpc.specs.Seen.{at_seen, id_data}
-use Rattle.ob0_rpc.specs.Shapes.{result_message}
-use Rattle.ob0_rpc.specs.Writing.{Writes}
+use Rattle.ob0_rpc.specs.Seen.{at_seen}
 use Rattle.ob0_answers.specs.Questions.{AnswersName}
 use Rattle.ob0_answers.specs.declared.questions.NameQuestion.{NameQuestion}
-use Rattle.ob0_answers.specs.declared.questions.NameQuestion.TheVariants.{Hover, Definition, PrepareRename}
 use Rattle.ob0_answers.proofs.Naming.{name_can_be_sent}
 use Rattle.ob0_answers.proofs.questions.answered.Goals as goal
 

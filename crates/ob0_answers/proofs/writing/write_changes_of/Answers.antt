@@ -1,4 +1,3 @@
-use Rattle.std.proofs.Common.{codes}
 use Rattle.std.proofs.lemmas.Result.{on_ok_weaker}
 use Rattle.ob0_answers.specs.Shapes.{edits_value}
 use Rattle.ob0_rpc.proofs.Appending.{object_of_one, puts}
