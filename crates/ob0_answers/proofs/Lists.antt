@@ -4,7 +4,7 @@ use Rattle.std.proofs.lemmas.List.{map-append}
 use mathlib.Core.List.{map-map}
 use Rattle.std.proofs.Math.Seq.{take-suc}
 use Rattle.serde_json.specs.Data.{Data}
-use Rattle.serde_json.specs.View.{view, items_of, items_view}
+use Rattle.serde_json.specs.View.{view, items_of}
 use Rattle.serde_json.specs.declared.value.Value.{Value}
 use Rattle.ob0_analysis.specs.declared.diagnoses.Diagnosis.{Diagnosis}
 use Rattle.ob0_analysis.specs.Diagnosed.{Complaint, complaint_in}
@@ -28,12 +28,6 @@ pub diagnostics_next : (shown : Diagnosis → Diagnostic) (told : List Diagnosis
     → DiagnosticsAre (map shown (take i told)) vs → view v ≡ diagnostic_value (shown (get_or told i d)) → DiagnosticsAre (map shown (take (i + 1) told)) (vs ++ v ∷ [])
 diagnostics_next shown told i d vs v h are is =
     rw (add-one, take-suc told i d h, map-append shown (take i told) (get_or told i d ∷ [])) (diagnostics_more (map shown (take i told)) (shown (get_or told i d)) vs v are is)
-
--- values of a list's items, and that of the next one
-pub values_next : {A : Type 0} (shown : A → Data) (xs : List A) (i : ℕ) (x : A) (vs : List Value) (v : Value) → i < length xs
-    → items_view vs ≡ items_of (map shown (take i xs)) → view v ≡ shown (get_or xs i x) → items_view (vs ++ v ∷ []) ≡ items_of (map shown (take (i + 1) xs))
-values_next shown xs i x vs v h are is =
-    rw (add-one, take-suc xs i x h, map-append shown (take i xs) (get_or xs i x ∷ []), map-append view vs (v ∷ []), is) (items_of-append (map view vs) (map shown (take i xs)) (shown (get_or xs i x) ∷ []) are)
 
 -- what is shown of a list, one after the other
 pub diagnostics_of_all : (shown : Complaint → Diagnostic) (told : List Diagnosis) (vs : List Value) → DiagnosticsAre (map (λ d. shown (complaint_in d)) told) vs → DiagnosticsAre (map shown (map complaint_in told)) vs

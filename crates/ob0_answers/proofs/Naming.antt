@@ -58,13 +58,16 @@ shallow_locations : (unit : Unit) (uri text : List ℕ) (spans : List Span) → 
 shallow_locations unit uri text [] = omega arith
 shallow_locations unit uri text (s ∷ ss) = omega (arith, shallow_locations unit uri text ss)
 
+pub locations_can_be_sent : (unit : Unit) (uri text : List ℕ) (spans : List Span) → CanBeSent (array (items_of (map (location_at unit uri text) spans)))
+locations_can_be_sent unit uri text spans = record { whole = plain_locations unit uri text spans; shallow = omega (arith, shallow_locations unit uri text spans) }
+
 answer_can : (unit : Unit) (text : List ℕ) (at : At) (question : NameQuestion) (names : Resolution) (value : Data) → AnswersIn unit text at question names value → CanBeSent value
 answer_can unit text at Hover names value is =
     subst CanBeSent (sym is) (one_or_none (hover_at unit text) (all_shown_at names (place_in unit text at)) (λ (shown : Shown). record { whole = refl; shallow = omega arith }))
 answer_can unit text at Definition names value is =
     subst CanBeSent (sym is) (one_or_none (location_at unit at.uri text) (definition_at names (place_in unit text at)) (λ (span : Span). record { whole = refl; shallow = omega arith }))
 answer_can unit text at (References include) names value (spans, are, is) =
-    subst CanBeSent (sym is) (record { whole = plain_locations unit at.uri text spans; shallow = omega (arith, shallow_locations unit at.uri text spans) })
+    subst CanBeSent (sym is) (locations_can_be_sent unit at.uri text spans)
 answer_can unit text at PrepareRename names value is =
     subst CanBeSent (sym is) (one_or_none (range_at unit text) (renamable_in names (place_in unit text at)) (λ (span : Span). record { whole = refl; shallow = omega arith }))
 

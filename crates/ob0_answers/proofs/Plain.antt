@@ -1,5 +1,5 @@
 -- A publication has no float in it, and isn't nested deeply.
-use Rattle.std.proofs.Common.{◌≡◌, ◌≤◌, ℕ, ℤ, pos, negsuc, List, [], ◌∷◌, Bool, true, false, Option, Some, None, Vec, Global, map, arith, inl, inr, refl, subst, sym}
+use Rattle.std.proofs.Common.{◌≡◌, ◌≤◌, ℕ, ℤ, pos, negsuc, List, [], ◌∷◌, Bool, true, false, Option, Some, None, Vec, Global, map, arith, refl}
 use Rattle.serde_json.specs.Data.{Data, array, depth, items_depth}
 use Rattle.serde_json.specs.Written.{has_float, items_have_float}
 use Rattle.serde_json.specs.View.{items_of}
@@ -7,8 +7,7 @@ use Rattle.ob0_rpc.specs.Writing.{CanBeSent}
 use Rattle.ob0_rpc.specs.Shapes.{whole_number}
 use Rattle.ob0_text.specs.declared.edits.Edit.{Edit}
 use Rattle.ob0_rpc.specs.declared.clients.Client.{Client}
-use Rattle.ob0_text.specs.declared.positions.Unit.{Unit}
-use Rattle.ob0_answers.specs.Actions.{ActionsAsked, ListsActions, action_of, actions_value, title}
+use Rattle.ob0_answers.specs.Actions.{ActionsAsked, action_of, actions_value, title}
 use Rattle.ob0_answers.specs.declared.actions.Inlining.{Inlining}
 use Rattle.ob0_answers.specs.declared.actions.Inlining.TheVariants.{Here, Everywhere}
 use Rattle.ob0_answers.specs.Shapes.{Diagnostic, action_value, diagnostic_value, edit_value, edits_value, publication_params, workspace_edit}
@@ -76,12 +75,8 @@ flat_action_of asked how es =
     let edit : Data = workspace_edit asked.client asked.uri asked.version es in
     flat_action edit (title how) (workspace_edit_can_be_sent asked.client asked.uri asked.version es).whole (shallow_edit asked.client.takes_document_changes asked.client asked.uri asked.version es refl)
 
-actions_can : (asked : ActionsAsked) (here everywhere : Option (Vec Edit Global)) → CanBeSent (actions_value asked here everywhere)
-actions_can asked (Some a) (Some b) = two_can (action_of asked Here a.items) (action_of asked Everywhere b.items) (flat_action_of asked Here a.items) (flat_action_of asked Everywhere b.items)
-actions_can asked (Some a) None = one_can (action_of asked Here a.items) (flat_action_of asked Here a.items)
-actions_can asked None (Some b) = one_can (action_of asked Everywhere b.items) (flat_action_of asked Everywhere b.items)
-actions_can asked None None = record { whole = refl; shallow = omega arith }
-
-pub actions_can_be_sent : (unit : Unit) (asked : ActionsAsked) (text : List ℕ) (value : Data) → ListsActions unit asked text value → CanBeSent value
-actions_can_be_sent unit asked text value (inl (here, everywhere, wants, a, b, is)) = subst CanBeSent (sym is) (actions_can asked here everywhere)
-actions_can_be_sent unit asked text value (inr (why, is)) = subst CanBeSent (sym is) (record { whole = refl; shallow = omega arith })
+pub actions_can_be_sent : (asked : ActionsAsked) (here everywhere : Option (Vec Edit Global)) → CanBeSent (actions_value asked here everywhere)
+actions_can_be_sent asked (Some a) (Some b) = two_can (action_of asked Here a.items) (action_of asked Everywhere b.items) (flat_action_of asked Here a.items) (flat_action_of asked Everywhere b.items)
+actions_can_be_sent asked (Some a) None = one_can (action_of asked Here a.items) (flat_action_of asked Here a.items)
+actions_can_be_sent asked None (Some b) = one_can (action_of asked Everywhere b.items) (flat_action_of asked Everywhere b.items)
+actions_can_be_sent asked None None = record { whole = refl; shallow = omega arith }

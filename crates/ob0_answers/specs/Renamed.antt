@@ -1,31 +1,18 @@
 -- Renaming on request: the edits, and the answer.
-use Rattle.std.specs.Prelude.{◌≡◌, ◌⊎◌, ℕ, ℤ, List, Some, Result, Ok, Err, Vec, map, codes}
-use Rattle.std.specs.declared.alloc.Global.{Global}
+use Rattle.std.specs.Prelude.{◌≡◌, ◌⊎◌, ℕ, ℤ, List, codes}
 use Rattle.serde_json.specs.Data.{Data}
 use Rattle.ob0_rpc.specs.Asks.{At}
 use Rattle.ob0_rpc.specs.Seen.{at_seen, id_data}
 use Rattle.ob0_rpc.specs.Shapes.{result_message}
 use Rattle.ob0_rpc.specs.declared.clients.Client.{Client}
-use Rattle.ob0_text.specs.Patches.{patched}
 use Rattle.ob0_text.specs.RefusalTexts.{refusal_text}
-use Rattle.ob0_text.specs.Units.{width_of}
 use Rattle.ob0_text.specs.declared.edits.Edit.{Edit}
-use Rattle.ob0_text.specs.declared.positions.Position.{Position}
 use Rattle.ob0_text.specs.declared.positions.Unit.{Unit}
 use Rattle.ob0_text.specs.declared.refusals.EditRefusal.{EditRefusal}
-use Rattle.ob0_scan.specs.Scanned.{IsScanOf}
-use Rattle.ob0_tree.specs.Parsed.{Parsed, IsParsed, named_tree_of}
-use Rattle.ob0_scope.specs.Resolution.{Resolution}
-use Rattle.ob0_typing.specs.WellTyped.{WellTyped}
-use Rattle.ob0_rename.specs.Answers.{AreEdits, IsRefused}
 use Rattle.ob0_rename.specs.InTexts.{IsRefusedIn, RenamesIn}
-use Rattle.ob0_analysis.specs.Analysed.{IsModuleIn}
-use Rattle.ob0_analysis.specs.Diagnosed.{IsWellTypedModule, TellsFaults, complaint_in}
+use Rattle.ob0_analysis.specs.Diagnosed.{IsWellTypedModule}
 use Rattle.ob0_analysis.specs.Texts.{utf8}
-use Rattle.ob0_analysis.specs.RunsKept.{RunsAsBefore}
 use Rattle.ob0_answers.specs.Shapes.{edit_refused, workspace_edit}
-use Rattle.ob0_analysis.specs.declared.analysis.Asked.{Asked}
-use Rattle.ob0_analysis.specs.declared.analysis.Asked.TheVariants.{Answered, IllTyped}
 use Rattle.ob0_answers.specs.declared.renaming.RenameRequest.{RenameRequest}
 
 -- a request for another name: its id, the client, the place in a document, the document's version, and the name

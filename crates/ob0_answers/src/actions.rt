@@ -1,21 +1,23 @@
 //! Code actions on request: a constant is inlined, here or everywhere.
 
-ghost use Rattle.std.specs.Prelude.{◌≡◌, ◌++◌, IfOk, map, string_bytes};
+ghost use Rattle.std.specs.Prelude.{◌≡◌, [], ◌∷◌, IfOk, OnOk, map, string_bytes};
 ghost use Rattle.std.specs.List.{list_any};
 ghost use Rattle.std.specs.Str.{chars};
-ghost use Rattle.serde_json.specs.Data.{Data};
-ghost use Rattle.serde_json.specs.View.{view};
-ghost use Rattle.ob0_rpc.specs.Seen.{kinds_seen};
+ghost use Rattle.serde_json.specs.Data.{Data, array, no_items};
+ghost use Rattle.ob0_rpc.specs.Appending.{AppendsEach};
+ghost use Rattle.ob0_rpc.specs.Seen.{id_data, kinds_seen};
+ghost use Rattle.ob0_rpc.specs.Shapes.{result_message};
 ghost use Rattle.ob0_rpc.specs.Writing.{Writes};
 ghost use Rattle.ob0_text.specs.Texts.{offset_of};
 ghost use Rattle.ob0_text.specs.Units.{width_of};
-ghost use Rattle.ob0_answers.specs.Actions.{AnswersActions, FindsInlinings, Inlines, IsOffered, ListsActions, action_of, action_values, actions_asked, actions_value, allows_inlining as allows, is_of_kind as of_kind, place_of as place_in, title, wants_inlining as wants};
+ghost use Rattle.ob0_answers.specs.Actions.{AnswersActions, FindsInlinings, Inlines, IsOffered, action_of, action_values, actions_asked, actions_value, allows_inlining as allows, is_of_kind as of_kind, place_of as place_in, title, wants_inlining as wants};
 ghost use Rattle.ob0_answers.specs.declared.actions.Inlining.TheVariants as how;
 
-use crate::results::{action_value, workspace_edit};
+use crate::writing::{DocumentEdits, write_action};
+use json::Writer;
 use ob0_analysis::{Asked, Question, ask};
 use ob0_inline::{inline_all, inline_here};
-use ob0_rpc::{Client, Id, result};
+use ob0_rpc::{Client, Id, Written, result, result_of};
 use ob0_scan::Tokens;
 use ob0_text::{Edit, EditRefusal, Position, Range, TextStore};
 use ob0_types::checked::WellTyped;
@@ -132,25 +134,19 @@ pub fn acted<T: TextStore>(
 ) -> Result<Vec<u8>, AllocError>
     ensures { IfOk result (λ bytes. (message : Data) × AnswersActions (T.unit_of store.now) (actions_asked request.now) (T.content store.now) message × Writes message bytes.items) }
 {
-    let value = actions_in(alloc, store, kept, request)?;
-    result(alloc, request.id, value)
-}
-
-fn actions_in<T: TextStore>(
-    alloc: Global,
-    store: &T,
-    kept: Option<&Tokens>,
-    request: &ActionsRequest<'_>,
-) -> Result<Value, AllocError>
-    ensures { IfOk result (λ v. ListsActions (T.unit_of store.now) (actions_asked request.now) (T.content store.now) (view v)) }
-{
     if !wants_inlining(request) {
-        return Ok(Value::Array(Vec::new(alloc)));
+        return no_actions(alloc, request.id);
     }
     match inlinings_in(alloc, store, kept, request.range)? {
-        Asked::Answered(found) => listed(alloc, request, found),
-        Asked::IllTyped(_) => Ok(Value::Array(Vec::new(alloc))),
+        Asked::Answered(found) => listed(alloc, request, &found),
+        Asked::IllTyped(_) => no_actions(alloc, request.id),
     }
+}
+
+fn no_actions(alloc: Global, id: &Id) -> Result<Vec<u8>, AllocError>
+    ensures { IfOk result (λ bytes. Writes (result_message (id_data id.now) (array no_items)) bytes.items) }
+{
+    result(alloc, id, Value::Array(Vec::new(alloc)))
 }
 
 /// Whether the client takes actions that are no commands, and these among them.
@@ -187,51 +183,69 @@ fn is_of_kind(kind: &str) -> bool
     kind == "" || kind == "refactor" || kind == "refactor.inline"
 }
 
+/// What is offered, as a list of actions.
+#[derive(Drop)]
+struct Actions<'a> {
+    request: &'a ActionsRequest<'a>,
+    found: &'a Inlinings,
+}
+
+impl<'a> Written for Actions<'a> {
+    ghost value = { λ a. actions_value (actions_asked a.request.now) a.found.now.here a.found.now.everywhere };
+
+    fn write(&self, out: &mut Writer) -> Result<(), AllocError> {
+        out.begin_array()?;
+        write_offered(out, self.request, Inlining::Here, &self.found.here)?;
+        write_offered(
+            out,
+            self.request,
+            Inlining::Everywhere,
+            &self.found.everywhere,
+        )?;
+        out.end_array()
+    }
+}
+
 /// The actions, inlining here before inlining everywhere.
 fn listed(
     alloc: Global,
     request: &ActionsRequest<'_>,
-    found: Inlinings,
-) -> Result<Value, AllocError>
-    ensures { IfOk result (λ v. view v ≡ actions_value (actions_asked request.now) found.here found.everywhere) }
+    found: &Inlinings,
+) -> Result<Vec<u8>, AllocError>
+    ensures { IfOk result (λ bytes. Writes (result_message (id_data request.now.id.now) (actions_value (actions_asked request.now) found.now.here found.now.everywhere)) bytes.items) }
 {
-    let mut list = Vec::new(alloc);
-    list_action(alloc, &mut list, request, Inlining::Here, found.here)?;
-    list_action(
-        alloc,
-        &mut list,
-        request,
-        Inlining::Everywhere,
-        found.everywhere,
-    )?;
-    Ok(Value::Array(list))
+    result_of(alloc, request.id, &Actions { request, found })
 }
 
-/// Puts the action that makes these edits behind the others; nothing where there are none.
-fn list_action(
-    alloc: Global,
-    list: &mut Vec<Value>,
+/// Writes the action that makes these edits; nothing where there are none.
+fn write_offered(
+    out: &mut Writer,
     request: &ActionsRequest<'_>,
     how: Inlining,
-    edits: Option<Vec<Edit>>,
+    edits: &Option<Vec<Edit>>,
 ) -> Result<(), AllocError>
-    ensures { IfOk result (λ _. map view list.new.items ≡ map view list.old.items ++ action_values (actions_asked request.now) how edits) }
+    ensures { OnOk result (AppendsEach (action_values (actions_asked request.now) how edits.now) out.old out.new) }
 {
-    if let Some(edits) = edits {
-        list.push(action(alloc, request, how, edits.as_slice())?)?;
+    match edits {
+        Some(edits) => write_inlining(out, request, how, edits.as_slice()),
+        None => Ok(()),
     }
-    Ok(())
 }
 
-/// The action that makes these edits.
-fn action(
-    alloc: Global,
+/// Writes the action that makes these edits.
+fn write_inlining(
+    out: &mut Writer,
     request: &ActionsRequest<'_>,
     how: Inlining,
     edits: &[Edit],
-) -> Result<Value, AllocError>
-    ensures { IfOk result (λ v. view v ≡ action_of (actions_asked request.now) how edits.now) }
+) -> Result<(), AllocError>
+    ensures { OnOk result (AppendsEach (action_of (actions_asked request.now) how edits.now ∷ []) out.old out.new) }
 {
-    let edit = workspace_edit(alloc, request.client, request.uri, request.version, edits)?;
-    action_value(alloc, edit, how.title())
+    let edits = DocumentEdits {
+        client: request.client,
+        uri: request.uri,
+        version: request.version,
+        edits,
+    };
+    write_action(out, &edits, how.title())
 }

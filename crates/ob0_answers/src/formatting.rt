@@ -8,11 +8,12 @@ ghost use Rattle.ob0_analysis.specs.Analysed.{IsModuleIn};
 ghost use Rattle.ob0_analysis.specs.Texts.{utf8};
 ghost use Rattle.ob0_answers.specs.Formatted.{AnswersFormatting, Formats};
 
-use crate::results::{edits_value, refused, refused_ill_typed};
+use crate::results::{refused, refused_ill_typed};
+use crate::writing::Edits;
 use ob0_analysis::{Asked, Question, ask};
 use ob0_layout::format;
 use ob0_layout::laws::{gaps_make_the_layout, lexemes_stay, module_stays};
-use ob0_rpc::{Id, result};
+use ob0_rpc::{Id, result_of};
 use ob0_scan::Tokens;
 use ob0_text::{Edit, EditRefusal, Indent, TextStore};
 use ob0_types::checked::WellTyped;
@@ -66,7 +67,10 @@ pub fn formatted<T: TextStore>(
     let text = store.to_string(alloc)?;
     match ask(alloc, text.as_str(), kept, &Formatting { store, indent })? {
         Asked::Answered(outcome) => match outcome {
-            Ok(edits) => result(alloc, id, edits_value(alloc, edits.as_slice())?),
+            Ok(edits) => {
+                let edits = edits.as_slice();
+                result_of(alloc, id, &Edits { edits })
+            }
             Err(refusal) => refused(alloc, id, refusal.text(alloc)?.as_str()),
         },
         Asked::IllTyped(_) => refused_ill_typed(alloc, id),

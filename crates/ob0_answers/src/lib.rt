@@ -7,3 +7,4 @@ pub mod formatting;
 pub mod questions;
 pub mod renaming;
 pub mod results;
+mod writing;

@@ -2,22 +2,23 @@
 
 ghost use Rattle.std.specs.Prelude.{◌≡◌, IfOk, option_map, map};
 ghost use Rattle.serde_json.specs.Data.{Data, array};
-ghost use Rattle.serde_json.specs.View.{view, items_of, items_view};
+ghost use Rattle.serde_json.specs.View.{view, items_of};
 ghost use Rattle.ob0_rpc.specs.Seen.{at_seen, id_data};
 ghost use Rattle.ob0_rpc.specs.Shapes.{result_message};
 ghost use Rattle.ob0_rpc.specs.Writing.{Writes};
 ghost use Rattle.ob0_refs.specs.Parts.{hover_in};
 ghost use Rattle.ob0_refs.specs.Questions.{AreReferencesAt, all_shown_at, definition_at};
-ghost use Rattle.ob0_answers.specs.Questions.{AnswersName, can_be_renamed, hover_at, renamable_in, location_at, location_in, range_at, or_null};
+ghost use Rattle.ob0_answers.specs.Questions.{AnswersName, can_be_renamed, hover_at, renamable_in, location_at, range_at, or_null};
 ghost use Rattle.ob0_answers.specs.declared.questions.NameQuestion.TheVariants.{Hover, Definition, References, PrepareRename};
 
 use crate::results::{hover_value, location_value, range_value};
+use crate::writing::Locations;
 use ob0_analysis::{Asked, Question, ask};
 use ob0_edits::ranges;
 use ob0_refs::{Of, at, definition, hover, references};
-use ob0_rpc::{Id, Place, result};
+use ob0_rpc::{Id, Place, result, result_of};
 use ob0_scan::{Span, Tokens};
-use ob0_text::{Range, TextStore};
+use ob0_text::TextStore;
 use ob0_types::checked::WellTyped;
 use serde_json::Value;
 use std::alloc::{AllocError, Global};
@@ -134,26 +135,13 @@ pub fn answered<T: TextStore>(
     ensures { IfOk result (λ bytes. (value : Data) × AnswersName (T.unit_of store.now) (T.content store.now) (at_seen place.now) question value
         × Writes (result_message (id_data id.now) value) bytes.items) }
 {
-    let value = answer_value(alloc, store, kept, place, question)?;
-    result(alloc, id, value)
-}
-
-fn answer_value<T: TextStore>(
-    alloc: Global,
-    store: &T,
-    kept: Option<&Tokens>,
-    place: &Place,
-    question: NameQuestion,
-) -> Result<Value, AllocError>
-    ensures { IfOk result (λ v. AnswersName (T.unit_of store.now) (T.content store.now) (at_seen place.now) question (view v)) }
-{
     match question {
-        NameQuestion::Hover => shown_value(alloc, store, kept, place),
-        NameQuestion::Definition => definition_value(alloc, store, kept, place),
+        NameQuestion::Hover => result(alloc, id, shown_value(alloc, store, kept, place)?),
+        NameQuestion::Definition => result(alloc, id, definition_value(alloc, store, kept, place)?),
         NameQuestion::References {
             include_declaration,
-        } => references_value(alloc, store, kept, place, include_declaration),
-        NameQuestion::PrepareRename => renamable_value(alloc, store, kept, place),
+        } => references_answer(alloc, id, store, kept, place, include_declaration),
+        NameQuestion::PrepareRename => result(alloc, id, renamable_value(alloc, store, kept, place)?),
     }
 }
 
@@ -189,14 +177,16 @@ fn definition_value<T: TextStore>(
     }
 }
 
-fn references_value<T: TextStore>(
+fn references_answer<T: TextStore>(
     alloc: Global,
+    id: &Id,
     store: &T,
     kept: Option<&Tokens>,
     place: &Place,
     include_declaration: bool,
-) -> Result<Value, AllocError>
-    ensures { IfOk result (λ v. AnswersName (T.unit_of store.now) (T.content store.now) (at_seen place.now) (References include_declaration) (view v)) }
+) -> Result<Vec<u8>, AllocError>
+    ensures { IfOk result (λ bytes. (value : Data) × AnswersName (T.unit_of store.now) (T.content store.now) (at_seen place.now) (References include_declaration) value
+        × Writes (result_message (id_data id.now) value) bytes.items) }
 {
     let question = ReferencesAt {
         offset: store.offset(place.position),
@@ -204,10 +194,10 @@ fn references_value<T: TextStore>(
     };
     let text = store.to_string(alloc)?;
     match ask(alloc, text.as_str(), kept, &question)? {
-        Asked::Answered(found) => locations(alloc, store, place.uri.as_str(), found.as_slice()),
+        Asked::Answered(found) => locations(alloc, id, store, place.uri.as_str(), found.as_slice()),
         Asked::IllTyped(_) => {
             let none = Vec::new(alloc);
-            Ok(Value::Array(none))
+            result(alloc, id, Value::Array(none))
         }
     }
 }
@@ -282,28 +272,14 @@ fn span_value<T: TextStore>(alloc: Global, store: &T, span: Span) -> Result<Valu
 /// Spans in text order as places of a document, found in one pass.
 fn locations<T: TextStore>(
     alloc: Global,
+    id: &Id,
     store: &T,
     uri: &str,
     spans: &[Span],
-) -> Result<Value, AllocError>
-    ensures { IfOk result (λ v. view v ≡ array (items_of (map (location_at (T.unit_of store.now) uri.now (T.content store.now)) spans.now))) }
+) -> Result<Vec<u8>, AllocError>
+    ensures { IfOk result (λ bytes. Writes (result_message (id_data id.now) (array (items_of (map (location_at (T.unit_of store.now) uri.now (T.content store.now)) spans.now)))) bytes.items) }
 {
     let ranges = ranges(alloc, store, spans)?;
-    Ok(Value::Array(locations_of(alloc, uri, ranges.as_slice())?))
-}
-
-fn locations_of(alloc: Global, uri: &str, ranges: &[Range]) -> Result<Vec<Value>, AllocError>
-    ensures { IfOk result (λ list. items_view list.items ≡ items_of (map (location_in uri.now) ranges.now)) }
-{
-    let mut list = Vec::new(alloc);
-    for range in ranges {
-        list.push(location_of(alloc, uri, *range)?)?;
-    }
-    Ok(list)
-}
-
-fn location_of(alloc: Global, uri: &str, range: Range) -> Result<Value, AllocError>
-    ensures { IfOk result (λ v. view v ≡ location_in uri.now range) }
-{
-    location_value(alloc, uri, range_value(alloc, range.start, range.end)?)
+    let ranges = ranges.as_slice();
+    result_of(alloc, id, &Locations { uri, ranges })
 }

@@ -2,17 +2,18 @@
 
 ghost use Rattle.std.specs.Prelude.{◌≡◌, IfOk};
 ghost use Rattle.serde_json.specs.Data.{Data};
-ghost use Rattle.serde_json.specs.View.{view};
+ghost use Rattle.ob0_rpc.specs.Seen.{id_data};
+ghost use Rattle.ob0_rpc.specs.Shapes.{result_message};
 ghost use Rattle.ob0_rpc.specs.Writing.{Writes};
 ghost use Rattle.ob0_answers.specs.Renamed.{AnswersRenaming, asked_of, edits_for_client};
 
-use crate::results::{refused_because, refused_ill_typed, workspace_edit};
+use crate::results::{refused_because, refused_ill_typed};
+use crate::writing::DocumentEdits;
 use ob0_analysis::Asked;
 use ob0_rename::rename_in;
-use ob0_rpc::{Client, Id, Place, result};
+use ob0_rpc::{Client, Id, Place, result_of};
 use ob0_scan::Tokens;
 use ob0_text::{Edit, TextStore};
-use serde_json::Value;
 use std::alloc::{AllocError, Global};
 
 /// A request for another name, in a document of some version.
@@ -39,21 +40,26 @@ pub fn renamed<T: TextStore>(
     let place = request.place;
     match rename_in(alloc, store, kept, place.position, request.new)? {
         Asked::Answered(outcome) => match outcome {
-            Ok(edits) => result(alloc, id, edits_for(alloc, request, edits.as_slice())?),
+            Ok(edits) => edits_answer(alloc, request, edits.as_slice()),
             Err(refusal) => refused_because(alloc, id, refusal),
         },
         Asked::IllTyped(_) => refused_ill_typed(alloc, id),
     }
 }
 
-/// The edits in the form that the client takes.
-fn edits_for(
+/// The edits, in the form that the client takes.
+fn edits_answer(
     alloc: Global,
     request: &RenameRequest<'_>,
     edits: &[Edit],
-) -> Result<Value, AllocError>
-    ensures { IfOk result (λ v. view v ≡ edits_for_client (asked_of request.now) edits.now) }
+) -> Result<Vec<u8>, AllocError>
+    ensures { IfOk result (λ bytes. Writes (result_message (id_data request.now.id.now) (edits_for_client (asked_of request.now) edits.now)) bytes.items) }
 {
-    let uri = request.place.uri.as_str();
-    workspace_edit(alloc, request.client, uri, request.version, edits)
+    let edits = DocumentEdits {
+        client: request.client,
+        uri: request.place.uri.as_str(),
+        version: request.version,
+        edits,
+    };
+    result_of(alloc, request.id, &edits)
 }

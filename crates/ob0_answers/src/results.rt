@@ -4,12 +4,12 @@ ghost use Rattle.serde_json.specs.Data.{member, object};
 ghost use Rattle.serde_json.specs.View.{view};
 ghost use Rattle.ob0_rpc.specs.Writing.{Writes};
 ghost use Rattle.ob0_answers.specs.Diagnostics.{DiagnosticsAre};
-ghost use Rattle.ob0_answers.specs.Shapes.{Diagnostic, synchronisation as sync_data, rename_provider as rename_data, action_provider as action_data, action_value as action_shape, providers as providers_for, capabilities as announced, publication as published_as, publication_params as params_of, position_value as position_data, range_value as range_data, edit_value as edit_data, edits_value as edits_data, workspace_edit as workspace_data, document_edit as document_data, edit_refused, hover_value as hover_data, location_value as location_data};
+ghost use Rattle.ob0_answers.specs.Shapes.{Diagnostic, synchronisation as sync_data, rename_provider as rename_data, action_provider as action_data, providers as providers_for, capabilities as announced, publication as published_as, publication_params as params_of, position_value as position_data, range_value as range_data, edit_refused, hover_value as hover_data, location_value as location_data};
 ghost use Rattle.ob0_rpc.specs.Seen.{id_data};
 ghost use Rattle.ob0_text.specs.RefusalTexts.{refusal_text};
 
 use ob0_rpc::{Client, Id, error, notification};
-use ob0_text::{Edit, EditRefusal, Position};
+use ob0_text::{EditRefusal, Position};
 use serde_json::{Value, json};
 use std::alloc::{AllocError, Global};
 
@@ -99,62 +99,6 @@ fn publication_params(
         Some(version) => { json!(in alloc; {"diagnostics": list, "uri": uri, "version": version}) }
         None => json!(in alloc; {"diagnostics": list, "uri": uri}),
     }
-}
-
-/// A list of edits.
-pub fn edits_value(alloc: Global, edits: &[Edit]) -> Result<Value, AllocError>
-    ensures { IfOk result (λ v. view v ≡ edits_data edits.now) }
-{
-    let mut list = Vec::new(alloc);
-    for edit in edits {
-        list.push(edit_value(alloc, edit)?)?;
-    }
-    Ok(Value::Array(list))
-}
-
-fn edit_value(alloc: Global, edit: &Edit) -> Result<Value, AllocError>
-    ensures { IfOk result (λ v. view v ≡ edit_data edit.now) }
-{
-    let range = range_value(alloc, edit.range.start, edit.range.end)?;
-    json!(in alloc; {"newText": edit.text.as_str(), "range": range})
-}
-
-/// The edits of one document, in the form that a client takes: with the version of the document, or by its uri alone.
-pub fn workspace_edit(
-    alloc: Global,
-    client: Client,
-    uri: &str,
-    version: i64,
-    edits: &[Edit],
-) -> Result<Value, AllocError>
-    ensures { IfOk result (λ v. view v ≡ workspace_data client uri.now version edits.now) }
-{
-    if client.takes_document_changes {
-        let change = document_edit(alloc, uri, version, edits)?;
-        json!(in alloc; {"documentChanges": [change]})
-    } else {
-        let edits = edits_value(alloc, edits)?;
-        json!(in alloc; {"changes": {(uri): edits}})
-    }
-}
-
-fn document_edit(
-    alloc: Global,
-    uri: &str,
-    version: i64,
-    edits: &[Edit],
-) -> Result<Value, AllocError>
-    ensures { IfOk result (λ v. view v ≡ document_data uri.now version edits.now) }
-{
-    let edits = edits_value(alloc, edits)?;
-    json!(in alloc; {"edits": edits, "textDocument": {"uri": uri, "version": version}})
-}
-
-/// An action that makes an edit, under a title.
-pub fn action_value(alloc: Global, edit: Value, title: &str) -> Result<Value, AllocError>
-    ensures { IfOk result (λ v. view v ≡ action_shape (view edit) title.now) }
-{
-    json!(in alloc; {"edit": edit, "kind": "refactor.inline", "title": title})
 }
 
 /// The refusal of a request that asks for edits.

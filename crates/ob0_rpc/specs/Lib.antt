@@ -1,3 +1,4 @@
+pub mod Appending
 pub mod Asks
 pub mod Faults
 pub mod Members

@@ -9,9 +9,11 @@ mod incoming;
 mod members;
 mod notes;
 mod outgoing;
+mod writing;
 
 pub use calls::{Call, Place, request};
 pub use clients::Client;
 pub use incoming::{Id, Incoming, RpcFault, read};
 pub use notes::{Note, notice};
 pub use outgoing::{error, notification, result};
+pub use writing::{Written, result_of, write_count, write_integer, write_text};

@@ -1,6 +1,14 @@
 //! Messages from outside: what they mean, and which are none; and the bytes of answers.
 
-use ob0_rpc::{Call, Client, Id, Incoming, RpcFault, error, notification, read, request, result};
+ghost use Rattle.std.specs.Prelude.{negsuc};
+ghost use Rattle.serde_json.specs.Data.{number, string, unsigned};
+ghost use Rattle.serde_json.specs.Find.{of_integer};
+
+use json::Writer;
+use ob0_rpc::{
+    Call, Client, Id, Incoming, RpcFault, Written, error, notification, read, request, result,
+    result_of, write_count, write_integer, write_text,
+};
 use ob0_text::Indent;
 use serde_json::Value;
 use std::alloc::{AllocError, Global};
@@ -273,4 +281,60 @@ fn answers_are_written(rt: HostRuntime) {
     let note = notification(rt.alloc(), "m", Value::Null);
     let wanted = "{\"jsonrpc\":\"2.0\",\"method\":\"m\",\"params\":null}";
     assert!(rt; is_written(note, wanted));
+}
+
+/// A text that is written as it is.
+#[derive(Drop)]
+struct Said<'a> {
+    text: &'a str,
+}
+
+impl<'a> Written for Said<'a> {
+    ghost value = { λ said. string said.text.now };
+
+    fn write(&self, out: &mut Writer) -> Result<(), AllocError> {
+        write_text(out, self.text)
+    }
+}
+
+/// A count that is written as it is.
+#[derive(Drop)]
+struct Counted {
+    count: u64,
+}
+
+impl Written for Counted {
+    ghost value = { λ counted. number (unsigned counted.count) };
+
+    fn write(&self, out: &mut Writer) -> Result<(), AllocError> {
+        write_count(out, self.count)
+    }
+}
+
+/// The least whole number.
+#[derive(Drop)]
+struct Least {}
+
+impl Written for Least {
+    ghost value = { λ _. number (of_integer (negsuc 9223372036854775807)) };
+
+    fn write(&self, out: &mut Writer) -> Result<(), AllocError> {
+        write_integer(out, -9223372036854775808)
+    }
+}
+
+#[test]
+fn values_are_written_as_text(rt: HostRuntime) {
+    let said = Said { text: "a\"\n" };
+    let answer = result_of(rt.alloc(), &Id::Signed(-7), &said);
+    let wanted = "{\"id\":-7,\"jsonrpc\":\"2.0\",\"result\":\"a\\\"\\n\"}";
+    assert!(rt; is_written(answer, wanted));
+    let counted = Counted { count: u64::MAX };
+    let answer = result_of(rt.alloc(), &Id::Unsigned(0), &counted);
+    let wanted = "{\"id\":0,\"jsonrpc\":\"2.0\",\"result\":18446744073709551615}";
+    assert!(rt; is_written(answer, wanted));
+    let answer = result_of(rt.alloc(), &Id::Unsigned(u64::MAX), &Least {});
+    let wanted =
+        "{\"id\":18446744073709551615,\"jsonrpc\":\"2.0\",\"result\":-9223372036854775808}";
+    assert!(rt; is_written(answer, wanted));
 }

@@ -1,10 +1,10 @@
-use Rattle.std.proofs.Common.{◌∙◌, ℕ, List, Result, Vec, Global, codes, ap, inl, inr, refl, sym, subst}
+use Rattle.std.proofs.Common.{◌∙◌, ℕ, List, Result, Vec, Global, codes, ap, inl, inr, refl, subst}
 use Rattle.std.specs.Str.{chars}
 use Rattle.std.proofs.lemmas.Result.{IfOk-weaker}
 use Rattle.serde_json.specs.Data.{Data}
 use Rattle.ob0_rpc.specs.Seen.{id_data}
 use Rattle.ob0_rpc.specs.Shapes.{result_message}
-use Rattle.ob0_rpc.specs.Writing.{CanBeSent, Writes}
+use Rattle.ob0_rpc.specs.Writing.{Writes}
 use Rattle.ob0_text.specs.RefusalTexts.{refusal_text}
 use Rattle.ob0_text.specs.declared.edits.Edit.{Edit}
 use Rattle.ob0_text.specs.declared.refusals.EditRefusal.{EditRefusal}
@@ -23,12 +23,12 @@ returns-in-Ok g c =
     let found = found_of unit c.args.indent c.as_str.result.now text c.in_ok-outcome.field-0 c.as_str.utf8 (ap chars c.as_str.ensures.value ∙ c.in_ok-text.ensures) c.in_ok-outcome.ensures in
     let outcome = subst (λ (o : Asked (Result (Vec Edit Global) EditRefusal)). FoundOf unit c.args.indent text o) c.in-Answered.is found in
     let laid = subst (λ (o : Result (Vec Edit Global) EditRefusal). Formats unit c.args.indent text o) c.in-Ok.is outcome in
-    let is = c.in_ok-edits_value-in-Ok.ensures ∙ ap edits_value c.as_slice.ensures.value in
-    IfOk-weaker c.result.result _ _ (λ bytes sent. (
+    let is = ap edits_value c.as_slice-edits.ensures.value in
+    IfOk-weaker c.result_of.result _ _ (λ bytes sent. (
       result_message (id_data c.args.id.now) (edits_value c.in-Ok.edits.items),
       inl (c.in-Ok.edits.items, laid, refl),
-      subst (λ (d : Data). Writes (result_message (id_data c.args.id.now) d) bytes.items) is (sent (subst CanBeSent (sym is) (edits_can_be_sent c.in-Ok.edits.items))),
-    )) c.result.ensures
+      subst (λ (d : Data). Writes (result_message (id_data c.args.id.now) d) bytes.items) is (sent (edits_can_be_sent c.as_slice-edits.result.now)),
+    )) c.result_of.ensures
 
 pub returns-in-Answered : goal.returns-in-Answered
 returns-in-Answered g c =

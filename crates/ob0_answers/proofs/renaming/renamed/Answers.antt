@@ -1,8 +1,8 @@
-use Rattle.std.proofs.Common.{◌∙◌, ℕ, List, Result, Vec, Global, codes, ap, inl, inr, refl, sym, subst}
+use Rattle.std.proofs.Common.{ℕ, List, Result, Vec, Global, codes, ap, inl, inr, refl, subst}
 use Rattle.std.proofs.lemmas.Result.{IfOk-weaker}
 use Rattle.serde_json.specs.Data.{Data}
 use Rattle.ob0_rpc.specs.Shapes.{result_message}
-use Rattle.ob0_rpc.specs.Writing.{CanBeSent, Writes}
+use Rattle.ob0_rpc.specs.Writing.{Writes}
 use Rattle.ob0_text.specs.RefusalTexts.{refusal_text}
 use Rattle.ob0_text.specs.declared.edits.Edit.{Edit}
 use Rattle.ob0_text.specs.declared.refusals.EditRefusal.{EditRefusal}
@@ -11,7 +11,6 @@ use Rattle.ob0_rename.specs.InTexts.{FindsNewName}
 use Rattle.ob0_answers.specs.Shapes.{edit_refused}
 use Rattle.ob0_analysis.specs.declared.analysis.Asked.{Asked}
 use Rattle.ob0_analysis.specs.declared.analysis.Asked.TheVariants.{Answered}
-use Rattle.ob0_answers.proofs.Plain.{workspace_edit_can_be_sent}
 use Rattle.ob0_answers.proofs.renaming.renamed.Goals as goal
 
 pub returns-in-Ok : goal.returns-in-Ok
@@ -21,13 +20,12 @@ returns-in-Ok g c =
     let asked = asked_of c.args.request.now in
     let found = subst (λ (a : Asked (Result (Vec Edit Global) EditRefusal)). FindsNewName unit text asked.at.position asked.new a) c.in-Answered.is c.in_ok-outcome.ensures in
     let renames = subst (λ (o : Result (Vec Edit Global) EditRefusal). FindsNewName unit text asked.at.position asked.new (Answered o)) c.in-Ok.is found in
-    let is = c.in_ok-edits_for-in-Ok.ensures ∙ ap (edits_for_client asked) c.as_slice.ensures.value in
-    let plain = workspace_edit_can_be_sent asked.client asked.at.uri asked.version c.in-Ok.edits.items in
-    IfOk-weaker c.result.result _ _ (λ bytes sent. (
+    let is = ap (edits_for_client asked) c.as_slice.ensures.value in
+    IfOk-weaker c.edits_answer.result _ _ (λ bytes sent. (
       result_message asked.id (edits_for_client asked c.in-Ok.edits.items),
       inl (c.in-Ok.edits.items, renames, refl),
-      subst (λ (d : Data). Writes (result_message asked.id d) bytes.items) is (sent (subst CanBeSent (sym is) plain)),
-    )) c.result.ensures
+      subst (λ (d : Data). Writes (result_message asked.id d) bytes.items) is sent,
+    )) c.edits_answer.ensures
 
 pub returns-in-Answered : goal.returns-in-Answered
 returns-in-Answered g c =
