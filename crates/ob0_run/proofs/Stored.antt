@@ -94,17 +94,17 @@ with_nth-values_in [] i new = refl
 with_nth-values_in (v ∷ vs) zero new = refl
 with_nth-values_in (v ∷ vs) (suc i) new = ap (next_value v) (with_nth-values_in vs i new)
 
-pub into : (done : Bool) (v : code.Value) (items items' : Vec code.Value Global) (i : ℕ) (new : code.Value) → v ≡ code.Elements items → Replaces done items.items i new items'.items
-    → PutsInto done (value_of v) i (value_of new) (value_of (code.Elements items'))
-into true v items items' i new is h =
-    let old : (x : code.Value) × (slice_get items.items i ≡ Some x) = get_less items.items i h.0 in
+pub into : (done : Bool) (v : code.Value) (xs ys : Vec code.Value Global) (i : ℕ) (new : code.Value) → v ≡ code.Elements xs → Replaces done xs.items i new ys.items
+    → PutsInto done (value_of v) i (value_of new) (value_of (code.Elements ys))
+into true v xs ys i new is h =
+    let old : (x : code.Value) × (slice_get xs.items i ≡ Some x) = get_less xs.items i h.0 in
     (value_of old.0,
-      ap (λ v. part (value_of v) (at_index i)) is ∙ ap (λ w. part w (at_index i)) (elements_made items) ∙ nth-values_in (map value_of items.items) i ∙ held items.items i old.0 old.1,
-      elements_made items' ∙ ap (λ xs. elements (values_in (map value_of xs))) h.1 ∙ ap (λ xs. elements (values_in xs)) (map-set value_of items.items i new)
-      ∙ ap elements (sym (with_nth-values_in (map value_of items.items) i (value_of new)))
-      ∙ sym (ap (λ w. with_part w (at_index i) (value_of new)) (ap value_of is ∙ elements_made items)))
-into false v items items' i new is h =
-    elements_made items' ∙ ap (λ xs. elements (values_in (map value_of xs))) h ∙ sym (ap value_of is ∙ elements_made items)
+      ap (λ v. part (value_of v) (at_index i)) is ∙ ap (λ w. part w (at_index i)) (elements_made xs) ∙ nth-values_in (map value_of xs.items) i ∙ held xs.items i old.0 old.1,
+      elements_made ys ∙ ap (λ vs. elements (values_in (map value_of vs))) h.1 ∙ ap (λ vs. elements (values_in vs)) (map-set value_of xs.items i new)
+      ∙ ap elements (sym (with_nth-values_in (map value_of xs.items) i (value_of new)))
+      ∙ sym (ap (λ w. with_part w (at_index i) (value_of new)) (ap value_of is ∙ elements_made xs)))
+into false v xs ys i new is h =
+    elements_made ys ∙ ap (λ vs. elements (values_in (map value_of vs))) h ∙ sym (ap value_of is ∙ elements_made xs)
 
 -- an element below the count is there
 nth_there : (vs : Values) (i : ℕ) → i < count_values vs → (w : Value) × (nth_value vs i ≡ Some w)

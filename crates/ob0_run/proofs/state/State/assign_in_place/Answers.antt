@@ -8,4 +8,7 @@ use Rattle.ob0_run.proofs.Stored.{assigned}
 use Rattle.ob0_run.proofs.state.State.assign_in_place.Goals as goal
 
 pub returns : goal.returns
-returns c = ?
+returns c =
+    assigned c.put.result (meaning_with c.args.names.meant.now) (label_with c.args.names.tokens.now c.args.names.ordinals.now c.args.a.now.target.name) (read_with c.args.names.tokens.now c.args.names.ordinals.now (items_of selector_of c.args.a.now.target.selectors.items))
+    (read_with c.args.names.tokens.now c.args.names.ordinals.now (expression_of c.args.a.now.value)) (state_of c.args.self.now) (target_of c.in-Some.target) (scalar_value c.in-Some-scalar_found.scalar) (store_of c.put.new.store.items)
+    c.in-Some.ensures c.in-Some-scalar_found.ensures c.put.ensures
