@@ -21,7 +21,7 @@ values_listed : (n : _) (row : Row_of-Value n) → values_of row ≡ values_in (
 values_listed _ end_of-Value = refl
 values_listed _ (more_of-Value v row) = ap (values.next_value (value_of v)) (values_listed _ row)
 
-elements_made : (v : _) → value_of (Elements v) ≡ values.elements (values_in (map value_of v.items))
+pub elements_made : (v : _) → value_of (Elements v) ≡ values.elements (values_in (map value_of v.items))
 elements_made v = ap values.elements (values_listed _ (hidden-the_row-Value-0 v) ∙ ap (λ xs. values_in (map value_of xs)) (items_hidden-the_row-Value-0 v))
 
 members_listed : (n : _) (row : Row_of-Member n) → members_of row ≡ members_in (items-the_row-Member n row)

@@ -76,21 +76,6 @@ fn beyond<'t>(alloc: Global, place: &Place<'t>, steps: &[Step<'t>]) -> Result<Pl
 }
 
 impl<'r, 't> Scene<'r, 't> {
-    /// The place of the variable that a name stands for.
-    fn place(&self, name: usize) -> Result<&'r Place<'t>, Stop>
-        ensures { Answers (λ p. place_of p.now) result (expressions.place_of (meant_by self.now (label_in self.now name))) }
-    {
-        match self.meant(name) {
-            Some(Meant::Variable(place)) => Ok(place),
-            Some(Meant::Type(_)) => Err(Stop::Ended(Ending::Stuck)),
-            Some(Meant::Constant(_)) => Err(Stop::Ended(Ending::Stuck)),
-            Some(Meant::Procedure(_)) => Err(Stop::Ended(Ending::Stuck)),
-            Some(Meant::Standard(_)) => Err(Stop::Ended(Ending::Stuck)),
-            Some(Meant::Nothing) => Err(Stop::Ended(Ending::Stuck)),
-            None => Err(Stop::Ended(Ending::Stuck)),
-        }
-    }
-
     /// What stands at a place.
     fn standing(&self, place: &Place<'t>) -> Result<&'r Value<'t>, Stop>
         ensures { Answers given result (or_stuck (read_place (store_of self.now.store.now) (place_of place.now))) }
@@ -115,13 +100,23 @@ impl<'r, 't> Scene<'r, 't> {
         beyond(self.alloc, base, &steps)
     }
 
-    /// What an expression is worth. Operands are evaluated from left to right.
+    /// What an expression is worth. Operands are evaluated from left to right. Most are worth numbers and truths, and found quickly.
     ///
     /// # Errors
     ///
-    /// How it ends the run, or want of memory.
+    /// How it ends the run, or out of memory.
     #[cycle(evaluation)]
     pub fn expression(&self, e: &Expression) -> Result<Value<'t>, Stop>
+        ensures { Answers value_of result (evaluate (meaning_in self.now) (store_of self.now.store.now) (read_in self.now (expression_of e.now))) }
+    {
+        match self.quick_scalar(e) {
+            Some(scalar) => Ok(Value::Scalar(scalar)),
+            None => self.relation(e),
+        }
+    }
+
+    #[cycle(evaluation)]
+    fn relation(&self, e: &Expression) -> Result<Value<'t>, Stop>
         ensures { Answers value_of result (evaluate (meaning_in self.now) (store_of self.now.store.now) (read_in self.now (expression_of e.now))) }
     {
         let left = self.simple(&e.left)?;

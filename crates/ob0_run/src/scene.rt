@@ -3,7 +3,8 @@
 ghost use Rattle.std.specs.Prelude.{◌≡◌, option_map, option_and_then, pos};
 ghost use Rattle.ob0_scope.specs.Names.{label_text};
 ghost use Rattle.ob0_tree.specs.Places.{value_at};
-ghost use Rattle.ob0_typing.specs.Expressions.{value_of};
+ghost use Rattle.ob0_typing.specs.Expressions.{place_of, value_of};
+ghost use Rattle.ob0_values.specs.Stored as stored;
 ghost use Rattle.ob0_values.specs.Stored.{given, store_of};
 ghost use Rattle.ob0_run.specs.Scenes.{Answers, label_in, meant_by, object_of, ordinal_in, stop_of};
 
@@ -168,6 +169,21 @@ impl<'r, 't> Scene<'r, 't> {
             }
         } else {
             0
+        }
+    }
+
+    /// The place of the variable that a name stands for.
+    pub(crate) fn place(&self, name: usize) -> Result<&'r Place<'t>, Stop>
+        ensures { Answers (λ p. stored.place_of p.now) result (place_of (meant_by self.now (label_in self.now name))) }
+    {
+        match self.meant(name) {
+            Some(Meant::Variable(place)) => Ok(place),
+            Some(Meant::Type(_)) => Err(Stop::Ended(Ending::Stuck)),
+            Some(Meant::Constant(_)) => Err(Stop::Ended(Ending::Stuck)),
+            Some(Meant::Procedure(_)) => Err(Stop::Ended(Ending::Stuck)),
+            Some(Meant::Standard(_)) => Err(Stop::Ended(Ending::Stuck)),
+            Some(Meant::Nothing) => Err(Stop::Ended(Ending::Stuck)),
+            None => Err(Stop::Ended(Ending::Stuck)),
         }
     }
 

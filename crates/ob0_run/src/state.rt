@@ -1,16 +1,21 @@
 //! What a run has come to: what the variables hold, the rest of the input, and what was put out.
 
-ghost use Rattle.std.specs.Prelude.{◌≡◌, ℕ};
+ghost use Rattle.std.specs.Prelude.{◌≡◌, ℕ, MatchBool};
 ghost use Rattle.ob0_scope.specs.Names.{Label};
 ghost use Rattle.ob0_tree.specs.View.{assignment_of, expression_of, items_of, selector_of};
 ghost use Rattle.ob0_typing.specs.Expressions.{designate, evaluate};
 ghost use Rattle.ob0_run.specs.Scenes.{Answers, label_with, condition_in, meaning_with, read_with, truth_of};
+ghost use Rattle.ob0_values.specs.Scalars.{scalar_value};
 ghost use Rattle.ob0_values.specs.Stored.{place_of, value_of};
+ghost use Rattle.ob0_values.specs.Values.{truth};
+ghost use Rattle.ob0_run.specs.Finding.{Finds};
+ghost use Rattle.ob0_run.specs.Storing.{target_of};
 ghost use Rattle.ob0_semantics.specs.Runs.{Calls, execute, put_out, read_number, running, store_at};
 ghost use Rattle.ob0_run.specs.States.{Runs, item_of, state_of};
 
 use crate::operands::scalar_of;
 use crate::scene::{Ending, Meant, Scene, Stop};
+use crate::storing::{Target, put};
 use ob0_scan::Tokens;
 use ob0_tree::tree::{Assignment, Designator, Expression};
 use ob0_values::scalar::Scalar;
@@ -76,6 +81,27 @@ impl<'i, 't> State<'i, 't> {
         self.scene(names).designate(d)
     }
 
+    /// Where a designator stores, now, where that is a variable or an element of one.
+    fn target(&self, names: Names<'_, 't>, d: &Designator) -> Option<Target>
+        ensures { Finds target_of result (designate (meaning_with names.entry.meant.now) (state_of self.now).store (label_with names.entry.tokens.now names.entry.ordinals.now d.now.name) (read_with names.entry.tokens.now names.entry.ordinals.now (items_of selector_of d.now.selectors.items))) }
+    {
+        self.scene(names).target(d)
+    }
+
+    /// The number or the truth that an expression is worth, now, where the quick way finds it.
+    fn scalar_found(&self, names: Names<'_, 't>, e: &Expression) -> Option<Scalar>
+        ensures { Finds scalar_value result (evaluate (meaning_with names.entry.meant.now) (state_of self.now).store (read_with names.entry.tokens.now names.entry.ordinals.now (expression_of e.now))) }
+    {
+        self.scene(names).quick_scalar(e)
+    }
+
+    /// The truth that a condition is worth, now, where the quick way finds it.
+    fn truth_found(&self, names: Names<'_, 't>, e: &Expression) -> Option<bool>
+        ensures { Finds truth result (evaluate (meaning_with names.entry.meant.now) (state_of self.now).store (read_with names.entry.tokens.now names.entry.ordinals.now (expression_of e.now))) }
+    {
+        self.scene(names).quick_truth(e)
+    }
+
     /// What an expression is worth, now.
     pub(crate) fn evaluate(&self, names: Names<'_, 't>, e: &Expression) -> Result<Value<'t>, Stop>
         ensures { Answers value_of result (evaluate (meaning_with names.entry.meant.now) (state_of self.now).store (read_with names.entry.tokens.now names.entry.ordinals.now (expression_of e.now))) }
@@ -91,6 +117,16 @@ impl<'i, 't> State<'i, 't> {
     pub fn condition(&self, names: Names<'_, 't>, e: &Expression) -> Result<bool, Stop>
         ensures { Answers (λ b. b) result (condition_in (meaning_with names.entry.meant.now) (state_of self.now).store (read_with names.entry.tokens.now names.entry.ordinals.now (expression_of e.now))) }
     {
+        match self.truth_found(names, e) {
+            Some(truth) => Ok(truth),
+            None => self.condition_of_value(names, e),
+        }
+    }
+
+    /// The same by the full evaluation.
+    fn condition_of_value(&self, names: Names<'_, 't>, e: &Expression) -> Result<bool, Stop>
+        ensures { Answers (λ b. b) result (condition_in (meaning_with names.entry.meant.now) (state_of self.now).store (read_with names.entry.tokens.now names.entry.ordinals.now (expression_of e.now))) }
+    {
         let value = self.evaluate(names, e)?;
         truth(&value)
     }
@@ -99,8 +135,31 @@ impl<'i, 't> State<'i, 't> {
     ///
     /// # Errors
     ///
-    /// How it ends the run, or want of memory.
+    /// How it ends the run, or out of memory.
     pub fn assign(&mut self, names: Names<'_, 't>, a: &Assignment) -> Result<(), Stop>
+        ensures { (enter : Calls Label) (t : ℕ) → Runs result self.new (execute (meaning_with names.entry.meant.now) enter t (read_with names.entry.tokens.now names.entry.ordinals.now (assignment_of a.now)) (state_of self.old)) }
+    {
+        if self.assign_in_place(names, a) {
+            return Ok(());
+        }
+        self.assign_value(names, a)
+    }
+
+    /// An assignment of a number or a truth, where the quick way finds it and its place. Where it doesn't nothing changes.
+    fn assign_in_place(&mut self, names: Names<'_, 't>, a: &Assignment) -> bool
+        ensures { MatchBool result ((enter : Calls Label) (t : ℕ) → execute (meaning_with names.entry.meant.now) enter t (read_with names.entry.tokens.now names.entry.ordinals.now (assignment_of a.now)) (state_of self.old) ≡ running (state_of self.new)) (state_of self.new ≡ state_of self.old) }
+    {
+        let Some(target) = self.target(names, &a.target) else {
+            return false;
+        };
+        let Some(scalar) = self.scalar_found(names, &a.value) else {
+            return false;
+        };
+        put(&mut self.store, target, scalar)
+    }
+
+    /// An assignment of any value.
+    fn assign_value(&mut self, names: Names<'_, 't>, a: &Assignment) -> Result<(), Stop>
         ensures { (enter : Calls Label) (t : ℕ) → Runs result self.new (execute (meaning_with names.entry.meant.now) enter t (read_with names.entry.tokens.now names.entry.ordinals.now (assignment_of a.now)) (state_of self.old)) }
     {
         let place = self.designate(names, &a.target)?;

@@ -83,6 +83,15 @@ const ACTIVATIONS: &str =
 const RECORDS: &str =
     "MODULE M;\nTYPE P = RECORD x, y: INTEGER; on: BOOLEAN END;\nVAR p, q: P; ps: ARRAY 2 OF P;\nPROCEDURE Set(VAR r: P; s: P); BEGIN r.x := 5; Write(s.x); s.x := 9 END Set;\nBEGIN p.x := 1; q := p; q.x := 2; Set(p, p); Write(p.x); Write(q.x); ps[1] := p; Write(ps[1].x + ps[0].y); IF ~ps[0].on THEN WriteLn END END M.";
 
+const ELEMENTS: &str =
+    "MODULE M;\nVAR a: ARRAY 2 OF INTEGER; i: INTEGER;\nBEGIN a[0] := 3; a[1] := -a[0] * a[0]; i := 1; Write(a[i] - 1); i := a[0]; a[i - 1] := 1 DIV 0 END M.";
+
+const TRUTHS: &str =
+    "MODULE M;\nVAR b: ARRAY 2 OF BOOLEAN; p: BOOLEAN;\nBEGIN b[1] := TRUE; p := b[1] = ~b[0]; IF p & (b[0] # TRUE) THEN Write(1) END;\nIF p OR (1 DIV 0 = 1) THEN Write(2) END; IF b[0] & (1 DIV 0 = 1) OR (1 DIV 0 = 1) THEN Write(3) END END M.";
+
+const ROWS_OF_ARRAYS: &str =
+    "MODULE M;\nVAR m: ARRAY 2 OF ARRAY 3 OF INTEGER; i: INTEGER;\nBEGIN i := 2; m[1][i] := 4; m[0] := m[1]; m[1][i] := 5; Write(m[0][i]); Write(m[1][2]); Write(m[1][i + 1]) END M.";
+
 /// A text, its input, how many calls may be open and how many turns a loop may make, and what is shown.
 static ROWS: &[(&str, &[i32], u32, u32, &str)] = &[
     (
@@ -158,6 +167,23 @@ static ROWS: &[(&str, &[i32], u32, u32, &str)] = &[
     (ACTIVATIONS, &[], 4, 0, " 0 2 4; Done"),
     (ACTIVATIONS, &[], 3, 0, "; CallBound"),
     (RECORDS, &[], 1, 0, " 1 5 2 5/; Done"),
+    (ELEMENTS, &[], 0, 0, " -10; Index"),
+    (TRUTHS, &[], 0, 0, " 1 2; Divisor"),
+    (ROWS_OF_ARRAYS, &[], 0, 0, " 4 5; Index"),
+    (
+        "MODULE M; VAR a: ARRAY 1 OF INTEGER; BEGIN a[0] := 1 DIV 0 END M.",
+        &[],
+        0,
+        0,
+        "; Divisor",
+    ),
+    (
+        "MODULE M; VAR a: ARRAY 1 OF INTEGER; BEGIN a[0 - 1] := 1 END M.",
+        &[],
+        0,
+        0,
+        "; Index",
+    ),
 ];
 
 #[test]

@@ -16,22 +16,22 @@ use Rattle.ob0_run.specs.Scenes.{Answers, label_in, meaning_in, meant_by, read_i
 use Rattle.ob0_run.proofs.Evaluating.{Following, adding_ends, adding_fails, adding_goes_on, compared_by, compared_in, designator_worth, exits, expression_alone, expression_pair, expression_worth, fails, following_begins, following_ends, following_fails, following_goes_on, following_misses, held_in, integer-worth, multiplying_ends, multiplying_fails, multiplying_goes_on, negation-split, parenthesised-worth, same_error, simple_worth, term_worth}
 use Rattle.ob0_run.proofs.scene.Scene.+evaluation.Goals as goal
 
-pub expression-returns-in_err-left : goal.expression-returns-in_err-left
-expression-returns-in_err-left t c =
+pub relation-returns-in_err-left : goal.relation-returns-in_err-left
+relation-returns-in_err-left t c =
     exits value_of c.from_residual.result c.in_err-left.field-0.0 _ (err_from_is_err_and c.from_residual.result c.from_residual.ensures.1)
     (subst (Answers value_of (Err c.in_err-left.field-0.0)) (sym (expression_worth c.args.self.now c.args.e.now)) (fails value_of value_of c.in_err-left.field-0.0 (evaluate_simple (meaning_in c.args.self.now) (held_in c.args.self.now) (read_in c.args.self.now (simple_of (out-Expression c.args.e.now).left))) (λ x. compared_by (meaning_in c.args.self.now) (held_in c.args.self.now) x (read_in c.args.self.now (compared_in (out-Expression c.args.e.now).compared))) c.in_err-left.ensures))
 
-pub expression-returns-in-None : goal.expression-returns-in-None
-expression-returns-in-None t c =
+pub relation-returns-in-None : goal.relation-returns-in-None
+relation-returns-in-None t c =
     expression_alone c.args.self.now c.args.e.now (value_of c.in_ok-left.left) c.in_ok-left.ensures c.in-None.is
 
-pub expression-returns-in_err-right-in-Some : goal.expression-returns-in_err-right-in-Some
-expression-returns-in_err-right-in-Some t c =
+pub relation-returns-in_err-right-in-Some : goal.relation-returns-in_err-right-in-Some
+relation-returns-in_err-right-in-Some t c =
     exits value_of c.from_residual-in_err-right-in-Some.result c.in_err-right-in-Some.field-0.0 _ (err_from_is_err_and c.from_residual-in_err-right-in-Some.result c.from_residual-in_err-right-in-Some.ensures.1)
     (subst (Answers value_of (Err c.in_err-right-in-Some.field-0.0)) (sym (expression_pair c.args.self.now c.args.e.now (value_of c.in_ok-left.left) c.in-Some.compared c.in_ok-left.ensures c.in-Some.is)) (fails value_of value_of c.in_err-right-in-Some.field-0.0 (evaluate_simple (meaning_in c.args.self.now) (held_in c.args.self.now) (read_in c.args.self.now (simple_of (out-Comparison c.in-Some.compared).right))) (λ y. relate (out-Comparison c.in-Some.compared).relation (value_of c.in_ok-left.left) y) c.in_err-right-in-Some.ensures))
 
-pub expression-returns : goal.expression-returns
-expression-returns t c =
+pub relation-returns : goal.relation-returns
+relation-returns t c =
     subst (Answers value_of c.related.result) (sym (expression_pair c.args.self.now c.args.e.now (value_of c.in_ok-left.left) c.in-Some.compared c.in_ok-left.ensures c.in-Some.is ∙ ap (λ o. o >>= (λ y. relate (out-Comparison c.in-Some.compared).relation (value_of c.in_ok-left.left) y)) c.in_ok-right-in-Some.ensures)) c.related.ensures
 
 pub factor-returns-in_err-held-in-Designator : goal.factor-returns-in_err-held-in-Designator
