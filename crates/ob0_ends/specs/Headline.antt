@@ -6,7 +6,7 @@ use Rattle.ob0_text.specs.declared.edits.Edit.{Edit}
 use Rattle.ob0_ends.specs.Language.{WellTypedText, SameRun}
 use Rattle.ob0_ends.specs.Edited.{Replacement, replacements, edited}
 use Rattle.ob0_ends.specs.Asks.{Ask, HandsOut}
-use Rattle.ob0_ends.specs.Ends.{Open, open_at, Applied, Made, Ends, start, Mirrors}
+use Rattle.ob0_ends.specs.Ends.{Open, Editor, open_at, Applied, Made, Ends, start, Mirrors}
 use Rattle.ob0_ends.specs.Happens.{Event, Run}
 
 -- an edit that leaves of a well-typed module a well-typed module with the same run
@@ -46,8 +46,11 @@ IsMadeFor version text (Some m) = (m.version ≡ version) × (m.text ≡ text)
 IsMadeFor version text None = ⊥
 
 -- the last publication for each document of the editor was made for its present version and text
+abbrev pub AreUpToDate : Editor → List Made → Type 0
+AreUpToDate e made = (uri : List ℕ) (d : Open) → open_at e uri ≡ Some d → IsMadeFor (pos d.version) d.text (latest uri made)
+
 abbrev pub IsUpToDate : Ends → Type 0
-IsUpToDate w = (uri : List ℕ) (d : Open) → open_at w.editor uri ≡ Some d → IsMadeFor (pos d.version) d.text (latest uri w.made)
+IsUpToDate w = AreUpToDate w.editor w.made
 
 -- In every interleaving of the editor and the server each edit that the editor applies leaves of a well-typed document
 -- a well-typed module with the same run; diagnostics are empty exactly where the text they were made for is well-typed;

@@ -7,3 +7,4 @@ pub mod Serving
 pub mod Happens
 pub mod Headline
 pub mod OneRun
+pub mod Played

@@ -1,4 +1,4 @@
--- Whether a list of events has one run.
+-- A list of events has one run.
 use Rattle.std.specs.Prelude.{◌≡◌, ℕ, List}
 use Rattle.ob0_text.specs.declared.positions.Unit.{Unit}
 use Rattle.ob0_ends.specs.Edited.{Replacement}
@@ -10,6 +10,6 @@ use Rattle.ob0_ends.specs.Happens.{Event, Run}
 abbrev pub AnswersAreOne : Type 0
 AnswersAreOne = (unit : Unit) (text : List ℕ) (ask : Ask) (given other : List Replacement) → AnswersFor unit text ask given → AnswersFor unit text ask other → given ≡ other
 
--- Where it has, two runs of one list of events from the beginning are equal: documents, queues, edits applied and publications.
+-- Two runs of one list of events from the beginning are equal: documents, queues, edits applied and publications.
 abbrev pub OneRun : Type 0
-OneRun = AnswersAreOne → (unit : Unit) (events : List Event) (end other : Ends) → Run (start unit) events end → Run (start unit) events other → end ≡ other
+OneRun = (unit : Unit) (events : List Event) (end other : Ends) → Run (start unit) events end → Run (start unit) events other → end ≡ other

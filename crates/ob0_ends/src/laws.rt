@@ -1,6 +1,7 @@
 //! What holds of the definitions that the contracts cite.
 ghost use Rattle.ob0_ends.specs.Headline.{EditsKeepTheRun, InEveryInterleaving};
-ghost use Rattle.ob0_ends.specs.OneRun.{OneRun};
+ghost use Rattle.ob0_ends.specs.OneRun.{AnswersAreOne, OneRun};
+ghost use Rattle.ob0_ends.specs.Played.{MadeForTheEditor};
 
 /// Whatever the order of the events, every applied edit keeps the run, and diagnostics are right.
 pub fn in_every_interleaving()
@@ -12,7 +13,17 @@ pub fn edits_keep_the_run()
     ensures { EditsKeepTheRun }
 {}
 
-/// Where an ask about a text has one answer, a list of events has one run.
+/// An ask about a text has one answer: these edits, or none.
+pub fn answers_are_one()
+    ensures { AnswersAreOne }
+{}
+
+/// A list of events has one run from the beginning.
 pub fn one_run()
     ensures { OneRun }
+{}
+
+/// Each publication with a version was made for a text that the editor's document had at that version.
+pub fn made_for_the_editor()
+    ensures { MadeForTheEditor }
 {}
