@@ -1,14 +1,14 @@
 -- What a step makes of a world.
-use Rattle.std.proofs.Common.{◌≡◌, ℕ, ◌+◌, Bool, true, false, List, [], ◌∷◌, ◌++◌, refl, sym, subst}
+use Rattle.std.proofs.Common.{◌≡◌, ◌+◌, true, false, [], ◌∷◌, ◌++◌, refl, sym, subst}
 use Rattle.ob0_ends.specs.Ends.{Ends, start}
-use Rattle.ob0_ends.specs.Happens.{Event, Seen, Happens, Run}
+use Rattle.ob0_ends.specs.Happens.{Event, Seen, Happens}
 use Rattle.ob0_ends.specs.Headline.{Holds}
 use Rattle.ob0_ends.proofs.Interleavings.{in_every_interleaving}
+use Rattle.ob0_ends.proofs.MadeFor.{run_push}
 use Rattle.ob0_text.specs.declared.positions.Unit.{Unit}
 use Rattle.ob0_world.specs.Worlds.{World, IsReached, SameHistory, StepsFrom, Steps, FailsFrom, Fails}
 use Rattle.ob0_world.specs.declared.faults.WorldFault.{WorldFault}
 use Rattle.ob0_world.specs.declared.faults.WorldFault.TheVariants.{Memory, Ended}
-use Rattle.ob0_world.proofs.RunLaws.{run_push}
 
 pub made_step : (w old : World) (event : Event) (seen : Seen) (new : World) → w ≡ old → w.ended ≡ false → Happens w.ends event seen new.ends → new.steps ≡ w.steps + 1 → new.ended ≡ false → Steps old event seen new
 made_step w old event seen new same on happens counted goes_on =

@@ -63,8 +63,8 @@ Fails old fault new = FailsFrom old.ended old fault new
 abbrev pub HasCome : Ends → played.Played → Type 0
 HasCome w p = (all_applied p ≡ w.applied) × (all_made p ≡ w.made)
 
--- In a run of the two ends by these events, just these edits were applied and these publications sent. After it the
--- server holds, once it has taken what waits for it, the editor's documents, and where nothing waits for it, the last
+-- The two ends have a run by these events, in which just these edits are applied and these publications sent. After it
+-- the server holds, once it has taken what waits for it, the editor's documents, and where nothing waits for it, the last
 -- publication of an open document is that of its present text and version.
 pub record Plays (unit : Unit) (events : List event.Event) (p : played.Played) : Type 0 where
   pub end : Ends

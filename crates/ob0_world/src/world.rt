@@ -1,9 +1,10 @@
 //! The two ends, and whole lists of events.
-ghost use Rattle.std.specs.Prelude.{◌≡◌, ◌<◌, ◌-◌, ◌^◌, length, All, IfOk, OnOk, IfErr};
+ghost use Rattle.std.specs.Prelude.{◌≡◌, ◌<◌, ◌-◌, ◌^◌, length, map, IfOk, OnOk, IfErr};
 ghost use Rattle.ob0_text.specs.declared.positions.Unit as units;
 ghost use Rattle.ob0_text.specs.declared.positions.Unit.TheVariants.{Utf16};
 ghost use Rattle.ob0_ends.specs.Ends.{start};
-ghost use Rattle.ob0_ends.specs.Headline.{Holds, KeepsTheRun, IsRight};
+ghost use Rattle.ob0_ends.specs.Headline.{Holds};
+ghost use Rattle.ob0_ends.specs.Played.{AreApplied, ArePublished, AreLatest, MirrorsInTheEnd};
 ghost use Rattle.ob0_world.specs.Code.{event_of, seen_of, all_applied, all_made};
 ghost use Rattle.ob0_world.specs.Worlds.{new_world, HasCome, Plays, PlaysBefore, Steps, Fails};
 ghost use Rattle.ob0_world.specs.declared.faults.WorldFault.TheVariants.{Memory};
@@ -105,8 +106,10 @@ impl<T: TextStore> World<T> {
     pub fn play(alloc: Global, events: &[Event]) -> Result<Played, PlayFault>
         requires few { length events.now < 2 ^ 63 - 1 }
         ensures run { IfOk result (λ played. Plays Utf16 events.now played) }
-        ensures applied { IfOk result (λ played. All KeepsTheRun (all_applied played)) }
-        ensures made { IfOk result (λ played. All IsRight (all_made played)) }
+        ensures applied { IfOk result (λ played. AreApplied Utf16 (map event_of events.now) (all_applied played)) }
+        ensures published { IfOk result (λ played. ArePublished Utf16 (map event_of events.now) (all_made played)) }
+        ensures latest { IfOk result (λ played. AreLatest Utf16 (map event_of events.now) (all_made played)) }
+        ensures mirror { IfOk result (λ _. MirrorsInTheEnd Utf16 (map event_of events.now)) }
         ensures err { IfErr result (λ fault. PlaysBefore Utf16 events.now fault.played) }
     {
         World::<T>::play_in(alloc, Unit::Utf16, events)
@@ -120,8 +123,10 @@ impl<T: TextStore> World<T> {
     pub fn play_in(alloc: Global, unit: Unit, events: &[Event]) -> Result<Played, PlayFault>
         requires few { length events.now < 2 ^ 63 - 1 }
         ensures run { IfOk result (λ played. Plays unit events.now played) }
-        ensures applied { IfOk result (λ played. All KeepsTheRun (all_applied played)) }
-        ensures made { IfOk result (λ played. All IsRight (all_made played)) }
+        ensures applied { IfOk result (λ played. AreApplied unit (map event_of events.now) (all_applied played)) }
+        ensures published { IfOk result (λ played. ArePublished unit (map event_of events.now) (all_made played)) }
+        ensures latest { IfOk result (λ played. AreLatest unit (map event_of events.now) (all_made played)) }
+        ensures mirror { IfOk result (λ _. MirrorsInTheEnd unit (map event_of events.now)) }
         ensures err { IfErr result (λ fault. PlaysBefore unit events.now fault.played) }
     {
         let mut world: World<T> = match World::new_in(alloc, unit) {

@@ -4,7 +4,7 @@ use Rattle.ob0_ends.specs.Ends.{start}
 use Rattle.ob0_ends.specs.Happens.{Run}
 use Rattle.ob0_world.specs.Code.{event_of}
 use Rattle.ob0_world.proofs.world.World.play_in.Goals as goal
-use Rattle.ob0_world.proofs.RunLaws.{plays, run_more, come_before, keeps_the_run, is_right}
+use Rattle.ob0_world.proofs.RunLaws.{plays, run_more, come_before, are_applied, are_published, are_latest, mirrors_in_the_end}
 use Rattle.ob0_world.proofs.Stepping.{step_made, step_failed}
 
 -- memory was refused before the first event
@@ -28,7 +28,13 @@ returns-clause-run g c =
     c.into_played-2.ensures
 
 pub returns-clause-applied : goal.returns-clause-applied
-returns-clause-applied g c = keeps_the_run c.args.unit _ _ (returns-clause-run g c)
+returns-clause-applied g c = are_applied c.args.unit c.args.events.now c.into_played-2.result (returns-clause-run g c)
 
-pub returns-clause-made : goal.returns-clause-made
-returns-clause-made g c = is_right c.args.unit _ _ (returns-clause-run g c)
+pub returns-clause-published : goal.returns-clause-published
+returns-clause-published g c = are_published c.args.unit c.args.events.now c.into_played-2.result (returns-clause-run g c)
+
+pub returns-clause-latest : goal.returns-clause-latest
+returns-clause-latest g c = are_latest c.args.unit c.args.events.now c.into_played-2.result (returns-clause-run g c)
+
+pub returns-clause-mirror : goal.returns-clause-mirror
+returns-clause-mirror g c = mirrors_in_the_end c.args.unit (map event_of c.args.events.now)
