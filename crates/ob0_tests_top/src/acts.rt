@@ -1,12 +1,15 @@
 //! Worlds as tables: what happens and what is seen of it, and what has come of it all.
 
+use crate::commands::{Command, ends};
 use ob0_text::{Change, Indent, Position, Range, Unit, Whole};
-use ob0_world::{Ask, Event, Played, Seen, World};
+use ob0_world::{Ask, Event, Played, Seen, World, WorldFault};
 use std::alloc::{AllocError, Global};
 
 /// One event, about the document `u`.
 #[derive(Clone, Copy)]
 pub enum Act {
+    /// The same about another document, `v`.
+    Other(&'static Act),
     Open(&'static str),
     /// A change with no changes in it.
     Touch,
@@ -33,6 +36,8 @@ pub enum Sight {
     Served(usize),
     /// The editor took diagnostics, of a well-typed text or of another.
     Published(bool),
+    /// Those of the other document.
+    PublishedOther(bool),
     /// The editor took the answer to an ask, with edits or without.
     Answered(u64, bool),
     Applied(u64),
@@ -67,8 +72,12 @@ fn at(line: u64, character: u64) -> Position {
     Position { line, character }
 }
 
-fn named(alloc: Global) -> Result<String, AllocError> {
-    String::from_str(alloc, "u")
+/// The document that an act is about, and the act.
+fn about(act: Act) -> (&'static str, Act) {
+    match act {
+        Act::Other(act) => ("v", *act),
+        act => ("u", act),
+    }
 }
 
 /// Another text in place of what is at these characters of a line.
@@ -93,26 +102,28 @@ fn changes(
 }
 
 fn event_of(alloc: Global, act: Act) -> Result<Event, AllocError> {
+    let (uri, act) = about(act);
+    let uri = String::from_str(alloc, uri)?;
     match act {
         Act::Open(text) => Ok(Event::OpenDoc {
-            uri: named(alloc)?,
+            uri,
             text: String::from_str(alloc, text)?,
         }),
         Act::Touch => Ok(Event::ChangeDoc {
-            uri: named(alloc)?,
+            uri,
             changes: Vec::new(alloc),
         }),
         Act::Write(line, start, end, text) => Ok(Event::ChangeDoc {
-            uri: named(alloc)?,
+            uri,
             changes: changes(alloc, line, start, end, text)?,
         }),
-        Act::Close => Ok(Event::CloseDoc { uri: named(alloc)? }),
+        Act::Close => Ok(Event::CloseDoc { uri }),
         Act::Serve => Ok(Event::Serve),
         Act::Take => Ok(Event::Take),
         Act::Apply(k) => Ok(Event::Apply { k }),
         Act::Discard(k) => Ok(Event::Discard { k }),
         asking => Ok(Event::Ask {
-            uri: named(alloc)?,
+            uri,
             ask: ask_of(alloc, asking)?,
         }),
     }
@@ -142,7 +153,11 @@ fn sight_of(seen: &Seen) -> Sight {
         Seen::Nothing => Sight::Nothing,
         Seen::Sent => Sight::Sent,
         Seen::Served(count) => Sight::Served(*count),
-        Seen::Published { uri: _uri, empty } => Sight::Published(*empty),
+        Seen::Published { uri, empty } => if uri.as_str() == "v" {
+            Sight::PublishedOther(*empty)
+        } else {
+            Sight::Published(*empty)
+        },
         Seen::Answered { k, edits } => Sight::Answered(*k, *edits),
         Seen::Applied { k } => Sight::Applied(*k),
         Seen::Dropped { k } => Sight::Dropped(*k),
@@ -184,17 +199,80 @@ pub fn is_seen(alloc: Global, unit: Unit, story: &Story) -> Result<bool, AllocEr
     Ok(true)
 }
 
-/// Whether all events together leave what they are to leave, where positions are in UTF-16 units.
-pub fn has_come(alloc: Global, story: &Story) -> Result<bool, AllocError> {
+/// Whether the world has ended, and says so.
+fn has_ended(world: &mut World<Whole>, event: &Event) -> bool {
+    let steps = world.steps();
+    if steps > 1_000_000 {
+        return false;
+    }
+    match world.step(event) {
+        Ok(_seen) => false,
+        Err(fault) => fault == WorldFault::Ended && world.steps() == steps,
+    }
+}
+
+/// Whether each event shows what it is to show; where memory is refused, whether the world has ended for good.
+pub fn ends_for_good(alloc: Global, story: &Story) -> Result<bool, AllocError> {
+    let Ok(mut world) = World::<Whole>::new(alloc) else {
+        return Err(AllocError);
+    };
+    for moment in story.moments {
+        let (act, wanted) = *moment;
+        let event = event_of(alloc, act)?;
+        if world.steps() > 1_000_000 {
+            return Ok(false);
+        }
+        match world.step(&event) {
+            Ok(seen) => if sight_of(&seen) != wanted {
+                return Ok(false);
+            },
+            Err(fault) => {
+                let ended = fault == WorldFault::Memory && has_ended(&mut world, &event);
+                return Ok(ended && has_ended(&mut world, &event));
+            }
+        }
+    }
+    Ok(true)
+}
+
+/// What all events of a story together leave, where positions are in UTF-16 units.
+fn played(alloc: Global, story: &Story) -> Result<Played, AllocError> {
     let mut events = Vec::new(alloc);
     for moment in story.moments {
         let (act, _seen) = *moment;
         events.push(event_of(alloc, act)?)?;
     }
     match World::<Whole>::play(alloc, events.as_slice()) {
-        Ok(played) => Ok(is_right(story, &played)),
+        Ok(played) => Ok(played),
         Err(_fault) => Err(AllocError),
     }
+}
+
+/// Whether all events together leave what they are to leave.
+pub fn has_come(alloc: Global, story: &Story) -> Result<bool, AllocError> {
+    let played = played(alloc, story)?;
+    Ok(is_right(story, &played))
+}
+
+/// A run: its input, the bounds on open calls and turns, and what it prints, tells and ends with.
+pub type Run = (&'static [u8], u32, u32, (&'static str, &'static str, u8));
+
+/// Whether the texts before and after each edit that is applied have these runs.
+pub fn has_runs(alloc: Global, story: &Story, runs: &[Run]) -> Result<bool, AllocError> {
+    let played = played(alloc, story)?;
+    for applied in &played.applied {
+        for run in runs {
+            let (input, calls, turns, wanted) = *run;
+            let command = Command::Run(input, calls, turns);
+            if !ends(alloc, command, applied.before.as_str().as_bytes(), wanted) {
+                return Ok(false);
+            }
+            if !ends(alloc, command, applied.after.as_str().as_bytes(), wanted) {
+                return Ok(false);
+            }
+        }
+    }
+    Ok(!played.applied.is_empty())
 }
 
 fn is_right(story: &Story, played: &Played) -> bool {

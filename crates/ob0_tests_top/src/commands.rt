@@ -8,7 +8,7 @@ use std::process::Abort;
 
 /// A command on a file.
 #[derive(Clone, Copy)]
-enum Command {
+pub enum Command {
     Check,
     /// On this input, with so many open calls and turns.
     Run(&'static [u8], u32, u32),
@@ -41,7 +41,7 @@ fn status_of(
 }
 
 /// Whether a command prints this, tells this and ends with this.
-fn ends(alloc: Global, command: Command, file: &[u8], wanted: (&str, &str, u8)) -> bool {
+pub fn ends(alloc: Global, command: Command, file: &[u8], wanted: (&str, &str, u8)) -> bool {
     let (mut printed, mut told) = ([0u8; 128], [0u8; 128]);
     let found = status_of(alloc, command, file, u32::MAX, &mut printed, &mut told);
     let (out, err, status) = wanted;

@@ -1,6 +1,6 @@
 //! What happens in worlds of an editor and a server: names, constants, layouts, and answers that are dropped.
 
-use crate::acts::{Act, Edited, Published, Sight, Story};
+use crate::acts::{Act, Edited, Published, Run, Sight, Story};
 use ob0_text::Unit;
 
 const COUNTS: &str =
@@ -40,38 +40,47 @@ const WIDE_RENAMED: &str = "MODULE M;\nVAR (* 😀 *) k: INTEGER;\nBEGIN (* 😀
 /// The first name written over: the second is that of nothing.
 const WIDE_WRITTEN: &str = "MODULE M;\nVAR (* 😀 *) k: INTEGER;\nBEGIN (* 😀 *) n := 1 END M.\n";
 
+pub static ANOTHER_NAME: Story = Story {
+    name: "another name is applied",
+    moments: &[
+        (Act::Open(COUNTS), Sight::Sent),
+        (NAME, Sight::Sent),
+        (Act::Serve, Sight::Served(1)),
+        (Act::Serve, Sight::Served(1)),
+        (Act::Take, Sight::Published(true)),
+        (Act::Take, Sight::Answered(1, true)),
+        (Act::Apply(1), Sight::Applied(1)),
+        (Act::Apply(1), Sight::Nothing),
+        (Act::Serve, Sight::Served(1)),
+        (Act::Take, Sight::Published(true)),
+    ],
+    applied: &[Edited {
+        before: COUNTS,
+        after: RENAMED,
+    }],
+    made: &[
+        Published {
+            version: 1,
+            text: COUNTS,
+            empty: true,
+        },
+        Published {
+            version: 2,
+            text: RENAMED,
+            empty: true,
+        },
+    ],
+};
+
+/// Runs of the module that counts down, under that name and under the other.
+pub static COUNTED: &[Run] = &[
+    (b"", 3, 3, ("", "fault: InputEnd\n", 1)),
+    (b"7", 0, 3, ("\n\n\n", "fault: TurnBound\n", 1)),
+    (b"2", 0, 3, ("\n\n", "fault: CallBound\n", 1)),
+    (b"2", 1, 3, ("\n\n 0", "", 0)),
+];
+
 const STORIES: &[Story] = &[
-    Story {
-        name: "another name is applied",
-        moments: &[
-            (Act::Open(COUNTS), Sight::Sent),
-            (NAME, Sight::Sent),
-            (Act::Serve, Sight::Served(1)),
-            (Act::Serve, Sight::Served(1)),
-            (Act::Take, Sight::Published(true)),
-            (Act::Take, Sight::Answered(1, true)),
-            (Act::Apply(1), Sight::Applied(1)),
-            (Act::Apply(1), Sight::Nothing),
-            (Act::Serve, Sight::Served(1)),
-            (Act::Take, Sight::Published(true)),
-        ],
-        applied: &[Edited {
-            before: COUNTS,
-            after: RENAMED,
-        }],
-        made: &[
-            Published {
-                version: 1,
-                text: COUNTS,
-                empty: true,
-            },
-            Published {
-                version: 2,
-                text: RENAMED,
-                empty: true,
-            },
-        ],
-    },
     Story {
         name: "a layout is applied",
         moments: &[
@@ -191,6 +200,71 @@ const STORIES: &[Story] = &[
             text: COUNTS,
             empty: true,
         }],
+    },
+    Story {
+        name: "an answer about a closed document is dropped",
+        moments: &[
+            (Act::Open(COUNTS), Sight::Sent),
+            (NAME, Sight::Sent),
+            (Act::Serve, Sight::Served(1)),
+            (Act::Serve, Sight::Served(1)),
+            (Act::Take, Sight::Published(true)),
+            (Act::Take, Sight::Answered(1, true)),
+            (Act::Close, Sight::Sent),
+            (Act::Apply(1), Sight::Dropped(1)),
+            (Act::Serve, Sight::Served(1)),
+            (Act::Take, Sight::Published(true)),
+        ],
+        applied: &[],
+        made: &[Published {
+            version: 1,
+            text: COUNTS,
+            empty: true,
+        }],
+    },
+    Story {
+        name: "of two documents each has its own text, version and diagnostics",
+        moments: &[
+            (Act::Open(COUNTS), Sight::Sent),
+            (Act::Other(&Act::Open(FAULTY_TEXT)), Sight::Sent),
+            (NAME, Sight::Sent),
+            (Act::Other(&NAME), Sight::Sent),
+            (Act::Serve, Sight::Served(1)),
+            (Act::Serve, Sight::Served(1)),
+            (Act::Serve, Sight::Served(1)),
+            (Act::Serve, Sight::Served(1)),
+            (Act::Take, Sight::Published(true)),
+            (Act::Take, Sight::PublishedOther(false)),
+            (Act::Take, Sight::Answered(1, true)),
+            (Act::Take, Sight::Answered(2, false)),
+            (Act::Other(&Act::Close), Sight::Sent),
+            (Act::Apply(1), Sight::Applied(1)),
+            (Act::Serve, Sight::Served(1)),
+            (Act::Serve, Sight::Served(1)),
+            (Act::Take, Sight::PublishedOther(true)),
+            (Act::Take, Sight::Published(true)),
+        ],
+        applied: &[Edited {
+            before: COUNTS,
+            after: RENAMED,
+        }],
+        made: &[
+            Published {
+                version: 1,
+                text: COUNTS,
+                empty: true,
+            },
+            Published {
+                version: 1,
+                text: FAULTY_TEXT,
+                empty: false,
+            },
+            Published {
+                version: 2,
+                text: RENAMED,
+                empty: true,
+            },
+        ],
     },
     Story {
         name: "a constant is inlined everywhere, asked for at its declaration",
