@@ -1,7 +1,7 @@
 -- What a step makes of a world.
-use Rattle.std.proofs.Common.{◌≡◌, ℕ, ◌+◌, Bool, true, false, List, [], ◌∷◌, ◌++◌, refl, sym, subst}
+use Rattle.std.proofs.Common.{◌≡◌, ◌+◌, true, false, [], ◌∷◌, ◌++◌, refl, sym, subst}
 use Rattle.ob0_ends.specs.Ends.{Ends, start}
-use Rattle.ob0_ends.specs.Happens.{Event, Seen, Happens, Run}
+use Rattle.ob0_ends.specs.Happens.{Event, Seen, Happens}
 use Rattle.ob0_ends.specs.Headline.{Holds}
 use Rattle.ob0_ends.proofs.Interleavings.{in_every_interleaving}
 use Rattle.ob0_ends.proofs.MadeFor.{run_push}
