@@ -37,7 +37,7 @@ TOOLS = {
     "eglot": (in_emacs("eglot"), "elpa-eglot"),
     "lsp-mode": (in_emacs("lsp-mode"), "elpa-lsp-mode"),
     "Vim": (here("vim.nox"), "vim-nox"),
-    "ALE": (folder("/usr/share/vim/vimfiles/pack/*/opt/ale"), "vim-ale"),
+    "ALE": (folder("/usr/share/vim/vimfiles/pack/*/*/ale"), "vim-ale"),
     "Kakoune": (here("kak"), "kakoune"),
     "Kate": (here("kate"), "kate"),
     "Xvfb": (here("xvfb-run"), "xvfb"),
