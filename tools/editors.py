@@ -38,6 +38,7 @@ TOOLS = {
     "lsp-mode": (in_emacs("lsp-mode"), "elpa-lsp-mode"),
     "Vim": (here("vim.nox"), "vim-nox"),
     "ALE": (folder("/usr/share/vim/vimfiles/pack/*/*/ale"), "vim-ale"),
+    "YouCompleteMe": (folder("/usr/share/vim/vimfiles/pack/*/*/youcompleteme"), "vim-youcompleteme"),
     "Kakoune": (here("kak"), "kakoune"),
     "Kate": (here("kate"), "kate"),
     "Xvfb": (here("xvfb-run"), "xvfb"),
