@@ -1,6 +1,6 @@
 """Real editors, without a screen, each set up by the commands and lines of its page in editors/: Neovim by its own client,
-Emacs by eglot and by lsp-mode, Vim by ALE, Kate by its plugin (on a screen that nobody sees). Kakoune, which has no client, is in
-test_syntax_files.py.
+Emacs by eglot and by lsp-mode, Vim by ALE and by YouCompleteMe, Kate by its plugin (on a screen that nobody sees). Kakoune,
+which has no client, is in test_syntax_files.py.
 
 A test of an editor that isn't here is left out, by name; `make editors` installs them all."""
 import functools
@@ -287,7 +287,9 @@ def emacs_looking():
 @test("lsp-mode: what its own hover, list of references and go to definition show")
 def lsp_mode_looking():
     for text, seen in ((CALLS, CALLS_SEEN), (RECORDS, RECORDS_SEEN)):
-        same(in_lsp_mode("looking", text, places=[it[0] for it in seen]), looked(without_declarations(seen)))
+        found = in_lsp_mode("looking", text, places=[it[0] for it in seen])
+        # (version 8 asks for references without the declaration, version 9 with it)
+        same(found, looked(seen) if found == looked(seen) else looked(without_declarations(seen)))
 
 
 @test("Vim: what ALE's hover, list of references and go to definition show")
@@ -455,6 +457,46 @@ def vscode():
     same(found["executed"], ["check", "run"], "the tasks that the commands start")
     same(found["tasks"], {"type": "ob0", "names": ["check", "run"]}, "the tasks")
     same(found["matched"], [[file, "2", "7", "Undeclared", "not declared"]], "what the problem matcher finds")
+
+
+def in_vim_by_ycm(steps, text, **given):
+    want("Vim", "YouCompleteMe")
+    words = ["vim.nox", "-n", "-i", "NONE", "-S", os.path.join(EDITORS, "ycm.vim")]
+    # (its server wants the system's Python, whichever one is first on PATH)
+    lines = "\n".join([*snippets("vim", "viml"), "let g:ycm_server_python_interpreter = '/usr/bin/python3'"])
+    return play("vim", words, steps, text, given, lambda room: write(os.path.join(room, ".vimrc"), lines), in_terminal=True)
+
+
+LAID_OUT = """MODULE M;
+  PROCEDURE G(n: INTEGER);
+  BEGIN
+    IF n > 0 THEN
+      Write(n);
+      G(n - 1)
+    END
+  END G;
+BEGIN
+  G(2)
+END M.
+"""
+YCM_TYPED = [("typed", ["bad character [BadChar]"]), ("mended", [])]
+
+
+@test("Vim by YouCompleteMe: diagnostics, what is known of a name, a rename and a layout")
+def ycm_names():
+    steps = [("shown", "PROCEDURE F(n: INTEGER)"), ("listed", [[1, 10], [2, 30], [2, 47], [3, 6]]), ("jumped", [1, 10])]
+    steps += [("renamed", edited(CALLS, PLACES, "G")), ("laid out", LAID_OUT)]
+    same(in_vim_by_ycm("names", CALLS, place=[3, 6], name="G"), [*YCM_TYPED, *steps])
+    keeps_the_run(CALLS, LAID_OUT, " 2 1")
+
+
+@test("Vim by YouCompleteMe: a constant is inlined behind an emoji")
+def ycm_inline():
+    text = "MODULE M;\nCONST k = 7;\nBEGIN (* \U0001f600 *) Write(k) END M.\n"
+    wanted = text.replace("Write(k)", "Write(7)")
+    found = in_vim_by_ycm("inlining", text, place=[2, len("BEGIN (* \U0001f600 *) Write(".encode())])
+    same(found, [*YCM_TYPED, ("offered", ["Inline here", "Inline everywhere"]), ("acted", wanted)])
+    keeps_the_run(text, wanted, " 7")
 
 
 def in_kate(steps, text, **given):

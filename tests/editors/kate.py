@@ -74,12 +74,13 @@ def typed(text):
 
 def command(name, comes):
     """Chooses a command by its name, as often as it takes to be taken."""
-    for _ in range(4):
+    # (Kate 25 lists a switch whose name begins alike above one of them; chosen twice that is as it was)
+    for below in 0, 0, 1, 1:
         keys("ctrl+alt+i")
         time.sleep(1)
         typed(name)
         time.sleep(1)
-        keys("Return")
+        keys(*["Down"] * below, "Return")
         try:
             return waited(name, comes, 6)
         except RuntimeError:

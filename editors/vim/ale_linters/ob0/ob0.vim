@@ -1,4 +1,6 @@
-" ALE: the server `ob0 serve`, for buffers of Oberon-0
+" ALE: the server `ob0 serve`, for buffers of Oberon-0 (in Neovim its own client starts that: see editors/neovim)
+if has('nvim') | finish | endif
+
 call ale#Set('ob0_executable', get(g:, 'ob0_program', 'ob0'))
 call ale#linter#Define('ob0', {
       \ 'name': 'ob0',
