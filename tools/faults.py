@@ -37,9 +37,18 @@ def tests_of(program):
 
 
 def played(out):
-    """What a test prints of what has come so far, as `played A B`: it grows with the number of the refused allocation."""
+    """What a test prints of how much was played, as `played A B`."""
     lines = [it for it in out.decode().splitlines() if it.startswith("played ")]
     return [tuple(map(int, it.split()[1:])) for it in lines]
+
+
+def grows(test, found, whole):
+    """Holds what was played, by the number of the refused allocation, to growing from nothing on, up to a part of the whole:
+    the whole itself is played where what was refused isn't needed, or the test allocates it again."""
+    parts = [it for it in found if it != whole]
+    holds(all(a <= b for one, two in zip(parts, parts[1:]) for row, other in zip(one, two) for a, b in zip(row, other)), f"{test}: less was played later on")
+    nothing = [(0,) * len(it) for it in whole]
+    holds(parts and parts[0] == nothing and parts[-1] != nothing, f"{test}: {parts[:1]} was played at first, {parts[-1:]} at last")
 
 
 def walk(program, test):
@@ -47,16 +56,14 @@ def walk(program, test):
     attempt = lambda at: failing.run([program, test], memory=at)
     plain = attempt(None)
     holds(plain.status == 0 and plain.calls, f"{test} fails where nothing is refused, or takes no memory")
-    numbers = range(1, plain.calls + 1, max(1, plain.calls // WALK))
-    before = [(0,) * len(it) for it in played(plain.out)]
+    numbers, found = range(1, plain.calls + 1, max(1, plain.calls // WALK)), []
     for number, it in failing.each(numbers, attempt):
         where = f"{test}, allocation {number} of {plain.calls}"
         holds(it.is_touched, f"{where} wasn't refused")
         same((it.status, it.out.endswith(b"test result: ok\n")), (0, True), f"{where}: {it.err.decode(errors='replace')}")
-        found = played(it.out)
-        holds(all(a <= b for one, two in zip(before, found) for a, b in zip(one, two)), f"{where}: {found} after {before}")
-        before = found
-    same(before, played(plain.out), f"{test}: what was played where the last allocation was refused")
+        found.append(played(it.out))
+    if played(plain.out):
+        grows(test, found, played(plain.out))
     return f"{len(numbers):,} of {plain.calls:,} allocations refused"
 
 

@@ -1,7 +1,7 @@
 //! Worlds as tables: what happens and what is seen of it, and what has come of it all.
 
 use ob0_text::{Change, Indent, Position, Range, Unit, Whole};
-use ob0_world::{Ask, Event, Played, Seen, World};
+use ob0_world::{Ask, Event, Played, Seen, World, WorldFault};
 use std::alloc::{AllocError, Global};
 
 /// One event, about the document `u`.
@@ -184,13 +184,82 @@ pub fn is_seen(alloc: Global, unit: Unit, story: &Story) -> Result<bool, AllocEr
     Ok(true)
 }
 
-/// Whether all events together leave what they are to leave, where positions are in UTF-16 units.
-pub fn has_come(alloc: Global, story: &Story) -> Result<bool, AllocError> {
+/// An event, made a second time where its memory is refused.
+fn event_again(alloc: Global, act: Act) -> Result<Event, AllocError> {
+    match event_of(alloc, act) {
+        Ok(event) => Ok(event),
+        Err(AllocError) => event_of(alloc, act),
+    }
+}
+
+/// Whether each event shows what it is to show, up to one whose memory is refused, and each later one that the world has
+/// ended.
+pub fn ends_at_refusal(alloc: Global, unit: Unit, story: &Story) -> Result<bool, AllocError> {
+    let begun = match World::<Whole>::new_in(alloc, unit) {
+        Ok(world) => Ok(world),
+        Err(_refused) => World::<Whole>::new_in(alloc, unit),
+    };
+    let Ok(mut world) = begun else {
+        return Err(AllocError);
+    };
+    let mut has_ended = false;
+    for moment in story.moments {
+        let (act, wanted) = *moment;
+        let event = event_again(alloc, act)?;
+        if world.steps() > 1_000_000 {
+            return Ok(false);
+        }
+        match world.step(&event) {
+            Ok(seen) => {
+                if has_ended || sight_of(&seen) != wanted {
+                    return Ok(false);
+                }
+            }
+            Err(WorldFault::Memory) => {
+                if has_ended {
+                    return Ok(false);
+                }
+                has_ended = true;
+            }
+            Err(WorldFault::Ended) => {
+                if !has_ended {
+                    return Ok(false);
+                }
+            }
+        }
+    }
+    Ok(true)
+}
+
+fn events_of(alloc: Global, story: &Story) -> Result<Vec<Event>, AllocError> {
     let mut events = Vec::new(alloc);
     for moment in story.moments {
         let (act, _seen) = *moment;
         events.push(event_of(alloc, act)?)?;
     }
+    Ok(events)
+}
+
+/// How many edits and publications a story leaves where it is played up to an event whose memory is refused, or to its end;
+/// None where they aren't the first that it is to leave.
+pub fn played(alloc: Global, story: &Story) -> Result<Option<(usize, usize)>, AllocError> {
+    let events = match events_of(alloc, story) {
+        Ok(events) => events,
+        Err(AllocError) => events_of(alloc, story)?,
+    };
+    let played = match World::<Whole>::play(alloc, events.as_slice()) {
+        Ok(played) => played,
+        Err(fault) => fault.played,
+    };
+    if !is_front(story, &played) {
+        return Ok(None);
+    }
+    Ok(Some((played.applied.len(), played.made.len())))
+}
+
+/// Whether all events together leave what they are to leave, where positions are in UTF-16 units.
+pub fn has_come(alloc: Global, story: &Story) -> Result<bool, AllocError> {
+    let events = events_of(alloc, story)?;
     match World::<Whole>::play(alloc, events.as_slice()) {
         Ok(played) => Ok(is_right(story, &played)),
         Err(_fault) => Err(AllocError),
@@ -200,6 +269,13 @@ pub fn has_come(alloc: Global, story: &Story) -> Result<bool, AllocError> {
 fn is_right(story: &Story, played: &Played) -> bool {
     played.applied.len() == story.applied.len()
         && played.made.len() == story.made.len()
+        && is_front(story, played)
+}
+
+/// Whether what was played are the first edits and publications of a story.
+fn is_front(story: &Story, played: &Played) -> bool {
+    played.applied.len() <= story.applied.len()
+        && played.made.len() <= story.made.len()
         && played.applied.iter().zip(story.applied).all(|(applied, wanted)| {
             applied.before.as_str() == wanted.before && applied.after.as_str() == wanted.after
         })

@@ -1,6 +1,6 @@
 //! The commands over the bytes of files, and files, inputs and outputs that fail.
 
-use crate::devices::{Sink, Source, written};
+use crate::devices::{Buffer, Sink, Source, written};
 use ob0_commands::{Fault, check_text, read_file, rename_text, run_text, tell_fault};
 use ob0_text::Position;
 use std::alloc::Global;
@@ -165,6 +165,26 @@ fn a_write_that_fails_is_told(rt: HostRuntime) {
     for taken in 0..29 {
         assert!(rt; tells_the_write(rt.alloc(), taken), "after {taken}");
     }
+}
+
+/// Whether what a command prints is handed on by a writer that does so only where it is flushed, and whether a flush that
+/// fails is told.
+fn flushes(alloc: Global) -> bool {
+    let (mut printed, mut told) = ([0u8; 128], [0u8; 128]);
+    let mut handed_on = 0;
+    let mut out = Buffer::new(&mut printed, &mut handed_on, 1);
+    let mut err = Sink::new(&mut told, 1000, u32::MAX, u32::MAX);
+    let status = check_text(alloc, b"", &mut out, &mut err);
+    if status != 1 || handed_on != EMPTY_FILE.len() {
+        return false;
+    }
+    let mut out = Buffer::new(&mut printed, &mut handed_on, 0);
+    check_text(alloc, b"", &mut out, &mut err) == 4
+}
+
+#[test]
+fn what_is_printed_is_flushed(rt: HostRuntime) {
+    assert!(rt; flushes(rt.alloc()));
 }
 
 #[test]
