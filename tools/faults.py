@@ -6,7 +6,7 @@ conversations and commands, and of the tests of the crates that are made for it 
 
 It runs bin/ob0 (or the program that the variable OB0 names) and the programs of tests that `make test` or `rt test` left in
 crates/NAME/out. OB0_LONG is how many messages the long conversation has (100,000), OB0_WALK about how many allocations of
-one test are refused (3,000): of more, each second, third and so on. The last line is 'N passed, M failed'."""
+one test are refused (10,000): of more, each second, third and so on. The last line is 'N passed, M failed'."""
 import os
 import subprocess
 import sys
@@ -25,7 +25,7 @@ import long_talk  # noqa: E402
 from harness import holds, same  # noqa: E402
 
 CRATES = ("ob0_tests_low", "ob0_tests_language", "ob0_tests_top")
-WALK = int(os.environ.get("OB0_WALK", "3000"))
+WALK = int(os.environ.get("OB0_WALK", "10000"))
 LONG = int(os.environ.get("OB0_LONG", "100000"))
 
 
