@@ -3,7 +3,7 @@
    OB0_MEMORY=N     the Nth call that takes memory is refused; OB0_MEMORY=N.. it and all behind it
    OB0_READS=N      standard input gives one byte a call, and fails at the Nth call
    OB0_WRITES=N     standard output takes one byte a call, and fails once it has taken N; OB0_WRITES=N.. it then takes none
-   OB0_TELL=FD      to this descriptor is written: `f` once a call was refused or failed, and at the end how many calls
+   OB0_REPORT=FD      to this descriptor is written: `f` once a call was refused or failed, and at the end how many calls
                     for memory there were */
 #define _GNU_SOURCE
 #include <dlfcn.h>
@@ -13,8 +13,8 @@
 #include <string.h>
 #include <unistd.h>
 
-static long memory_at, reads_at, writes_at = -1, tell = -1;
-static int all_memory, takes_none, is_ready, has_told;
+static long memory_at, reads_at, writes_at = -1, report_to = -1;
+static int all_memory, takes_none, is_ready, has_reported;
 static long memory_calls, reads, written;
 
 static void *(*real_malloc)(size_t);
@@ -42,21 +42,21 @@ __attribute__((constructor)) static void begin(void) {
   memory_at = number("OB0_MEMORY", 0, &all_memory);
   reads_at = number("OB0_READS", 0, NULL);
   writes_at = number("OB0_WRITES", -1, &takes_none);
-  tell = number("OB0_TELL", -1, NULL);
+  report_to = number("OB0_REPORT", -1, NULL);
   is_ready = 1;
 }
 
-static void told(void) {
-  if (tell >= 0 && !has_told) {
-    has_told = 1;
-    if (real_write((int)tell, "f", 1) != 1) _exit(99);
+static void report(void) {
+  if (report_to >= 0 && !has_reported) {
+    has_reported = 1;
+    if (real_write((int)report_to, "f", 1) != 1) _exit(99);
   }
 }
 
 __attribute__((destructor)) static void end(void) {
   char text[32];
   int size = snprintf(text, sizeof text, "%ld", memory_calls);
-  if (tell >= 0 && real_write((int)tell, text, (size_t)size) != size) _exit(99);
+  if (report_to >= 0 && real_write((int)report_to, text, (size_t)size) != size) _exit(99);
 }
 
 static int is_refused(void) {
@@ -64,7 +64,7 @@ static int is_refused(void) {
   memory_calls++;
   if (!memory_at) return 0;
   if (memory_calls != memory_at && !(all_memory && memory_calls > memory_at)) return 0;
-  told();
+  report();
   errno = ENOMEM;
   return 1;
 }
@@ -88,7 +88,7 @@ ssize_t read(int file, void *bytes, size_t size) {
   if (!real_read) real_read = dlsym(RTLD_NEXT, "read");
   if (file == 0 && reads_at) {
     if (++reads == reads_at) {
-      told();
+      report();
       errno = EIO;
       return -1;
     }
@@ -102,7 +102,7 @@ ssize_t write(int file, const void *bytes, size_t size) {
   if (!real_write) real_write = dlsym(RTLD_NEXT, "write");
   if (file == 1 && writes_at >= 0 && size) {
     if (written == writes_at) {
-      told();
+      report();
       if (takes_none) return 0;
       errno = ENOSPC;
       return -1;

@@ -4,6 +4,7 @@ import functools
 import os
 import subprocess
 import tempfile
+import threading
 
 import harness
 from harness import Failed, holds, same, want
@@ -13,9 +14,17 @@ PROCESSORS = len(os.sched_getaffinity(0))
 ROOM = []  # the folder of the library, kept until the end
 
 
-@functools.lru_cache(None)
+LOCK = threading.Lock()
+
+
 def library():
     """The preloaded library, compiled at the first use."""
+    with LOCK:
+        return compiled()
+
+
+@functools.lru_cache(None)
+def compiled():
     want("cc")
     ROOM.append(tempfile.TemporaryDirectory())
     made = os.path.join(ROOM[0].name, "failing.so")
@@ -29,30 +38,30 @@ def library():
 class Ran(harness.Ended):
     """A run, whether anything was refused or failed in it, and how often it called for memory."""
 
-    def __init__(self, out, err, status, told):
+    def __init__(self, out, err, status, reported):
         super().__init__(out, err, status)
-        self.is_touched = told.startswith("f")
-        self.calls = int(told.lstrip("f") or 0)
+        self.is_touched = reported.startswith("f")
+        self.calls = int(reported.lstrip("f") or 0)
 
 
 def run(words, given=b"", cwd=None, **fails):
     """Runs a program; `memory`, `reads` and `writes` say what fails, as failing.c has it."""
-    told, tells = os.pipe()
+    reported, reports = os.pipe()
     named = {f"OB0_{name.upper()}": str(value) for name, value in fails.items() if value is not None}
     # (nothing else of this environment: what a program takes in before main is not to hang on it)
-    environment = {**named, "LD_PRELOAD": library(), "OB0_TELL": str(tells), "PATH": os.environ.get("PATH", "")}
+    environment = {**named, "LD_PRELOAD": library(), "OB0_REPORT": str(reports), "PATH": os.environ.get("PATH", "")}
     how = {"stdin": subprocess.PIPE, "stdout": subprocess.PIPE, "stderr": subprocess.PIPE, "env": environment, "cwd": cwd}
     try:
-        with subprocess.Popen(words, pass_fds=[tells], **how) as process:
-            os.close(tells)
+        with subprocess.Popen(words, pass_fds=[reports], **how) as process:
+            os.close(reports)
             try:
                 out, err = process.communicate(given, timeout=harness.SECONDS)
             except subprocess.TimeoutExpired:
                 process.kill()
                 raise Failed(f"{words} had not ended after {harness.SECONDS} seconds, where {fails}") from None
-        return Ran(out, err, process.returncode, os.read(told, 100).decode())
+        return Ran(out, err, process.returncode, os.read(reported, 100).decode())
     finally:
-        os.close(told)
+        os.close(reported)
 
 
 def each(numbers, attempt):

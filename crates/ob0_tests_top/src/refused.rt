@@ -77,30 +77,30 @@ fn a_refused_allocation_ends_a_conversation(rt: HostRuntime) -> Result<(), Fail>
     Ok(())
 }
 
-/// What is left of the messages that go, once a step has sent the first of them.
-fn left_after<'a>(step: &Step, goes: &'a [&'static str]) -> Option<&'a [&'static str]> {
-    let mut left = goes;
-    for message in &step.send {
-        let (first, others) = left.split_first()?;
-        if message.as_slice() != first.as_bytes() {
-            return None;
-        }
-        left = others;
+/// Whether a step sends the next of these messages, where so many of them were sent before it.
+fn sends_next(step: &Step, goes: &[&'static str], sent: usize) -> bool {
+    if sent > goes.len() {
+        return false;
     }
-    Some(left)
+    let left = &goes[sent..];
+    step.send.len() <= left.len()
+        && step.send.iter().zip(left).all(|(message, wanted)| message.as_slice()
+            == wanted.as_bytes())
 }
 
 /// Whether each content is answered as without refusal, up to one whose memory is refused, and every later one as failed.
 fn fails_from_there_on(alloc: Global, talk: &Talk) -> bool {
     let mut session: Session<Whole> = Session::new(alloc);
-    let mut left = talk.goes;
+    let mut sent: usize = 0;
     let mut has_failed = false;
     for content in talk.comes {
         match session.step(content.as_bytes()) {
-            Ok(step) => match left_after(&step, left) {
-                Some(others) if !has_failed => left = others,
-                _ => return false,
-            },
+            Ok(step) => {
+                if has_failed || !sends_next(&step, talk.goes, sent) {
+                    return false;
+                }
+                sent = sent.saturating_add(step.send.len());
+            }
             Err(SessionFault::Memory) => {
                 if has_failed {
                     return false;
@@ -114,7 +114,7 @@ fn fails_from_there_on(alloc: Global, talk: &Talk) -> bool {
             }
         }
     }
-    has_failed || left.is_empty()
+    has_failed || sent == talk.goes.len()
 }
 
 #[test]
