@@ -7,13 +7,14 @@
 # and beside them:
 #   make editors           installs the editors and tools that the end-to-end tests want, by apt-get
 #   make end-to-end        the end-to-end tests alone, on bin/ob0
+#   make faults            what takes longer: memory refused at each allocation, and one long conversation; WORDS=".." names some
 #   make wrong-bodies      tries each crate's wrong bodies, all at once where that can be; CRATE="NAME.." names some
 #   make surface           the public functions, who uses them and their wrong bodies: docs/SURFACE.md
 #   make bench             times the program; nothing fails by time
 PREFIX ?= /usr/local
 PYTHON ?= python3
 
-.PHONY: demo test build editors end-to-end wrong-bodies surface bench install python
+.PHONY: demo test build editors end-to-end faults wrong-bodies surface bench install python
 
 demo: python
 	@$(PYTHON) tools/demo.py
@@ -29,6 +30,9 @@ editors: python
 
 end-to-end: build
 	@$(PYTHON) tests/run.py
+
+faults: build
+	@$(PYTHON) tools/faults.py $(WORDS)
 
 wrong-bodies: python
 	@$(PYTHON) tools/wrong_bodies.py $(CRATE)

@@ -337,6 +337,24 @@ def asked(text, method, params, expected, count, **capabilities):
 USES = (("on many lines", False), ("on one line", True))
 
 
+@measure("large: the largest that is taken, beside half of it")
+def largest():
+    """A ratio of 1 is a cost that grows with the size; the start of the program is taken away."""
+    import large
+
+    nothing = best(3, lambda: Timed([BINARY, "serve"], frames([initialize(), SHUTDOWN, EXIT]))).processor
+    for name, (size, make) in large.CASES.items():
+        taken = []
+        for count in (size // 2, size):
+            given, wanted = large.conversation(make, count)
+            found = best(3, lambda given=given: Timed([BINARY, "serve"], given))
+            taken.append((max(found.processor - nothing, 1e-3), found.memory))
+            if found.status or found.out != frames(wanted):
+                said("NOTE: another answer was expected", f"{name}: status {found.status}, {len(found.out):,} bytes")
+        (half, low), (whole, high) = taken
+        said(f"{name}, {size:,}", f"{whole:7.3f} s, ratio {whole / half / 2:.2f}; {megabytes(high)}, of half of it {megabytes(low)}")
+
+
 @measure("questions: references of one name, 10,000 and 100,000")
 def referred():
     ask = {"context": {"includeDeclaration": True}, "position": place(0, 18)}

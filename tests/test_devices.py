@@ -1,10 +1,13 @@
-"""What the program does where memory is refused, or where a reader or writer fails."""
+"""What the program does where memory runs out, or where a reader or writer fails, at each byte of the first conversation."""
 import os
 import subprocess
 import sys
 
+import failing
 import harness
+import hostile
 from harness import EXIT, SHUTDOWN, TOP, did_change, did_open, frames, holds, initialize, same, serve, test
+from test_stream import BORDERS, INPUT, OUT, OUTPUT
 
 sys.path.insert(0, os.path.join(TOP, "bench"))
 
@@ -20,7 +23,7 @@ def limited(kilobytes):
     return ran.returncode, ran.stderr, ran.stdout
 
 
-@test("devices: want of memory is told, and what was sent before stands")
+@test("devices: where memory runs out, what was sent before is whole")
 def memory():
     whole = serve(TALK)
     contents = whole.contents()
@@ -41,7 +44,47 @@ def memory():
     holds(ends["refused"] and ends["done"], f"the limits showed only one end: {ends}")
 
 
-@test("devices: a reader that fails")
+def ended(found, out, status, err, where):
+    same((found.out, found.err, found.status), (out, err, status), where)
+
+
+@test("devices: a reader that fails at each byte of the first conversation")
+def failing_reader():
+    # (the exit is taken with its last byte: the call behind it is never made)
+    for number, found in failing.each(range(1, len(INPUT) + 1), lambda at: failing.run([harness.BINARY, "serve"], INPUT, reads=at)):
+        answered = len([it for it in BORDERS[1:] if it < number])
+        ended(found, frames(OUT[:answered]), 4, b"fault: Read\n", f"call {number} fails")
+    ended(failing.run([harness.BINARY, "serve"], INPUT, reads=len(INPUT) + 1), OUTPUT, 0, b"", "the call behind the exit")
+
+
+@test("devices: a writer that takes one byte a call and fails, or takes none, behind each byte of the first conversation")
+def failing_writer():
+    for ending in ("", ".."):
+        wrote = lambda at, on=ending: failing.run([harness.BINARY, "serve"], INPUT, writes=f"{at}{on}")
+        for number, found in failing.each(range(len(OUTPUT)), wrote):
+            ended(found, OUTPUT[:number], 4, b"fault: Write\n", f"{number} bytes taken{' and then none' if ending else ''}")
+        ended(wrote(len(OUTPUT)), OUTPUT, 0, b"", "room for all")
+
+
+@test("devices: a writer that fails behind each byte that a command prints")
+def failing_printer():
+    for name, status in (("check a text with two faults", 1), ("run a module", 0), ("rename a variable", 0)):
+        words, given, text = hostile.SHORT[name]
+        plain = failing.on_file(words, given, text)
+        holds(plain.out and plain.status == status, f"{name}: {plain.out!r}, status {plain.status}")
+        for number, found in failing.each(range(len(plain.out)), lambda at: failing.on_file(words, given, text, writes=at)):
+            ended(found, plain.out[:number], 4, b"fault: Write\n", f"{name}: {number} bytes taken")
+
+
+@test("devices: an input that fails at each byte of what a run reads")
+def failing_input():
+    words, _, text = hostile.SHORT["run a module"]
+    for number in range(1, 5):
+        found = failing.on_file(words, b"1 2", text, reads=number)
+        ended(found, b"", 4, b"fault: Input\n", f"call {number} fails")
+
+
+@test("devices: a folder in the place of an input")
 def reader():
     folder = os.open("/", os.O_RDONLY)
     try:

@@ -1,10 +1,14 @@
 """Bytes in, bytes out: the first conversation in every cutting, streams that end early, heads that are refused."""
+import json
 import os
+import random
 import subprocess
 
 import harness
 from harness import capabilities, compact, frame, frames, holds, initialize, run, same, serve, serve_in_pieces, test, unframed
 from harness import SHUTDOWN, EXIT, request
+
+COUNT, SEED = int(os.environ.get("OB0_RANDOM", "300")), int(os.environ.get("OB0_SEED", "0"))
 
 IN = [
     b'{"id":1,"jsonrpc":"2.0","method":"initialize","params":{"capabilities":{}}}',
@@ -146,9 +150,22 @@ def taken_heads():
         same((found.out, found.err, found.status), (NO_MESSAGE, b"", 1), name)
 
 
-@test("stream: a head in small letters, with a further field, in the first conversation")
-def other_spelling():
-    ended(run(["serve"], INPUT[: BORDERS[3]] + b"content-length:33 \r\nX-a: b\r\n\r\n" + IN[3]), OUTPUT, 0)
+# what may stand in the place of the head `Content-Length: 33` of the last message
+LAST_HEADS = {
+    "small letters and a further field": b"content-length:33 \r\nX-a: b\r\n\r\n",
+    "leading zeros": b"Content-Length: 0033\r\n\r\n",
+    "lines that end with LF alone": b"Content-Length: 33\n\n",
+    "16 fields": b"X: y\r\n" * 15 + b"Content-Length: 33\r\n\r\n",
+    "4,096 bytes": b"X: " + b"y" * (4096 - 3 - 2 - len(b"Content-Length: 33\r\n\r\n")) + b"\r\nContent-Length: 33\r\n\r\n",
+}
+
+
+@test("stream: other heads of the last message of the first conversation")
+def other_heads():
+    same(len(LAST_HEADS["4,096 bytes"]), 4096, "the length of that head")
+    for name, head in LAST_HEADS.items():
+        found = run(["serve"], INPUT[: BORDERS[3]] + head + IN[3])
+        same((found.out, found.err, found.status), (OUTPUT, b"", 0), name)
 
 
 @test("stream: 4,095 bytes with no empty line, and the end")
@@ -183,3 +200,39 @@ def gone_reader():
         os.close(writer)
         _, err = process.communicate(frames([initialize(), request(2, "shutdown"), EXIT]), timeout=harness.SECONDS)
     same((err, process.returncode), (b"fault: Write\n", 4))
+
+
+# sequences of bytes that are no UTF-8
+BROKEN = [b"\xff", b"\x80", b"\xc3", b"\xc0\x80", b"\xc1\xbf", b"\xe2\x82", b"\xe0\x80\xaf", b"\xed\xa0\x80", b"\xf0\x9f\x98", b"\xf4\x90\x80\x80", b"\xf8\x88\x80\x80\x80"]
+
+
+@test("stream: contents with bytes that are no UTF-8 are no JSON, wherever these stand")
+def broken_utf8():
+    refused = '{"error":{"code":-32700,"message":"not JSON"},"id":null,"jsonrpc":"2.0"}'
+    places = [IN[1].index(it) + len(it) for it in (b"{", b'"te', b"MODULE M; ", b'"file:')]
+    for at in places:
+        contents = [IN[1][:at] + it + IN[1][at:] for it in BROKEN]
+        found = serve([IN[0], *contents])
+        same((found.contents(), found.err, found.status), ([FIRST.decode(), *[refused] * len(BROKEN)], b"", 1), f"at byte {at}")
+
+
+def mutated(seed):
+    """The first conversation with some of its bytes changed, taken out, doubled or put in."""
+    chance, given = random.Random(seed), bytearray(INPUT)
+    for _ in range(chance.choice([1, 1, 2, 5, 20])):
+        at = chance.randrange(len(given))
+        end = at + chance.choice([0, 1, 1, 2, 30])
+        new = chance.choice([b"", bytes([chance.randrange(256)]), bytes(given[at:end]) * 2, b"0", b"\r\n", b'"', b"\\u0000", b"{", b"}"])
+        given[at:end] = new
+    return bytes(given)
+
+
+@test("stream: bytes that are changed at random end a conversation with one of its statuses, and all that is sent is whole")
+def garbage():
+    for seed in range(SEED, SEED + COUNT):
+        found = serve(mutated(seed))
+        where = f"seed {seed}, {mutated(seed)!r}"
+        ends = {0: [b""], 1: [b""], 3: [b"fault: BadHead\n", b"fault: Truncated\n"]}
+        holds(found.err in ends.get(found.status, []), f"{where}: status {found.status}, {found.err!r}")
+        for it in found.contents():
+            holds(json.loads(it)["jsonrpc"] == "2.0", f"{where}: {it}")

@@ -1,6 +1,6 @@
 #!/usr/bin/env python3
 """Installs by apt-get what the tests want beside the program: the editors that editors/ has packages for, as far as
-Debian has them, and the programs that read syntax files, completions and the manual page.
+Debian has them, the programs that read syntax files, completions and the manual page, and a C compiler.
 
   tools/editors.py          installs what is missing
   tools/editors.py --list   says what is here and what is missing
@@ -49,6 +49,7 @@ TOOLS = {
     "kate-syntax-highlighter": (here("kate-syntax-highlighter"), "libkf5syntaxhighlighting-tools"),
     "Ruby": (here("ruby"), "ruby"),
     "Node": (here("node"), "nodejs"),
+    "cc": (here("cc"), "gcc"),
     "bash": (here("bash"), "bash"),
     "zsh": (here("zsh"), "zsh"),
     "fish": (here("fish"), "fish"),

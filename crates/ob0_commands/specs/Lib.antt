@@ -1,4 +1,5 @@
 pub mod Numbers
+pub mod Outputs
 pub mod Printed
 pub mod Renamed
 pub mod Statuses

@@ -8,18 +8,17 @@ ghost use Rattle.ob0_scan.specs.Scanned.{max_text};
 ghost use Rattle.ob0_analysis.specs.Diagnosed.{Tells, complaint_in};
 
 use crate::faults::{Fault, tell_fault};
-use crate::printing::print;
+use crate::printing::{Output, print};
 use crate::reading::MAX_FILE;
 use ob0_analysis::{Diagnosis, diagnose};
 use ob0_text::{Lines, Position, TextStore};
 use std::alloc::{AllocError, Global};
-use std::io::Write;
 
 /// Prints one line `L:C: Code: message` for each diagnostic of a file to `out`, by its start, in lines and UTF-16 units
 /// from 0 on, and a fault to `err` as `fault: NAME`. The file's bytes are all of it, or the first 1,048,577. Answers the
 /// status with which the program ends: 0 for a module with no diagnostic, 1 for diagnostics, 4 for bytes that are no
 /// UTF-8 or a failed write, 5 for want of memory.
-pub fn check_text<O: Write, E: Write>(alloc: Global, file: &[u8], out: &mut O, err: &mut E) -> u8
+pub fn check_text<O: Output, E: Output>(alloc: Global, file: &[u8], out: &mut O, err: &mut E) -> u8
     ensures nothing { result ≡ 0 → Tells file.now [] }
     ensures quiet { result ≡ 0 → out.new ≡ out.old }
     ensures told { result ≡ 1 → TellsWrong file.now (O.contents out.old) (O.contents out.new) }
@@ -33,7 +32,7 @@ pub fn check_text<O: Write, E: Write>(alloc: Global, file: &[u8], out: &mut O, e
 
 /// The text of a file that is without diagnostics; else they are printed. A file of more bytes than a text may have is
 /// too long whatever they are.
-pub fn check<'f, O: Write>(
+pub fn check<'f, O: Output>(
     alloc: Global,
     file: &'f [u8],
     out: &mut O,
@@ -53,7 +52,7 @@ pub fn check<'f, O: Write>(
 }
 
 /// The text of a file that isn't too long; else that is printed.
-pub fn text_of<'f, O: Write>(file: &'f [u8], out: &mut O) -> Result<Option<&'f str>, Fault>
+pub fn text_of<'f, O: Output>(file: &'f [u8], out: &mut O) -> Result<Option<&'f str>, Fault>
     ensures found { IfOk result (λ found. MatchOption found ((max_text < length file.entry.now) × Appends (O.contents out.old) (O.contents out.new) (codes "0:0: TooLong: text too long\n")) (λ text. (text.now ≡ file.entry.now) × (out.new ≡ out.old))) }
     ensures fault { IfErr result (StopsTelling file.entry.now) }
 {
@@ -68,7 +67,7 @@ pub fn text_of<'f, O: Write>(file: &'f [u8], out: &mut O) -> Result<Option<&'f s
 }
 
 /// Prints what is wrong with a text.
-pub fn print_diagnoses<O: Write>(
+pub fn print_diagnoses<O: Output>(
     alloc: Global,
     text: &str,
     told: &[Diagnosis],

@@ -4,9 +4,8 @@ ghost use Rattle.std.specs.Prelude.{◌≡◌, ◌≤◌};
 ghost use Rattle.ob0_commands.specs.Printed.{fault_line};
 ghost use Rattle.ob0_commands.specs.Statuses.{status_of};
 
-use crate::printing::print;
+use crate::printing::{Output, print};
 use std::alloc::{AllocError, AllocFailed};
-use std::io::Write;
 
 /// Why a command on a file gave up. Each is told by its name.
 #[derive(Clone, Copy, PartialEq, Eq)]
@@ -70,7 +69,7 @@ impl<T: Drop> From<AllocFailed<T>> for Fault {
 
 /// Prints a fault to `err`, and answers the status with which the program ends. A fault that can't be told keeps its
 /// status.
-pub fn tell_fault<E: Write>(fault: Fault, err: &mut E) -> u8
+pub fn tell_fault<E: Output>(fault: Fault, err: &mut E) -> u8
     ensures status { result ≡ status_of fault }
     ensures fails { 4 ≤ result }
 {

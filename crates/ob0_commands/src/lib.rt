@@ -11,6 +11,7 @@ mod running;
 
 pub use checking::check_text;
 pub use faults::{Fault, tell_fault};
+pub use printing::{Flushed, Output};
 pub use reading::{MAX_FILE, read_file};
 pub use renaming::rename_text;
 pub use running::run_text;

@@ -6,18 +6,17 @@ ghost use Rattle.ob0_commands.specs.Statuses.{StopsPrinting};
 
 use crate::checking::{print_diagnoses, text_of};
 use crate::faults::{Fault, tell_fault};
-use crate::printing::print;
+use crate::printing::{Output, print};
 use ob0_analysis::Asked;
 use ob0_rename::rename_in;
 use ob0_text::{Edit, EditRefusal, Lines, Position, TextStore, patch};
 use std::alloc::Global;
-use std::io::Write;
 
 /// Prints to `out` a file's text with `new` in place of the name at a position, which counts lines and UTF-16 units from 0
 /// on. A refused name is told to `err` as `refused: TEXT`, and a file that is no well-typed module as by `check_text`. Answers
 /// the status with which the program ends: 0 for a text, 1 for a refusal or diagnostics, 4 for bytes that are no UTF-8 or a
 /// failed write, 5 for want of memory.
-pub fn rename_text<O: Write, E: Write>(
+pub fn rename_text<O: Output, E: Output>(
     alloc: Global,
     file: &[u8],
     position: Position,
@@ -34,7 +33,7 @@ pub fn rename_text<O: Write, E: Write>(
     }
 }
 
-fn rename_file<O: Write, E: Write>(
+fn rename_file<O: Output, E: Output>(
     alloc: Global,
     file: &[u8],
     position: Position,
@@ -51,7 +50,7 @@ fn rename_file<O: Write, E: Write>(
     rename_in_text(alloc, text, position, new, out, err)
 }
 
-fn rename_in_text<O: Write, E: Write>(
+fn rename_in_text<O: Output, E: Output>(
     alloc: Global,
     text: &str,
     position: Position,
@@ -74,7 +73,7 @@ fn rename_in_text<O: Write, E: Write>(
 
 /// Prints the text that the edits make to `out`, or the refusal to `err` as `refused: TEXT`. Answers the status with
 /// which the program ends: 0 for edits, 1 for a refusal.
-pub fn print_edited<T: TextStore, O: Write, E: Write>(
+pub fn print_edited<T: TextStore, O: Output, E: Output>(
     alloc: Global,
     store: &T,
     edits: Result<Vec<Edit>, EditRefusal>,

@@ -14,13 +14,13 @@ ghost use Rattle.ob0_commands.specs.TextRuns.{PrintsDone, PrintsOther, RunsAs};
 use crate::checking::check;
 use crate::faults::{Fault, tell_fault};
 use crate::numbers::read_numbers;
-use crate::printing::print;
+use crate::printing::{Output, print};
 use ob0_analysis::{Asked, Question, ask};
 use ob0_run::running::{End, Outcome, run};
 use ob0_run::state::Item;
 use ob0_types::checked::WellTyped;
 use std::alloc::{AllocError, Global};
-use std::io::{Read, Write};
+use std::io::Read;
 
 /// The run of a text's module.
 #[derive(Drop)]
@@ -45,7 +45,7 @@ impl<'i> Question for RunOf<'i> {
 /// that isn't a module is told as by `check_text`, before the input is read. Answers the status with which the program
 /// ends: 0 for Done, 1 for another end and for diagnostics, 4 and 5 as `check_text`, 4 also for an input that can't be read,
 /// is too long or is no list of numbers.
-pub fn run_text<R: Read, O: Write, E: Write>(
+pub fn run_text<R: Read, O: Output, E: Output>(
     alloc: Global,
     file: &[u8],
     input: &mut R,
@@ -63,7 +63,7 @@ pub fn run_text<R: Read, O: Write, E: Write>(
     }
 }
 
-fn run_file<R: Read, O: Write, E: Write>(
+fn run_file<R: Read, O: Output, E: Output>(
     alloc: Global,
     file: &[u8],
     input: &mut R,
@@ -122,7 +122,7 @@ fn line_of(end: End) -> Option<&'static str>
 
 /// Prints what a run put out to `out`, and an end other than `Done` to `err`. Answers the status with which the program
 /// ends: 0 for `Done`, else 1.
-pub fn print_outcome<O: Write, E: Write>(
+pub fn print_outcome<O: Output, E: Output>(
     alloc: Global,
     output: &[Item],
     end: End,

@@ -272,7 +272,7 @@ fn each_kind_of_name_is_shown(rt: HostRuntime) -> Result<(), Fail> {
     Ok(())
 }
 
-// To be run with each allocation refused in turn.
+// `make faults` runs this with each allocation refused in turn.
 #[test]
 fn a_refused_allocation_changes_no_answer(rt: HostRuntime) {
     for row in SHOWN {

@@ -201,7 +201,7 @@ fn worked_modules_are_run(rt: HostRuntime) -> Result<(), Fail> {
     Ok(())
 }
 
-// To be run with each allocation refused in turn.
+// `make faults` runs this with each allocation refused in turn.
 #[test]
 fn a_refused_allocation_changes_no_run(rt: HostRuntime) {
     for row in ROWS {

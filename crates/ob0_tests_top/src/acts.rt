@@ -1,7 +1,7 @@
 //! Worlds as tables: what happens and what is seen of it, and what has come of it all.
 
 use crate::commands::{Command, ends};
-use ob0_text::{Change, Indent, Position, Range, TextStore, Unit};
+use ob0_text::{Change, Indent, Lines, Position, Range, TextStore, Unit};
 use ob0_world::{Ask, Event, Played, Seen, World, WorldFault};
 use std::alloc::{AllocError, Global};
 
@@ -199,49 +199,82 @@ pub fn is_seen<T: TextStore>(alloc: Global, unit: Unit, story: &Story) -> Result
     Ok(true)
 }
 
-/// Whether the world has ended, and says so.
-fn has_ended<T: TextStore>(world: &mut World<T>, event: &Event) -> bool {
-    let steps = world.steps();
-    if steps > 1_000_000 {
-        return false;
-    }
-    match world.step(event) {
-        Ok(_seen) => false,
-        Err(fault) => fault == WorldFault::Ended && world.steps() == steps,
+/// An event, made a second time where its memory is refused.
+fn event_again(alloc: Global, act: Act) -> Result<Event, AllocError> {
+    match event_of(alloc, act) {
+        Ok(event) => Ok(event),
+        Err(AllocError) => event_of(alloc, act),
     }
 }
 
-/// Whether each event shows what it is to show; where memory is refused, whether the world has ended for good.
-pub fn ends_for_good<T: TextStore>(alloc: Global, story: &Story) -> Result<bool, AllocError> {
-    let Ok(mut world) = World::<T>::new(alloc) else {
+/// Whether each event shows what it is to show, up to one whose memory is refused, and each later one that the world has
+/// ended.
+pub fn ends_at_refusal(alloc: Global, unit: Unit, story: &Story) -> Result<bool, AllocError> {
+    let begun = match World::<Lines>::new_in(alloc, unit) {
+        Ok(world) => Ok(world),
+        Err(_refused) => World::<Lines>::new_in(alloc, unit),
+    };
+    let Ok(mut world) = begun else {
         return Err(AllocError);
     };
+    let mut has_ended = false;
     for moment in story.moments {
         let (act, wanted) = *moment;
-        let event = event_of(alloc, act)?;
+        let event = event_again(alloc, act)?;
         if world.steps() > 1_000_000 {
             return Ok(false);
         }
         match world.step(&event) {
-            Ok(seen) => if sight_of(&seen) != wanted {
-                return Ok(false);
-            },
-            Err(fault) => {
-                let ended = fault == WorldFault::Memory && has_ended(&mut world, &event);
-                return Ok(ended && has_ended(&mut world, &event));
+            Ok(seen) => {
+                if has_ended || sight_of(&seen) != wanted {
+                    return Ok(false);
+                }
+            }
+            Err(WorldFault::Memory) => {
+                if has_ended {
+                    return Ok(false);
+                }
+                has_ended = true;
+            }
+            Err(WorldFault::Ended) => {
+                if !has_ended {
+                    return Ok(false);
+                }
             }
         }
     }
     Ok(true)
 }
 
-/// What all events of a story together leave, where positions are in UTF-16 units.
-fn played<T: TextStore>(alloc: Global, story: &Story) -> Result<Played, AllocError> {
+fn events_of(alloc: Global, story: &Story) -> Result<Vec<Event>, AllocError> {
     let mut events = Vec::new(alloc);
     for moment in story.moments {
         let (act, _seen) = *moment;
         events.push(event_of(alloc, act)?)?;
     }
+    Ok(events)
+}
+
+/// How many edits and publications a story leaves where it is played up to an event whose memory is refused, or to its end;
+/// None where they aren't the first that it is to leave.
+pub fn played(alloc: Global, story: &Story) -> Result<Option<(usize, usize)>, AllocError> {
+    let events = match events_of(alloc, story) {
+        Ok(events) => events,
+        Err(AllocError) => events_of(alloc, story)?,
+    };
+    let played = match World::<Lines>::play(alloc, events.as_slice()) {
+        Ok(played) => played,
+        Err(fault) => fault.played,
+    };
+    if !is_front(story, &played) {
+        return Ok(None);
+    }
+    Ok(Some((played.applied.len(), played.made.len())))
+}
+
+/// What all events of a story together leave, where positions are in UTF-16 units.
+fn outcome_of<T: TextStore>(alloc: Global, story: &Story) -> Result<Played, AllocError> {
+    let events = events_of(alloc, story)?;
     match World::<T>::play(alloc, events.as_slice()) {
         Ok(played) => Ok(played),
         Err(_fault) => Err(AllocError),
@@ -250,7 +283,7 @@ fn played<T: TextStore>(alloc: Global, story: &Story) -> Result<Played, AllocErr
 
 /// Whether all events together leave what they are to leave.
 pub fn has_come<T: TextStore>(alloc: Global, story: &Story) -> Result<bool, AllocError> {
-    let played = played::<T>(alloc, story)?;
+    let played = outcome_of::<T>(alloc, story)?;
     Ok(is_right(story, &played))
 }
 
@@ -259,7 +292,7 @@ pub type Run = (&'static [u8], u32, u32, (&'static str, &'static str, u8));
 
 /// Whether the texts before and after each edit that is applied have these runs.
 pub fn has_runs<T: TextStore>(alloc: Global, story: &Story, runs: &[Run]) -> Result<bool, AllocError> {
-    let played = played::<T>(alloc, story)?;
+    let played = outcome_of::<T>(alloc, story)?;
     for applied in &played.applied {
         for run in runs {
             let (input, calls, turns, wanted) = *run;
@@ -278,6 +311,13 @@ pub fn has_runs<T: TextStore>(alloc: Global, story: &Story, runs: &[Run]) -> Res
 fn is_right(story: &Story, played: &Played) -> bool {
     played.applied.len() == story.applied.len()
         && played.made.len() == story.made.len()
+        && is_front(story, played)
+}
+
+/// Whether what was played are the first edits and publications of a story.
+fn is_front(story: &Story, played: &Played) -> bool {
+    played.applied.len() <= story.applied.len()
+        && played.made.len() <= story.made.len()
         && played.applied.iter().zip(story.applied).all(|(applied, wanted)| {
             applied.before.as_str() == wanted.before && applied.after.as_str() == wanted.after
         })

@@ -1,7 +1,7 @@
 //! The commands over the bytes of files, and files, inputs and outputs that fail.
 
-use crate::devices::{Sink, Source, written};
-use ob0_commands::{Fault, check_text, read_file, rename_text, run_text, tell_fault};
+use crate::devices::{Buffer, Sink, Source, written};
+use ob0_commands::{Fault, Flushed, check_text, read_file, rename_text, run_text, tell_fault};
 use ob0_text::Position;
 use std::alloc::Global;
 use std::process::Abort;
@@ -25,8 +25,8 @@ fn status_of(
     printed: &mut [u8],
     told: &mut [u8],
 ) -> u8 {
-    let mut out = Sink::new(printed, 1, taken, u32::MAX);
-    let mut err = Sink::new(told, 1000, u32::MAX, u32::MAX);
+    let mut out = Flushed::new(Sink::new(printed, 1, taken, u32::MAX));
+    let mut err = Flushed::new(Sink::new(told, 1000, u32::MAX, u32::MAX));
     match command {
         Command::Check => check_text(alloc, file, &mut out, &mut err),
         Command::Run(input, calls, turns) => {
@@ -167,6 +167,26 @@ fn a_write_that_fails_is_told(rt: HostRuntime) {
     }
 }
 
+/// Whether what a command prints is handed on by a writer that does so only where it is flushed, and whether a flush that
+/// fails is reported.
+fn flushes(alloc: Global) -> bool {
+    let (mut printed, mut told) = ([0u8; 128], [0u8; 128]);
+    let mut handed_on = 0;
+    let mut out = Flushed::new(Buffer::new(&mut printed, &mut handed_on, 1));
+    let mut err = Flushed::new(Sink::new(&mut told, 1000, u32::MAX, u32::MAX));
+    let status = check_text(alloc, b"", &mut out, &mut err);
+    if status != 1 || handed_on != EMPTY_FILE.len() {
+        return false;
+    }
+    let mut out = Flushed::new(Buffer::new(&mut printed, &mut handed_on, 0));
+    check_text(alloc, b"", &mut out, &mut err) == 4
+}
+
+#[test]
+fn what_is_printed_is_flushed(rt: HostRuntime) {
+    assert!(rt; flushes(rt.alloc()));
+}
+
 #[test]
 fn a_file_that_fails_is_told(rt: HostRuntime) {
     let mut file = Source {
@@ -176,7 +196,7 @@ fn a_file_that_fails_is_told(rt: HostRuntime) {
     };
     assert!(rt; matches!(read_file(rt.alloc(), &mut file), Err(Fault::File)));
     let mut told = [0u8; 128];
-    let mut err = Sink::new(&mut told, 1000, u32::MAX, u32::MAX);
+    let mut err = Flushed::new(Sink::new(&mut told, 1000, u32::MAX, u32::MAX));
     assert!(rt; tell_fault(Fault::File, &mut err) == 4);
     assert!(rt; written(&told) == b"fault: File\n".as_slice());
 }
@@ -189,8 +209,8 @@ fn an_input_that_fails_is_told(rt: HostRuntime) {
         calls_left: 1,
     };
     let (mut printed, mut told) = ([0u8; 128], [0u8; 128]);
-    let mut out = Sink::new(&mut printed, 1000, u32::MAX, u32::MAX);
-    let mut err = Sink::new(&mut told, 1000, u32::MAX, u32::MAX);
+    let mut out = Flushed::new(Sink::new(&mut printed, 1000, u32::MAX, u32::MAX));
+    let mut err = Flushed::new(Sink::new(&mut told, 1000, u32::MAX, u32::MAX));
     let status = run_text(rt.alloc(), DIVIDES, &mut input, 0, 0, &mut out, &mut err);
     assert!(rt; status == 4 && written(&told) == b"fault: Input\n".as_slice());
 }

@@ -75,3 +75,46 @@ pub fn written(bytes: &[u8]) -> &[u8] {
     }
     bytes
 }
+
+/// A writer that keeps what it is given, and hands it on only where it is flushed: it fails once it has been flushed so often,
+/// or where no room is left.
+#[derive(Drop)]
+pub struct Buffer<'a> {
+    bytes: &'a mut [u8],
+    handed_on: &'a mut usize,
+    len: usize,
+    flushes_left: u32,
+}
+
+impl<'a> Buffer<'a> {
+    pub fn new(bytes: &'a mut [u8], handed_on: &'a mut usize, flushes_left: u32) -> Buffer<'a> {
+        Buffer {
+            bytes,
+            handed_on,
+            len: 0,
+            flushes_left,
+        }
+    }
+}
+
+impl<'a> Write for Buffer<'a> {
+    fn write(&mut self, buf: &[u8]) -> io::Result<usize> {
+        if self.len >= self.bytes.len() {
+            return Err(io::ErrorKind::Other.into());
+        }
+        let count = buf.len().min(self.bytes.len() - self.len);
+        let end = self.len + count;
+        self.bytes[self.len..end].copy_from_slice(&buf[..count]);
+        self.len = end;
+        Ok(count)
+    }
+
+    fn flush(&mut self) -> io::Result<()> {
+        if self.flushes_left == 0 {
+            return Err(io::ErrorKind::Other.into());
+        }
+        self.flushes_left -= 1;
+        *self.handed_on = self.len;
+        Ok(())
+    }
+}

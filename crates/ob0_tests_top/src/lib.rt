@@ -11,6 +11,8 @@ mod commands;
 #[cfg(test)]
 mod devices;
 #[cfg(test)]
+mod refused;
+#[cfg(test)]
 mod session;
 #[cfg(test)]
 mod stories;

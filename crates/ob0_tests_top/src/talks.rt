@@ -25,6 +25,21 @@ const HOVER: &str = "{\"id\":5,\"method\":\"textDocument/hover\"}";
 
 pub static TALKS: &[Talk] = &[
     Talk {
+        name: "a module is opened, and the session ends",
+        comes: &[
+            INITIALIZE,
+            "{\"method\":\"textDocument/didOpen\",\"params\":{\"textDocument\":{\"text\":\"MODULE M; BEGIN WriteLn END M.\",\"uri\":\"u\",\"version\":1}}}",
+            SHUTDOWN,
+            EXIT,
+        ],
+        goes: &[
+            INITIALIZED,
+            "{\"jsonrpc\":\"2.0\",\"method\":\"textDocument/publishDiagnostics\",\"params\":{\"diagnostics\":[],\"uri\":\"u\",\"version\":1}}",
+            SHUT_DOWN,
+        ],
+        result: Ok(0),
+    },
+    Talk {
         name: "requests after shutdown",
         comes: &[INITIALIZE, SHUTDOWN, HOVER, EXIT, HOVER],
         goes: &[
@@ -80,6 +95,20 @@ pub static TALKS: &[Talk] = &[
             "{\"jsonrpc\":\"2.0\",\"method\":\"textDocument/publishDiagnostics\",\"params\":{\"diagnostics\":[],\"uri\":\"u\",\"version\":1}}",
             "{\"jsonrpc\":\"2.0\",\"method\":\"textDocument/publishDiagnostics\",\"params\":{\"diagnostics\":[{\"code\":\"BadChar\",\"message\":\"bad character\",\"range\":{\"end\":{\"character\":1,\"line\":1},\"start\":{\"character\":0,\"line\":1}},\"severity\":1}],\"uri\":\"u\",\"version\":2}}",
             "{\"jsonrpc\":\"2.0\",\"method\":\"textDocument/publishDiagnostics\",\"params\":{\"diagnostics\":[],\"uri\":\"u\",\"version\":4}}",
+        ],
+        result: Ok(1),
+    },
+    Talk {
+        name: "changes that make one line ending of two",
+        comes: &[
+            INITIALIZE,
+            "{\"method\":\"textDocument/didOpen\",\"params\":{\"textDocument\":{\"text\":\"a\\rb\",\"uri\":\"u\",\"version\":1}}}",
+            "{\"method\":\"textDocument/didChange\",\"params\":{\"contentChanges\":[{\"range\":{\"end\":{\"character\":0,\"line\":1},\"start\":{\"character\":0,\"line\":1}},\"text\":\"\\n\"},{\"range\":{\"end\":{\"character\":1,\"line\":1},\"start\":{\"character\":1,\"line\":1}},\"text\":\"\\nc\"},{\"range\":{\"end\":{\"character\":1,\"line\":2},\"start\":{\"character\":0,\"line\":2}},\"text\":\"$\"}],\"textDocument\":{\"uri\":\"u\",\"version\":2}}}",
+        ],
+        goes: &[
+            INITIALIZED,
+            "{\"jsonrpc\":\"2.0\",\"method\":\"textDocument/publishDiagnostics\",\"params\":{\"diagnostics\":[{\"code\":\"Syntax\",\"message\":\"expected MODULE\",\"range\":{\"end\":{\"character\":1,\"line\":0},\"start\":{\"character\":0,\"line\":0}},\"severity\":1}],\"uri\":\"u\",\"version\":1}}",
+            "{\"jsonrpc\":\"2.0\",\"method\":\"textDocument/publishDiagnostics\",\"params\":{\"diagnostics\":[{\"code\":\"BadChar\",\"message\":\"bad character\",\"range\":{\"end\":{\"character\":1,\"line\":2},\"start\":{\"character\":0,\"line\":2}},\"severity\":1}],\"uri\":\"u\",\"version\":2}}",
         ],
         result: Ok(1),
     },

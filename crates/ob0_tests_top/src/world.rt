@@ -1,6 +1,6 @@
 //! Whole lists of events at both ends, step by step and played, in both units of positions.
 
-use crate::acts::{ends_for_good, has_come, has_runs, is_seen};
+use crate::acts::{has_come, has_runs, is_seen};
 use crate::stories::{ANOTHER_NAME, COUNTED, WORLDS};
 use ob0_text::{Lines, Unit, Whole};
 use std::process::Abort;
@@ -45,12 +45,5 @@ fn a_text_under_another_name_runs_as_before(rt: HostRuntime) -> Result<(), Fail>
     assert!(rt; is_seen::<Lines>(rt.alloc(), unit, &ANOTHER_NAME)?);
     assert!(rt; has_come::<Lines>(rt.alloc(), &ANOTHER_NAME)?);
     assert!(rt; has_runs::<Lines>(rt.alloc(), &ANOTHER_NAME, COUNTED)?);
-    Ok(())
-}
-
-#[test]
-fn want_of_memory_ends_a_world_for_good(rt: HostRuntime) -> Result<(), Fail> {
-    let goes_on = ends_for_good::<Lines>(rt.alloc(), &ANOTHER_NAME);
-    assert!(rt; !matches!(goes_on, Ok(false)));
     Ok(())
 }

@@ -1,0 +1,15 @@
+"""Memory that is refused: each allocation of the program in turn, alone and with all behind it. `make faults` does the same in
+longer conversations, and in the tests of the crates that are made for it."""
+import failing
+import hostile
+from harness import test
+
+
+def make(name, case):
+    @test(f"refused memory: {name}")
+    def walk():
+        failing.refused(name, *case)
+
+
+for key, given in hostile.SHORT.items():
+    make(key, given)
