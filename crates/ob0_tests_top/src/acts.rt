@@ -291,7 +291,11 @@ pub fn has_come<T: TextStore>(alloc: Global, story: &Story) -> Result<bool, Allo
 pub type Run = (&'static [u8], u32, u32, (&'static str, &'static str, u8));
 
 /// Whether the texts before and after each edit that is applied have these runs.
-pub fn has_runs<T: TextStore>(alloc: Global, story: &Story, runs: &[Run]) -> Result<bool, AllocError> {
+pub fn has_runs<T: TextStore>(
+    alloc: Global,
+    story: &Story,
+    runs: &[Run],
+) -> Result<bool, AllocError> {
     let played = outcome_of::<T>(alloc, story)?;
     for applied in &played.applied {
         for run in runs {
