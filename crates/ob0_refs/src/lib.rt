@@ -3,7 +3,7 @@
 #![tactic(auto)]
 
 mod answers;
-mod captures;
+mod capturing;
 mod declaring;
 mod field_hovers;
 mod hovering;
@@ -16,6 +16,6 @@ mod showing;
 mod typing;
 
 pub use answers::{At, Capture, Hover, Of};
-pub use captures::captures;
+pub use capturing::captures;
 pub use field_hovers::hover;
 pub use questions::{at, definition, references};

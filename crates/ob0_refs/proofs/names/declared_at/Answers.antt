@@ -7,7 +7,7 @@ pub returns-in-Some : goal.returns-in-Some
 returns-in-Some c =
     let m = c.args.names.now.module_read in
     let token = c.in-Some.token in
-    let source = c.tokens.ensures.source ∙ ap (λ (m : Parsed). m.source) c.module.ensures.value in
+    let source = c.tokens-tokens.ensures.source ∙ ap (λ (m : Parsed). m.source) c.module.ensures.value in
     let declaring = sym c.in-Some.is ∙ (c.declaring_token.ensures ∙ ap (λ ds. token_declaring ds c.args.ordinal) c.module.ensures.resolved.declaring) in
     ap Some (c.token_span.ensures ∙ ap (λ s. span_at s token) source) ∙ ap (option_map (span_at m.source)) declaring
 
