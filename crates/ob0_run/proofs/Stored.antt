@@ -97,12 +97,13 @@ with_nth-values_in (v ∷ vs) (suc i) new = ap (next_value v) (with_nth-values_i
 pub into : (done : Bool) (v : code.Value) (xs ys : Vec code.Value Global) (i : ℕ) (new : code.Value) → v ≡ code.Elements xs → Replaces done xs.items i new ys.items
     → PutsInto done (value_of v) i (value_of new) (value_of (code.Elements ys))
 into true v xs ys i new is h =
-    let old : (x : code.Value) × (slice_get xs.items i ≡ Some x) = get_less xs.items i h.0 in
-    (value_of old.0,
+    let old : (x : code.Value) × (slice_get xs.items i ≡ Some x) = get_less xs.items i h.0 in (
+      value_of old.0,
       ap (λ v. part (value_of v) (at_index i)) is ∙ ap (λ w. part w (at_index i)) (elements_made xs) ∙ nth-values_in (map value_of xs.items) i ∙ held xs.items i old.0 old.1,
       elements_made ys ∙ ap (λ vs. elements (values_in (map value_of vs))) h.1 ∙ ap (λ vs. elements (values_in vs)) (map-set value_of xs.items i new)
-      ∙ ap elements (sym (with_nth-values_in (map value_of xs.items) i (value_of new)))
-      ∙ sym (ap (λ w. with_part w (at_index i) (value_of new)) (ap value_of is ∙ elements_made xs)))
+          ∙ ap elements (sym (with_nth-values_in (map value_of xs.items) i (value_of new)))
+          ∙ sym (ap (λ w. with_part w (at_index i) (value_of new)) (ap value_of is ∙ elements_made xs)),
+    )
 into false v xs ys i new is h =
     elements_made ys ∙ ap (λ vs. elements (values_in (map value_of vs))) h ∙ sym (ap value_of is ∙ elements_made xs)
 

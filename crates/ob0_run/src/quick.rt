@@ -21,6 +21,7 @@ use ob0_tree::tree::{
 use ob0_values::scalar::Scalar;
 use ob0_values::value::{Place, Step, Value, count, part, read_place};
 
+#[inline(always)]
 fn signed_number(sign: Option<Sign>, a: i32) -> Option<i32>
     ensures { Finds number result (signed sign (number a)) }
 {
@@ -43,6 +44,7 @@ fn unsigned_truth(sign: Option<Sign>, a: bool) -> Option<bool>
     }
 }
 
+#[inline(always)]
 fn sum(operator: AddOperator, a: i32, b: i32) -> Option<i32>
     ensures { Finds number result (add operator (number a) (number b)) }
 {
@@ -72,6 +74,7 @@ fn remainder(a: i32, b: i32) -> Option<i32>
     Some(a.rem_euclid(b))
 }
 
+#[inline(always)]
 fn product(operator: MultiplyOperator, a: i32, b: i32) -> Option<i32>
     ensures { Finds number result (multiply operator (number a) (number b)) }
 {
@@ -83,6 +86,7 @@ fn product(operator: MultiplyOperator, a: i32, b: i32) -> Option<i32>
     }
 }
 
+#[inline(always)]
 fn compares(relation: Relation, a: i32, b: i32) -> bool
     ensures { result ≡ compare_numbers relation a b }
 {
@@ -110,6 +114,7 @@ fn compares_truths(relation: Relation, a: bool, b: bool) -> Option<bool>
     }
 }
 
+#[inline(always)]
 fn number_of(value: &Value) -> Option<i32>
     ensures { Finds number result (gives (value_of value.now)) }
 {
@@ -123,6 +128,7 @@ fn number_of(value: &Value) -> Option<i32>
     }
 }
 
+#[inline(always)]
 fn truth_of(value: &Value) -> Option<bool>
     ensures { Finds truth result (gives (value_of value.now)) }
 {
@@ -137,6 +143,7 @@ fn truth_of(value: &Value) -> Option<bool>
 }
 
 /// The index of an array's element, where it is within the array.
+#[inline(always)]
 pub(crate) fn index_in(value: &Value, i: i32) -> Option<usize>
     ensures { Finds at_index result (element_step (value_of value.now) (number i)) }
 {
@@ -150,6 +157,7 @@ pub(crate) fn index_in(value: &Value, i: i32) -> Option<usize>
     if i < length { Some(i) } else { None }
 }
 
+#[inline(always)]
 fn element<'v, 't>(value: &'v Value<'t>, i: i32) -> Option<&'v Value<'t>>
     ensures { Finds given result (element_by (value_of value.now) (number i)) }
 {
@@ -157,6 +165,7 @@ fn element<'v, 't>(value: &'v Value<'t>, i: i32) -> Option<&'v Value<'t>>
     part(value, Step::Index(i))
 }
 
+#[inline(always)]
 pub(crate) fn stored<'v, 't>(store: &'v [Value<'t>], variable: usize) -> Option<&'v Value<'t>>
     ensures { option_map given result ≡ slice_get (store_of store.now) variable }
 {
@@ -168,6 +177,7 @@ pub(crate) fn stored<'v, 't>(store: &'v [Value<'t>], variable: usize) -> Option<
 
 impl<'r, 't> Scene<'r, 't> {
     /// What stands at a place. Most places are whole variables.
+    #[inline(always)]
     fn placed(&self, place: &Place<'t>) -> Option<&'r Value<'t>>
         ensures { option_map given result ≡ read_place (store_of self.now.store.now) (place_of place.now) }
     {
@@ -178,6 +188,7 @@ impl<'r, 't> Scene<'r, 't> {
     }
 
     /// What the variable or constant of a name holds.
+    #[inline(always)]
     fn quick_held(&self, name: usize) -> Option<&'r Value<'t>>
         ensures { Finds given result (expressions.value_of (store_of self.now.store.now) (meant_by self.now (label_in self.now name))) }
     {
@@ -203,6 +214,7 @@ impl<'r, 't> Scene<'r, 't> {
         }
     }
 
+    #[inline(always)]
     #[cycle(numbers)]
     fn quick_sum(&self, s: &Simple) -> Option<i32>
         ensures { Finds number result (evaluate_simple (meaning_in self.now) (store_of self.now.store.now) (read_in self.now (simple_of s.now))) }
@@ -216,6 +228,7 @@ impl<'r, 't> Scene<'r, 't> {
     }
 
     /// A sum with one addend more.
+    #[inline(always)]
     #[cycle(numbers)]
     fn with_quick_addend(&self, addend: &Addend, so_far: i32) -> Option<i32>
         ensures { Finds number result (added_by (meaning_in self.now) (store_of self.now.store.now) (number so_far) (read_in self.now (addend_of addend.now))) }
@@ -224,6 +237,7 @@ impl<'r, 't> Scene<'r, 't> {
         sum(addend.operator, so_far, right)
     }
 
+    #[inline(always)]
     #[cycle(numbers)]
     fn quick_product(&self, t: &Term) -> Option<i32>
         ensures { Finds number result (evaluate_term (meaning_in self.now) (store_of self.now.store.now) (read_in self.now (term_of t.now))) }
@@ -236,6 +250,7 @@ impl<'r, 't> Scene<'r, 't> {
     }
 
     /// A product with one factor more.
+    #[inline(always)]
     #[cycle(numbers)]
     fn with_quick_multiplier(&self, multiplier: &Multiplier, so_far: i32) -> Option<i32>
         ensures { Finds number result (multiplied_by (meaning_in self.now) (store_of self.now.store.now) (number so_far) (read_in self.now (multiplier_of multiplier.now))) }
@@ -290,6 +305,7 @@ impl<'r, 't> Scene<'r, 't> {
         compares_truths(compared.relation, a, b)
     }
 
+    #[inline(always)]
     #[cycle(truths)]
     fn quick_or(&self, s: &Simple) -> Option<bool>
         ensures { Finds truth result (evaluate_simple (meaning_in self.now) (store_of self.now.store.now) (read_in self.now (simple_of s.now))) }
@@ -303,6 +319,7 @@ impl<'r, 't> Scene<'r, 't> {
     }
 
     /// `left OR right`, where the right side is evaluated only where the left one is FALSE.
+    #[inline(always)]
     #[cycle(truths)]
     fn or_quick_addend(&self, addend: &Addend, so_far: bool) -> Option<bool>
         ensures { Finds truth result (added_by (meaning_in self.now) (store_of self.now.store.now) (truth so_far) (read_in self.now (addend_of addend.now))) }
@@ -320,6 +337,7 @@ impl<'r, 't> Scene<'r, 't> {
         }
     }
 
+    #[inline(always)]
     #[cycle(truths)]
     fn quick_and(&self, t: &Term) -> Option<bool>
         ensures { Finds truth result (evaluate_term (meaning_in self.now) (store_of self.now.store.now) (read_in self.now (term_of t.now))) }
@@ -332,6 +350,7 @@ impl<'r, 't> Scene<'r, 't> {
     }
 
     /// `left & right`, where the right side is evaluated only where the left one is TRUE.
+    #[inline(always)]
     #[cycle(truths)]
     fn and_quick_multiplier(&self, multiplier: &Multiplier, so_far: bool) -> Option<bool>
         ensures { Finds truth result (multiplied_by (meaning_in self.now) (store_of self.now.store.now) (truth so_far) (read_in self.now (multiplier_of multiplier.now))) }
@@ -379,7 +398,11 @@ impl<'r, 't> Scene<'r, 't> {
 
     /// The part of what was found that one selector leads to.
     #[cycle(numbers)]
-    fn quick_step<'v>(&self, selector: &Selector, from: Option<&'v Value<'t>>) -> Option<&'v Value<'t>>
+    fn quick_step<'v>(
+        &self,
+        selector: &Selector,
+        from: Option<&'v Value<'t>>,
+    ) -> Option<&'v Value<'t>>
         ensures { Finds given result (part_further (meaning_in self.now) (store_of self.now.store.now) (option_map given from.entry) (read_in self.now (selector_of selector.now))) }
     {
         let from = from?;

@@ -37,6 +37,7 @@ fn holds(machine: &Machine<'_, '_>, e: &Expression) -> Result<bool, Stop>
     )
 }
 
+#[inline(never)]
 fn assign(machine: &mut Machine<'_, '_>, a: &Assignment) -> Result<(), Stop>
     ensures value { (enter : Calls Label) (t : ℕ) → Runs result machine.new.state (execute (meaning_of (named machine.old)) enter t (read_for (named machine.old) (assignment_of a.now)) (state_in machine.old)) }
     ensures names { named machine.new ≡ named machine.old }

@@ -1,4 +1,4 @@
-use Rattle.std.proofs.Common.{[], ◌∙◌, sym, ap}
+use Rattle.std.proofs.Common.{◌∙◌, sym, ap}
 use Rattle.ob0_values.specs.Stored.{path_of}
 use Rattle.ob0_values.specs.Values.{gives}
 use Rattle.ob0_run.proofs.Found.{nothing_in}
