@@ -8,13 +8,13 @@ use Rattle.ob0_analysis.proofs.analysis.ask_module.Goals as goal
 
 pub returns-in-Some : goal.returns-in-Some
 returns-in-Some g c =
-    let is = ap (λ (r : Resolution). r.module_read) (c.in-Some.ensures ∙ c.in_ok-checked.ensures) ∙ c.in_ok-resolved.ensures.0 in
+    let is = ap (λ (r : Resolution). r.module_read) (c.in-Some.ensures ∙ c.in_ok-checked.ensures.names) ∙ c.in_ok-resolved.ensures.0 in
     let scan = subst IsScan c.tokens.ensures.source c.text-text.ensures.scan in
     (c.in-Some.module, module_in c.args.module.now c.in-Some.module is scan c.resolved-names.ensures.well_typed, c.in_ok-answer-in-Some.ensures)
 
 pub returns : goal.returns
 returns g c =
-    let is = ap (λ (r : Resolution). r.module_read) c.in_ok-checked.ensures ∙ c.in_ok-resolved.ensures.0 in
+    let is = ap (λ (r : Resolution). r.module_read) c.in_ok-checked.ensures.names ∙ c.in_ok-resolved.ensures.0 in
     let scan = subst IsScan c.tokens.ensures.source c.text-text.ensures.scan in
     let told = c.faults-faults.ensures in
     let few = few_of c.min-most.result c.faults-faults.result.now c.min-most.ensures (λ none. c.in-None.ensures (sym told.value ∙ none)) in
