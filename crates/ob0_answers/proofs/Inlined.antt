@@ -58,8 +58,7 @@ inlines_in Here unit text offset edits names h (inl (u, at, answer)) =
 inlines_in Here unit text offset edits names h (inr (is, none)) = cc
 inlines_in Everywhere unit text offset edits names h (inl (c, at, answer)) =
     kept Everywhere unit text offset edits names (inlined_all names.module_read c) h answer.1.leaves answer.1.well_typed answer.1.same_runs (inl (c, at, answer))
-inlines_in Everywhere unit text offset edits names h (inr (inl (is, none))) = cc
-inlines_in Everywhere unit text offset edits names h (inr (inr is)) = cc
+inlines_in Everywhere unit text offset edits names h (inr (is, none)) = cc
 
 offers : (how : Inlining) (unit : Unit) (text : List ℕ) (offset : ℕ) (edits : Option (Vec Edit Global)) (names : Resolution) → IsModuleIn (utf8 text) names
     → Inlines how unit text names.module_read offset edits → Offers how unit text offset edits

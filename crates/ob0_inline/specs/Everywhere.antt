@@ -92,12 +92,12 @@ pub record InlinesEverywhere (unit : counting.Unit) (text : List ℕ) (m : Parse
   pub well_typed : WellTyped (inlined_all m c)
   pub same_runs : SameRuns (inlined_all m c) (named_tree_of m)
 
--- the edits where nothing refuses a constant, else the first refusal
+-- The edits where nothing refuses a constant, else the first refusal; out of memory may be answered in place of either.
 abbrev pub AnswersConstant : counting.Unit → List ℕ → Parsed → Constant → Result (Vec Edit Global) EditRefusal → Type 0
 AnswersConstant unit text m c (Ok edits) = (refusal_everywhere m c ≡ None) × InlinesEverywhere unit text m c edits.items
-AnswersConstant unit text m c (Err refusal) = refusal_everywhere m c ≡ Some refusal
+AnswersConstant unit text m c (Err refusal) = (refusal_everywhere m c ≡ Some refusal) ⊎ (refusal ≡ Memory)
 
--- The answer at a place: that of the constant that it names, and NoName where it names none; want of memory may stand for either.
+-- The answer at a place: that of the constant that it names, and NoName where it names none.
 abbrev pub AnswersEverywhere : counting.Unit → List ℕ → Parsed → ℕ → Result (Vec Edit Global) EditRefusal → Type 0
 AnswersEverywhere unit text m offset answer =
-    ((c : Constant) × IsConstantAt m offset c × AnswersConstant unit text m c answer) ⊎ (((answer ≡ Err NoName) × NoConstantAt m offset) ⊎ (answer ≡ Err Memory))
+    ((c : Constant) × IsConstantAt m offset c × AnswersConstant unit text m c answer) ⊎ ((answer ≡ Err NoName) × NoConstantAt m offset)

@@ -1,6 +1,6 @@
 //! The edits that inline a constant everywhere.
 
-ghost use Rattle.std.specs.Prelude.{◌≡◌, ◌⊎◌, ◌<◌, ◌≤◌, ◌∷◌, [], Err, IfOk, IfErr, IsErrOf, length, map};
+ghost use Rattle.std.specs.Prelude.{◌≡◌, ◌⊎◌, ◌<◌, ◌≤◌, ◌∷◌, [], IfOk, IfErr, IsErrOf, length, map};
 ghost use Rattle.std.specs.List.{list_any};
 ghost use Rattle.std.specs.Str.{chars};
 ghost use Rattle.ob0_scan.specs.Scanned.{max_text};
@@ -55,7 +55,7 @@ fn inline_constant<T: TextStore>(
 ) -> Result<Vec<Edit>, EditRefusal>
     requires content { T.content store.now ≡ chars «module».now.module_read.source.text }
     requires is_constant { IsConstant «module».now.module_read constant }
-    ensures { AnswersConstant (T.unit_of store.now) (T.content store.now) «module».now.module_read constant result ⊎ (result ≡ Err Memory) }
+    ensures { AnswersConstant (T.unit_of store.now) (T.content store.now) «module».now.module_read constant result }
 {
     constants_stand_alone();
     inlining_everywhere_keeps_modules();

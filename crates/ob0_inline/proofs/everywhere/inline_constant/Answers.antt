@@ -1,4 +1,4 @@
-use Rattle.std.proofs.Common.{◌<◌, Err, length, inl, inr, sym, ap, ◌∙◌, subst}
+use Rattle.std.proofs.Common.{◌<◌, Err, length, inl, sym, ap, ◌∙◌, subst}
 use Rattle.ob0_scan.specs.Scanned.{Scanned}
 use Rattle.ob0_tree.specs.Parsed.{named_tree_of}
 use Rattle.ob0_scope.specs.Resolution.{Resolution}
@@ -62,7 +62,7 @@ returns-else-has_comment g c =
     let shown = ap (λ (r : Resolution). any_hidden (named_tree_of r.module_read) k) (sym back) ∙ (sym c.in_ok-any_hidden-in-Ok.ensures ∙ c.if-branch.false) in
     let source = c.tokens.ensures ∙ ap (λ (r : Resolution). r.module_read.source) back in
     let bare = ap (λ (s : Scanned). list_any (is_inside (span_over s.tokens k.first k.last)) s.comments) (sym source) ∙ (sym c.has_comment.ensures ∙ c.if-has_comment.false) in
-    inl (answer_made c.args.«module».now well k c.requires.is_constant c.constants_stand_alone.ensures c.is_scalar.ensures c.inlining_everywhere_keeps_modules.ensures unit content edits made shown bare)
+    answer_made c.args.«module».now well k c.requires.is_constant c.constants_stand_alone.ensures c.is_scalar.ensures c.inlining_everywhere_keeps_modules.ensures unit content edits made shown bare
 
 pub returns-in-Err : goal.returns-in-Err
 returns-in-Err g c =
@@ -71,5 +71,5 @@ returns-in-Err g c =
     let back = c.resolved-names.ensures.value in
     let there : Refused c.resolved-names.result.now k refusal =
     record { too_long = λ e. c.in-Err.ensures.too_long (λ i. Err (e i)); too_deep = λ alone e. c.in-Err.ensures.too_deep alone (λ i. Err (e i)); deep_and_short = λ e. c.in-Err.ensures.deep_and_short (λ i. Err (e i)); one_of = c.in-Err.ensures.refusals } in
-    elim (answer_not_made c.args.«module».now c.resolved-names.ensures.well_typed k c.requires.is_constant c.constants_stand_alone.ensures c.is_scalar.ensures refusal
-    (subst (λ (r : Resolution). Refused r k refusal) back there)) [ inl e ↦ inl e | inr e ↦ inr (λ i. Err (e i)) ]
+    answer_not_made c.args.«module».now c.resolved-names.ensures.well_typed k c.requires.is_constant c.constants_stand_alone.ensures c.is_scalar.ensures refusal
+    (subst (λ (r : Resolution). Refused r k refusal) back there)
