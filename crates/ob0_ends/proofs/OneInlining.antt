@@ -151,21 +151,18 @@ module _ {m n : Parsed} (e : Same m n) (unit : Unit) (text : List ℕ) (offset :
   everywhere_one : (ys : Vec Edit Global) → AnswersEverywhere unit text m offset (Ok xs) → AnswersEverywhere unit text n offset (Ok ys) → replacements xs.items ≡ replacements ys.items
   everywhere_one ys (inl (c, at, (free, h))) (inl (d, also, (free_too, k))) =
       same_parts xs.items ys.items (h.everywhere ∙ (same_edits_everywhere e offset c d at also unit text ∙ sym k.everywhere))
-  everywhere_one ys (inr (inl (bad, none))) k = absurd (cc)
-  everywhere_one ys (inr (inr bad)) k = absurd (cc)
-  everywhere_one ys (inl h) (inr (inl (bad, none))) = absurd (cc)
-  everywhere_one ys (inl h) (inr (inr bad)) = absurd (cc)
+  everywhere_one ys (inr (bad, none)) k = absurd (cc)
+  everywhere_one ys (inl h) (inr (bad, none)) = absurd (cc)
 
   everywhere_or_refused : (refusal : EditRefusal) → (refusal ≡ Memory → ⊥) → AnswersEverywhere unit text m offset (Ok xs) → AnswersEverywhere unit text n offset (Err refusal) → ⊥
-  everywhere_or_refused refusal why (inl (c, at, (free, h))) (inl (d, also, refused)) =
+  everywhere_or_refused refusal why (inl (c, at, (free, h))) (inl (d, also, inl refused)) =
       let both : None ≡ Some refusal = sym free ∙ (same_refusal_everywhere e offset c d at also ∙ refused) in cc
-  everywhere_or_refused refusal why (inl (c, at, (free, h))) (inr (inl (is, none))) =
+  everywhere_or_refused refusal why (inl (c, at, (free, h))) (inl (d, also, inr memory)) = why memory
+  everywhere_or_refused refusal why (inl (c, at, (free, h))) (inr (is, none)) =
       let nothing : value_of_constant (named_tree_of n) c.ordinal ≡ None = none (record { token = at.token; ordinal = c.ordinal }) (sym (one_name e offset) ∙ at.named) in
       let some : None ≡ Some (scalar_value c.value) = sym nothing ∙ (ap (λ t. value_of_constant t c.ordinal) (sym (one_named_tree e)) ∙ at.is_constant.worth) in
       cc
-  everywhere_or_refused refusal why (inl (c, at, (free, h))) (inr (inr memory)) = why (cc)
-  everywhere_or_refused refusal why (inr (inl (bad, none))) k = absurd (cc)
-  everywhere_or_refused refusal why (inr (inr bad)) k = absurd (cc)
+  everywhere_or_refused refusal why (inr (bad, none)) k = absurd (cc)
 
 -- ---- in a text
 
