@@ -30,7 +30,8 @@ pub struct Flushed<W> {
 impl<W> Flushed<W> {
     /// A device that hasn't been flushed.
     pub fn new(device: W) -> Flushed<W>
-        ensures { device_of result ≡ device }
+        ensures device { device_of result ≡ device }
+        ensures fresh { has_flushed result ≡ false }
     {
         Flushed {
             device,

@@ -8,5 +8,5 @@ pub returns-clause-spelled : goal.returns-clause-spelled
 returns-clause-spelled c =
     let r = c.args.well_typed.now in
     let source = c.tokens.ensures ∙ ap (λ (r : Resolution). r.module_read.source) c.resolved.ensures.value in
-    let scan = subst IsScan source c.text.ensures.scan in
+    let scan = subst IsScan source c.text-text.ensures.scan in
     field_spelled r.module_read c.in_ok-found.found scan c.in_ok-found.ensures.stand
