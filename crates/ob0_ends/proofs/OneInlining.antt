@@ -24,7 +24,7 @@ use Rattle.ob0_scope.specs.Resolution.{declaring_only, token_declaring}
 use Rattle.ob0_values.specs.declared.scalar.Scalar.{Scalar}
 use Rattle.ob0_values.specs.declared.scalar.Scalar.TheVariants as scalar
 use Rattle.ob0_values.specs.Scalars.{scalar_value}
-use Rattle.ob0_refs.specs.declared.answers.Named.{Named}
+use Rattle.ob0_scope.specs.declared.naming.Named.{Named}
 use Rattle.ob0_typing.specs.ConstantValues.{value_of_constant}
 use Rattle.ob0_inline.specs.declared.constants.Constant.{Constant}
 use Rattle.ob0_inline.specs.declared.uses.Use.{Use}

@@ -19,8 +19,8 @@ use Rattle.ob0_scope.specs.Resolution.{span_at}
 use Rattle.ob0_scope.specs.Scopes.{numbered}
 use Rattle.ob0_parse.proofs.Unique.{same}
 use Rattle.ob0_edits.specs.Replaced.{parts}
-use Rattle.ob0_refs.specs.Standing.{Standing, is_on, name_on, named_by}
-use Rattle.ob0_refs.specs.declared.answers.Named.{Named}
+use Rattle.ob0_scope.specs.Standing.{Standing, is_on, name_on, named_by}
+use Rattle.ob0_scope.specs.declared.naming.Named.{Named}
 use Rattle.ob0_ends.specs.Edited.{Replacement, replacements}
 
 pub record Same (m n : Parsed) : Type 0 where

@@ -19,12 +19,12 @@ use Rattle.ob0_scope.specs.Names.{Name, same_name}
 use Rattle.ob0_scope.specs.Occurrences.{Capture, Free, at_declaration, first_captured}
 use Rattle.ob0_scope.specs.Resolution.{Resolution, declaring_only, token_declaring}
 use Rattle.ob0_scope.proofs.FirstCaptures.{captured_where_not_free-holds}
-use Rattle.ob0_refs.specs.Standing.{refers}
+use Rattle.ob0_scope.specs.Standing.{refers}
 use Rattle.ob0_field_laws.specs.Renaming.{is_duplicate_field}
-use Rattle.ob0_fields.specs.Identifiers.{field_identifiers, tokens_among}
+use Rattle.ob0_fields.specs.Identifiers.{field_identifiers, field_on, tokens_among}
 use Rattle.ob0_analysis.specs.Analysed.{IsModuleIn}
 use Rattle.ob0_analysis.specs.Texts.{utf8}
-use Rattle.ob0_rename.specs.Renaming.{Meant, Renaming, declaration, field_of, field_on, field_tokens_renamed, meant, meant_by, nothing, predeclared, text_with, tokens_renamed}
+use Rattle.ob0_rename.specs.Renaming.{Meant, Renaming, declaration, field_of, field_tokens_renamed, meant, meant_by, nothing, predeclared, text_with, tokens_renamed}
 use Rattle.ob0_rename.specs.Answers.{AreEdits, IsRefused, IsRefusedTo, IsRefusedToField, IsRefusedToNamed, Renames, RenamesField, Writes}
 use Rattle.ob0_rename.specs.InTexts.{IsRefusedIn, RenamesIn, renaming_of}
 use Rattle.ob0_ends.specs.Edited.{replacements}
