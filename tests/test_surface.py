@@ -1,0 +1,19 @@
+"""The list of public functions: it is of the sources that stand here, and each function that another crate uses has a wrong
+body that the prover refuses, or a reason why it has none."""
+import os
+import shutil
+import subprocess
+import sys
+
+from harness import TOP, Failed, Skipped, test
+
+
+@test("surface: each public function that another crate uses has a wrong body, or a reason why not")
+def surface():
+    if not shutil.which("rt"):
+        raise Skipped("rt, which reads the sources, isn't here")
+    script = os.path.join(TOP, "tools", "public_functions.py")
+    how = {"stdin": subprocess.DEVNULL, "stdout": subprocess.PIPE, "stderr": subprocess.STDOUT, "text": True}
+    ran = subprocess.run([sys.executable, script, "--check"], **how)
+    if ran.returncode or "isn't of these sources" in ran.stdout:
+        raise Failed(ran.stdout[-3000:])
