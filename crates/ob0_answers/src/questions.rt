@@ -141,7 +141,11 @@ pub fn answered<T: TextStore>(
         NameQuestion::References {
             include_declaration,
         } => references_answer(alloc, id, store, kept, place, include_declaration),
-        NameQuestion::PrepareRename => result(alloc, id, renamable_value(alloc, store, kept, place)?),
+        NameQuestion::PrepareRename => result(
+            alloc,
+            id,
+            renamable_value(alloc, store, kept, place)?,
+        ),
     }
 }
 
