@@ -3,6 +3,7 @@ import os
 import sys
 
 from harness import EXIT, SHUTDOWN, TOP, did_change, did_close, did_open, extent, frames, initialize, notice, place, request
+from samples import FAULTY, WRITES_A_GLOBAL
 from test_stream import INPUT, OUTPUT
 
 sys.path.insert(0, os.path.join(TOP, "bench"))
@@ -36,14 +37,6 @@ VAR n: INTEGER;
 PROCEDURE P; BEGIN Write(n) END P;
 BEGIN Read(n); WHILE n > 0 DO n := n - 1; WriteLn END; P END M.
 """
-PROCEDURES = """MODULE M;
-VAR Q: INTEGER;
-PROCEDURE A;
-PROCEDURE P; BEGIN Q := 7 END P;
-PROCEDURE R; BEGIN Write(2) END R;
-BEGIN P; R END A;
-BEGIN A; Write(Q) END M.
-"""
 CONSTANT = """MODULE M;
 CONST c = -2147483647 - 1;
 VAR x: INTEGER;
@@ -51,12 +44,6 @@ BEGIN x := 0 + c; Write(x) END M.
 """
 ON_ONE_LINE = "MODULE M;VAR x:INTEGER;BEGIN x:=-1;IF x<0 THEN Write(x)(* a (* b *) c *)END;WriteLn END M.(* end *)"
 DIVIDES = "MODULE M; BEGIN Write(-7 DIV 3); Write((-7) DIV 3); Write((-7) MOD 3); Write(1 MOD 0) END M."
-FAULTY = """MODULE M;
-CONST k = 1 DIV 0; m = 1;
-VAR i: INTEGER; b: BOOLEAN;
-PROCEDURE P(VAR j: INTEGER); BEGIN j := 1 END Q;
-BEGIN i := b; P(3); P; z := 1; i.f := 1; i[0] := 1; Write(P); m := 2 END M.
-"""
 LINE_ENDINGS = [
     {"range": extent("1:0-1:0"), "text": "\n"},
     {"range": extent("1:1-1:1"), "text": "\nc"},
@@ -99,7 +86,7 @@ LONG = {
     "questions about names": (
         ["serve"],
         talk(
-            did_open(PROCEDURES),
+            did_open(WRITES_A_GLOBAL),
             asked(3, "hover", 4, 10),
             asked(4, "definition", 5, 9),
             asked(5, "references", 4, 10, context={"includeDeclaration": True}),
@@ -123,7 +110,7 @@ LONG = {
     "check a text that isn't UTF-8": (["check", "m.mod"], b"", b"MODULE \xff"),
     "run on bad input": (["run", "m.mod"], b"1 x", COUNTS),
     "run out of input": (["run", "m.mod"], b"", COUNTS),
-    "run with many calls": (["run", "m.mod", "--calls", "3"], b"", PROCEDURES),
+    "run with many calls": (["run", "m.mod", "--calls", "3"], b"", WRITES_A_GLOBAL),
     "rename in 200 variables": (["rename", "m.mod", "0", "14", "w"], b"", MANY),
     "a refused command line": (["check", "m.mod", "x"], b"", COUNTS),
     "help": (["--help"], b"", None),

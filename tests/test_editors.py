@@ -17,8 +17,9 @@ import time
 
 import harness
 from harness import Failed, TOP, ends, extent, on_file, same, test, want
+from samples import FAULTY, WRITES_A_GLOBAL
 from snippets import snippets
-from test_edits import CALLS, LEAST, NESTED, OUTER, RECORDS, edited
+from test_edits import CALLS, LEAST, NESTED, RECORDS, edited
 
 EDITORS = os.path.join(TOP, "tests", "editors")
 ENDED = {"code": 0, "signal": 0}
@@ -159,12 +160,6 @@ def neovim_typing():
     same(in_neovim("typing", TYPED), while_typing())
 
 
-FAULTY = """MODULE M;
-CONST k = 1 DIV 0; m = 1;
-VAR i: INTEGER; b: BOOLEAN;
-PROCEDURE P(VAR j: INTEGER); BEGIN j := 1 END Q;
-BEGIN i := b; P(3); P; z := 1; i.f := 1; i[0] := 1; Write(P); m := 2 END M.
-"""
 FAULTY_TOLD = [
     "1:10-1:17 ConstFault: constant has a fault",
     "3:46-3:47 EndName: wrong closing name",
@@ -324,7 +319,7 @@ RENAMED = [
     (NESTED_EXAMPLE, [6, 14], "Add", INNER, NESTED_PRINTS),
     (CALLS, [2, 47], "G", PLACES, " 2 1"),
     (NESTED, [1, 4], "z", ["1:4-1:5", "4:14-4:15", "5:15-5:16"], " 1"),
-    (OUTER, [4, 10], "Q", ["4:10-4:11", "4:32-4:33", "5:9-5:10"], " 2 7"),
+    (WRITES_A_GLOBAL, [4, 10], "Q", ["4:10-4:11", "4:32-4:33", "5:9-5:10"], " 2 7"),
 ]
 FIELDS = ["1:16-1:17", "3:8-3:9", "3:33-3:34"]
 FIELDS_RENAMED = [
@@ -522,18 +517,8 @@ def in_kate(steps, text, **given):
     return play("kate", words, steps, text, given, set_up, more=own)
 
 
-KATE_LAID_OUT = """MODULE M;
-    PROCEDURE G(n: INTEGER);
-    BEGIN
-        IF n > 0 THEN
-            Write(n);
-            G(n - 1)
-        END
-    END G;
-BEGIN
-    G(2)
-END M.
-"""
+# (Kate lays out by four spaces)
+KATE_LAID_OUT = re.sub(r"(?m)^ +", lambda spaces: spaces[0] * 2, LAID_OUT)
 
 
 @test("Kate: diagnostics, what is known of a name, a rename and a layout, by its keys")

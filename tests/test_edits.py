@@ -2,6 +2,7 @@
 import json
 
 from harness import Server, did_change, did_open, ends, extent, frames, initialize, marked, on_file, place, request, run, same, serve, test
+from samples import WRITES_A_GLOBAL
 
 URI = "file:///m"
 NESTED = """MODULE M;
@@ -10,14 +11,6 @@ PROCEDURE P;
 VAR y: INTEGER;
 BEGIN y := 1; x := y END P;
 BEGIN P; Write(x) END M.
-"""
-OUTER = """MODULE M;
-VAR Q: INTEGER;
-PROCEDURE A;
-PROCEDURE P; BEGIN Q := 7 END P;
-PROCEDURE R; BEGIN Write(2) END R;
-BEGIN P; R END A;
-BEGIN A; Write(Q) END M.
 """
 CALLS = """MODULE M;
 PROCEDURE F(n: INTEGER);
@@ -38,10 +31,10 @@ RENAMES = [
     (NESTED, 1, 4, "y", "Captures 4:14-4:15"),
     (NESTED, 1, 4, "Write", "Captures 5:9-5:14"),
     (NESTED, 1, 4, "P", "Duplicate 2:10-2:11"),
-    (OUTER, 4, 10, "Q", ["4:10-4:11", "4:32-4:33", "5:9-5:10"]),
-    (OUTER, 4, 10, "P", "Duplicate 3:10-3:11"),
-    (OUTER, 4, 10, "A", ["4:10-4:11", "4:32-4:33", "5:9-5:10"]),
-    (OUTER, 1, 4, "P", "Captures 3:19-3:20"),
+    (WRITES_A_GLOBAL, 4, 10, "Q", ["4:10-4:11", "4:32-4:33", "5:9-5:10"]),
+    (WRITES_A_GLOBAL, 4, 10, "P", "Duplicate 3:10-3:11"),
+    (WRITES_A_GLOBAL, 4, 10, "A", ["4:10-4:11", "4:32-4:33", "5:9-5:10"]),
+    (WRITES_A_GLOBAL, 1, 4, "P", "Captures 3:19-3:20"),
     (CALLS, 2, 47, "G", ["1:10-1:11", "2:30-2:31", "2:47-2:48", "3:6-3:7"]),
     (CALLS, 2, 47, "n", "Captures 2:30-2:31"),
     (CALLS, 2, 47, "END", "BadName"),

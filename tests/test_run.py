@@ -1,6 +1,7 @@
 """`ob0 run`: outputs, the seven ends, bounds, input, statuses."""
 from harness import ends, on_file, run, same, test
-from test_edits import FIVE, LEAST, NESTED, OUTER, RECORDS, SHADOWED, edited
+from samples import WRITES_A_GLOBAL
+from test_edits import FIVE, LEAST, NESTED, RECORDS, SHADOWED, edited
 
 COUNT = """MODULE M;
 VAR n: INTEGER;
@@ -76,7 +77,7 @@ def before_edits():
 @test("run: names that hide others, procedures that stand later")
 def scopes():
     ran(NESTED, " 1")
-    ran(OUTER, " 2 7")
+    ran(WRITES_A_GLOBAL, " 2 7")
     ran(ACTIVATIONS, " 0 2 4", "", "", 4)
     ran(ACTIVATIONS, "", "CallBound", "", 3)
 
