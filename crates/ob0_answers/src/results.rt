@@ -1,52 +1,100 @@
 // The parts of answers that no request decides.
-ghost use Rattle.std.specs.Prelude.{◌≡◌, List, IfOk, codes};
-ghost use Rattle.serde_json.specs.Data.{member, object};
-ghost use Rattle.serde_json.specs.View.{view};
+ghost use Rattle.std.specs.Prelude.{◌≡◌, List, IfOk, OnOk, codes, if◌then◌else◌, true};
+ghost use Rattle.serde_json.specs.Data.{boolean, object, put as with_member};
+ghost use Rattle.serde_json.specs.View.{members_view, view};
 ghost use Rattle.ob0_rpc.specs.Writing.{Writes};
 ghost use Rattle.ob0_answers.specs.Diagnostics.{DiagnosticsAre};
-ghost use Rattle.ob0_answers.specs.Shapes.{Diagnostic, synchronisation as sync_data, rename_provider as rename_data, action_provider as action_data, providers as providers_for, capabilities as announced, publication as published_as, publication_params as params_of, position_value as position_data, range_value as range_data, edit_refused, hover_value as hover_data, location_value as location_data};
+ghost use Rattle.ob0_answers.specs.Shapes.{Diagnostic, synchronisation as sync_data, rename_provider as rename_data, action_provider as action_data, server_members, capabilities as announced, publication as published_as, publication_params as params_of, position_value as position_data, range_value as range_data, edit_refused, hover_value as hover_data, location_value as location_data};
 ghost use Rattle.ob0_rpc.specs.Seen.{id_data};
+ghost use Rattle.ob0_rpc.specs.Shapes.{text};
 ghost use Rattle.ob0_text.specs.RefusalTexts.{refusal_text};
 
 use ob0_rpc::{Client, Id, error, notification};
 use ob0_text::{EditRefusal, Position};
-use serde_json::{Value, json};
+use serde_json::{Map, Value, json, put};
 use std::alloc::{AllocError, Global};
 
 /// What the server can do for a client.
 pub fn capabilities(alloc: Global, client: Client) -> Result<Value, AllocError>
     ensures { IfOk result (λ v. view v ≡ announced client) }
 {
-    let members = if client.takes_literal_actions {
-        providers_with_actions(alloc, client)?
-    } else {
-        providers(alloc, client)?
-    };
+    let members = providers(alloc, client)?;
     json!(in alloc; {"capabilities": members})
 }
 
 fn providers(alloc: Global, client: Client) -> Result<Value, AllocError>
-    ensures { IfOk result (λ v. view v ≡ object (providers_for client)) }
+    ensures { IfOk result (λ v. view v ≡ object (server_members client)) }
 {
-    let rename = rename_provider(alloc, client.prepares_renames)?;
+    let mut members = Map::new(alloc);
+    add_questions(&mut members, alloc)?;
+    add_edits(&mut members, alloc, client.prepares_renames)?;
+    add_encoding(&mut members, alloc, client.counts_utf8)?;
+    add_actions(&mut members, alloc, client.takes_literal_actions)?;
+    Ok(Value::Object(members))
+}
+
+fn add_questions(members: &mut Map<String, Value>, alloc: Global) -> Result<(), AllocError>
+    ensures { OnOk result (members_view members.new.entries ≡ with_member (codes "referencesProvider") (boolean true)
+        (with_member (codes "hoverProvider") (boolean true)
+        (with_member (codes "definitionProvider") (boolean true) (members_view members.old.entries)))) }
+{
+    put(members, alloc, "definitionProvider", Value::Bool(true))?;
+    put(members, alloc, "hoverProvider", Value::Bool(true))?;
+    put(members, alloc, "referencesProvider", Value::Bool(true))
+}
+
+fn add_edits(
+    members: &mut Map<String, Value>,
+    alloc: Global,
+    prepares: bool,
+) -> Result<(), AllocError>
+    ensures { OnOk result (members_view members.new.entries ≡ with_member (codes "textDocumentSync") sync_data
+        (with_member (codes "renameProvider") (rename_data prepares)
+        (with_member (codes "documentFormattingProvider") (boolean true) (members_view members.old.entries)))) }
+{
+    put(
+        members,
+        alloc,
+        "documentFormattingProvider",
+        Value::Bool(true),
+    )?;
+    let rename = rename_provider(alloc, prepares)?;
+    put(members, alloc, "renameProvider", rename)?;
     let sync = synchronisation(alloc)?;
-    if client.counts_utf8 {
-        json!(in alloc; {"definitionProvider": true, "documentFormattingProvider": true, "hoverProvider": true, "positionEncoding": "utf-8", "referencesProvider": true, "renameProvider": rename, "textDocumentSync": sync})
+    put(members, alloc, "textDocumentSync", sync)
+}
+
+fn add_encoding(
+    members: &mut Map<String, Value>,
+    alloc: Global,
+    counts_utf8: bool,
+) -> Result<(), AllocError>
+    ensures { OnOk result (members_view members.new.entries ≡ (if counts_utf8
+        then with_member (codes "positionEncoding") (text (codes "utf-8")) (members_view members.old.entries)
+        else members_view members.old.entries)) }
+{
+    if counts_utf8 {
+        let encoding = json!(in alloc; "utf-8")?;
+        put(members, alloc, "positionEncoding", encoding)
     } else {
-        json!(in alloc; {"definitionProvider": true, "documentFormattingProvider": true, "hoverProvider": true, "referencesProvider": true, "renameProvider": rename, "textDocumentSync": sync})
+        Ok(())
     }
 }
 
-fn providers_with_actions(alloc: Global, client: Client) -> Result<Value, AllocError>
-    ensures { IfOk result (λ v. view v ≡ object (member (codes "codeActionProvider") action_data (providers_for client))) }
+fn add_actions(
+    members: &mut Map<String, Value>,
+    alloc: Global,
+    takes_actions: bool,
+) -> Result<(), AllocError>
+    ensures { OnOk result (members_view members.new.entries ≡ (if takes_actions
+        then with_member (codes "codeActionProvider") action_data (members_view members.old.entries)
+        else members_view members.old.entries)) }
 {
-    let actions = action_provider(alloc)?;
-    let rename = rename_provider(alloc, client.prepares_renames)?;
-    let sync = synchronisation(alloc)?;
-    if client.counts_utf8 {
-        json!(in alloc; {"codeActionProvider": actions, "definitionProvider": true, "documentFormattingProvider": true, "hoverProvider": true, "positionEncoding": "utf-8", "referencesProvider": true, "renameProvider": rename, "textDocumentSync": sync})
+    if takes_actions {
+        let actions = action_provider(alloc)?;
+        put(members, alloc, "codeActionProvider", actions)
     } else {
-        json!(in alloc; {"codeActionProvider": actions, "definitionProvider": true, "documentFormattingProvider": true, "hoverProvider": true, "referencesProvider": true, "renameProvider": rename, "textDocumentSync": sync})
+        Ok(())
     }
 }
 
