@@ -8,9 +8,9 @@ use crate::diagnoses::{Diagnosis, of_faults, of_refusal};
 use ob0_parse::{one_tree, parse};
 use ob0_scan::laws::one_scan;
 use ob0_scan::{ScanRefusal, Tokens, scan};
-use ob0_scope::resolve::resolve;
-use ob0_tree::tree::Module;
-use ob0_types::checked::{WellTyped, check};
+use ob0_scope::resolve;
+use ob0_tree::Module;
+use ob0_types::{WellTyped, check};
 use std::alloc::{AllocError, Global};
 
 /// How many faults of names and types are told.

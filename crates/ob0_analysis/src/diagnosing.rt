@@ -9,7 +9,7 @@ use crate::analysis::{Asked, Question, ask_tokens};
 use crate::diagnoses::{Diagnosis, of_faults};
 use crate::differences::Difference;
 use ob0_scan::{ScanRefusal, Tokens, rescan, scan};
-use ob0_types::checked::WellTyped;
+use ob0_types::WellTyped;
 use std::alloc::{AllocError, Global};
 
 /// Asks nothing but whether the text is a well-typed module.

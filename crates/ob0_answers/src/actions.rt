@@ -20,7 +20,7 @@ use ob0_inline::{inline_all, inline_here};
 use ob0_rpc::{Client, Id, Written, result, result_of};
 use ob0_scan::Tokens;
 use ob0_text::{Edit, EditRefusal, Position, Range, TextStore};
-use ob0_types::checked::WellTyped;
+use ob0_types::WellTyped;
 use serde_json::Value;
 use std::alloc::{AllocError, Global};
 

@@ -16,7 +16,7 @@ use ob0_layout::laws::{gaps_make_the_layout, lexemes_stay, module_stays};
 use ob0_rpc::{Id, result_of};
 use ob0_scan::Tokens;
 use ob0_text::{Edit, EditRefusal, Indent, TextStore};
-use ob0_types::checked::WellTyped;
+use ob0_types::WellTyped;
 use std::alloc::{AllocError, Global};
 
 /// How the text in a store is to be laid out.

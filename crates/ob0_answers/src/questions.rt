@@ -19,7 +19,7 @@ use ob0_refs::{Of, at, definition, hover, references};
 use ob0_rpc::{Id, Place, result, result_of};
 use ob0_scan::{Span, Tokens};
 use ob0_text::TextStore;
-use ob0_types::checked::WellTyped;
+use ob0_types::WellTyped;
 use serde_json::Value;
 use std::alloc::{AllocError, Global};
 

@@ -11,10 +11,9 @@ ghost use Rattle.ob0_typing.specs.WellTyped.{fits_over};
 
 use crate::names::Names;
 use crate::walk::{Parameter, Typed, Walk};
-use ob0_scope::resolved::Resolved;
-use ob0_symbols::known::{Formal, Known, Object};
-use ob0_symbols::types::TypeId;
-use ob0_tree::tree::{
+use ob0_scope::Resolved;
+use ob0_symbols::{Formal, Known, Object, TypeId};
+use ob0_tree::{
     Block, Constant, Names as NameList, Procedure, Section, Statement, TypeDeclaration, Variables,
     WrittenType,
 };

@@ -13,11 +13,10 @@ ghost use Rattle.ob0_values.specs.Scalars.{scalar_value};
 ghost use Rattle.ob0_values.specs.Values.{Shape};
 
 use crate::names::Names;
-use ob0_scope::resolved::Resolved;
-use ob0_symbols::known::{Field, Known, MOST_SCALARS};
-use ob0_symbols::types::TypeId;
-use ob0_tree::tree::{ArrayType, FieldList, Fields, RecordType, WrittenType};
-use ob0_values::scalar::Scalar;
+use ob0_scope::Resolved;
+use ob0_symbols::{Field, Known, MOST_SCALARS, TypeId};
+use ob0_tree::{ArrayType, FieldList, Fields, RecordType, WrittenType};
+use ob0_values::Scalar;
 use std::alloc::{AllocError, Global};
 
 /// A type, and the ordinal of the next ARRAY or RECORD behind its text.

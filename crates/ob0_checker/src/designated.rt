@@ -5,7 +5,7 @@ ghost use Rattle.ob0_tree.specs.View.{expression_of, simple_of, term_of};
 ghost use Rattle.ob0_checker.specs.FittingParts.{designated_simple, designated_term, designator_parts};
 ghost use Rattle.ob0_typing.specs.Typing.{designated};
 
-use ob0_tree::tree::{Designator, Expression, Factor, Simple, Term};
+use ob0_tree::{Designator, Expression, Factor, Simple, Term};
 
 /// A designator alone, without sign, operators or parentheses.
 pub fn designated(e: &Expression) -> Option<&Designator>

@@ -9,10 +9,10 @@ ghost use Rattle.ob0_values.specs.Values as values;
 ghost use Rattle.ob0_typing.specs.Typing.{given_value};
 
 use crate::names::Names;
+use ob0_symbols::number_at;
 use ob0_symbols::operators::{added, complement, multiplied, related, with_sign};
-use ob0_symbols::written::number_at;
-use ob0_tree::tree::{Designator, Expression, Factor, Simple, Term};
-use ob0_values::scalar::Scalar;
+use ob0_tree::{Designator, Expression, Factor, Simple, Term};
+use ob0_values::Scalar;
 
 impl<'a, 't> Names<'a, 't> {
     ghost use Rattle.ob0_symbols.specs.KnownTables.{known_meaning};

@@ -13,9 +13,8 @@ ghost use Rattle.ob0_values.specs.Values.{Shape};
 
 use crate::designated::designated;
 use crate::names::Names;
-use ob0_symbols::known::{Formal, Object, Standard};
-use ob0_symbols::types::TypeId;
-use ob0_tree::tree::{Assignment, Call, Designator, Elsif, Expression, If, Statement};
+use ob0_symbols::{Formal, Object, Standard, TypeId};
+use ob0_tree::{Assignment, Call, Designator, Elsif, Expression, If, Statement};
 
 static READ: [Formal; 1] = [Formal {
     by_place: true,

@@ -3,7 +3,7 @@
 #![tactic(auto)]
 
 mod deciding;
-pub mod denoting;
+mod denoting;
 mod designated;
 mod evaluating;
 mod fitting;
@@ -13,3 +13,4 @@ mod names;
 mod walk;
 
 pub use deciding::decide;
+pub use denoting::array_length;

@@ -3,11 +3,9 @@
 ghost use Rattle.std.specs.Prelude.{◌≡◌, Some, length, option_and_then, option_map, IfSome};
 ghost use Rattle.ob0_tree.specs.Places.{text_at};
 
-use ob0_scope::resolved::Resolved;
-use ob0_symbols::known::{Known, Object};
-use ob0_symbols::types::{TypeId, scalar_type};
-use ob0_symbols::written::text_at;
-use ob0_values::scalar::Scalar;
+use ob0_scope::Resolved;
+use ob0_symbols::{Known, Object, TypeId, scalar_type, text_at};
+use ob0_values::Scalar;
 
 /// What names stand for: what is known, and which declaration each name is bound to. In a constant expression they
 /// stand for constants alone.

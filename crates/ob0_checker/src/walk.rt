@@ -1,10 +1,9 @@
 //! A module on its way through the checker: what is known and in sight, and what was in sight before each binding.
 
 use crate::denoting::denote;
-use ob0_scope::resolved::Resolved;
-use ob0_symbols::known::{Formal, Known, Object, Shadowed};
-use ob0_symbols::types::TypeId;
-use ob0_tree::tree::WrittenType;
+use ob0_scope::Resolved;
+use ob0_symbols::{Formal, Known, Object, Shadowed, TypeId};
+use ob0_tree::WrittenType;
 use std::alloc::{AllocError, Global};
 use std::marker::Model;
 

@@ -16,9 +16,8 @@ use crate::faults::{Fault, tell_fault};
 use crate::numbers::read_numbers;
 use crate::printing::{Output, print};
 use ob0_analysis::{Asked, Question, ask};
-use ob0_run::running::{End, Outcome, run};
-use ob0_run::state::Item;
-use ob0_types::checked::WellTyped;
+use ob0_run::{End, Item, Outcome, run};
+use ob0_types::WellTyped;
 use std::alloc::{AllocError, Global};
 use std::io::Read;
 

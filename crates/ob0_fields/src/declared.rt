@@ -7,7 +7,7 @@ ghost use Rattle.ob0_typing.specs.Declarations.{formals_constructors, types_cons
 ghost use Rattle.ob0_typing.specs.Typing.{constructors, group_constructors};
 ghost use Rattle.ob0_fields.specs.Owned.{marked_group, marked_sections, marked_type, marked_types, marked_variables};
 
-use ob0_tree::tree::{Fields, Names, RecordType, Section, TypeDeclaration, Variables, WrittenType};
+use ob0_tree::{Fields, Names, RecordType, Section, TypeDeclaration, Variables, WrittenType};
 use std::alloc::AllocError;
 
 /// Notes the names of a group's fields with the ordinal of their record.

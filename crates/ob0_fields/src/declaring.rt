@@ -6,7 +6,7 @@ ghost use Rattle.ob0_typing.specs.Declarations.{block_constructors, procedure_co
 ghost use Rattle.ob0_fields.specs.Identifiers.{declared_in, declared_in_procedure};
 
 use crate::declared::{formals, types, variables};
-use ob0_tree::tree::{Block, Procedure};
+use ob0_tree::{Block, Procedure};
 use std::alloc::AllocError;
 
 /// The fields that a block declares, and its procedures. `made` has the tokens of the ARRAY and RECORD before it.

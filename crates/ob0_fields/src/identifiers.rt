@@ -11,10 +11,9 @@ ghost use Rattle.ob0_fields.specs.Identifiers.{declared_fields, declaring_field,
 use crate::declaring::block;
 use crate::owners::found_fields;
 use ob0_scan::{Span, Tokens};
-use ob0_scope::resolved::Resolved;
-use ob0_scope::token_span;
-use ob0_symbols::written::text_at;
-use ob0_types::checked::WellTyped;
+use ob0_scope::{Resolved, token_span};
+use ob0_symbols::text_at;
+use ob0_types::WellTyped;
 use std::alloc::{AllocError, Global};
 
 /// The identifiers of a module that are fields, declared or selected, by their tokens, in text order. Each comes with the

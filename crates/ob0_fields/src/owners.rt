@@ -7,7 +7,7 @@ ghost use Rattle.ob0_checker.specs.Bindings.{declared_object};
 ghost use Rattle.ob0_field_laws.specs.Owners.{AreOwners};
 
 use crate::owning::{Fields, Owning};
-use ob0_types::checked::WellTyped;
+use ob0_types::WellTyped;
 use std::alloc::{AllocError, Global};
 
 /// At each token that is a field's name, declared in its RECORD or in a selector that selects it, the ordinal of its record

@@ -13,11 +13,9 @@ ghost use Rattle.ob0_fields.specs.Owned.{mark, marked, marked_block, marked_proc
 ghost use Rattle.ob0_fields.specs.Walk.{marked_at, meaning_in};
 
 use crate::declared::{formals, types, variables};
-use ob0_scope::resolved::Resolved;
-use ob0_symbols::known::{Known, Object};
-use ob0_symbols::types::{TypeId, scalar_type};
-use ob0_symbols::written::text_at;
-use ob0_tree::tree::{
+use ob0_scope::Resolved;
+use ob0_symbols::{Known, Object, TypeId, scalar_type, text_at};
+use ob0_tree::{
     Assignment, Block, Call, Designator, Elsif, Expression, Factor, If, Procedure, Selector,
     Simple, Statement, Term,
 };

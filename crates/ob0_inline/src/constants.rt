@@ -9,10 +9,9 @@ ghost use Rattle.ob0_inline.specs.Declarations.{is_semicolon};
 ghost use Rattle.ob0_inline.specs.Everywhere.{IsConstant, IsConstantAt, NoConstantAt};
 
 use ob0_scan::{Symbol, Token, TokenKind};
-use ob0_scope::name_at;
-use ob0_scope::resolved::Resolved;
-use ob0_types::checked::WellTyped;
-use ob0_values::scalar::Scalar;
+use ob0_scope::{Resolved, name_at};
+use ob0_types::WellTyped;
+use ob0_values::Scalar;
 
 /// A constant of a CONST section: its ordinal and value, and the tokens of its declaration's name and `;`.
 #[derive(Clone, Copy)]

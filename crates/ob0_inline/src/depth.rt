@@ -8,8 +8,7 @@ ghost use Rattle.ob0_text.specs.declared.refusals.EditRefusal.TheVariants.{Memor
 ghost use Rattle.ob0_tree.specs.Module.{text_lexemes};
 ghost use Rattle.ob0_tree.specs.Tree.{Tree, module_text, nesting, spell};
 
-use ob0_parse::parse;
-use ob0_parse::refusal::ParseRefusal;
+use ob0_parse::{ParseRefusal, parse};
 use ob0_scan::{ScanRefusal, Tokens, scan};
 use ob0_text::{Edit, EditRefusal, PatchFault, TextStore, patch};
 use std::alloc::Global;

@@ -22,10 +22,10 @@ use crate::shown::{any_hidden, is_ordinal};
 use crate::written::{is_scalar, value_text};
 use ob0_edits::edits_without;
 use ob0_scan::{Span, Tokens};
-use ob0_scope::resolved::Resolved;
+use ob0_scope::Resolved;
 use ob0_semantics::laws::inlining_everywhere_keeps_modules;
 use ob0_text::{Edit, EditRefusal, Position, TextStore};
-use ob0_types::checked::WellTyped;
+use ob0_types::WellTyped;
 use ob0_typing::laws::constants_stand_alone;
 use std::alloc::{AllocError, Global};
 

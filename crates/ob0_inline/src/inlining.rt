@@ -12,7 +12,7 @@ use crate::writing::edits_at;
 use crate::written::is_scalar;
 use ob0_semantics::laws::inlining_keeps_modules;
 use ob0_text::{Edit, EditRefusal, Position, TextStore};
-use ob0_types::checked::WellTyped;
+use ob0_types::WellTyped;
 use ob0_typing::laws::constants_stand_alone;
 use std::alloc::Global;
 

@@ -10,9 +10,8 @@ ghost use Rattle.ob0_inline.specs.Everywhere.{any_hidden};
 ghost use Rattle.ob0_inline.specs.Uses.{is_shown};
 
 use crate::constants::Constant;
-use ob0_scope::resolved::Resolved;
-use ob0_scope::seen::seen;
-use ob0_values::scalar::Scalar;
+use ob0_scope::{Resolved, seen};
+use ob0_values::Scalar;
 use std::alloc::{AllocError, Global};
 
 /// The ordinals of the predeclared TRUE and FALSE.

@@ -12,9 +12,9 @@ ghost use Rattle.ob0_inline.specs.Values.{value_text};
 use crate::depth::is_too_deep;
 use crate::written::value_text;
 use ob0_edits::edits_for;
-use ob0_scope::resolved::Resolved;
+use ob0_scope::Resolved;
 use ob0_text::{Edit, EditRefusal, TextStore};
-use ob0_values::scalar::Scalar;
+use ob0_values::Scalar;
 use std::alloc::Global;
 
 /// One edit for each of some tokens, identifiers that stand as whole factors, which writes the value in its place.

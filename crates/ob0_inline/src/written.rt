@@ -8,7 +8,7 @@ ghost use Rattle.ob0_values.specs.Scalars.{scalar_value};
 ghost use Rattle.ob0_values.specs.Values.{fits};
 ghost use Rattle.ob0_inline.specs.Values.{value_text, value_words};
 
-use ob0_values::scalar::Scalar;
+use ob0_values::Scalar;
 use std::alloc::{AllocError, Global};
 
 /// The text of a value: a negative number in parentheses, and the least number as a difference, since it has no digits of

@@ -16,7 +16,7 @@ use crate::sites::{Site, all_sites};
 use crate::walk::standings;
 use ob0_scan::MAX_TEXT;
 use ob0_text::{Edit, EditRefusal, Indent, Range, TextStore};
-use ob0_tree::tree::Module;
+use ob0_tree::Module;
 use std::alloc::{AllocError, Global};
 
 /// One edit for each gap that the layout changes, in text order: it replaces the whole gap by what is to stand there. Made at once in

@@ -8,7 +8,7 @@ ghost use Rattle.ob0_tree.specs.Tree.{then_name};
 ghost use Rattle.ob0_tree.specs.View.{items_of, expression_of, simple_of, term_of, factor_of, selector_of, designator_of, assignment_of, arguments_in, call_of, statement_of, if_of, elsifs_in, sequence_in, type_of, record_in, fields_of, section_of, formals_of, constants_of, types_of, variables_of, body_of, procedure_of, block_of};
 
 use crate::standing::Standing;
-use ob0_tree::tree::{
+use ob0_tree::{
     Assignment, Block, Call, Constant, Designator, Elsif, Expression, Factor, Fields, If, Module,
     Names, Procedure, RecordType, Section, Selector, Sign, Simple, Statement, Term,
     TypeDeclaration, Variables, WrittenType,

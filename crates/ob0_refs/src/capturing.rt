@@ -8,8 +8,7 @@ ghost use Rattle.ob0_refs.specs.Captured.{capture_at, capture_span, captured_spa
 use crate::answers::Capture;
 use crate::names::declared_at;
 use ob0_scan::Span;
-use ob0_scope::resolved::Resolved;
-use ob0_scope::{captures as scopes, token_span};
+use ob0_scope::{Capture as Captured, Resolved, captures as first_capture, token_span};
 use std::alloc::{AllocError, Global};
 
 /// Where another name for a declaration isn't free: the identifier that declares it, where another declaration of its
@@ -23,7 +22,7 @@ pub fn captures(
 ) -> Result<Option<Capture>, AllocError>
     ensures { IfOk result (λ found. option_map capture_at found ≡ captured_span names.now.module_read declaration new.now) }
 {
-    match scopes::captures(alloc, names, declaration, new)? {
+    match first_capture(alloc, names, declaration, new)? {
         None => Ok(None),
         Some(capture) => match capture_span(names, declaration, capture) {
             None => Ok(None),
@@ -32,12 +31,12 @@ pub fn captures(
     }
 }
 
-fn capture_span(names: &Resolved, declaration: usize, capture: scopes::Capture) -> Option<Span>
+fn capture_span(names: &Resolved, declaration: usize, capture: Captured) -> Option<Span>
     ensures { result ≡ capture_span names.now.module_read declaration (place_of capture) }
 {
     match capture {
-        scopes::Capture::Duplicate(_) => declared_at(names, declaration),
-        scopes::Capture::Occurrence(k) => occurrence_span(names, k),
+        Captured::Duplicate(_) => declared_at(names, declaration),
+        Captured::Occurrence(k) => occurrence_span(names, k),
     }
 }
 

@@ -14,11 +14,9 @@ ghost use Rattle.ob0_refs.specs.FieldTypes.{field_named, fields_named, type_name
 ghost use Rattle.ob0_refs.specs.FieldParts.{meaning_in, type_in, typed_in};
 
 use crate::selecting::Selection;
-use ob0_scope::resolved::Resolved;
-use ob0_symbols::known::{FieldOf, Known};
-use ob0_symbols::types::TypeId;
-use ob0_symbols::written::text_at;
-use ob0_tree::tree::{
+use ob0_scope::Resolved;
+use ob0_symbols::{FieldOf, Known, TypeId, text_at};
+use ob0_tree::{
     Block, Fields, Names, Procedure, RecordType, Section, TypeDeclaration, Variables, WrittenType,
 };
 use std::alloc::{AllocError, Global};

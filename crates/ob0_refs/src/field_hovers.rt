@@ -19,12 +19,9 @@ use crate::selecting::Selection;
 use crate::selections::selections_by;
 use crate::typing::type_text;
 use ob0_scan::Tokens;
-use ob0_scope::resolved::Resolved;
-use ob0_scope::token_span;
-use ob0_symbols::known::Known;
-use ob0_symbols::types::TypeId;
-use ob0_symbols::written::text_at;
-use ob0_types::checked::WellTyped;
+use ob0_scope::{Resolved, token_span};
+use ob0_symbols::{Known, TypeId, text_at};
+use ob0_types::WellTyped;
 use std::alloc::{AllocError, Global};
 
 /// What is shown at a place, where it lies in a name or at its end: of a name its declaration, and of a field its type,

@@ -7,7 +7,7 @@ ghost use Rattle.ob0_refs.specs.Shown.{shown_at, shown_of};
 use crate::answers::Hover;
 use crate::showing::name_text;
 use ob0_scope::{Named, name_at, token_span};
-use ob0_types::checked::WellTyped;
+use ob0_types::WellTyped;
 use std::alloc::{AllocError, Global};
 
 /// What is shown of the name that a place is on, where it lies in the name or at its end. A closing name of a procedure

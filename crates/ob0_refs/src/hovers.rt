@@ -5,7 +5,7 @@ ghost use Rattle.ob0_values.specs.Values.{FieldShapes, Shape, array_shape, recor
 ghost use Rattle.ob0_refs.specs.Hovers.{by_text, constant_text as constant_shown, named_type_text as type_shown, parameter_text, parameters_text, predeclared_text as predeclared_shown, procedure_text as procedure_shown, truth_text, type_text, fields_count, variable_text as variable_shown};
 ghost use Rattle.ob0_refs.specs.Parameters.{parameter_in};
 
-use ob0_values::scalar::Scalar;
+use ob0_values::Scalar;
 use std::alloc::{AllocError, Global};
 
 /// A formal parameter, with the text of its type.

@@ -7,8 +7,7 @@ ghost use Rattle.ob0_refs.specs.Answered.{at_name, declared_at, of_ordinal, refe
 
 use crate::answers::{At, Of};
 use ob0_scan::{Span, Tokens};
-use ob0_scope::resolved::{PREDECLARED, Resolved};
-use ob0_scope::{Named, token_span, tokens_bound};
+use ob0_scope::{Named, PREDECLARED, Resolved, token_span, tokens_bound};
 use std::alloc::{AllocError, Global};
 
 /// Where a name stands, and what it is a name of.

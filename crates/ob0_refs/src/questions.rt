@@ -7,10 +7,9 @@ use crate::answers::{At, Of};
 use crate::names::{at_name, declared_at, references_to, spans_of};
 use ob0_fields::{declaring_field, field_at, field_place, field_tokens};
 use ob0_scan::Span;
-use ob0_scope::resolved::Resolved;
-use ob0_scope::{name_at, token_span};
-use ob0_symbols::written::text_at;
-use ob0_types::checked::WellTyped;
+use ob0_scope::{Resolved, name_at, token_span};
+use ob0_symbols::text_at;
+use ob0_types::WellTyped;
 use std::alloc::{AllocError, Global};
 
 /// What a place is on, where it lies in an identifier or at its end: a name, or a field, at the identifier that declares it

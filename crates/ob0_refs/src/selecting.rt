@@ -13,11 +13,9 @@ ghost use Rattle.ob0_values.specs.Values.{Shape};
 ghost use Rattle.ob0_refs.specs.Selections.{noted, path_selections, selections, type_behind};
 ghost use Rattle.ob0_refs.specs.SelectionParts.{found_in, meaning_in, selected_from, selection_in};
 
-use ob0_scope::resolved::Resolved;
-use ob0_symbols::known::{FieldOf, Known, Object};
-use ob0_symbols::types::{TypeId, scalar_type};
-use ob0_symbols::written::text_at;
-use ob0_tree::tree::{
+use ob0_scope::Resolved;
+use ob0_symbols::{FieldOf, Known, Object, TypeId, scalar_type, text_at};
+use ob0_tree::{
     Assignment, Block, Call, Constant, Designator, Elsif, Expression, Factor, Fields, If,
     Procedure, RecordType, Section, Selector, Simple, Statement, Term, TypeDeclaration, Variables,
     WrittenType,

@@ -6,8 +6,8 @@ ghost use Rattle.ob0_refs.specs.Selections.{selections, token_meaning};
 ghost use Rattle.ob0_refs.specs.SelectionParts.{selection_in};
 
 use crate::selecting::{Selecting, Selection};
-use ob0_scope::resolved::Resolved;
-use ob0_symbols::known::Known;
+use ob0_scope::Resolved;
+use ob0_symbols::Known;
 use std::alloc::{AllocError, Global};
 
 /// All selections of a module, by the table of its declarations: the token of each selector that is a name, with the field

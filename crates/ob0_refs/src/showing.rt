@@ -18,11 +18,8 @@ use crate::hovers::{
 };
 use crate::typing::type_text;
 use ob0_scan::Tokens;
-use ob0_scope::Named;
-use ob0_scope::resolved::{PREDECLARED, Resolved};
-use ob0_symbols::known::{Formal, Known, Object};
-use ob0_symbols::types::TypeId;
-use ob0_symbols::written::text_at;
+use ob0_scope::{Named, PREDECLARED, Resolved};
+use ob0_symbols::{Formal, Known, Object, TypeId, text_at};
 use std::alloc::{AllocError, Global};
 
 /// What is shown of a name. None where its declaration is nothing.

@@ -7,9 +7,7 @@ ghost use Rattle.ob0_symbols.specs.Tables.{type_shape};
 ghost use Rattle.ob0_values.specs.Values.{array_shape};
 
 use crate::hovers::{array_text, record_text};
-use ob0_symbols::known::{ArrayShape, Known};
-use ob0_symbols::sameness::Parts;
-use ob0_symbols::types::TypeId;
+use ob0_symbols::{ArrayShape, Known, Parts, TypeId};
 use std::alloc::{AllocError, Global};
 
 /// The text of a type, arrays level by level; a record by the number of its fields.

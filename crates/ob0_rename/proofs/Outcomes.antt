@@ -19,8 +19,8 @@ use Rattle.ob0_scope.specs.Occurrences.{Free, at_declaration, at_occurrence, bin
 use Rattle.ob0_scope.specs.Renames.{namesake, other_of, place_of}
 use Rattle.ob0_scope.specs.Resolution.{IsResolution, Resolution}
 use Rattle.ob0_scope.specs.Scopes.{renamed}
-use Rattle.ob0_scope.specs.declared.captures.Capture as told
-use Rattle.ob0_scope.specs.declared.captures.Capture.TheVariants as tells
+use Rattle.ob0_scope.specs.declared.capturing.Capture as told
+use Rattle.ob0_scope.specs.declared.capturing.Capture.TheVariants as tells
 use Rattle.ob0_types.specs.CheckedModules.{IsWellTyped}
 use Rattle.ob0_typing.specs.WellTyped.{WellTyped}
 use Rattle.ob0_semantics.specs.EditLaws.{FreeKeepsModules, SameRuns}

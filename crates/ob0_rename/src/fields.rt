@@ -18,10 +18,10 @@ use ob0_field_laws::laws::free_field_keeps_modules;
 use ob0_fields::laws::{duplicate_by_token, renamed_at_tokens};
 use ob0_fields::{declaring_field, field_at, field_tokens};
 use ob0_scan::is_identifier;
-use ob0_scope::resolved::Resolved;
-use ob0_symbols::written::text_at;
+use ob0_scope::Resolved;
+use ob0_symbols::text_at;
 use ob0_text::{Edit, EditRefusal, TextStore};
-use ob0_types::checked::WellTyped;
+use ob0_types::WellTyped;
 use std::alloc::{AllocError, Global};
 
 /// The field that a place is on: the identifier's token, and the ordinal of the field's record.

@@ -7,7 +7,7 @@ ghost use Rattle.ob0_text.specs.declared.positions.Position as positions;
 ghost use Rattle.ob0_tree.specs.Parsed.{tree_of};
 ghost use Rattle.ob0_tree.specs.Tree.{occurrences};
 ghost use Rattle.ob0_scope.specs.Resolution.{span_at};
-ghost use Rattle.ob0_scope.specs.declared.captures.Capture.TheVariants.{Duplicate, Occurrence};
+ghost use Rattle.ob0_scope.specs.declared.capturing.Capture.TheVariants.{Duplicate, Occurrence};
 ghost use Rattle.ob0_text.specs.declared.refusals.EditRefusal.TheVariants as refused;
 ghost use Rattle.ob0_edits.specs.Ranges.{range_of};
 ghost use Rattle.ob0_rename.specs.Answers.{Answers, AnswersFor, OnlyMemory, TakesOwnName};
@@ -18,12 +18,10 @@ use crate::places::{token_range, tokens_renamed};
 use ob0_edits::edits_for;
 use ob0_edits::laws::{names_stand_for_names, renamed_words_spell};
 use ob0_scan::is_identifier;
-use ob0_scope::captures::{Capture, captures};
-use ob0_scope::name_at;
-use ob0_scope::resolved::{PREDECLARED, Resolved};
+use ob0_scope::{Capture, PREDECLARED, Resolved, captures, name_at};
 use ob0_semantics::laws::free_keeps_modules;
 use ob0_text::{Edit, EditRefusal, Position, TextStore};
-use ob0_types::checked::WellTyped;
+use ob0_types::WellTyped;
 use std::alloc::Global;
 
 /// The edits that write `new` for the declaration or the field that is named at a place, in text order: one for each

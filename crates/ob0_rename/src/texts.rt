@@ -8,7 +8,7 @@ use crate::renaming::rename;
 use ob0_analysis::{Asked, Question, ask};
 use ob0_scan::Tokens;
 use ob0_text::{Edit, EditRefusal, Position, TextStore};
-use ob0_types::checked::WellTyped;
+use ob0_types::WellTyped;
 use std::alloc::{AllocError, Global};
 
 /// Another name for what is named at a place of the text in a store.

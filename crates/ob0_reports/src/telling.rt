@@ -13,9 +13,8 @@ mod written_types;
 use crate::telling::expressions::Operand;
 use crate::telling::supposed::{Composite, Meaning, PREDECLARED_MEANINGS, STANDARD_FORMALS};
 use ob0_scan::{Code, Fault, Span};
-use ob0_scope::resolved::Resolved;
-use ob0_symbols::known::Formal;
-use ob0_symbols::written::text_at;
+use ob0_scope::Resolved;
+use ob0_symbols::{Formal, text_at};
 use std::alloc::{AllocError, Global};
 
 /// The faults of a module's types, and its names that nothing binds, in no order. Its second declarations and closing names

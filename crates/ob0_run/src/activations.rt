@@ -13,8 +13,8 @@ ghost use Rattle.ob0_run.specs.Scenes.{mode_of, read_with};
 use crate::calling::{Argument, Formal, formals};
 use crate::machine::{Machine, bind};
 use crate::scene::{Ending, Meant, Stop};
-use ob0_tree::tree::Procedure;
-use ob0_values::value::{Place, Value};
+use ob0_tree::Procedure;
+use ob0_values::{Place, Value};
 
 /// Binds a name to the place of a variable.
 fn bind_variable<'t>(

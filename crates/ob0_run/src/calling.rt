@@ -12,9 +12,8 @@ ghost use Rattle.ob0_run.specs.States.{state_of};
 
 use crate::scene::{Ending, Meant, Standard, Stop, ordinal_at};
 use crate::state::{Names, State};
-use ob0_tree::tree;
-use ob0_tree::tree::{Call, Designator, Expression, Factor, Section, Simple, Term};
-use ob0_values::value::{Place, Value};
+use ob0_tree::{Call, Designator, Expression, Factor, Names as NameList, Section, Simple, Term};
+use ob0_values::{Place, Value};
 use std::alloc::{AllocError, Global};
 
 /// A VAR parameter is given a place, another a copy of a value.
@@ -35,7 +34,7 @@ pub struct Formal {
 fn add_section(
     formals: &mut Vec<Formal>,
     by_place: bool,
-    names: &tree::Names,
+    names: &NameList,
 ) -> Result<(), AllocError>
     ensures { IfOk result (λ done. parameters_of formals.new.items ≡ parameters_of formals.old.items ++ map (taken_by by_place) (names_listed (names_of names.now))) }
 {

@@ -14,7 +14,7 @@ use crate::declaring::declare_block;
 use crate::machine::{Bound, Machine, rewind, unwind};
 use crate::scene::{Ending, Meant, Routine, Stop, ordinal_at};
 use crate::statements::sequence;
-use ob0_tree::tree::Statement;
+use ob0_tree::Statement;
 use std::alloc::AllocError;
 use std::mem;
 

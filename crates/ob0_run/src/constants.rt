@@ -12,10 +12,10 @@ ghost use Rattle.ob0_run.specs.Scenes.{Answers, label_in, meaning_in, read_in};
 
 use crate::operands::scalar_of;
 use crate::scene::{Ending, Meant, Scene, Stop};
-use ob0_checker::denoting::array_length;
-use ob0_symbols::types::{TypeId, added, complement, multiplied, related, scalar_type, with_sign};
-use ob0_tree::tree::{Designator, Expression, Factor, Simple, Term};
-use ob0_values::value::Value;
+use ob0_checker::array_length;
+use ob0_symbols::{TypeId, added, complement, multiplied, related, scalar_type, with_sign};
+use ob0_tree::{Designator, Expression, Factor, Simple, Term};
+use ob0_values::Value;
 
 /// The type of a constant. Only numbers and truths have one.
 fn type_of_value(value: &Value) -> Option<TypeId>

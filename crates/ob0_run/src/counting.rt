@@ -7,9 +7,7 @@ ghost use Rattle.ob0_scope.specs.Parts.{formal_sections, section_types, section_
 ghost use Rattle.ob0_typing.specs.Declarations.{formals_constructors, procedure_constructors, types_constructors, variables_constructors};
 ghost use Rattle.ob0_typing.specs.Typing.{constructors, group_constructors};
 
-use ob0_tree::tree::{
-    Fields, Procedure, RecordType, Section, TypeDeclaration, Variables, WrittenType,
-};
+use ob0_tree::{Fields, Procedure, RecordType, Section, TypeDeclaration, Variables, WrittenType};
 use std::alloc::AllocError;
 
 /// One more. A number past the last one is told as want of memory.

@@ -23,10 +23,10 @@ use crate::machine::{Machine, bind};
 use crate::scene::{Meant, Routine, Scene, Stop};
 use crate::shapes::{Shape, initial};
 use ob0_scan::Tokens;
-use ob0_tree::tree::{
+use ob0_tree::{
     Block, Constant, Expression, Names, Procedure, TypeDeclaration, Variables, WrittenType,
 };
-use ob0_values::value::Value;
+use ob0_values::Value;
 use std::alloc::Global;
 
 /// Binds a name to what it stands for.

@@ -15,7 +15,7 @@ use crate::counting::{after_group, one_more};
 use crate::scene::{Ending, Meant, Scene, Stop};
 use crate::shapes::{Field, Shape, copied};
 use crate::sizes::within_limits;
-use ob0_tree::tree::{ArrayType, FieldList, Fields, Names, RecordType, WrittenType};
+use ob0_tree::{ArrayType, FieldList, Fields, Names, RecordType, WrittenType};
 use std::alloc::AllocError;
 
 impl<'r, 't> Scene<'r, 't> {

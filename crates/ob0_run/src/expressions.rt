@@ -13,9 +13,9 @@ use crate::operands::{
     with_sign,
 };
 use crate::scene::{Ending, Meant, Scene, Stop};
-use ob0_tree::tree::{Addend, Designator, Expression, Factor, Multiplier, Selector, Simple, Term};
-use ob0_values::scalar::Scalar;
-use ob0_values::value::{Place, Step, Value, at_path, copied, count, further, part, read_place};
+use ob0_tree::{Addend, Designator, Expression, Factor, Multiplier, Selector, Simple, Term};
+use ob0_values::value::{at_path, copied, count, further, part, read_place};
+use ob0_values::{Place, Scalar, Step, Value};
 use std::alloc::Global;
 
 /// The step to an array's element. An index below 0 or not below the length ends the run.

@@ -7,10 +7,8 @@ ghost use Rattle.ob0_values.specs.Values.{add, add_is_settled, multiply, multipl
 ghost use Rattle.ob0_run.specs.Scenes.{Answers, scalar_in};
 
 use crate::scene::{Ending, Stop, stopped_by};
-use ob0_tree::tree::{AddOperator, MultiplyOperator, Relation, Sign};
-use ob0_values::scalar;
-use ob0_values::scalar::{Fault, Scalar};
-use ob0_values::value::Value;
+use ob0_tree::{AddOperator, MultiplyOperator, Relation, Sign};
+use ob0_values::{Fault, Scalar, Value, scalar};
 
 /// The number or truth that a value is.
 pub(crate) fn scalar_of(value: &Value) -> Option<Scalar>

@@ -14,12 +14,12 @@ ghost use Rattle.ob0_run.specs.Scenes.{added_by, label_in, meaning_in, meant_by,
 ghost use Rattle.ob0_run.specs.Finding.{Finds, related_to, element_by, part_further};
 
 use crate::scene::{Meant, Scene};
-use ob0_tree::tree::{
+use ob0_tree::{
     AddOperator, Addend, Comparison, Designator, Expression, Factor, Multiplier, MultiplyOperator,
     Relation, Selector, Sign, Simple, Term,
 };
-use ob0_values::scalar::Scalar;
-use ob0_values::value::{Place, Step, Value, count, part, read_place};
+use ob0_values::value::{count, part, read_place};
+use ob0_values::{Place, Scalar, Step, Value};
 
 #[inline(always)]
 fn signed_number(sign: Option<Sign>, a: i32) -> Option<i32>

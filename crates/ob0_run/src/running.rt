@@ -20,11 +20,10 @@ use crate::machine::{Bound, Machine, bind_at};
 use crate::scene::{Ending, Meant, Standard, Stop};
 use crate::shapes::Shape;
 use crate::state::{Item, State};
-use ob0_scope::resolved::{PREDECLARED, Resolved};
-use ob0_tree::tree::Block;
-use ob0_types::checked::WellTyped;
-use ob0_values::scalar::Scalar;
-use ob0_values::value::Value;
+use ob0_scope::{PREDECLARED, Resolved};
+use ob0_tree::Block;
+use ob0_types::WellTyped;
+use ob0_values::{Scalar, Value};
 use std::alloc::{AllocError, Global};
 
 /// How a run ends.

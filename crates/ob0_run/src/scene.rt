@@ -10,9 +10,9 @@ ghost use Rattle.ob0_run.specs.Scenes.{Answers, label_in, meant_by, object_of, o
 
 use crate::shapes::Shape;
 use ob0_scan::{TokenKind, Tokens};
-use ob0_tree::tree::Procedure;
-use ob0_values::scalar::{Fault, Scalar};
-use ob0_values::value::{Place, Value, read_place};
+use ob0_tree::Procedure;
+use ob0_values::value::read_place;
+use ob0_values::{Fault, Place, Scalar, Value};
 use std::alloc::{AllocError, AllocFailed, Global};
 
 /// How a run ends where it doesn't reach the end of the module's body.

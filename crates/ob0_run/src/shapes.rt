@@ -5,8 +5,7 @@ ghost use Rattle.ob0_values.specs.Stored.{value_of};
 ghost use Rattle.ob0_values.specs.Values.{initial};
 ghost use Rattle.ob0_run.specs.Shapes.{repeated_value, shape_of};
 
-use ob0_values::scalar::Scalar;
-use ob0_values::value::{self, Member, Value};
+use ob0_values::{Member, Scalar, Value, value};
 use std::alloc::{AllocError, Global};
 
 /// A type.

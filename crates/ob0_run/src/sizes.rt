@@ -8,7 +8,7 @@ ghost use Rattle.ob0_run.specs.Shapes.{shape_of};
 
 use crate::scene::{Ending, Stop};
 use crate::shapes::Shape;
-use ob0_symbols::known::{MOST_DEPTH, MOST_SCALARS};
+use ob0_symbols::{MOST_DEPTH, MOST_SCALARS};
 
 /// How many scalars a type has. What is past the last `usize` counts as that.
 fn scalars(shape: &Shape) -> usize

@@ -17,9 +17,9 @@ use crate::operands::scalar_of;
 use crate::scene::{Ending, Meant, Scene, Stop};
 use crate::storing::{Target, put};
 use ob0_scan::Tokens;
-use ob0_tree::tree::{Assignment, Designator, Expression};
-use ob0_values::scalar::Scalar;
-use ob0_values::value::{Place, Value, write_place};
+use ob0_tree::{Assignment, Designator, Expression};
+use ob0_values::value::write_place;
+use ob0_values::{Place, Scalar, Value};
 use std::alloc::Global;
 
 /// What the names of a module stand for, by the ordinals that the tokens have.

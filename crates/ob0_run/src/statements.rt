@@ -18,9 +18,8 @@ use crate::calling::Argument;
 use crate::machine::{Machine, names_in};
 use crate::scene::{Ending, Meant, Standard, Stop};
 use crate::state::{Item, Names, State};
-use ob0_tree::tree::{Assignment, Call, Expression, If, Repeat, Statement, While};
-use ob0_values::scalar::Scalar;
-use ob0_values::value::Value;
+use ob0_tree::{Assignment, Call, Expression, If, Repeat, Statement, While};
+use ob0_values::{Scalar, Value};
 
 /// Whether a condition holds, now.
 fn holds(machine: &Machine<'_, '_>, e: &Expression) -> Result<bool, Stop>

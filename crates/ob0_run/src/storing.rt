@@ -13,9 +13,8 @@ ghost use Rattle.ob0_run.specs.Scenes.{label_in, meaning_in, meant_by, read_in};
 
 use crate::quick::{index_in, stored};
 use crate::scene::Scene;
-use ob0_tree::tree::{Designator, Selector};
-use ob0_values::scalar::Scalar;
-use ob0_values::value::{Place, Value};
+use ob0_tree::{Designator, Selector};
+use ob0_values::{Place, Scalar, Value};
 use std::mem;
 
 /// What stands in a variable's place while an element of it is made anew.

@@ -3,8 +3,8 @@ use Rattle.std.proofs.Common.{◌≡◌, ◌↔◌, ℕ, Bool, true, false, not,
 use Rattle.std.specs.List.{list_any}
 use Rattle.std.specs.Option.{option_or}
 use Rattle.ob0_tree.specs.Tree.{Tree, module_text}
-use Rattle.ob0_scope.specs.declared.captures.Capture as told
-use Rattle.ob0_scope.specs.declared.captures.Capture.TheVariants as tells
+use Rattle.ob0_scope.specs.declared.capturing.Capture as told
+use Rattle.ob0_scope.specs.declared.capturing.Capture.TheVariants as tells
 use Rattle.ob0_scope.specs.Names.{Name, same_name}
 use Rattle.ob0_scope.specs.Occurrences.{Free, at_declaration, at_occurrence, bindings, blocks_in, declares_ordinal, first_captured, first_difference, is_duplicate, names_another}
 use Rattle.ob0_scope.specs.Parts.{module_block}

@@ -1,21 +1,17 @@
 -- A declaration under another name: what each occurrence is then bound to, and which declaration stands against it.
-use Rattle.std.specs.Prelude.{◌≡◌, ℕ, Bool, true, false, not, ◌&&◌, if◌then◌else◌, ◌==◌, List, [], ◌∷◌, Option, Some, None, map}
+use Rattle.std.specs.Prelude.{◌≡◌, ℕ, Bool, true, false, not, ◌&&◌, if◌then◌else◌, ◌==◌, List, [], ◌∷◌, Option, Some, None}
 use Rattle.std.specs.Option.{option_or}
 use Rattle.ob0_tree.specs.Tree.{Tree, mapped, module_text}
 use Rattle.ob0_tree.specs.Parsed.{named_tree_of, tree_of}
 use Rattle.ob0_tree.specs.Places.{value_at}
-use Rattle.ob0_scope.specs.declared.captures.Capture as told
-use Rattle.ob0_scope.specs.declared.captures.Capture.TheVariants as tells
+use Rattle.ob0_scope.specs.declared.capturing.Capture as told
+use Rattle.ob0_scope.specs.declared.capturing.Capture.TheVariants as tells
 use Rattle.ob0_scope.specs.Names.{Name, as_names, same_name}
-use Rattle.ob0_scope.specs.Occurrences.{Capture, at_declaration, at_occurrence, bindings, blocks_in, declares_ordinal, label_ordinal}
+use Rattle.ob0_scope.specs.Occurrences.{Capture, at_declaration, at_occurrence, blocks_in, declares_ordinal}
 use Rattle.ob0_scope.specs.Parts.{module_block}
 use Rattle.ob0_scope.specs.Resolution.{Resolution, ordinal_in}
 use Rattle.ob0_scope.specs.Scopes.{Scope, as_label, numbered, renamed}
 use Rattle.ob0_scope.specs.Written.{Writing, name_at}
-
--- for each occurrence of a module, in text order, the ordinal of its declaration; None where nothing binds it
-abbrev pub ordinals_bound : Tree Name module_text → List (Option ℕ)
-ordinals_bound m = map label_ordinal (bindings m)
 
 -- the newest of these declarations that has the name and isn't d
 abbrev pub other_named : Scope Name → ℕ → Name → Option ℕ

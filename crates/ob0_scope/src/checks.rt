@@ -14,7 +14,7 @@ ghost use Rattle.ob0_scope.specs.Resolution.{is_of_declarations, span_at};
 use crate::table::token_span;
 use crate::writing::token_text;
 use ob0_scan::{Code, Fault, Tokens};
-use ob0_tree::tree::{
+use ob0_tree::{
     Block, Constant, Fields, Module, Names, Procedure, RecordType, Section, TypeDeclaration,
     Variables, WrittenType,
 };

@@ -10,7 +10,7 @@ ghost use Rattle.ob0_scope.specs.Standing.{IsRenamedAt, is_declaring, name_on, t
 
 use crate::resolved::Resolved;
 use ob0_scan::{Token, TokenKind};
-use ob0_tree::tree::Role;
+use ob0_tree::Role;
 use std::alloc::{AllocError, Global};
 
 /// An identifier that is bound to a declaration: its token, and the declaration's ordinal.

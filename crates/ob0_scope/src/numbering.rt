@@ -12,10 +12,9 @@ ghost use Rattle.ob0_scope.specs.Visiting.{marked, numbered_at, numbered_all, sh
 use crate::resolved::PREDECLARED;
 use crate::visible::Visible;
 use crate::writing::Writing;
-use ob0_tree::identifiers;
-use ob0_tree::tree::{
+use ob0_tree::{
     Block, Constant, Expression, Module, Names, Procedure, Role, Section, Statement,
-    TypeDeclaration, Variables, WrittenType,
+    TypeDeclaration, Variables, WrittenType, identifiers,
 };
 use std::alloc::{AllocError, Global};
 use std::marker::Model;

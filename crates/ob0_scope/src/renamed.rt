@@ -1,30 +1,14 @@
 //! What the names of a module are bound to once a declaration has another name.
 
 ghost use Rattle.std.specs.Prelude.{◌≡◌, IfOk, map};
-ghost use Rattle.ob0_tree.specs.Parsed.{named_tree_of};
-ghost use Rattle.ob0_scope.specs.Renames.{IsRenumbering, ordinals_bound};
+ghost use Rattle.ob0_scope.specs.Renames.{IsRenumbering};
 ghost use Rattle.ob0_scope.specs.Resolution.{IsResolution, ordinal_in};
-ghost use Rattle.ob0_scope.specs.Scopes.{renamed};
 
 use crate::numbering::number;
 use crate::resolved::Resolved;
 use crate::table::{ordinal_at, table};
 use crate::writing::Writing;
 use std::alloc::{AllocError, Global};
-
-/// For each occurrence of a module, in text order, the ordinal of the declaration that it would be bound to, if a
-/// declaration, its closing name and all names bound to it were written `new`. None where nothing would bind it.
-pub fn resolve_renamed(
-    alloc: Global,
-    names: &Resolved,
-    declaration: usize,
-    new: &str,
-) -> Result<Vec<Option<usize>>, AllocError>
-    ensures { IfOk result (λ bound. bound.items ≡ ordinals_bound (renamed (named_tree_of names.now.module_read) declaration new.now)) }
-{
-    let ordinals = renumber(alloc, names, declaration, new)?;
-    ordinals_of(alloc, &ordinals, names.occurrences())
-}
 
 /// The ordinal of each identifier, by its token, where a declaration has another name.
 pub(crate) fn renumber(

@@ -7,7 +7,7 @@ ghost use Rattle.ob0_scope.specs.Resolution.{IsResolution, ordinal_in, token_dec
 
 use crate::table::ordinal_at;
 use ob0_scan::{Fault, Tokens};
-use ob0_tree::tree::Module;
+use ob0_tree::Module;
 use std::marker::Model;
 
 /// How many names are predeclared: INTEGER, BOOLEAN, TRUE, FALSE, Read, Write and WriteLn, with the ordinals 0 to 6.

@@ -7,7 +7,7 @@ ghost use Rattle.ob0_symbols.specs.Tables.{fields_shape, type_shape};
 
 use crate::field_table::FieldTable;
 use crate::types::{TypeId, scalar_type};
-use ob0_values::scalar::Scalar;
+use ob0_values::Scalar;
 use std::alloc::{AllocError, Global};
 use std::marker::Model;
 use std::mem;

@@ -1,9 +1,16 @@
 //! What the checker knows of a module: the table of its types and of what its declarations are, and the operators on them.
 #![tactic(auto)]
 
-pub mod field_table;
-pub mod known;
+mod field_table;
+mod known;
 pub mod operators;
-pub mod sameness;
-pub mod types;
-pub mod written;
+mod sameness;
+mod types;
+mod written;
+
+pub use known::{
+    ArrayShape, Field, FieldOf, Formal, Known, MOST_DEPTH, MOST_SCALARS, Object, Shadowed, Standard,
+};
+pub use sameness::Parts;
+pub use types::{TypeId, added, complement, multiplied, related, scalar_type, with_sign};
+pub use written::{number_at, text_at};

@@ -8,9 +8,10 @@ ghost use Rattle.ob0_symbols.specs.Operators.{product_value, sum_value};
 ghost use Rattle.ob0_typing.specs.Selected.{both};
 ghost use Rattle.ob0_typing.specs.Typing.{given_value};
 
-use ob0_tree::tree::{AddOperator, MultiplyOperator, Relation, Sign};
+use ob0_tree::{AddOperator, MultiplyOperator, Relation, Sign};
+use ob0_values::Scalar;
 use ob0_values::scalar::{
-    Scalar, add, add_is_settled, multiply, multiply_is_settled, negated, relate, signed,
+    add, add_is_settled, multiply, multiply_is_settled, negated, relate, signed,
 };
 
 pub fn related(relation: Relation, left: Option<Scalar>, right: Option<Scalar>) -> Option<Scalar>

@@ -9,8 +9,8 @@ ghost use Rattle.ob0_typing.specs.Typing.{add_type, complement_type, multiply_ty
 ghost use Rattle.ob0_tree.specs.declared.tree.AddOperator.TheVariants as adding;
 ghost use Rattle.ob0_tree.specs.declared.tree.Sign.TheVariants as signs;
 
-use ob0_tree::tree::{AddOperator, MultiplyOperator, Relation, Sign};
-use ob0_values::scalar::Scalar;
+use ob0_tree::{AddOperator, MultiplyOperator, Relation, Sign};
+use ob0_values::Scalar;
 
 /// A type: INTEGER, BOOLEAN, or the place of an array or record in the table of shapes.
 #[derive(Clone, Copy, PartialEq, Eq)]

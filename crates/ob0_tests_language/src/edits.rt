@@ -8,7 +8,7 @@ use ob0_inline::{inline_all, inline_here};
 use ob0_layout::format;
 use ob0_rename::rename_in;
 use ob0_text::{Edit, EditRefusal, Indent, PatchFault, Position, TextStore, Whole, patch};
-use ob0_types::checked::WellTyped;
+use ob0_types::WellTyped;
 use std::alloc::{AllocError, Global};
 use std::process::Abort;
 use std::test::Fail;

@@ -6,7 +6,7 @@ use crate::asking::said;
 use ob0_analysis::Question;
 use ob0_refs::{Of, at, definition, hover, references};
 use ob0_scan::Span;
-use ob0_types::checked::WellTyped;
+use ob0_types::WellTyped;
 use std::alloc::{AllocError, Global};
 use std::process::Abort;
 use std::test::Fail;

@@ -4,9 +4,8 @@ ghost use Rattle.std.specs.Prelude.{⊤};
 
 use crate::asking::said;
 use ob0_analysis::Question;
-use ob0_run::running::{End, run};
-use ob0_run::state::Item;
-use ob0_types::checked::WellTyped;
+use ob0_run::{End, Item, run};
+use ob0_types::WellTyped;
 use std::alloc::{AllocError, Global};
 use std::process::Abort;
 use std::test::Fail;

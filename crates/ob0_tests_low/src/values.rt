@@ -1,7 +1,8 @@
 //! Worked rows of numbers and truth values.
 
-use ob0_tree::tree::{AddOperator, MultiplyOperator, Relation, Sign};
-use ob0_values::scalar::{Fault, Scalar, add, multiply, negated, relate, signed};
+use ob0_tree::{AddOperator, MultiplyOperator, Relation, Sign};
+use ob0_values::scalar::{add, multiply, negated, relate, signed};
+use ob0_values::{Fault, Scalar};
 use std::process::Abort;
 
 fn number(number: i32) -> Scalar {

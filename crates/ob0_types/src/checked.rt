@@ -9,12 +9,10 @@ ghost use Rattle.std.specs.Prelude.{◌≡◌, ◌≤◌, ◌&&◌, ◌++◌, []
 use ob0_checker::decide;
 use ob0_reports::tell;
 use ob0_scan::{Code, Fault, Span};
-use ob0_scope::resolved::{PREDECLARED, Resolved};
-use ob0_symbols::known::Known;
-use ob0_symbols::sameness::Parts;
-use ob0_symbols::types::TypeId;
+use ob0_scope::{PREDECLARED, Resolved};
+use ob0_symbols::{Known, Parts, TypeId};
 use ob0_typing::laws::fits_by_ordinal;
-use ob0_values::scalar::Scalar;
+use ob0_values::Scalar;
 use std::alloc::{AllocError, Global};
 use std::marker::Model;
 

@@ -3,3 +3,6 @@
 
 pub mod scalar;
 pub mod value;
+
+pub use scalar::{Fault, Scalar};
+pub use value::{Member, Place, Step, Value};

@@ -5,7 +5,7 @@ ghost use Rattle.ob0_values.specs.Values.{add, add_is_settled, compare_numbers, 
 ghost use Rattle.ob0_values.specs.Scalars.{number_outcome, scalar_outcome, scalar_value};
 ghost use Rattle.ob0_tree.specs.declared.tree.MultiplyOperator.TheVariants.{Divide, Modulo};
 
-use ob0_tree::tree::{AddOperator, MultiplyOperator, Relation, Sign};
+use ob0_tree::{AddOperator, MultiplyOperator, Relation, Sign};
 
 /// A value without parts.
 #[derive(Clone, Copy, Debug, PartialEq, Eq)]

@@ -2,8 +2,8 @@
 
 use crate::telling::Teller;
 use crate::telling::supposed::{Formals, Meaning};
-use ob0_symbols::known::Formal;
-use ob0_tree::tree::{Block, Constant, Names, Procedure, Section, TypeDeclaration, Variables};
+use ob0_symbols::Formal;
+use ob0_tree::{Block, Constant, Names, Procedure, Section, TypeDeclaration, Variables};
 use std::alloc::AllocError;
 
 impl<'t> Teller<'t> {

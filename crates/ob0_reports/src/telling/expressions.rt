@@ -3,14 +3,12 @@
 use crate::telling::Teller;
 use crate::telling::supposed::Meaning;
 use ob0_scan::Code;
-use ob0_symbols::operators;
-use ob0_symbols::types::{TypeId, scalar_type};
-use ob0_symbols::written::number_at;
-use ob0_tree::tree::{
+use ob0_symbols::{TypeId, number_at, operators, scalar_type};
+use ob0_tree::{
     AddOperator, Designator, Expression, Factor, MultiplyOperator, Relation, Selector, Sign,
     Simple, Term,
 };
-use ob0_values::scalar::Scalar;
+use ob0_values::Scalar;
 use std::alloc::AllocError;
 
 /// An expression, as far as it is known.

@@ -4,8 +4,8 @@ use crate::telling::Teller;
 use crate::telling::expressions::Operand;
 use crate::telling::supposed::{Formals, Meaning};
 use ob0_scan::Code;
-use ob0_symbols::types::TypeId;
-use ob0_tree::tree::{Assignment, Call, Expression, If, Statement};
+use ob0_symbols::TypeId;
+use ob0_tree::{Assignment, Call, Expression, If, Statement};
 use std::alloc::AllocError;
 
 impl<'t> Teller<'t> {

@@ -2,9 +2,8 @@
 
 use crate::telling::Teller;
 use ob0_scan::Code;
-use ob0_symbols::known::{Formal, MOST_DEPTH, MOST_SCALARS};
-use ob0_symbols::types::TypeId;
-use ob0_values::scalar::Scalar;
+use ob0_symbols::{Formal, MOST_DEPTH, MOST_SCALARS, TypeId};
+use ob0_values::Scalar;
 use std::alloc::AllocError;
 use std::collections::BTreeMap;
 

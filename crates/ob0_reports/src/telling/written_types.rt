@@ -3,10 +3,9 @@
 use crate::telling::Teller;
 use crate::telling::supposed::{Meaning, NOTHING, Parts, Size};
 use ob0_scan::Code;
-use ob0_symbols::known::MOST_SCALARS;
-use ob0_symbols::types::TypeId;
-use ob0_tree::tree::{ArrayType, Expression, FieldList, Fields, Names, RecordType, WrittenType};
-use ob0_values::scalar::Scalar;
+use ob0_symbols::{MOST_SCALARS, TypeId};
+use ob0_tree::{ArrayType, Expression, FieldList, Fields, Names, RecordType, WrittenType};
+use ob0_values::Scalar;
 use std::alloc::AllocError;
 use std::collections::BTreeMap;
 

@@ -4,7 +4,7 @@ use Rattle.ob0_tree.specs.Parsed.{tree_of}
 use Rattle.ob0_scope.specs.Visiting.{started, visit_module, with_marks}
 use Rattle.ob0_scope.specs.Written.{as_in}
 use Rattle.ob0_scope.proofs.Bound.{resolution_made}
-use Rattle.ob0_scope.proofs.resolve.resolve.Goals as goal
+use Rattle.ob0_scope.proofs.resolving.resolve.Goals as goal
 
 pub invariant_of-result : goal.invariant_of-result
 invariant_of-result c =

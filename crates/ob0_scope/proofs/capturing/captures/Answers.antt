@@ -1,9 +1,9 @@
 use Rattle.std.proofs.Common.{Some, sym, ◌∙◌}
 use Rattle.std.proofs.lemmas.Result.{MatchResult-weaker}
 use Rattle.ob0_tree.specs.Parsed.{named_tree_of}
-use Rattle.ob0_scope.specs.declared.captures.Capture.TheVariants as tells
+use Rattle.ob0_scope.specs.declared.capturing.Capture.TheVariants as tells
 use Rattle.ob0_scope.proofs.Captured.{captured_later, captured_there, free_where_none}
-use Rattle.ob0_scope.proofs.captures.captures.Goals as goal
+use Rattle.ob0_scope.proofs.capturing.captures.Goals as goal
 
 pub returns-in-Some-clause-first : goal.returns-in-Some-clause-first
 returns-in-Some-clause-first c =

@@ -8,7 +8,7 @@ use crate::numbering::number;
 use crate::resolved::Resolved;
 use crate::table::{table, undeclared};
 use crate::writing::Writing;
-use ob0_tree::tree::Module;
+use ob0_tree::Module;
 use std::alloc::{AllocError, Global};
 
 /// Binds each name of a module to its declaration, by the rules of scope of Wirth's Compiler Construction: a name is

@@ -1,10 +1,10 @@
 use Rattle.std.proofs.Common.{ℕ, List, Option, not, option_map, sym, ap, ◌∙◌}
 use Rattle.std.specs.List.{position_from}
-use Rattle.ob0_scope.specs.declared.captures.Capture.TheVariants.{Occurrence}
+use Rattle.ob0_scope.specs.declared.capturing.Capture.TheVariants.{Occurrence}
 use Rattle.ob0_scope.specs.Renames.{is_bound_alike}
 use Rattle.ob0_scope.specs.Resolution.{ordinal_in}
 use Rattle.ob0_scope.proofs.Renumbered.{first_changed_is}
-use Rattle.ob0_scope.proofs.captures.first_capture.Goals as goal
+use Rattle.ob0_scope.proofs.capturing.first_capture.Goals as goal
 
 pub returns-in-Some : goal.returns-in-Some
 returns-in-Some c =

@@ -3,7 +3,7 @@ use Rattle.std.proofs.lemmas.Result.{MatchResult-weaker}
 use Rattle.ob0_tree.specs.Parsed.{tree_of}
 use Rattle.ob0_scope.specs.Visiting.{started, visit_module, with_marks}
 use Rattle.ob0_scope.proofs.SeenInPlaces.{seen_in_places}
-use Rattle.ob0_scope.proofs.seen.ordinals_in_place.Goals as goal
+use Rattle.ob0_scope.proofs.in_sight.ordinals_in_place.Goals as goal
 
 pub returns : goal.returns
 returns c =

@@ -6,7 +6,7 @@ ghost use Rattle.ob0_tree.specs.Parsed.{named_tree_of};
 ghost use Rattle.ob0_tree.specs.View.{block_of, procedure_of};
 ghost use Rattle.ob0_scope.specs.DeclaredOnce.{block_names};
 ghost use Rattle.ob0_scope.specs.Occurrences.{Free, bindings, first_captured, first_difference};
-ghost use Rattle.ob0_scope.specs.declared.captures.Capture.TheVariants.{Occurrence};
+ghost use Rattle.ob0_scope.specs.declared.capturing.Capture.TheVariants.{Occurrence};
 ghost use Rattle.ob0_scope.specs.Renames.{is_bound_alike, namesake, other_of, place_of};
 ghost use Rattle.ob0_scope.specs.Resolution.{ordinal_in};
 ghost use Rattle.ob0_scope.specs.Scopes.{renamed};
@@ -18,7 +18,7 @@ use crate::resolved::Resolved;
 use crate::table::ordinal_at;
 use crate::writing::token_text;
 use ob0_scan::Tokens;
-use ob0_tree::tree::{Block, Procedure};
+use ob0_tree::{Block, Procedure};
 use std::alloc::{AllocError, Global};
 use std::marker::Model;
 

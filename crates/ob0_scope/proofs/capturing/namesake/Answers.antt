@@ -4,7 +4,7 @@ use Rattle.ob0_tree.specs.View.{block_of}
 use Rattle.ob0_scope.specs.Resolution.{Resolution}
 use Rattle.ob0_scope.specs.Searching.{found_in_block}
 use Rattle.ob0_scope.proofs.Searched.{namesake_found}
-use Rattle.ob0_scope.proofs.captures.namesake.Goals as goal
+use Rattle.ob0_scope.proofs.capturing.namesake.Goals as goal
 
 pub returns : goal.returns
 returns c =

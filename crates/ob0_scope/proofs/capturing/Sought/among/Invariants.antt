@@ -1,7 +1,7 @@
 use Rattle.std.proofs.Common.{◌≡◌, ◌||◌, drop, None}
 use Rattle.std.specs.List.{list_any}
 use Rattle.ob0_scope.specs.Searching.{is_sought, last_other}
-use Rattle.ob0_scope.proofs.captures.Sought.among.Given as goal
+use Rattle.ob0_scope.proofs.capturing.Sought.among.Given as goal
 
 abbrev pub invariant-loop-token : goal.invariant-loop-token
 invariant-loop-token l =

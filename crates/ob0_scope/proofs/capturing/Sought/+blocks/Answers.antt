@@ -6,7 +6,7 @@ use Rattle.ob0_tree.proofs.Viewed.{block_parts}
 use Rattle.ob0_scope.specs.DeclaredOnce.{block_names}
 use Rattle.ob0_scope.specs.Searching.{found_in_block, found_in_procedures, other_among}
 use Rattle.ob0_scope.proofs.Finding.{all_found}
-use Rattle.ob0_scope.proofs.captures.Sought.+blocks.Goals as goal
+use Rattle.ob0_scope.proofs.capturing.Sought.+blocks.Goals as goal
 
 pub block-returns : goal.block-returns
 block-returns t c =
