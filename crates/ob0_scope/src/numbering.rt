@@ -12,12 +12,14 @@ ghost use Rattle.ob0_scope.specs.Visiting.{marked, numbered_at, numbered_all, sh
 use crate::resolved::PREDECLARED;
 use crate::visible::Visible;
 use crate::writing::Writing;
+use ob0_tree::identifiers::Found;
 use ob0_tree::{
     Block, Constant, Expression, Module, Names, Procedure, Role, Section, Statement,
     TypeDeclaration, Variables, WrittenType, identifiers,
 };
 use std::alloc::{AllocError, Global};
 use std::marker::Model;
+use std::mem::replace;
 
 /// An identifier's token, and the ordinal of its declaration.
 #[derive(Clone, Copy)]
@@ -35,6 +37,7 @@ pub(crate) struct Numbering<'t> {
     declarations: Vec<usize>,
     occurrences: Vec<usize>,
     marks: Vec<Mark>,
+    found: Found,
 }
 
 impl<'t> Model for Numbering<'t> {
@@ -75,6 +78,7 @@ pub(crate) fn number<'t>(
         declarations: Vec::new(alloc),
         occurrences: Vec::new(alloc),
         marks: Vec::new(alloc),
+        found: Vec::new(alloc),
     };
     numbering.mark(read.name(), None)?;
     numbering.block(read.block())?;
@@ -96,6 +100,7 @@ impl<'t> Numbering<'t> {
             declarations,
             occurrences,
             marks,
+            found: _,
         } = self;
         (declarations, occurrences, marks)
     }
@@ -181,6 +186,16 @@ impl<'t> Numbering<'t> {
         }
     }
 
+    /// An empty list for identifiers, with the room of the one that was used before.
+    fn list(&mut self) -> Found
+        ensures empty { result.items ≡ [] }
+        ensures same { self.new ≡ self.old }
+    {
+        let mut found = replace(&mut self.found, Vec::new(self.alloc));
+        found.clear();
+        found
+    }
+
     /// The identifiers of a part that declares nothing.
     fn find(&mut self, found: &[(Role, usize)]) -> Result<(), AllocError>
         ensures { OnOk result (self.new ≡ found_all found.now self.old) }
@@ -191,28 +206,37 @@ impl<'t> Numbering<'t> {
         Ok(())
     }
 
+    /// The same, and keeps the list for its room.
+    fn find_listed(&mut self, found: Found) -> Result<(), AllocError>
+        ensures { OnOk result (self.new ≡ found_all found.items self.old) }
+    {
+        self.find(&found)?;
+        self.found = found;
+        Ok(())
+    }
+
     fn expression(&mut self, e: &Expression) -> Result<(), AllocError>
         ensures { OnOk result (self.new ≡ used (expression_of e.now) self.old) }
     {
-        let mut found = Vec::new(self.alloc);
+        let mut found = self.list();
         identifiers::expression(&mut found, e)?;
-        self.find(&found)
+        self.find_listed(found)
     }
 
     fn written(&mut self, t: &WrittenType) -> Result<(), AllocError>
         ensures { OnOk result (self.new ≡ used (type_of t.now) self.old) }
     {
-        let mut found = Vec::new(self.alloc);
+        let mut found = self.list();
         identifiers::written_type(&mut found, t)?;
-        self.find(&found)
+        self.find_listed(found)
     }
 
     fn body(&mut self, statements: &Option<Vec<Statement>>) -> Result<(), AllocError>
         ensures { OnOk result (self.new ≡ used (body_of statements.now) self.old) }
     {
-        let mut found = Vec::new(self.alloc);
+        let mut found = self.list();
         identifiers::body(&mut found, statements)?;
-        self.find(&found)
+        self.find_listed(found)
     }
 
     fn names(&mut self, ns: &Names) -> Result<(), AllocError>

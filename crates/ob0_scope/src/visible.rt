@@ -67,17 +67,13 @@ impl<'t> Visible<'t> {
     pub(crate) fn declare(&mut self, name: &'t str, ordinal: usize) -> Result<(), AllocError>
         ensures { OnOk result (self.new ≡ (name.entry.now, ordinal) ∷ self.old) }
     {
-        let index = self.bindings.len();
-        let hidden = self.newest.get(name).copied();
-        self.bindings.push(Binding {
+        self.bindings.reserve(1)?;
+        let hidden = self.newest.insert(name, self.bindings.len())?;
+        self.bindings.push_reserved(Binding {
             name,
             ordinal,
             hidden,
-        })?;
-        if let Err(failed) = self.newest.insert(name, index) {
-            self.bindings.pop();
-            return Err(failed.into());
-        }
+        });
         Ok(())
     }
 
