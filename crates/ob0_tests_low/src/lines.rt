@@ -112,6 +112,40 @@ fn places_are_counted_alike_in_lines(rt: HostRuntime) -> Result<(), Fail> {
     Ok(())
 }
 
+/// Long lines: of ASCII alone, with other characters far in, and with a tab.
+static LONG: &[&str] = &[
+    "x := 0123456789 + 0123456789 + 0123456789 + 0123456789 + 0123456789 + 0123456789 + 0123456789 + 0123456789 + 0123456789;\r\ny",
+    "(* 0123456789 0123456789 0123456789 0123456789 0123456789 0123456789 0123456789 😀 0123456789 0123456789 é 0123456789 *)\ry\n",
+    "\n\t0123456789 0123456789 0123456789 0123456789 0123456789 012345678\n0123456789 0123456789 0123456789 0123456789 0123456789",
+];
+
+/// Whether the positions far in the lines of a text have the same offsets in both stores.
+fn are_alike_far_in(alloc: Global, text: &str, unit: Unit) -> Result<bool, AllocError> {
+    let lines = Lines::from_str_in(alloc, text, unit)?;
+    let whole = Whole::from_str_in(alloc, text, unit)?;
+    for line in 0..4 {
+        for character in 0..160 {
+            let place = at(line, character);
+            if lines.offset(place) != whole.offset(place) {
+                return Ok(false);
+            }
+        }
+    }
+    Ok(true)
+}
+
+#[test]
+fn places_are_counted_alike_in_long_lines(rt: HostRuntime) -> Result<(), Fail> {
+    for text in LONG {
+        assert!(rt;
+            are_alike_far_in(rt.alloc(), text, Unit::Utf16)?,
+            "{text:?}"
+        );
+        assert!(rt; are_alike_far_in(rt.alloc(), text, Unit::Utf8)?, "{text:?}");
+    }
+    Ok(())
+}
+
 /// Texts, and their lines with the endings.
 static LINES: &[(&str, &[&str])] = &[
     ("a\r\nb\nd", &["a\r\n", "b\n", "d"]),

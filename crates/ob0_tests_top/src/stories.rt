@@ -12,6 +12,13 @@ const RENAMED: &str =
 const LAID_OUT: &str =
     "MODULE M;\nVAR\n  n: INTEGER;\n  PROCEDURE P;\n  BEGIN\n    Write(n)\n  END P;\nBEGIN\n  Read(n);\n  WHILE n > 0 DO\n    n := n - 1;\n    WriteLn\n  END;\n  P\nEND M.\n";
 
+/// Nothing is laid out here, and there are comments.
+const CROWDED: &str =
+    "MODULE M;VAR x:INTEGER;BEGIN x:=-1;IF x<0 THEN Write(x)(* a (* b *) c *)END;WriteLn END M.(* end *)";
+
+const CROWDED_LAID_OUT: &str =
+    "MODULE M;\nVAR\n  x: INTEGER;\nBEGIN\n  x := -1;\n  IF x < 0 THEN\n    Write(x) (* a (* b *) c *)\n  END;\n  WriteLn\nEND M. (* end *)\n";
+
 /// No module: the full stop is missing.
 const FAULTY_TEXT: &str = "MODULE M; END M";
 
@@ -101,6 +108,39 @@ const STORIES: &[Story] = &[
             text: COUNTS,
             empty: true,
         }],
+    },
+    Story {
+        name: "a layout is applied, and another has nothing to change",
+        moments: &[
+            (Act::Open(CROWDED), Sight::Sent),
+            (Act::Format, Sight::Sent),
+            (Act::Serve, Sight::Served(1)),
+            (Act::Serve, Sight::Served(1)),
+            (Act::Take, Sight::Published(true)),
+            (Act::Take, Sight::Answered(1, true)),
+            (Act::Apply(1), Sight::Applied(1)),
+            (Act::Format, Sight::Sent),
+            (Act::Serve, Sight::Served(1)),
+            (Act::Serve, Sight::Served(1)),
+            (Act::Take, Sight::Published(true)),
+            (Act::Take, Sight::Answered(2, false)),
+        ],
+        applied: &[Edited {
+            before: CROWDED,
+            after: CROWDED_LAID_OUT,
+        }],
+        made: &[
+            Published {
+                version: 1,
+                text: CROWDED,
+                empty: true,
+            },
+            Published {
+                version: 2,
+                text: CROWDED_LAID_OUT,
+                empty: true,
+            },
+        ],
     },
     Story {
         name: "an answer about an earlier opening is dropped",

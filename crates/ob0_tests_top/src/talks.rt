@@ -21,6 +21,9 @@ const SHUTDOWN: &str = "{\"id\":2,\"method\":\"shutdown\"}";
 
 const SHUT_DOWN: &str = "{\"id\":2,\"jsonrpc\":\"2.0\",\"result\":null}";
 
+const HOVER_AT_START: &str =
+    "{\"id\":5,\"method\":\"textDocument/hover\",\"params\":{\"position\":{\"character\":0,\"line\":0},\"textDocument\":{\"uri\":\"u\"}}}";
+
 const HOVER: &str = "{\"id\":5,\"method\":\"textDocument/hover\"}";
 
 pub static TALKS: &[Talk] = &[
@@ -130,13 +133,33 @@ pub static TALKS: &[Talk] = &[
             INITIALIZE,
             "{\"method\":\"textDocument/didOpen\",\"params\":{\"textDocument\":{\"text\":\"$\",\"uri\":\"u\",\"version\":1}}}",
             "{\"method\":\"textDocument/didChange\",\"params\":{\"textDocument\":{\"uri\":\"u\",\"version\":2}}}",
+            HOVER_AT_START,
             "{\"method\":\"textDocument/didChange\",\"params\":{\"contentChanges\":[{\"range\":{\"end\":{\"character\":1,\"line\":0},\"start\":{\"character\":0,\"line\":0}},\"text\":\"$\"}],\"textDocument\":{\"uri\":\"u\",\"version\":2}}}",
             "{\"method\":\"textDocument/didChange\",\"params\":{\"contentChanges\":[{\"text\":\"$\"},{\"range\":null,\"text\":\"MODULE b; END b.\"}],\"textDocument\":{\"uri\":\"u\",\"version\":3}}}",
         ],
         goes: &[
             INITIALIZED,
             "{\"jsonrpc\":\"2.0\",\"method\":\"textDocument/publishDiagnostics\",\"params\":{\"diagnostics\":[{\"code\":\"BadChar\",\"message\":\"bad character\",\"range\":{\"end\":{\"character\":1,\"line\":0},\"start\":{\"character\":0,\"line\":0}},\"severity\":1}],\"uri\":\"u\",\"version\":1}}",
+            "{\"error\":{\"code\":-32803,\"message\":\"out of step\"},\"id\":5,\"jsonrpc\":\"2.0\"}",
             "{\"jsonrpc\":\"2.0\",\"method\":\"textDocument/publishDiagnostics\",\"params\":{\"diagnostics\":[],\"uri\":\"u\",\"version\":3}}",
+        ],
+        result: Ok(1),
+    },
+    Talk {
+        name: "a comment is opened in front of all",
+        comes: &[
+            INITIALIZE,
+            "{\"method\":\"textDocument/didOpen\",\"params\":{\"textDocument\":{\"text\":\"MODULE M; END M.\",\"uri\":\"u\",\"version\":1}}}",
+            "{\"method\":\"textDocument/didChange\",\"params\":{\"contentChanges\":[{\"range\":{\"end\":{\"character\":0,\"line\":0},\"start\":{\"character\":0,\"line\":0}},\"text\":\"(*\"}],\"textDocument\":{\"uri\":\"u\",\"version\":2}}}",
+            "{\"method\":\"textDocument/didOpen\",\"params\":{\"textDocument\":{\"text\":\"x *)\",\"uri\":\"u\",\"version\":3}}}",
+            "{\"method\":\"textDocument/didChange\",\"params\":{\"contentChanges\":[{\"range\":{\"end\":{\"character\":0,\"line\":0},\"start\":{\"character\":0,\"line\":0}},\"text\":\"(*\"}],\"textDocument\":{\"uri\":\"u\",\"version\":4}}}",
+        ],
+        goes: &[
+            INITIALIZED,
+            "{\"jsonrpc\":\"2.0\",\"method\":\"textDocument/publishDiagnostics\",\"params\":{\"diagnostics\":[],\"uri\":\"u\",\"version\":1}}",
+            "{\"jsonrpc\":\"2.0\",\"method\":\"textDocument/publishDiagnostics\",\"params\":{\"diagnostics\":[{\"code\":\"OpenComment\",\"message\":\"comment not closed\",\"range\":{\"end\":{\"character\":2,\"line\":0},\"start\":{\"character\":0,\"line\":0}},\"severity\":1}],\"uri\":\"u\",\"version\":2}}",
+            "{\"jsonrpc\":\"2.0\",\"method\":\"textDocument/publishDiagnostics\",\"params\":{\"diagnostics\":[{\"code\":\"Syntax\",\"message\":\"expected MODULE\",\"range\":{\"end\":{\"character\":1,\"line\":0},\"start\":{\"character\":0,\"line\":0}},\"severity\":1}],\"uri\":\"u\",\"version\":3}}",
+            "{\"jsonrpc\":\"2.0\",\"method\":\"textDocument/publishDiagnostics\",\"params\":{\"diagnostics\":[{\"code\":\"Syntax\",\"message\":\"expected MODULE\",\"range\":{\"end\":{\"character\":6,\"line\":0},\"start\":{\"character\":6,\"line\":0}},\"severity\":1}],\"uri\":\"u\",\"version\":4}}",
         ],
         result: Ok(1),
     },

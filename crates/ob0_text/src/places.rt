@@ -1,10 +1,11 @@
 //! Passes over a text that find positions of offsets and offsets of positions.
 
 ghost use Rattle.std.specs.Prelude.{◌≡◌, ◌==◌, ◌||◌, ◌≤◌, true, IfOk, map};
+ghost use Rattle.std.specs.List.{All};
 ghost use Rattle.std.specs.Str.{chars};
 ghost use Rattle.ob0_text.specs.Texts.{LF, CR, ends_line, offset_of, position_of};
 ghost use Rattle.ob0_text.specs.Units.{width_of};
-ghost use Rattle.ob0_text.specs.Places.{at, IsFrom, IsPlace, IsPlaceBefore};
+ghost use Rattle.ob0_text.specs.Places.{at, IsFrom, IsPlace, IsPlaceBefore, IsPlain, HasPlainPiece};
 
 use crate::positions::{Position, Unit};
 use std::alloc::{AllocError, Global};
@@ -16,6 +17,9 @@ pub struct Place {
     pub line: u64,
     pub character: u64,
 }
+
+/// How many bytes of a line are looked at together.
+const PIECE: usize = 64;
 
 const START: Place = Place {
     offset: 0,
@@ -173,4 +177,54 @@ pub fn onward_to_position(text: &str, unit: Unit, from: Place, position: Positio
         line,
         character,
     }
+}
+
+/// A place of a position's line in front of the position, with plain bytes alone between a place and it: characters of one
+/// byte and one unit each are passed by pieces.
+pub fn past_plain(text: &str, unit: Unit, from: Place, position: Position) -> Place
+    requires place { IsPlaceBefore (width_of unit) text.now position from }
+    ensures place { IsPlaceBefore (width_of unit) text.now position result }
+{
+    let mut place = from;
+    while has_plain_piece(text.as_bytes(), place, position) {
+        place = Place {
+            offset: place.offset + PIECE,
+            line: place.line,
+            character: place.character + PIECE as u64,
+        };
+    }
+    place
+}
+
+/// Whether a plain piece lies between a place and a position of its line.
+fn has_plain_piece(bytes: &[u8], place: Place, position: Position) -> bool
+    ensures yes { result ≡ true → HasPlainPiece bytes.now place position }
+{
+    if place.line != position.line
+        || position.character.saturating_sub(place.character) < PIECE as u64
+        || bytes.len().saturating_sub(place.offset) < PIECE
+    {
+        return false;
+    }
+    are_plain(&bytes[place.offset..place.offset + PIECE])
+}
+
+/// Whether each byte is plain. All are looked at, so that many can be at once.
+fn are_plain(bytes: &[u8]) -> bool
+    ensures yes { result ≡ true → All IsPlain bytes.now }
+{
+    let mut plain = true;
+    for byte in bytes {
+        if !is_plain(*byte) {
+            plain = false;
+        }
+    }
+    plain
+}
+
+/// Whether a byte is a character of its own, and ends no line.
+fn is_plain(byte: u8) -> bool
+    ensures yes { result ≡ true → IsPlain byte }
+{
+    byte < 128 && byte != b'\n' && byte != b'\r'
 }
