@@ -13,3 +13,4 @@ pub mod TableMade
 pub mod DeclaringWalks
 pub mod FieldTokens
 pub mod DuplicateFields
+pub mod FieldsDeclared

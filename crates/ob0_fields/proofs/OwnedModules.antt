@@ -8,14 +8,14 @@ use Rattle.ob0_tree.specs.Places.{text_at, value_at}
 use Rattle.ob0_scope.specs.Names.{Label, Name, as_labels, as_names, declared, same_name}
 use Rattle.ob0_scope.specs.Occurrences.{label_ordinal}
 use Rattle.ob0_scope.specs.Parts.{block_procedures, block_statements, block_variables, formal_names, formal_sections, module_block, procedure_block, section_types, section_variables}
-use Rattle.ob0_scope.specs.Resolution.{ordinal_in}
+use Rattle.ob0_scope.specs.Resolution.{Resolution, ordinal_in}
 use Rattle.ob0_scope.specs.Scopes.{Scope, after_block, after_names, after_procedure, after_procedures, as_label, declare_names, declare_procedure_names, first_procedure, first_type, first_variable, numbered, ordinal_of, procedures_scope, relabel_block, relabel_formals, relabel_procedures, relabel_sections, relabel_uses, types_scope, variables_scope, label_of}
 use Rattle.ob0_scope.proofs.OccurrenceNames.{occurrences-with_names}
 use Rattle.ob0_scope.proofs.OccurrencesMapped.{occurrences-mapped}
 use Rattle.ob0_scope.proofs.Ordinals.{le-after_procedure}
 use Rattle.ob0_scope.proofs.Peeling.{heads}
 use Rattle.ob0_scope.proofs.Relabelled.{formals-section, types-section, variables-section}
-use Rattle.ob0_checker.specs.Bindings.{block_bindings, declared_object, for_some, procedure_bindings, procedures_bindings, since}
+use Rattle.ob0_checker.specs.Bindings.{block_bindings, declared_object, for_some, module_bindings, procedure_bindings, procedures_bindings, since}
 use Rattle.ob0_checker.specs.Checking.{declare_block, declare_procedure}
 use Rattle.ob0_typing.specs.Declarations.{after_formals, after_types, after_variables, declare_first, formals_constructors, procedure_constructors, types_constructors, variables_constructors}
 use Rattle.ob0_typing.specs.Environments.{from_binding, meanings, newest, outermost}
@@ -31,6 +31,7 @@ use Rattle.ob0_typing.proofs.Proved.{fits_by_ordinal-holds}
 use Rattle.ob0_typing.proofs.TypesByOrdinal.{TypeNoted, TypedBelow, TypedBelow-weaken, TypedWithin, bind_typed-by_name, bind_typed-by_ordinal, body_fits-agrees, declarations_typed, label_typed, label_typed-formals, noted_parameters, noted_parameters-within, parameters_typed, typed_by_name, typed_by_ordinal, typed_names, typed_outermost, typed_scope}
 use Rattle.ob0_field_laws.specs.Fields.{behind_heading, behind_procedures, behind_variables, parameters_of, refield, refield_block, refield_procedures, refield_variable_section}
 use Rattle.ob0_field_laws.specs.Owners.{of_records}
+use Rattle.ob0_types.specs.CheckedModules.{IsWellTyped}
 use Rattle.ob0_fields.specs.Owned.{HasOwners, OwnersByDeclaration, owned, owned_block, owned_formals, owned_procedure, owned_procedures, owned_type_section, owned_variable_section, token_objects, unowned}
 use Rattle.ob0_fields.proofs.OwnedStatements.{Alike, SameTypes, owned-alike, owners_split, recorded, recorded-alike, recorded-mapped, unowned-all}
 use Rattle.ob0_fields.proofs.OwnedTypes.{counted_formals_section, counted_procedure, counted_type_section, counted_variable_section, formals-owned, type_section-owned, variable_section-owned}
@@ -51,13 +52,13 @@ found {X} {Y} {Z} p q P r s (a, e, e', holds) z h = go a e holds (sym e' ∙ h)
     go None e holds h = absurd (cc)
     go (Some x) e holds h = (x, e, some_inverse h, holds)
 
-block-parts : (env : TypeEnvironment Label) (j : ℕ) (b : Tree Label block) → block_fits as_labels env j b ≡ true
+pub block-parts : (env : TypeEnvironment Label) (j : ℕ) (b : Tree Label block) → block_fits as_labels env j b ≡ true
     → (inner : TypeEnvironment Label) × (declare_block as_labels env j b ≡ Some inner) × (procedures_fit as_labels inner (after_variables j b) (block_statements b) (block_procedures b) ≡ true)
 unfolding block_fits
 block-parts env j (has_body (declares cs ts vs ps) statements) h =
     held (declare_block as_labels env j (has_body (declares cs ts vs ps) statements)) (λ inner. procedures_fit as_labels inner (after_variables j (has_body (declares cs ts vs ps) statements)) statements ps) h
 
-block-listed : (env : TypeEnvironment Label) (j : ℕ) (b : Tree Label block) (inner : TypeEnvironment Label) → declare_block as_labels env j b ≡ Some inner
+pub block-listed : (env : TypeEnvironment Label) (j : ℕ) (b : Tree Label block) (inner : TypeEnvironment Label) → declare_block as_labels env j b ≡ Some inner
     → block_bindings as_labels env j b ≡ procedures_bindings as_labels inner (after_variables j b) (block_procedures b) ++ since env inner
 unfolding block_bindings
 block-listed env j (has_body (declares cs ts vs ps) statements) inner e =
@@ -94,13 +95,13 @@ opened noted j k below b h =
     }
 
 -- a procedure's name and parameters
-record FitParts (env : TypeEnvironment Label) (j : ℕ) (statements : Tree Label (maybe body)) (x : Label) (fs : Tree Label (maybe formals)) (b : Tree Label block) (closing : Label) (rest : Tree Label (items procedure)) (qs : List (TypedParameter Label)) : Type 0 where
+pub record FitParts (env : TypeEnvironment Label) (j : ℕ) (statements : Tree Label (maybe body)) (x : Label) (fs : Tree Label (maybe formals)) (b : Tree Label block) (closing : Label) (rest : Tree Label (items procedure)) (qs : List (TypedParameter Label)) : Type 0 where
   pub listed : procedures_bindings as_labels env j (more (declares_procedure x fs b closing) rest)
       ≡ procedures_bindings as_labels (heading x qs env) (j + procedure_constructors (declares_procedure x fs b closing)) rest ++ (block_bindings as_labels (bind_typed qs (heading x qs env)) (j + formals_constructors (formal_sections fs)) b ++ bind_typed qs (heading x qs []))
   pub block_right : block_fits as_labels (bind_typed qs (heading x qs env)) (j + formals_constructors (formal_sections fs)) b ≡ true
   pub rest_right : procedures_fit as_labels (heading x qs env) (j + procedure_constructors (declares_procedure x fs b closing)) statements rest ≡ true
 
-procedure-parts : (env : TypeEnvironment Label) (j : ℕ) (statements : Tree Label (maybe body)) (x : Label) (fs : Tree Label (maybe formals)) (b : Tree Label block) (closing : Label) (rest : Tree Label (items procedure))
+pub procedure-parts : (env : TypeEnvironment Label) (j : ℕ) (statements : Tree Label (maybe body)) (x : Label) (fs : Tree Label (maybe formals)) (b : Tree Label block) (closing : Label) (rest : Tree Label (items procedure))
     → procedures_fit as_labels env j statements (more (declares_procedure x fs b closing) rest) ≡ true
     → (qs : List (TypedParameter Label)) × (typed_parameters as_labels env j (formal_sections fs) ≡ Some qs) × FitParts env j statements x fs b closing rest qs
 unfolding block_fits block_bindings declare_procedure
@@ -162,7 +163,7 @@ abbrev rest_items : {N : Type 0} {i : Item} → Tree N (items i) → Tree N (ite
 rest_items end = end
 rest_items (more t ts) = ts
 
-bind_typed-append : (ps : List (TypedParameter Label)) (first env : TypeEnvironment Label) → bind_typed ps (first ++ env) ≡ bind_typed ps first ++ env
+pub bind_typed-append : (ps : List (TypedParameter Label)) (first env : TypeEnvironment Label) → bind_typed ps (first ++ env) ≡ bind_typed ps first ++ env
 bind_typed-append [] first env = refl
 bind_typed-append (p ∷ ps) first env = bind_typed-append ps ((p.name, a_variable p.formal.shape) ∷ first) env
 
@@ -422,6 +423,16 @@ outermost-descends = (6, refl, omega arith, (5, refl, omega arith, (4, refl, ome
 
 outermost-below : TypedBelow 7 (typed_outermost as_names)
 outermost-below = (lit< tt, (lit< tt, (lit< tt, (lit< tt, (lit< tt, (lit< tt, (lit< tt, tt)))))))
+
+-- what each declaration of a well-typed module binds is what its ordinal stands for
+pub bindings_right : (r : Resolution) → IsWellTyped r → Right (declared_object (named_tree_of r.module_read)) (module_bindings as_labels (numbered (named_tree_of r.module_read)))
+unfolding WellTyped fits_over
+bindings_right r well =
+    let p : Parsed = r.module_read in
+    let b : Tree ℕ block = module_block (tree_of p) in
+    let all : TypeEnvironment Label = block_bindings as_labels (outermost as_labels) 0 (relabel_block as_names (as_label as_names) (typed_scope (typed_outermost as_names)) 7 (mapped (text_at p.source) (value_at p.source) b)) in
+    let held = block-held (λ k x. x) (ordinal_in []) (text_at p.source) (value_at p.source) (ordinal_in r.ordinals) (declared_object (named_tree_of p)) (typed_outermost as_names) 0 7 outermost-below b (sym (fits_by_ordinal-holds (named_tree_of p)) ∙ well.well_typed.1) in
+    bound_right (after_block 7 (mapped (text_at p.source) (value_at p.source) b)) (all ++ outermost as_labels) (descends_join (after_block 7 (mapped (text_at p.source) (value_at p.source) b)) 7 0 all (outermost as_labels) held.descends outermost-descends)
 
 pub owners_by_declaration-holds : OwnersByDeclaration
 unfolding WellTyped fits_over

@@ -1,6 +1,6 @@
 -- The identifiers of one field: the one that declares it, and those that select it. The names of these trees are tokens.
-use Rattle.std.specs.Prelude.{◌≡◌, ℕ, ◌+◌, ◌==◌, ◌&&◌, Bool, not, is_some, List, [], ◌∷◌, ◌++◌, Option, Some, None, if◌then◌else◌}
-use Rattle.std.specs.List.{list_any, position_from}
+use Rattle.std.specs.Prelude.{◌≡◌, ℕ, ◌+◌, ◌==◌, ◌&&◌, Bool, true, not, is_some, List, [], ◌∷◌, ◌++◌, Option, Some, None, if◌then◌else◌}
+use Rattle.std.specs.List.{All, list_any, position_from}
 use Rattle.ob0_scan.specs.Scanned.{Scanned}
 use Rattle.ob0_tree.specs.Tree.{Tree, block, declares, declares_procedure, end, has_body, item, items, mapped, more, procedure}
 use Rattle.ob0_tree.specs.Parsed.{Parsed, named_tree_of, tree_of}
@@ -92,3 +92,8 @@ RenamedAtTokens =
 abbrev pub DuplicateByToken : Type 0
 DuplicateByToken =
     (m : Parsed) (k : ℕ) (f new : Name) → is_duplicate_field (named_tree_of m) k f new ≡ (not (same_name new f) && is_some (declaring_field m k new))
+
+-- In a well-typed module each identifier that declares or selects a field is of a field that its record declares.
+abbrev pub FieldsDeclared : Type 0
+FieldsDeclared =
+    (r : Resolution) → IsWellTyped r → All (λ x. is_some (declaring_field r.module_read x.1 (text_at r.module_read.source x.0)) ≡ true) (field_identifiers r)

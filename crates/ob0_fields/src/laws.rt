@@ -1,6 +1,6 @@
 //! The laws. Each function does nothing: its contract is the law.
 
-ghost use Rattle.ob0_fields.specs.Identifiers.{DuplicateByToken, RenamedAtTokens};
+ghost use Rattle.ob0_fields.specs.Identifiers.{DuplicateByToken, FieldsDeclared, RenamedAtTokens};
 ghost use Rattle.ob0_fields.specs.Owned.{MarkedFields, OwnersByDeclaration, OwnersOfFields};
 
 /// In a well-typed module a table that has at each token the record whose field the token is, by what names are declared as,
@@ -28,4 +28,9 @@ pub fn renamed_at_tokens()
 /// Another field of a record has a name where that is another name, and a token declares a field of it.
 pub fn duplicate_by_token()
     ensures { DuplicateByToken }
+{}
+
+/// In a well-typed module each identifier that declares or selects a field is of a field that its record declares.
+pub fn fields_declared()
+    ensures { FieldsDeclared }
 {}

@@ -1,0 +1,61 @@
+-- The order of codes goes by the numbers that they are declared with.
+use denote.Enum.Declared.{tag_of}
+use Rattle.std.proofs.Common.{◌≡◌, ℕ, ◌+◌, ℤ, pos, Bool, true, false, cond, ◌==◌, nat_lt, List, [], ◌∷◌, refl, sym, ap, ◌∙◌, arith, true≢false, eqb-true, eq-eqb, ltb-true, ltb-false}
+use Rattle.std.specs.List.Sorted.{IsSorted, IsSortedByKey}
+use Rattle.std.specs.Ordering.{int_cmp, is_lt, nat_cmp, ordering_then}
+use Rattle.std.specs.Prelude.{slice_index_or}
+use Rattle.std.specs.declared.cmp.Ordering.{Ordering}
+use Rattle.std.specs.declared.cmp.Ordering.TheVariants.{Less, Equal, Greater}
+use Rattle.ob0_scan.specs.declared.fault.Code.{Code}
+use Rattle.ob0_scan.specs.declared.fault.Code.TheVariants as code
+use Rattle.ob0_scan.specs.contracts.fault.Code.{the_type}
+use Rattle.ob0_scan.specs.declared.fault.Fault.{Fault}
+use Rattle.ob0_types.specs.FaultOrder.{code_number, fault_cmp, place_cmp}
+
+abbrev pub declared_number : Code → ℤ
+declared_number x = slice_index_or (pos 1 ∷ pos 2 ∷ pos 3 ∷ pos 4 ∷ pos 5 ∷ pos 10 ∷ pos 11 ∷ pos 12 ∷ pos 13 ∷ pos 14 ∷ pos 15 ∷ pos 16 ∷ pos 17 ∷ pos 18 ∷ pos 19 ∷ pos 20 ∷ pos 21 ∷ pos 22 ∷ pos 23 ∷ []) (tag_of the_type x) (pos 0)
+
+pub numbered : (x : Code) → declared_number x ≡ pos (code_number x)
+numbered x =
+    elim x as (λ y. declared_number y ≡ pos (code_number y)) [
+      | code.TooLong ↦ refl
+      | code.BadChar ↦ refl
+      | code.OpenComment ↦ refl
+      | code.NumberTooLarge ↦ refl
+      | code.NumberJoinsLetter ↦ refl
+      | code.Duplicate ↦ refl
+      | code.Undeclared ↦ refl
+      | code.EndName ↦ refl
+      | code.WrongKind ↦ refl
+      | code.TypeMismatch ↦ refl
+      | code.NotConstant ↦ refl
+      | code.ConstFault ↦ refl
+      | code.ArrayLength ↦ refl
+      | code.TypeTooLarge ↦ refl
+      | code.ArgumentCount ↦ refl
+      | code.NotVariable ↦ refl
+      | code.NoField ↦ refl
+      | code.NotArray ↦ refl
+      | code.NotRecord ↦ refl
+    ]
+
+pos_cmp : (a b : ℕ) → int_cmp (pos a) (pos b) ≡ nat_cmp a b
+pos_cmp a b = one (nat_lt a b) refl (nat_lt b a) refl (a == b) refl
+  where
+    one : (less : Bool) → nat_lt a b ≡ less → (more : Bool) → nat_lt b a ≡ more → (same : Bool) → (a == b) ≡ same → cond less Less (cond more Greater Equal) ≡ cond less Less (cond same Equal Greater)
+    one true p more q same r = refl
+    one false p true q true r = absurd (omega (arith, ltb-true b a q, eqb-true a b r))
+    one false p true q false r = refl
+    one false p false q true r = refl
+    one false p false q false r = let e : a ≡ b = omega (arith, ltb-false a b p, ltb-false b a q) in absurd (true≢false (sym (eq-eqb a b e) ∙ r))
+
+-- sorted by the key of place and code
+pub sorted_by_key : (cmp : ℕ × ℕ × Code → ℕ × ℕ × Code → Ordering) (xs : List Fault)
+    → ((s e : ℕ) (x : Code) (s₂ e₂ : ℕ) (y : Code) → cmp (s, e, x) (s₂, e₂, y) ≡ ordering_then (ordering_then (nat_cmp s s₂) (nat_cmp e e₂)) (int_cmp (declared_number x) (declared_number y)))
+    → IsSortedByKey (λ (f : Fault). (f.span.start, f.span.end, f.code)) cmp xs → IsSorted fault_cmp xs
+sorted_by_key cmp xs lexical sorted k d low high =
+    let x = slice_index_or xs (k + 1) d in
+    let y = slice_index_or xs k d in
+    let by_code : int_cmp (declared_number x.code) (declared_number y.code) ≡ nat_cmp (code_number x.code) (code_number y.code) =
+    (λ i. int_cmp (numbered x.code i) (numbered y.code i)) ∙ pos_cmp (code_number x.code) (code_number y.code) in
+    ap is_lt (sym (lexical x.span.start x.span.end x.code y.span.start y.span.end y.code ∙ ap (ordering_then (place_cmp x y)) by_code)) ∙ sorted k d low high
