@@ -53,9 +53,12 @@ MANY = "MODULE M; VAR v0" + "".join(f",v{at}" for at in range(1, 200)) + ": INTE
     f" v{at} := v{at + 1};" for at in range(199)
 ) + " WriteLn END M."
 
-# name: the words, standard input, the file m.mod
+BYTE_BY_BYTE = 1 << 40  # (the call that fails: there are never so many)
+
+# name: the words, standard input, the file m.mod; and for a reader of one byte a call, the call that fails
 SHORT = {
     "the first conversation": (["serve"], INPUT, None),
+    "the first conversation, byte by byte": (["serve"], INPUT, None, BYTE_BY_BYTE),
     "line endings that join": (["serve"], talk(did_open("a\rb"), did_change(LINE_ENDINGS)), None),
     "check a module": (["check", "m.mod"], b"", COUNTS),
     "check a text with two faults": (["check", "m.mod"], b"", "12ab $"),

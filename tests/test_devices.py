@@ -48,40 +48,59 @@ def ended(found, out, status, err, where):
     same((found.out, found.err, found.status), (out, err, status), where)
 
 
+SERVE = [harness.BINARY, "serve"]
+
+
 @test("devices: a reader that fails at each byte of the first conversation")
 def failing_reader():
     # (the exit is taken with its last byte: the call behind it is never made)
-    for number, found in failing.each(range(1, len(INPUT) + 1), lambda at: failing.run([harness.BINARY, "serve"], INPUT, reads=at)):
-        answered = len([it for it in BORDERS[1:] if it < number])
-        ended(found, frames(OUT[:answered]), 4, b"fault: Read\n", f"call {number} fails")
-    ended(failing.run([harness.BINARY, "serve"], INPUT, reads=len(INPUT) + 1), OUTPUT, 0, b"", "the call behind the exit")
+    for found in failing.walk(SERVE, INPUT, None, "reads", range(1, len(INPUT) + 1)):
+        fewest, most = (len([it for it in BORDERS[1:] if it < at]) for at in (found.numbers[0], found.numbers[-1]))
+        same(fewest, most, "how much is answered in runs that end alike")
+        ended(found, frames(OUT[:most]), 4, b"fault: Read\n", f"call {found.numbers[0]} fails")
+    ended(failing.undisturbed(SERVE, INPUT, reads=len(INPUT) + 1), OUTPUT, 0, b"", "the call behind the exit")
 
 
 @test("devices: a writer that takes one byte a call and fails, or takes none, behind each byte of the first conversation")
 def failing_writer():
     for ending in ("", ".."):
-        wrote = lambda at, on=ending: failing.run([harness.BINARY, "serve"], INPUT, writes=f"{at}{on}")
-        for number, found in failing.each(range(len(OUTPUT)), wrote):
+        for found in failing.walk(SERVE, INPUT, None, "writes", range(len(OUTPUT)), ending):
+            number = found.numbers[-1]
             ended(found, OUTPUT[:number], 4, b"fault: Write\n", f"{number} bytes taken{' and then none' if ending else ''}")
-        ended(wrote(len(OUTPUT)), OUTPUT, 0, b"", "room for all")
+        ended(failing.undisturbed(SERVE, INPUT, writes=f"{len(OUTPUT)}{ending}"), OUTPUT, 0, b"", "room for all")
 
 
 @test("devices: a writer that fails behind each byte that a command prints")
 def failing_printer():
     for name, status in (("check a text with two faults", 1), ("run a module", 0), ("rename a variable", 0)):
         words, given, text = hostile.SHORT[name]
-        plain = failing.on_file(words, given, text)
-        holds(plain.out and plain.status == status, f"{name}: {plain.out!r}, status {plain.status}")
-        for number, found in failing.each(range(len(plain.out)), lambda at: failing.on_file(words, given, text, writes=at)):
-            ended(found, plain.out[:number], 4, b"fault: Write\n", f"{name}: {number} bytes taken")
+        with failing.beside(text) as room:
+            command = [harness.BINARY, *words]
+            plain = failing.undisturbed(command, given, room)
+            holds(plain.out and plain.status == status, f"{name}: {plain.out!r}, status {plain.status}")
+            for found in failing.walk(command, given, room, "writes", range(len(plain.out))):
+                number = found.numbers[-1]
+                ended(found, plain.out[:number], 4, b"fault: Write\n", f"{name}: {number} bytes taken")
+
+
+@test("devices: each read and each write fails, of a file, of the input or of an output")
+def failing_calls():
+    counts = [failing.broken(name, *it[:3]) for name, it in {**hostile.SHORT, **hostile.LONG}.items()]
+    holds(all(counts), f"nothing was read or written: {counts}")
+
+
+@test("devices: each read and each write moves one byte")
+def short_calls():
+    counts = [failing.shortened(name, *it[:3]) for name, it in {**hostile.SHORT, **hostile.LONG}.items()]
+    holds(any(counts), "nothing of several bytes was read or written")
 
 
 @test("devices: an input that fails at each byte of what a run reads")
 def failing_input():
     words, _, text = hostile.SHORT["run a module"]
-    for number in range(1, 5):
-        found = failing.on_file(words, b"1 2", text, reads=number)
-        ended(found, b"", 4, b"fault: Input\n", f"call {number} fails")
+    with failing.beside(text) as room:
+        for found in failing.walk([harness.BINARY, *words], b"1 2", room, "reads", range(1, 5)):
+            ended(found, b"", 4, b"fault: Input\n", f"call {found.numbers[0]} fails")
 
 
 @test("devices: a folder in the place of an input")

@@ -53,18 +53,18 @@ def grows(test, found, whole):
 
 def walk(program, test):
     """Runs a test with each of its allocations refused in turn. Returns how many runs that were."""
-    attempt = lambda at: failing.run([program, test], memory=at)
-    plain = attempt(None)
-    holds(plain.status == 0 and plain.calls, f"{test} fails where nothing is refused, or takes no memory")
-    numbers, found = range(1, plain.calls + 1, max(1, plain.calls // WALK)), []
-    for number, it in failing.each(numbers, attempt):
-        where = f"{test}, allocation {number} of {plain.calls}"
+    plain = failing.undisturbed([program, test])
+    calls = plain.calls["memory"]
+    holds(plain.status == 0 and calls, f"{test} fails where nothing is refused, or takes no memory")
+    numbers, found = range(1, calls + 1, max(1, calls // WALK)), []
+    for it in failing.walk([program, test], b"", None, "memory", numbers):
+        where = f"{test}, allocation {it.numbers[0]} of {calls}"
         holds(it.is_touched, f"{where} wasn't refused")
         same((it.status, it.out.endswith(b"test result: ok\n")), (0, True), f"{where}: {it.err.decode(errors='replace')}")
         found.append(played(it.out))
     if played(plain.out):
         grows(test, found, played(plain.out))
-    return f"{len(numbers):,} of {plain.calls:,} allocations refused"
+    return f"{len(numbers):,} of {calls:,} allocations refused"
 
 
 def walked(key):

@@ -1,5 +1,5 @@
 -- A device, and whether it has been flushed since something was last written to it.
-use Rattle.std.specs.Prelude.{Bool}
+use Rattle.std.specs.Prelude.{◌≡◌, ◌⊎◌, Bool, true}
 use Rattle.ob0_commands.specs.declared.printing.Flushed.{Flushed}
 
 -- the device
@@ -9,3 +9,7 @@ device_of output = output.device
 -- whether it has been flushed since then, by a flush that succeeded
 abbrev pub has_flushed : {W : Type 0} → Flushed W → Bool
 has_flushed output = output.has_flushed
+
+-- what was written is flushed, or the device is as it was
+abbrev pub IsHandedOn : {O : Type 0} → (is_flushed : Bool) (before after : O) → Type 0
+IsHandedOn is_flushed before after = (is_flushed ≡ true) ⊎ (after ≡ before)

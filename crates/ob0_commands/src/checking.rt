@@ -1,6 +1,6 @@
 //! Telling what is wrong with a file.
 
-ghost use Rattle.std.specs.Prelude.{◌≡◌, ◌<◌, ◌++◌, [], IfOk, MatchOption, OnOk, IfErr, codes, length, map, string_bytes};
+ghost use Rattle.std.specs.Prelude.{◌≡◌, ◌<◌, ◌++◌, [], true, IfOk, IfNone, MatchOption, OnOk, IfErr, codes, length, map, string_bytes};
 ghost use Rattle.std.specs.Io.KnownBytes.{Appends};
 ghost use Rattle.ob0_commands.specs.Printed.{TellsWrong, complaint_lines, line_at, lines_at};
 ghost use Rattle.ob0_commands.specs.Statuses.{StopsPrinting, StopsTelling};
@@ -22,6 +22,7 @@ pub fn check_text<O: Output, E: Output>(alloc: Global, file: &[u8], out: &mut O,
     ensures nothing { result ≡ 0 → Tells file.now [] }
     ensures quiet { result ≡ 0 → out.new ≡ out.old }
     ensures told { result ≡ 1 → TellsWrong file.now (O.contents out.old) (O.contents out.new) }
+    ensures flushed { result ≡ 1 → O.is_flushed out.new ≡ true }
 {
     match check(alloc, file, out) {
         Ok(Some(_text)) => 0,
@@ -38,6 +39,7 @@ pub fn check<'f, O: Output>(
     out: &mut O,
 ) -> Result<Option<&'f str>, Fault>
     ensures found { IfOk result (λ found. MatchOption found (TellsWrong file.entry.now (O.contents out.old) (O.contents out.new)) (λ text. (text.now ≡ file.entry.now) × Tells file.entry.now [] × (out.new ≡ out.old))) }
+    ensures flushed { IfOk result (λ found. IfNone found (O.is_flushed out.new ≡ true)) }
     ensures fault { IfErr result (StopsTelling file.entry.now) }
 {
     let Some(text) = text_of(file, out)? else {
@@ -54,6 +56,7 @@ pub fn check<'f, O: Output>(
 /// The text of a file that isn't too long; else that is printed.
 pub fn text_of<'f, O: Output>(file: &'f [u8], out: &mut O) -> Result<Option<&'f str>, Fault>
     ensures found { IfOk result (λ found. MatchOption found ((max_text < length file.entry.now) × Appends (O.contents out.old) (O.contents out.new) (codes "0:0: TooLong: text too long\n")) (λ text. (text.now ≡ file.entry.now) × (out.new ≡ out.old))) }
+    ensures flushed { IfOk result (λ found. IfNone found (O.is_flushed out.new ≡ true)) }
     ensures fault { IfErr result (StopsTelling file.entry.now) }
 {
     if file.len() >= MAX_FILE {
@@ -74,6 +77,7 @@ pub fn print_diagnoses<O: Output>(
     out: &mut O,
 ) -> Result<(), Fault>
     ensures printed { OnOk result (Appends (O.contents out.old) (O.contents out.new) (complaint_lines text.now (map complaint_in told.now))) }
+    ensures flushed { OnOk result (O.is_flushed out.new ≡ true) }
     ensures fault { IfErr result StopsPrinting }
 {
     print(out, lines_of(alloc, text, told)?.as_str())

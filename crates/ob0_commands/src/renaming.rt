@@ -1,6 +1,7 @@
 //! Another name in a file's text.
 
-ghost use Rattle.std.specs.Prelude.{◌≡◌, IfOk, IfErr};
+ghost use Rattle.std.specs.Prelude.{◌≡◌, true, IfOk, IfErr, OnOk};
+ghost use Rattle.ob0_commands.specs.Outputs.{IsHandedOn};
 ghost use Rattle.ob0_commands.specs.Renamed.{IsRefusal, PrintsEdited, PrintsNoName, PrintsRenamed};
 ghost use Rattle.ob0_commands.specs.Statuses.{StopsPrinting};
 
@@ -26,6 +27,8 @@ pub fn rename_text<O: Output, E: Output>(
 ) -> u8
     ensures renamed { result ≡ 0 → PrintsRenamed file.now position new.now (O.contents out.old) (O.contents out.new) }
     ensures other { result ≡ 1 → PrintsNoName file.now position new.now (O.contents out.old) (O.contents out.new) }
+    ensures flushed { result ≡ 0 → O.is_flushed out.new ≡ true }
+    ensures handed_on { result ≡ 1 → IsHandedOn (O.is_flushed out.new) out.old out.new }
 {
     match rename_file(alloc, file, position, new, out, err) {
         Ok(status) => status,
@@ -43,6 +46,8 @@ fn rename_file<O: Output, E: Output>(
 ) -> Result<u8, Fault>
     ensures renamed { IfOk result (λ status. status ≡ 0 → PrintsRenamed file.now position new.now (O.contents out.old) (O.contents out.new)) }
     ensures other { IfOk result (λ status. status ≡ 1 → PrintsNoName file.now position new.now (O.contents out.old) (O.contents out.new)) }
+    ensures flushed { IfOk result (λ status. status ≡ 0 → O.is_flushed out.new ≡ true) }
+    ensures handed_on { IfOk result (λ status. status ≡ 1 → IsHandedOn (O.is_flushed out.new) out.old out.new) }
 {
     let Some(text) = text_of(file, out)? else {
         return Ok(1);
@@ -60,6 +65,8 @@ fn rename_in_text<O: Output, E: Output>(
 ) -> Result<u8, Fault>
     ensures renamed { IfOk result (λ status. status ≡ 0 → PrintsRenamed text.now position new.now (O.contents out.old) (O.contents out.new)) }
     ensures other { IfOk result (λ status. status ≡ 1 → PrintsNoName text.now position new.now (O.contents out.old) (O.contents out.new)) }
+    ensures flushed { IfOk result (λ status. status ≡ 0 → O.is_flushed out.new ≡ true) }
+    ensures handed_on { IfOk result (λ status. status ≡ 1 → IsHandedOn (O.is_flushed out.new) out.old out.new) }
 {
     let store = Lines::from_str(alloc, text)?;
     match rename_in(alloc, &store, None, position, new)? {
@@ -81,7 +88,8 @@ pub fn print_edited<T: TextStore, O: Output, E: Output>(
     err: &mut E,
 ) -> Result<u8, Fault>
     ensures edited { IfOk result (λ status. status ≡ 0 → PrintsEdited (T.unit_of store.now) (T.content store.now) edits (O.contents out.old) (O.contents out.new)) }
-    ensures refused { IfOk result (λ status. status ≡ 1 → IsRefusal edits × (O.contents out.new ≡ O.contents out.old)) }
+    ensures refused { IfOk result (λ status. status ≡ 1 → IsRefusal edits × (out.new ≡ out.old)) }
+    ensures flushed { IfOk result (λ status. status ≡ 0 → O.is_flushed out.new ≡ true) }
     ensures fault { IfErr result StopsPrinting }
 {
     match edits {

@@ -1,6 +1,6 @@
 //! Running a file's module: its input, and what a run puts out.
 
-ghost use Rattle.std.specs.Prelude.{◌≡◌, ◌++◌, [], IfOk, IfErr, OnOk, option_map, string_bytes};
+ghost use Rattle.std.specs.Prelude.{◌≡◌, ◌≤◌, ◌++◌, [], true, IfOk, IfErr, OnOk, option_map, string_bytes};
 ghost use Rattle.std.specs.Io.KnownBytes.{Appends};
 ghost use Rattle.ob0_tree.specs.Parsed.{named_tree_of};
 ghost use Rattle.ob0_run.specs.Outcomes.{run_of};
@@ -55,6 +55,7 @@ pub fn run_text<R: Read, O: Output, E: Output>(
 ) -> u8
     ensures done { result ≡ 0 → PrintsDone file.now (R.remaining input.old) calls turns (O.contents out.old) (O.contents out.new) }
     ensures other { result ≡ 1 → PrintsOther file.now (R.remaining input.old) calls turns (O.contents out.old) (O.contents out.new) }
+    ensures flushed { result ≤ 1 → O.is_flushed out.new ≡ true }
 {
     match run_file(alloc, file, input, calls, turns, out, err) {
         Ok(status) => status,
@@ -73,6 +74,7 @@ fn run_file<R: Read, O: Output, E: Output>(
 ) -> Result<u8, Fault>
     ensures done { IfOk result (λ status. status ≡ 0 → PrintsDone file.now (R.remaining input.old) calls turns (O.contents out.old) (O.contents out.new)) }
     ensures other { IfOk result (λ status. status ≡ 1 → PrintsOther file.now (R.remaining input.old) calls turns (O.contents out.old) (O.contents out.new)) }
+    ensures flushed { OnOk result (O.is_flushed out.new ≡ true) }
 {
     let Some(text) = check(alloc, file, out)? else {
         return Ok(1);
@@ -129,6 +131,7 @@ pub fn print_outcome<O: Output, E: Output>(
     err: &mut E,
 ) -> Result<u8, Fault>
     ensures printed { OnOk result (Appends (O.contents out.old) (O.contents out.new) (output_text (items_out output.now))) }
+    ensures flushed { OnOk result (O.is_flushed out.new ≡ true) }
     ensures status { IfOk result (λ status. status ≡ status_at end) }
     ensures fault { IfErr result StopsPrinting }
 {

@@ -1,7 +1,9 @@
 //! The commands over the bytes of files, and files, inputs and outputs that fail.
 
 use crate::devices::{Buffer, Sink, Source, written};
-use ob0_commands::{Fault, Flushed, check_text, read_file, rename_text, run_text, tell_fault};
+use ob0_commands::{
+    Fault, Flushed, Output, check_text, read_file, rename_text, run_text, tell_fault,
+};
 use ob0_text::Position;
 use std::alloc::Global;
 use std::process::Abort;
@@ -16,6 +18,27 @@ pub enum Command {
     Rename(u64, &'static str),
 }
 
+/// The status of a command on the bytes of a file.
+fn status_on<O: Output, E: Output>(
+    alloc: Global,
+    command: Command,
+    file: &[u8],
+    out: &mut O,
+    err: &mut E,
+) -> u8 {
+    match command {
+        Command::Check => check_text(alloc, file, out, err),
+        Command::Run(input, calls, turns) => {
+            let mut input = input;
+            run_text(alloc, file, &mut input, calls, turns, out, err)
+        }
+        Command::Rename(character, new) => {
+            let position = Position { line: 0, character };
+            rename_text(alloc, file, position, new, out, err)
+        }
+    }
+}
+
 /// The status of a command on the bytes of a file, whose output takes so many bytes.
 fn status_of(
     alloc: Global,
@@ -27,17 +50,7 @@ fn status_of(
 ) -> u8 {
     let mut out = Flushed::new(Sink::new(printed, 1, taken, u32::MAX));
     let mut err = Flushed::new(Sink::new(told, 1000, u32::MAX, u32::MAX));
-    match command {
-        Command::Check => check_text(alloc, file, &mut out, &mut err),
-        Command::Run(input, calls, turns) => {
-            let mut input = input;
-            run_text(alloc, file, &mut input, calls, turns, &mut out, &mut err)
-        }
-        Command::Rename(character, new) => {
-            let position = Position { line: 0, character };
-            rename_text(alloc, file, position, new, &mut out, &mut err)
-        }
-    }
+    status_on(alloc, command, file, &mut out, &mut err)
 }
 
 /// Whether a command prints this, tells this and ends with this.
@@ -169,22 +182,32 @@ fn a_write_that_fails_is_told(rt: HostRuntime) {
 
 /// Whether what a command prints is handed on by a writer that does so only where it is flushed, and whether a flush that
 /// fails is reported.
-fn flushes(alloc: Global) -> bool {
+fn flushes(alloc: Global, command: Command, file: &[u8], wanted: (&str, u8)) -> bool {
+    let (text, status) = wanted;
     let (mut printed, mut told) = ([0u8; 128], [0u8; 128]);
     let mut handed_on = 0;
-    let mut out = Flushed::new(Buffer::new(&mut printed, &mut handed_on, 1));
     let mut err = Flushed::new(Sink::new(&mut told, 1000, u32::MAX, u32::MAX));
-    let status = check_text(alloc, b"", &mut out, &mut err);
-    if status != 1 || handed_on != EMPTY_FILE.len() {
+    let mut out = Flushed::new(Buffer::new(&mut printed, &mut handed_on, 1));
+    let found = status_on(alloc, command, file, &mut out, &mut err);
+    if found != status || handed_on != text.len() {
         return false;
     }
     let mut out = Flushed::new(Buffer::new(&mut printed, &mut handed_on, 0));
-    check_text(alloc, b"", &mut out, &mut err) == 4
+    status_on(alloc, command, file, &mut out, &mut err) == 4
 }
 
 #[test]
 fn what_is_printed_is_flushed(rt: HostRuntime) {
-    assert!(rt; flushes(rt.alloc()));
+    for row in ROWS {
+        let (command, file, wanted) = *row;
+        let (text, _, status) = wanted;
+        if !text.is_empty() {
+            assert!(rt;
+                flushes(rt.alloc(), command, file, (text, status)),
+                "{file:?}"
+            );
+        }
+    }
 }
 
 #[test]

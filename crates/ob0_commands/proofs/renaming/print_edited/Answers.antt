@@ -7,5 +7,6 @@ returns g c =
     record {
       edited = λ no. absurd (omega (arith, no));
       refused = λ one. (subst IsRefusal (sym c.in-Err.is) tt, refl);
+      flushed = λ no. absurd (omega (arith, no));
       fault = tt;
     }

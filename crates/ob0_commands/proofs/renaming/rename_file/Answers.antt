@@ -1,5 +1,6 @@
 use Rattle.std.proofs.Common.{ℕ, List, Option, ap, subst}
 use Rattle.std.proofs.lemmas.Result.{IfOk-weaker}
+use Rattle.ob0_commands.specs.Outputs.{IsHandedOn}
 use Rattle.ob0_commands.specs.Renamed.{PrintsNoName}
 use Rattle.ob0_commands.proofs.renaming.rename_file.Goals as goal
 
@@ -10,3 +11,10 @@ returns-clause-other g c =
     IfOk-weaker c.rename_in_text.result _ _ (λ status h one.
     subst (λ (t : List ℕ). PrintsNoName t c.args.position c.args.new.now (g.O.Write.contents c.args.out.now) after) here.0
     (subst (λ (b : Option (List ℕ)). PrintsNoName c.in-Some.text.now c.args.position c.args.new.now b after) (ap g.O.Write.contents here.1) (h one))) c.rename_in_text.ensures.other
+
+pub returns-clause-handed_on : goal.returns-clause-handed_on
+returns-clause-handed_on g c =
+    let here = rw c.in-Some.is at c.in_ok-text.ensures.found in
+    let after = c.rename_in_text.new.out in
+    IfOk-weaker c.rename_in_text.result _ _ (λ status h one.
+    subst (λ before. IsHandedOn (g.O.is_flushed after) before after) here.1 (h one)) c.rename_in_text.ensures.handed_on

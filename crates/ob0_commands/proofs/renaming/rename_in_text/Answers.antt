@@ -1,4 +1,4 @@
-use Rattle.std.proofs.Common.{inl, inr}
+use Rattle.std.proofs.Common.{ap, inl, inr}
 use Rattle.std.proofs.lemmas.Result.{IfOk-weaker}
 use Rattle.ob0_commands.proofs.Renames.{edited_in_text, found_in_text, prints_renamed, refuses_name}
 use Rattle.ob0_commands.proofs.Wrong.{ill_typed}
@@ -15,9 +15,13 @@ pub returns-in-Answered-clause-other : goal.returns-in-Answered-clause-other
 returns-in-Answered-clause-other g c =
     let found = found_in_text _ _ c.args.text.now c.args.position c.args.new.now c.in_ok-outcome.field-0 c.in-Answered.outcome c.in_ok-store.ensures.unit c.in_ok-store.ensures.content c.in-Answered.is c.in_ok-outcome.ensures in
     IfOk-weaker c.print_edited.result _ _ (λ status refused one.
-    inr (refuses_name c.args.text.now c.args.position c.args.new.now c.in-Answered.outcome _ _ found (refused one).0 (refused one).1)) c.print_edited.ensures.refused
+    inr (refuses_name c.args.text.now c.args.position c.args.new.now c.in-Answered.outcome _ _ found (refused one).0 (ap g.O.Write.contents (refused one).1))) c.print_edited.ensures.refused
 
 pub returns-clause-other : goal.returns-clause-other
 returns-clause-other g c =
     λ one. inl (ill_typed _ _ c.args.text.now c.args.position c.args.new.now c.in_ok-outcome.field-0 c.in-IllTyped.told c.as_slice.result.now (g.O.Write.contents c.args.out.now) (g.O.Write.contents c.print_diagnoses.new.out)
     c.in_ok-store.ensures.content c.utf8.text c.as_slice.ensures.value c.in-IllTyped.is c.in_ok-outcome.ensures c.in_ok-print_diagnoses-in-IllTyped.ensures.printed)
+
+pub returns-in-Answered-clause-handed_on : goal.returns-in-Answered-clause-handed_on
+returns-in-Answered-clause-handed_on g c =
+    IfOk-weaker c.print_edited.result _ _ (λ status refused one. inr (refused one).1) c.print_edited.ensures.refused
