@@ -8,6 +8,7 @@ mod declaring;
 mod field_hovers;
 mod hovering;
 mod hovers;
+pub mod laws;
 mod names;
 mod questions;
 mod selecting;

@@ -1,0 +1,126 @@
+-- What is answered at a place that is on a field.
+use Rattle.std.proofs.Common.{◌≡◌, ℕ, suc, ◌+◌, ◌<◌, ◌==◌, ◌&&◌, Bool, true, false, if◌then◌else◌, List, [], ◌∷◌, map, length, get_or, is_some, Some, None, Option, option_map, refl, sym, ap, ◌∙◌, subst, arith, true≢false, eq-eqb, nat_lt, All, Contains}
+use Rattle.std.proofs.lemmas.List.Elements.{All-head, All-tail}
+use Rattle.std.proofs.lemmas.Slice.Eq.{bytes_eq-Decides}
+use Rattle.ob0_scan.specs.Scanned.{Scanned}
+use Rattle.ob0_scan.specs.declared.lexeme.Span.{Span}
+use Rattle.ob0_tree.specs.Parsed.{Parsed}
+use Rattle.ob0_tree.specs.Places.{text_at}
+use Rattle.ob0_scope.specs.Names.{same_name}
+use Rattle.ob0_scope.specs.Resolution.{Resolution, span_at}
+use Rattle.ob0_scope.specs.Standing.{is_on, name_on}
+use Rattle.ob0_scope.specs.declared.naming.Named as named
+use Rattle.ob0_types.specs.CheckedModules.{IsWellTyped}
+use Rattle.ob0_typing.proofs.Literals.{some_inverse}
+use Rattle.ob0_fields.specs.Identifiers.{declaring_field, field_at, field_identifiers, field_on, field_tokens, is_field, tokens_among}
+use Rattle.ob0_fields.proofs.FieldsDeclared.{fields_declared-holds}
+use Rattle.ob0_refs.specs.Answered.{at_name}
+use Rattle.ob0_refs.specs.Laws.{FieldsAreDefined, FieldsAreRenamedThere, IsOnField, IsRenamedThere}
+use Rattle.ob0_refs.specs.Questions.{at_field, declared, definition_at, field_declared, named_at, or_else, references_at, stands}
+use Rattle.ob0_refs.specs.declared.answers.At as told
+use Rattle.ob0_refs.specs.declared.answers.Of as of
+use Rattle.ob0_refs.specs.declared.answers.Of.TheVariants as tells
+
+abbrev tells_field : of.Of → Bool
+tells_field tells.Predeclared = false
+tells_field (tells.Declared ordinal) = false
+tells_field (tells.Field k index) = true
+
+abbrev owner_told : of.Of → ℕ
+owner_told tells.Predeclared = 0
+owner_told (tells.Declared ordinal) = 0
+owner_told (tells.Field k index) = k
+
+no_field : (b : Bool) (ordinal : ℕ) → tells_field (if b then tells.Predeclared else tells.Declared ordinal) ≡ false
+no_field true ordinal = refl
+no_field false ordinal = refl
+
+-- a field, and no name
+pub record OnField (r : Resolution) (offset : ℕ) (span : Span) (k : ℕ) : Type 0 where
+  pub token : ℕ
+  pub no_name : name_on r.module_read offset ≡ None
+  pub field : field_at r offset ≡ Some (token, k)
+  pub place : span_at r.module_read.source token ≡ span
+
+pub on_field : (r : Resolution) (offset k index : ℕ) (span : Span) → IsOnField r offset span k index → OnField r offset span k
+on_field r offset k index span h = go (name_on r.module_read offset) refl (field_at r offset) refl h
+  where
+    go : (n : Option named.Named) → name_on r.module_read offset ≡ n → (f : Option (ℕ × ℕ)) → field_at r offset ≡ f → stands r.module_read n f ≡ Some (record { span = span; of = tells.Field k index }) → OnField r offset span k
+    go (Some n) e f g same = absurd (true≢false (sym (ap (λ (a : told.At). tells_field a.of) (some_inverse same)) ∙ no_field (nat_lt n.ordinal 7) n.ordinal))
+    go None e None g same = absurd (cc)
+    go None e (Some (token, owner)) g same =
+        let here : at_field r.module_read (token, owner) ≡ record { span = span; of = tells.Field k index } = some_inverse same in
+        record {
+          token = token;
+          no_name = e;
+          field = g ∙ ap (λ o. Some (token, o)) (ap (λ (a : told.At). owner_told a.of) here);
+          place = ap (λ (a : told.At). a.span) here;
+        }
+
+-- ---- definition
+
+module _ (source : Scanned) (offset : ℕ) (x : ℕ × ℕ) where
+  found_holds : (P : ℕ × ℕ → Type 0) (xs : List (ℕ × ℕ)) → All P xs → field_on source offset xs ≡ Some x → P x
+  found_holds P [] all h = absurd (cc)
+  found_holds P (y ∷ ys) all h = one (is_on offset (span_at source y.0)) h (found_holds P ys (All-tail P y ys all))
+    where
+      one : (b : Bool) → (if b then Some y else field_on source offset ys) ≡ Some x → (field_on source offset ys ≡ Some x → P x) → P x
+      one true e later = subst P (some_inverse e) (All-head P y ys all)
+      one false e later = later e
+
+  -- it is among the field's tokens
+  found_named : (xs : List (ℕ × ℕ)) → field_on source offset xs ≡ Some x → Contains (map (span_at source) (tokens_among source x.1 (text_at source x.0) xs)) (span_at source x.0)
+  found_named [] h = absurd (cc)
+  found_named (y ∷ ys) h = one (is_on offset (span_at source y.0)) h (found_named ys)
+    where
+      behind : (b : Bool) → Contains (map (span_at source) (tokens_among source x.1 (text_at source x.0) ys)) (span_at source x.0)
+          → Contains (map (span_at source) (if b then y.0 ∷ tokens_among source x.1 (text_at source x.0) ys else tokens_among source x.1 (text_at source x.0) ys)) (span_at source x.0)
+      behind true (i, less, is) = (suc i, omega (arith, less), is)
+      behind false at = at
+
+      here : y ≡ x → is_field source x.1 (text_at source x.0) y ≡ true
+      here same = λ i. eq-eqb y.1 x.1 (ap (λ (z : ℕ × ℕ). z.1) same) i && (bytes_eq-Decides (text_at source y.0) (text_at source x.0)).1 (ap (λ (z : ℕ × ℕ). text_at source z.0) same) i
+
+      one : (b : Bool) → (if b then Some y else field_on source offset ys) ≡ Some x
+          → (field_on source offset ys ≡ Some x → Contains (map (span_at source) (tokens_among source x.1 (text_at source x.0) ys)) (span_at source x.0))
+          → Contains (map (span_at source) (if is_field source x.1 (text_at source x.0) y then y.0 ∷ tokens_among source x.1 (text_at source x.0) ys else tokens_among source x.1 (text_at source x.0) ys)) (span_at source x.0)
+      one true e later =
+          let same : y ≡ x = some_inverse e in
+          subst (λ b. Contains (map (span_at source) (if b then y.0 ∷ tokens_among source x.1 (text_at source x.0) ys else tokens_among source x.1 (text_at source x.0) ys)) (span_at source x.0)) (sym (here same))
+          (0, omega arith, ap (λ (z : ℕ × ℕ). span_at source z.0) same)
+      one false e later = behind (is_field source x.1 (text_at source x.0) y) (later e)
+
+pub some_mapped : {A B : Type 0} (f : A → B) (o : Option A) → is_some (option_map f o) ≡ is_some o
+some_mapped f None = refl
+some_mapped f (Some a) = refl
+
+pub fields_are_defined-holds : FieldsAreDefined
+fields_are_defined-holds r offset k index span well h =
+    let m : Parsed = r.module_read in
+    let at = on_field r offset k index span h in
+    let name : List ℕ = text_at m.source at.token in
+    (λ i. is_some (declared m (at.no_name i) (at.field i)))
+    ∙ (some_mapped (span_at m.source) (declaring_field m k name)
+    ∙ found_holds m.source offset (at.token, k) (λ x. is_some (declaring_field m x.1 (text_at m.source x.0)) ≡ true) (field_identifiers r) (fields_declared-holds r well) at.field)
+
+-- ---- references
+
+pub fields_are_renamed_there-holds : FieldsAreRenamedThere
+fields_are_renamed_there-holds r offset k index span h =
+    let m : Parsed = r.module_read in
+    let at = on_field r offset k index span h in
+    let uses : references_at r offset true ≡ map (span_at m.source) (field_tokens r k (text_at m.source at.token)) = λ i. named_at r true (at.no_name i) (at.field i) in
+    record {
+      token = at.token;
+      no_name = at.no_name;
+      field = at.field;
+      place = at.place;
+      uses = uses;
+      itself = subst (λ spans. Contains spans span) (sym uses) (subst (Contains (map (span_at m.source) (field_tokens r k (text_at m.source at.token)))) at.place (found_named m.source offset (at.token, k) (field_identifiers r) at.field));
+    }
+
+-- ---- what is shown
+
+pub shown_else : {A : Type 0} (o other : Option A) → is_some other ≡ true → is_some (or_else o other) ≡ true
+shown_else None other h = h
+shown_else (Some a) other h = refl
