@@ -11,7 +11,7 @@ ghost use Rattle.ob0_run.specs.Machines.{Does};
 use crate::activations::{pass, variables_in};
 use crate::counting::after_formals;
 use crate::declaring::declare_block;
-use crate::machine::{Bound, Machine, rewind, unwind};
+use crate::machine::{Bound, Machine, forget, rewind, unwind};
 use crate::scene::{Ending, Meant, Routine, Stop, ordinal_at};
 use crate::statements::sequence;
 use ob0_tree::Statement;
@@ -91,12 +91,11 @@ pub(crate) fn body<F: Fn(&mut Machine<'_, '_>, usize) -> Result<(), Stop>>(
 }
 
 /// Gives up the variables of a call, and takes its bindings back.
-fn give_up(machine: &mut Machine<'_, '_>, variables: usize, depth: usize) -> Result<(), AllocError>
-    ensures { OnOk result (GivesUp variables depth machine.old machine.new) }
+fn give_up(machine: &mut Machine<'_, '_>, variables: usize, depth: usize)
+    ensures { GivesUp variables depth machine.old machine.new }
 {
     machine.state.store.truncate(variables);
-    let _own = unwind(machine.alloc, &mut machine.meant, &mut machine.bound, depth)?;
-    Ok(())
+    forget(&mut machine.meant, &mut machine.bound, depth);
 }
 
 /// Ends a call that returns: the bindings of its caller are visible again.
@@ -108,7 +107,7 @@ fn resume<'t>(machine: &mut Machine<'_, 't>, interrupted: Interrupted<'t>) -> Re
         depth,
         variables,
     } = interrupted;
-    give_up(machine, variables, depth)?;
+    give_up(machine, variables, depth);
     rewind(&mut machine.meant, &mut machine.bound, hidden)
 }
 

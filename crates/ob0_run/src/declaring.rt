@@ -18,7 +18,7 @@ ghost use Rattle.ob0_run.specs.Scenes.{Answers, meaning_with};
 ghost use Rattle.ob0_run.specs.Shapes.{shape_of};
 
 use crate::activations::allocate;
-use crate::counting::{after_procedure, after_type, after_types, after_variables, one_more};
+use crate::counting::{after_procedure, after_type, after_types, after_variables};
 use crate::machine::{Machine, bind};
 use crate::scene::{Meant, Routine, Scene, Stop};
 use crate::shapes::{Shape, initial};
@@ -234,7 +234,7 @@ fn declare_procedure<'t>(
 ) -> Result<(), Stop>
     ensures { Declares result machine.old machine.new (procedure_declared next (label_there machine.old (out-Procedure procedure.now).name) (read_there machine.old (procedure_of procedure.now))) }
 {
-    let depth = one_more(machine.bound.len())?;
+    let depth = machine.bound.len() + 1;
     let routine = Routine {
         procedure,
         first_constructor: next,

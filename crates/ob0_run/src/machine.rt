@@ -110,6 +110,22 @@ pub fn unwind<'t>(
     Ok(taken)
 }
 
+/// Takes back a binding for good. What it hid is visible again.
+fn uncover<'t>(meant: &mut Vec<Meant<'t>>, bound: Bound<'t>)
+    ensures { meant.new.items ≡ put_at bound.entry.ordinal bound.entry.hidden meant.old.items }
+{
+    let _forgotten = exchange(meant, bound);
+}
+
+/// Takes back the newest bindings for good, until no more are left than were to be. What they hid is visible again.
+pub(crate) fn forget<'t>(meant: &mut Vec<Meant<'t>>, bound: &mut Vec<Bound<'t>>, depth: usize)
+    ensures { record { meant = meant.new.items; bound = bound.new.items } ≡ down_to depth record { meant = meant.old.items; bound = bound.old.items } }
+{
+    while let Some(newest) = newest_above(bound, depth) {
+        uncover(meant, newest);
+    }
+}
+
 /// Binds again what `unwind` took back.
 ///
 /// # Errors
