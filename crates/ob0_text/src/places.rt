@@ -179,8 +179,8 @@ pub fn onward_to_position(text: &str, unit: Unit, from: Place, position: Positio
     }
 }
 
-/// A place of a position's line in front of the position, with plain bytes alone between a place and it: characters of one
-/// byte and one unit each are passed by pieces.
+/// A place nearer to a position, in the position's line: plain bytes, which are characters of one byte and one unit each, are
+/// passed by pieces.
 pub fn past_plain(text: &str, unit: Unit, from: Place, position: Position) -> Place
     requires place { IsPlaceBefore (width_of unit) text.now position from }
     ensures place { IsPlaceBefore (width_of unit) text.now position result }
@@ -209,7 +209,7 @@ fn has_plain_piece(bytes: &[u8], place: Place, position: Position) -> bool
     are_plain(&bytes[place.offset..place.offset + PIECE])
 }
 
-/// Whether each byte is plain. All are looked at, so that many can be at once.
+/// Whether each byte is plain.
 fn are_plain(bytes: &[u8]) -> bool
     ensures yes { result ≡ true → All IsPlain bytes.now }
 {
