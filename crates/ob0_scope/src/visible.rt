@@ -1,12 +1,41 @@
 //! The names that are visible at a place of a module.
 
 ghost use Rattle.std.specs.Prelude.{◌≡◌, ◌≤◌, ◌+◌, [], ◌∷◌, OnOk, IfOk, length, drop, ◌-◌};
+ghost use Rattle.ob0_scope.specs.Keys.{number_of, with_byte};
 ghost use Rattle.ob0_scope.specs.Names.{as_names};
 ghost use Rattle.ob0_scope.specs.Scopes.{ordinal_of};
 
 use std::alloc::{AllocError, Global};
 use std::collections::BTreeMap;
 use std::marker::Model;
+
+/// A name as a key. Before it stands a number made of its last bytes, which tells most names apart.
+type Key<'t> = (u64, &'t str);
+
+/// The key of a name.
+fn key_of<'t>(name: &'t str) -> (u64, &'t str)
+    ensures { result ≡ (number_of name.entry.now, name.entry) }
+{
+    (number_of(name.as_bytes()), name)
+}
+
+/// The number before a name.
+fn number_of(bytes: &[u8]) -> u64
+    ensures { result ≡ number_of bytes.now }
+{
+    let mut number = 0;
+    for byte in bytes {
+        number = with_byte(number, *byte);
+    }
+    number
+}
+
+/// The number with a byte behind it: the last eight count.
+fn with_byte(number: u64, byte: u8) -> u64
+    ensures { result ≡ with_byte number byte }
+{
+    number.wrapping_mul(256).wrapping_add(u64::from(byte))
+}
 
 /// A declaration that is visible, with the index of the binding that it hides.
 #[derive(Drop)]
@@ -20,7 +49,7 @@ pub(crate) struct Binding<'t> {
 /// up in logarithmic time.
 #[derive(Drop)]
 pub(crate) struct Visible<'t> {
-    newest: BTreeMap<&'t str, usize>,
+    newest: BTreeMap<Key<'t>, usize>,
     bindings: Vec<Binding<'t>>,
 }
 
@@ -54,10 +83,11 @@ impl<'t> Visible<'t> {
     }
 
     /// The ordinal of the declaration to which a name is bound.
-    pub(crate) fn look_up(&self, name: &str) -> Option<usize>
+    pub(crate) fn look_up(&self, name: &'t str) -> Option<usize>
         ensures { result ≡ ordinal_of as_names self.now name.now }
     {
-        match self.newest.get(name) {
+        let key = key_of(name);
+        match self.newest.get(&key) {
             Some(index) => Some(self.bindings[*index].ordinal),
             None => None,
         }
@@ -67,8 +97,9 @@ impl<'t> Visible<'t> {
     pub(crate) fn declare(&mut self, name: &'t str, ordinal: usize) -> Result<(), AllocError>
         ensures { OnOk result (self.new ≡ (name.entry.now, ordinal) ∷ self.old) }
     {
+        let key = key_of(name);
         self.bindings.reserve(1)?;
-        let hidden = self.newest.insert(name, self.bindings.len())?;
+        let hidden = self.newest.insert(key, self.bindings.len())?;
         self.bindings.push_reserved(Binding {
             name,
             ordinal,
@@ -94,12 +125,13 @@ impl<'t> Visible<'t> {
         let Some(left) = self.bindings.pop() else {
             return Ok(());
         };
+        let key = key_of(left.name);
         match left.hidden {
             Some(index) => {
-                self.newest.insert(left.name, index)?;
+                self.newest.insert(key, index)?;
             }
             None => {
-                self.newest.remove(left.name);
+                self.newest.remove(&key);
             }
         }
         Ok(())
