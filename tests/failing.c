@@ -3,6 +3,7 @@
 
    OB0_MEMORY=N     the Nth call that takes memory is refused; OB0_MEMORY=N.. it and all behind it
    OB0_READS=N      standard input gives one byte a call, and fails at the Nth call
+   OB0_FILE=N       any other file gives one byte a call, and fails at the Nth call
    OB0_WRITES=N     standard output takes one byte a call, and fails once it has taken N; OB0_WRITES=N.. it then takes none
    OB0_CALLS=N      the Nth read or write, of whatever file, fails
    OB0_SHORT=N      the Nth read or write of several bytes moves one
@@ -19,9 +20,9 @@
 #include <sys/wait.h>
 #include <unistd.h>
 
-static long memory_at, reads_at, writes_at = -1, calls_at, short_at, report_to = -1;
+static long memory_at, reads_at, file_at, writes_at = -1, calls_at, short_at, report_to = -1;
 static int all_memory, takes_none, is_ready;
-static long reads, written;
+static long reads, file_reads, written;
 
 /* What is known of a run when it ends: a walk shares it with the run. */
 struct known {
@@ -85,6 +86,7 @@ static void drop(struct ending *it) {
 static long *numbered(const char *word) {
   if (!strcmp(word, "memory")) return &memory_at;
   if (!strcmp(word, "reads")) return &reads_at;
+  if (!strcmp(word, "file")) return &file_at;
   if (!strcmp(word, "writes")) return &writes_at;
   if (!strcmp(word, "calls")) return &calls_at;
   if (!strcmp(word, "short")) return &short_at;
@@ -141,6 +143,7 @@ __attribute__((constructor)) static void begin(void) {
   real_write = dlsym(RTLD_NEXT, "write");
   memory_at = number("OB0_MEMORY", 0, &all_memory);
   reads_at = number("OB0_READS", 0, NULL);
+  file_at = number("OB0_FILE", 0, NULL);
   writes_at = number("OB0_WRITES", -1, &takes_none);
   calls_at = number("OB0_CALLS", 0, NULL);
   short_at = number("OB0_SHORT", 0, NULL);
@@ -191,10 +194,11 @@ static int fails(size_t *size) {
 }
 
 ssize_t read(int file, void *bytes, size_t size) {
+  long fails_at = file == 0 ? reads_at : file_at;
   if (!real_read) real_read = dlsym(RTLD_NEXT, "read");
   if (fails(&size)) return -1;
-  if (file == 0 && reads_at) {
-    if (++reads == reads_at) {
+  if (is_ready && fails_at) {
+    if (++*(file == 0 ? &reads : &file_reads) == fails_at) {
       known->is_touched = 1;
       errno = EIO;
       return -1;

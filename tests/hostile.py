@@ -99,6 +99,16 @@ LONG = {
         ),
         None,
     ),
+    "a name edited, with the version": (
+        ["serve"],
+        talk(did_open(WRITES_A_GLOBAL, version=-7), asked(3, "rename", 4, 10, newName="B"), workspace={"workspaceEdit": {"documentChanges": True}}),
+        None,
+    ),
+    "positions in bytes": (
+        ["serve"],
+        talk(did_open("a\r\n(* 😀 *) $"), did_change([{"range": extent("1:11-1:12"), "text": "$$"}]), general={"positionEncodings": ["utf-8"]}),
+        None,
+    ),
     "a constant inlined": (["serve"], talk(did_open(CONSTANT), acted(3, 3, 15), acted(4, 1, 6), **LITERALS), None),
     "a layout": (["serve"], talk(did_open(ON_ONE_LINE), laid_out(3)), None),
     "200 variables, renamed and laid out": (

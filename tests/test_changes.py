@@ -192,6 +192,19 @@ def one_notification():
     same(all_at_once("$", ("0:0-0:0", "\r\n"), ("1:0-1:0", "\r"))[1], published(bad("2:0-2:1"), version=2), "two changes")
 
 
+@test("changes: ranges, each of the text that the one before made; one that can't be read; the whole text")
+def one_after_another():
+    module = "MODULE M; END M."
+    given = [
+        did_open(module),
+        did_change([{"range": extent("0:9-0:9"), "rangeLength": 0, "text": "\n"}, {"range": extent("1:0-1:1"), "text": "$"}]),
+        did_change([{"range": {"start": {"line": 1, "character": 1.0}, "end": {"line": 1, "character": 1}}, "text": ""}], version=3),
+        did_change([{"text": "$"}, {"range": None, "text": module}], version=4),
+    ]
+    bad = published([told("BadChar", "bad character", "1:0-1:1")], version=2)
+    same(serve([initialize(), *given]).contents()[1:], [published([]), bad, published([], version=4)])
+
+
 @test("changes: units of UTF-8")
 def utf8_lines():
     place = lambda line, character: {"line": line, "character": character}

@@ -176,6 +176,8 @@ def well_typed():
 
 @test("check: a comment that isn't closed, and numbers that are too large")
 def scanning():
+    ends(on_file("check", "12ab $"), "0:0: NumberJoinsLetter: letter after number\n0:5: BadChar: bad character\n", 1)
+    ends(on_file("check", "MODULE M;\n(* 😀 *) $"), "1:9: BadChar: bad character\n", 1)
     ends(on_file("check", "MODULE M;\n(* (* *) END M."), "1:0: OpenComment: comment not closed\n", 1)
     ends(on_file("check", "MODULE M; CONST c = 2147483648; END M."), "0:20: NumberTooLarge: number too large\n", 1)
     ends(

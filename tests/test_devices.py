@@ -103,6 +103,15 @@ def failing_input():
             ended(found, b"", 4, b"fault: Input\n", f"call {found.numbers[0]} fails")
 
 
+@test("devices: a file that fails at each byte of the module in it")
+def failing_file():
+    text = "MODULE M; END M."
+    for words in (["check", "m.mod"], ["run", "m.mod"], ["rename", "m.mod", "0", "7", "x"]):
+        with failing.beside(text) as room:
+            for found in failing.walk([harness.BINARY, *words], b"", room, "file", range(1, len(text) + 2)):
+                ended(found, b"", 4, b"fault: File\n", f"{words[0]}: call {found.numbers[0]} fails")
+
+
 @test("devices: a folder in the place of an input")
 def reader():
     folder = os.open("/", os.O_RDONLY)

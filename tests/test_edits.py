@@ -17,6 +17,7 @@ PROCEDURE F(n: INTEGER);
 BEGIN IF n > 0 THEN Write(n); F(n - 1) END END F;
 BEGIN F(2) END M.
 """
+ACCENTED = "MODULE M; VAR x: INTEGER; (* é *) BEGIN x := x END M."
 RECORDS = """MODULE M;
 TYPE R = RECORD a, b: INTEGER END;
 VAR r: R; s: RECORD a: INTEGER END; a: INTEGER;
@@ -47,6 +48,8 @@ RENAMES = [
     (CALLS, 2, 20, "W", "Predeclared"),
     (CALLS, 0, 7, "W", "NoName"),
     (CALLS, 0, 0, "W", "NoName"),
+    (ACCENTED, 0, 14, "yz", ["0:14-0:15", "0:40-0:41", "0:45-0:46"]),
+    (ACCENTED, 0, 41, "x", []),
 ]
 FIELD_RENAMES = [
     (RECORDS, 3, 8, "c", ["1:16-1:17", "3:8-3:9", "3:33-3:34"]),
@@ -246,6 +249,8 @@ def ill_typed():
         found = server.ask("textDocument/rename", where(0, 7, newName="x"))
         same(found.get("error"), {"code": -32803, "message": "ill-typed"})
     ends(on_file("rename", "MODULE M", "0", "7", "x"), "0:8: Syntax: expected ;\n", 1)
+    ends(on_file("rename", "MODULE M; END N.", "0", "7", "x"), "0:14: EndName: wrong closing name\n", 1)
+    ends(on_file("rename", b"MODULE \xff", "0", "7", "x"), "", 4, "fault: Utf8\n")
 
 
 @test("rename: up to the longest text")
@@ -277,7 +282,7 @@ def field_runs():
 
 @test("rename: command lines, and places far off")
 def lines():
-    for words in (["0"], ["0", "0"], ["-1", "0", "x"], ["0", "18446744073709551616", "x"], ["0", "0", "x", "y"]):
+    for words in (["0"], ["0", "0"], ["-1", "0", "x"], ["0", "18446744073709551616", "x"], ["18446744073709551616", "0", "x"], ["0", "x", "y"], ["0", "0", "x", "y"]):
         same(on_file("rename", NESTED, *words).status, 2, " ".join(words))
     ends(on_file("rename", NESTED, "18446744073709551615", "18446744073709551615", "x"), "", 1, "refused: NoName\n")
     ends(run(["rename", "/nowhere", "0", "0", "x"]), "", 4, "fault: File\n")
@@ -325,6 +330,19 @@ def inline_bytes():
         '{"character":16,"line":3},"start":{"character":15,"line":3}}}]}},"kind":"refactor.inline",'
         '"title":"Inline everywhere"}]}',
     )
+
+
+@test("inline: both actions at a use, byte by byte")
+def actions_bytes():
+    asked = request(5, "textDocument/codeAction", acting(3, 15))
+    found = serve(frames([initialize(**LITERALS), did_open(LEAST, URI), asked])).contents()[2]
+    use = '{"newText":"(-2147483647 - 1)","range":{"end":{"character":16,"line":3},"start":{"character":15,"line":3}}}'
+    gone = '{"newText":"","range":{"end":{"character":26,"line":1},"start":{"character":6,"line":1}}}'
+    action = lambda title, *edits: (
+        f'{{"edit":{{"changes":{{"file:///m":[{",".join(edits)}]}}}},"kind":"refactor.inline","title":"{title}"}}'
+    )
+    both = f'[{action("Inline here", use)},{action("Inline everywhere", gone, use)}]'
+    same(found, f'{{"id":5,"jsonrpc":"2.0","result":{both}}}')
 
 
 @test("inline: at a use, at the declaration, under `only`")
@@ -535,6 +553,20 @@ def formats():
         _, found = formatted(text, size, spaces)
         same(found, wanted, text)
         same(formatted(wanted, size, spaces)[0], [], "formatted again")
+
+
+@test("format: the edits of the gaps, byte by byte")
+def gaps():
+    options = {"insertSpaces": True, "tabSize": 2}
+    asked = request(2, "textDocument/formatting", {"options": options, "textDocument": {"uri": URI}})
+    found = serve(frames([initialize(), did_open("MODULE M;BEGIN WriteLn END M.", URI), asked])).contents()[2]
+    same(
+        found,
+        '{"id":2,"jsonrpc":"2.0","result":[{"newText":"\\n","range":{"end":{"character":9,"line":0},"start":{"character":9,"line":0}}},'
+        '{"newText":"\\n  ","range":{"end":{"character":15,"line":0},"start":{"character":14,"line":0}}},'
+        '{"newText":"\\n","range":{"end":{"character":23,"line":0},"start":{"character":22,"line":0}}},'
+        '{"newText":"\\n","range":{"end":{"character":29,"line":0},"start":{"character":29,"line":0}}}]}',
+    )
 
 
 @test("format: options")

@@ -1,4 +1,7 @@
 """`ob0 run`: outputs, the seven ends, bounds, input, statuses."""
+import os
+import tempfile
+
 from harness import ends, on_file, run, same, test
 from samples import WRITES_A_GLOBAL
 from test_edits import FIVE, LEAST, NESTED, RECORDS, SHADOWED, edited
@@ -172,11 +175,21 @@ def ill_typed():
 
 @test("run: command lines")
 def lines():
-    for words in (["--calls", "65"], ["--turns", "100001"], ["--calls", "-1"], ["--calls", "x"], ["--calls"], ["y"]):
+    for words in (["--calls", "65"], ["--turns", "100001"], ["--calls", "-1"], ["--turns=-1"], ["--calls", "x"], ["--calls"], ["y"]):
         found = on_file("run", DIVISORS, *words)
         same((found.out, bool(found.err), found.status), (b"", True, 2), " ".join(words))
     ran(DIVISORS, " -2 -3 2", "Divisor", "", 64, 100000)
+    ends(on_file("run", COUNT, "--turns=3", "--calls=0", given=b"2"), "\n\n", 1, "fault: CallBound\n")
     same(run(["run"]).status, 2)
+
+
+@test("run: options before the file and behind it")
+def options():
+    with tempfile.TemporaryDirectory() as room:
+        with open(os.path.join(room, "m.mod"), "w", encoding="utf-8") as file:
+            file.write(COUNT)
+        for words in (["--calls", "1", "m.mod", "--turns=1"], ["--turns=1", "--calls=1", "m.mod"], ["m.mod", "--turns", "1", "--calls", "1"]):
+            ends(run(["run", *words], b"2", cwd=room), "\n", 1, "fault: TurnBound\n")
 
 
 @test("run: a predeclared name that is declared anew")

@@ -1,8 +1,8 @@
-//! Worlds as tables: what happens and what is seen of it, and what has come of it all.
+//! Worlds as tables: what happens and what is seen of it, and what has come of it all. What a world's events take for
+//! themselves is asked for a second time where it is refused, since only one allocation is.
 
-use crate::commands::{Command, ends};
-use ob0_text::{Change, Indent, Lines, Position, Range, TextStore, Unit};
-use ob0_world::{Ask, Event, Played, Seen, World, WorldFault};
+use ob0_text::{Change, Indent, Lines, Position, Range, Unit};
+use ob0_world::{Applied, Ask, Event, Made, PlayFault, Played, Seen, World, WorldFault};
 use std::alloc::{AllocError, Global};
 
 /// One event, about the document `u`.
@@ -42,42 +42,49 @@ pub enum Sight {
     Answered(u64, bool),
     Applied(u64),
     Dropped(u64),
+    /// Its memory was refused.
+    Refused,
+    /// The world had ended before.
+    Ended,
+    /// It wasn't made.
+    Unmade,
 }
 
 /// A text before an edit was applied, and after.
-#[derive(Clone, Copy)]
 pub struct Edited {
     pub before: &'static str,
     pub after: &'static str,
 }
 
 /// A publication with a version, for a text.
-#[derive(Clone, Copy)]
 pub struct Published {
     pub version: i64,
     pub text: &'static str,
     pub empty: bool,
 }
 
-/// What happens, and what has come of it in the end.
+/// What happens where both ends count positions in a unit, and what has come of it in the end.
 pub struct Story {
     pub name: &'static str,
+    pub unit: Unit,
     /// Each event, and what is to be seen of it.
     pub moments: &'static [(Act, Sight)],
     pub applied: &'static [Edited],
     pub made: &'static [Published],
 }
 
-fn at(line: u64, character: u64) -> Position {
-    Position { line, character }
+/// How a story goes.
+#[derive(Clone, Copy, PartialEq, Eq)]
+pub enum Way {
+    AsTold,
+    /// As it is told up to an event whose memory is refused, and behind that the world has ended.
+    UpToRefusal,
+    Otherwise,
 }
 
-/// The document that an act is about, and the act.
-fn about(act: Act) -> (&'static str, Act) {
-    match act {
-        Act::Other(act) => ("v", *act),
-        act => ("u", act),
-    }
+fn opened(alloc: Global, uri: String, text: &str) -> Result<Event, AllocError> {
+    let text = String::from_str(alloc, text)?;
+    Ok(Event::OpenDoc { uri, text })
 }
 
 /// Another text in place of what is at these characters of a line.
@@ -89,8 +96,14 @@ fn changes(
     text: &str,
 ) -> Result<Vec<Change>, AllocError> {
     let range = Range {
-        start: at(line, start),
-        end: at(line, end),
+        start: Position {
+            line,
+            character: start,
+        },
+        end: Position {
+            line,
+            character: end,
+        },
     };
     let text = String::from_str(alloc, text)?;
     let mut changes = Vec::new(alloc);
@@ -101,31 +114,45 @@ fn changes(
     Ok(changes)
 }
 
-fn event_of(alloc: Global, act: Act) -> Result<Event, AllocError> {
-    let (uri, act) = about(act);
-    let uri = String::from_str(alloc, uri)?;
+fn written(
+    alloc: Global,
+    uri: String,
+    line: u64,
+    start: u64,
+    end: u64,
+    text: &str,
+) -> Result<Event, AllocError> {
+    let changes = changes(alloc, line, start, end, text)?;
+    Ok(Event::ChangeDoc { uri, changes })
+}
+
+fn asked(alloc: Global, uri: String, act: Act) -> Result<Event, AllocError> {
+    let ask = ask_of(alloc, act)?;
+    Ok(Event::Ask { uri, ask })
+}
+
+/// An event about a document.
+fn event_about(alloc: Global, uri: String, act: Act) -> Result<Event, AllocError> {
     match act {
-        Act::Open(text) => Ok(Event::OpenDoc {
-            uri,
-            text: String::from_str(alloc, text)?,
-        }),
+        Act::Open(text) => opened(alloc, uri, text),
         Act::Touch => Ok(Event::ChangeDoc {
             uri,
             changes: Vec::new(alloc),
         }),
-        Act::Write(line, start, end, text) => Ok(Event::ChangeDoc {
-            uri,
-            changes: changes(alloc, line, start, end, text)?,
-        }),
+        Act::Write(line, start, end, text) => written(alloc, uri, line, start, end, text),
         Act::Close => Ok(Event::CloseDoc { uri }),
+        act => asked(alloc, uri, act),
+    }
+}
+
+fn event_of(alloc: Global, act: Act) -> Result<Event, AllocError> {
+    match act {
         Act::Serve => Ok(Event::Serve),
         Act::Take => Ok(Event::Take),
         Act::Apply(k) => Ok(Event::Apply { k }),
         Act::Discard(k) => Ok(Event::Discard { k }),
-        asking => Ok(Event::Ask {
-            uri,
-            ask: ask_of(alloc, asking)?,
-        }),
+        Act::Other(act) => event_about(alloc, String::from_str(alloc, "v")?, *act),
+        act => event_about(alloc, String::from_str(alloc, "u")?, act),
     }
 }
 
@@ -133,18 +160,25 @@ fn event_of(alloc: Global, act: Act) -> Result<Event, AllocError> {
 fn ask_of(alloc: Global, act: Act) -> Result<Ask, AllocError> {
     match act {
         Act::Rename(line, character, name) => Ok(Ask::Rename {
-            position: at(line, character),
+            position: Position { line, character },
             name: String::from_str(alloc, name)?,
         }),
         Act::InlineHere(line, character) => Ok(Ask::InlineHere {
-            position: at(line, character),
+            position: Position { line, character },
         }),
         Act::InlineAll(line, character) => Ok(Ask::InlineAll {
-            position: at(line, character),
+            position: Position { line, character },
         }),
         _ => Ok(Ask::Format {
             indent: Indent::Spaces(2),
         }),
+    }
+}
+
+fn event_again(alloc: Global, act: Act) -> Result<Event, AllocError> {
+    match event_of(alloc, act) {
+        Ok(event) => Ok(event),
+        Err(AllocError) => event_of(alloc, act),
     }
 }
 
@@ -164,86 +198,70 @@ fn sight_of(seen: &Seen) -> Sight {
     }
 }
 
-/// Whether an act shows what it is to show.
-fn shows<T: TextStore>(
-    alloc: Global,
-    world: &mut World<T>,
-    act: Act,
-    wanted: Sight,
-) -> Result<bool, AllocError> {
-    let event = event_of(alloc, act)?;
+/// What a world shows of an event.
+fn stepped(world: &mut World<Lines>, event: &Event) -> Sight {
     if world.steps() > 1_000_000 {
-        return Ok(false);
+        return Sight::Unmade;
     }
-    match world.step(&event) {
-        Ok(seen) => Ok(sight_of(&seen) == wanted),
-        Err(_fault) => Err(AllocError),
-    }
-}
-
-/// Whether each event shows what it is to show.
-pub fn is_seen<T: TextStore>(alloc: Global, unit: Unit, story: &Story) -> Result<bool, AllocError> {
-    let begun = match unit {
-        Unit::Utf16 => World::<T>::new(alloc),
-        Unit::Utf8 => World::<T>::new_in(alloc, unit),
-    };
-    let Ok(mut world) = begun else {
-        return Err(AllocError);
-    };
-    for moment in story.moments {
-        let (act, wanted) = *moment;
-        if !shows(alloc, &mut world, act, wanted)? {
-            return Ok(false);
-        }
-    }
-    Ok(true)
-}
-
-/// An event, made a second time where its memory is refused.
-fn event_again(alloc: Global, act: Act) -> Result<Event, AllocError> {
-    match event_of(alloc, act) {
-        Ok(event) => Ok(event),
-        Err(AllocError) => event_of(alloc, act),
+    match world.step(event) {
+        Ok(seen) => sight_of(&seen),
+        Err(WorldFault::Memory) => Sight::Refused,
+        Err(WorldFault::Ended) => Sight::Ended,
     }
 }
 
-/// Whether each event shows what it is to show, up to one whose memory is refused, and each later one that the world has
-/// ended.
-pub fn ends_at_refusal(alloc: Global, unit: Unit, story: &Story) -> Result<bool, AllocError> {
-    let begun = match World::<Lines>::new_in(alloc, unit) {
+/// What a world shows of an act.
+fn shown(alloc: Global, world: &mut World<Lines>, act: Act) -> Sight {
+    match event_again(alloc, act) {
+        Ok(event) => stepped(world, &event),
+        Err(AllocError) => Sight::Unmade,
+    }
+}
+
+fn begun(alloc: Global, unit: Unit) -> Result<World<Lines>, WorldFault> {
+    match unit {
+        Unit::Utf16 => World::new(alloc),
+        Unit::Utf8 => World::new_in(alloc, unit),
+    }
+}
+
+fn begun_again(alloc: Global, unit: Unit) -> Result<World<Lines>, WorldFault> {
+    match begun(alloc, unit) {
         Ok(world) => Ok(world),
-        Err(_refused) => World::<Lines>::new_in(alloc, unit),
+        Err(_refused) => begun(alloc, unit),
+    }
+}
+
+/// How a story goes on where this is seen in place of what was wanted.
+fn way_on(way: Way, seen: Sight, wanted: Sight) -> Way {
+    match way {
+        Way::AsTold => if seen == wanted {
+            Way::AsTold
+        } else if seen == Sight::Refused {
+            Way::UpToRefusal
+        } else {
+            Way::Otherwise
+        },
+        Way::UpToRefusal => if seen == Sight::Ended {
+            Way::UpToRefusal
+        } else {
+            Way::Otherwise
+        },
+        Way::Otherwise => Way::Otherwise,
+    }
+}
+
+/// How a story goes, event by event.
+pub fn way_of(alloc: Global, story: &Story) -> Way {
+    let Ok(mut world) = begun_again(alloc, story.unit) else {
+        return Way::Otherwise;
     };
-    let Ok(mut world) = begun else {
-        return Err(AllocError);
-    };
-    let mut has_ended = false;
+    let mut way = Way::AsTold;
     for moment in story.moments {
         let (act, wanted) = *moment;
-        let event = event_again(alloc, act)?;
-        if world.steps() > 1_000_000 {
-            return Ok(false);
-        }
-        match world.step(&event) {
-            Ok(seen) => {
-                if has_ended || sight_of(&seen) != wanted {
-                    return Ok(false);
-                }
-            }
-            Err(WorldFault::Memory) => {
-                if has_ended {
-                    return Ok(false);
-                }
-                has_ended = true;
-            }
-            Err(WorldFault::Ended) => {
-                if !has_ended {
-                    return Ok(false);
-                }
-            }
-        }
+        way = way_on(way, shown(alloc, &mut world, act), wanted);
     }
-    Ok(true)
+    way
 }
 
 fn events_of(alloc: Global, story: &Story) -> Result<Vec<Event>, AllocError> {
@@ -255,79 +273,83 @@ fn events_of(alloc: Global, story: &Story) -> Result<Vec<Event>, AllocError> {
     Ok(events)
 }
 
-/// How many edits and publications a story leaves where it is played up to an event whose memory is refused, or to its end;
-/// None where they aren't the first that it is to leave.
-pub fn played(alloc: Global, story: &Story) -> Result<Option<(usize, usize)>, AllocError> {
-    let events = match events_of(alloc, story) {
-        Ok(events) => events,
-        Err(AllocError) => events_of(alloc, story)?,
-    };
-    let played = match World::<Lines>::play(alloc, events.as_slice()) {
+fn events_again(alloc: Global, story: &Story) -> Result<Vec<Event>, AllocError> {
+    match events_of(alloc, story) {
+        Ok(events) => Ok(events),
+        Err(AllocError) => events_of(alloc, story),
+    }
+}
+
+fn play(alloc: Global, unit: Unit, events: Vec<Event>) -> Result<Played, PlayFault> {
+    match unit {
+        Unit::Utf16 => World::<Lines>::play(alloc, events.as_slice()),
+        Unit::Utf8 => World::<Lines>::play_in(alloc, unit, events.as_slice()),
+    }
+}
+
+/// What events leave that are played up to one whose memory is refused, or to their end.
+fn played(alloc: Global, unit: Unit, events: Vec<Event>) -> Played {
+    match play(alloc, unit, events) {
         Ok(played) => played,
         Err(fault) => fault.played,
-    };
-    if !is_front(story, &played) {
-        return Ok(None);
-    }
-    Ok(Some((played.applied.len(), played.made.len())))
-}
-
-/// What all events of a story together leave, where positions are in UTF-16 units.
-fn outcome_of<T: TextStore>(alloc: Global, story: &Story) -> Result<Played, AllocError> {
-    let events = events_of(alloc, story)?;
-    match World::<T>::play(alloc, events.as_slice()) {
-        Ok(played) => Ok(played),
-        Err(_fault) => Err(AllocError),
     }
 }
 
-/// Whether all events together leave what they are to leave.
-pub fn has_come<T: TextStore>(alloc: Global, story: &Story) -> Result<bool, AllocError> {
-    let played = outcome_of::<T>(alloc, story)?;
-    Ok(is_right(story, &played))
+fn is_edit(found: &Applied, wanted: &Edited) -> bool {
+    found.before.as_str() == wanted.before && found.after.as_str() == wanted.after
 }
 
-/// A run: its input, the bounds on open calls and turns, and what it prints, tells and ends with.
-pub type Run = (&'static [u8], u32, u32, (&'static str, &'static str, u8));
+fn is_publication(found: &Made, wanted: &Published) -> bool {
+    found.version == wanted.version
+        && found.text.as_str() == wanted.text
+        && found.empty == wanted.empty
+}
 
-/// Whether the texts before and after each edit that is applied have these runs.
-pub fn has_runs<T: TextStore>(
-    alloc: Global,
-    story: &Story,
-    runs: &[Run],
-) -> Result<bool, AllocError> {
-    let played = outcome_of::<T>(alloc, story)?;
-    for applied in &played.applied {
-        for run in runs {
-            let (input, calls, turns, wanted) = *run;
-            let command = Command::Run(input, calls, turns);
-            if !ends(alloc, command, applied.before.as_str().as_bytes(), wanted) {
-                return Ok(false);
+/// Whether edits are the first of these.
+fn are_first_edits(found: &[Applied], wanted: &[Edited]) -> bool {
+    let mut place: usize = 0;
+    for applied in found {
+        match wanted.get(place) {
+            Some(edited) if is_edit(applied, edited) => {
+                place = place.saturating_add(1);
             }
-            if !ends(alloc, command, applied.after.as_str().as_bytes(), wanted) {
-                return Ok(false);
-            }
+            _ => return false,
         }
     }
-    Ok(!played.applied.is_empty())
+    true
 }
 
-fn is_right(story: &Story, played: &Played) -> bool {
-    played.applied.len() == story.applied.len()
-        && played.made.len() == story.made.len()
-        && is_front(story, played)
+/// Whether publications are the first of these.
+fn are_first_publications(found: &[Made], wanted: &[Published]) -> bool {
+    let mut place: usize = 0;
+    for made in found {
+        match wanted.get(place) {
+            Some(published) if is_publication(made, published) => {
+                place = place.saturating_add(1);
+            }
+            _ => return false,
+        }
+    }
+    true
 }
 
-/// Whether what was played are the first edits and publications of a story.
-fn is_front(story: &Story, played: &Played) -> bool {
-    played.applied.len() <= story.applied.len()
-        && played.made.len() <= story.made.len()
-        && played.applied.iter().zip(story.applied).all(|(applied, wanted)| {
-            applied.before.as_str() == wanted.before && applied.after.as_str() == wanted.after
-        })
-        && played.made.iter().zip(story.made).all(|(made, wanted)| {
-            made.version == wanted.version
-                && made.text.as_str() == wanted.text
-                && made.empty == wanted.empty
-        })
+/// How many edits and publications stand, where they are the first that a story is to leave.
+fn counted(story: &Story, played: &Played) -> Option<(usize, usize)> {
+    if !are_first_edits(played.applied.as_slice(), story.applied) {
+        return None;
+    }
+    if !are_first_publications(played.made.as_slice(), story.made) {
+        return None;
+    }
+    Some((played.applied.len(), played.made.len()))
+}
+
+/// How many edits and publications a story leaves where it is played up to an event whose memory is refused, or to its end;
+/// None where they aren't the first that it is to leave.
+pub fn left(alloc: Global, story: &Story) -> Option<(usize, usize)> {
+    let Ok(events) = events_again(alloc, story) else {
+        return None;
+    };
+    let played = played(alloc, story.unit, events);
+    counted(story, &played)
 }

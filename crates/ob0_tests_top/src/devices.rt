@@ -1,4 +1,4 @@
-//! A reader and a writer in memory that fail when they are told to.
+//! A reader and a writer that fail when they are told to.
 
 use std::io::{self, Read, Write};
 
@@ -21,100 +21,50 @@ impl<'a> Read for Source<'a> {
     }
 }
 
-/// A writer into these bytes, so many a call at most, which fails where no room is left, and once it has been called, or
-/// flushed, so often.
-#[derive(Drop)]
-pub struct Sink<'a> {
-    bytes: &'a mut [u8],
-    len: usize,
-    most: usize,
-    calls_left: u32,
-    flushes_left: u32,
+/// How many bytes were written, how many of them are handed on, for how many more there is room, and how many flushes are
+/// left.
+#[derive(Clone, Copy)]
+pub struct Count {
+    pub written: usize,
+    pub handed_on: usize,
+    pub room: usize,
+    pub flushes_left: u32,
 }
 
-impl<'a> Sink<'a> {
-    pub fn new(bytes: &'a mut [u8], most: usize, calls_left: u32, flushes_left: u32) -> Sink<'a> {
-        Sink {
-            bytes,
-            len: 0,
-            most,
-            calls_left,
+impl Count {
+    pub fn new(room: usize, flushes_left: u32) -> Count {
+        Count {
+            written: 0,
+            handed_on: 0,
+            room,
             flushes_left,
         }
     }
 }
 
-impl<'a> Write for Sink<'a> {
-    fn write(&mut self, buf: &[u8]) -> io::Result<usize> {
-        if self.calls_left == 0 || self.len >= self.bytes.len() {
-            return Err(io::ErrorKind::Other.into());
-        }
-        self.calls_left -= 1;
-        let count = self.most.min(buf.len()).min(self.bytes.len() - self.len);
-        let end = self.len + count;
-        self.bytes[self.len..end].copy_from_slice(&buf[..count]);
-        self.len = end;
-        Ok(count)
-    }
-
-    fn flush(&mut self) -> io::Result<()> {
-        if self.flushes_left == 0 {
-            return Err(io::ErrorKind::Other.into());
-        }
-        self.flushes_left -= 1;
-        Ok(())
-    }
-}
-
-/// What was written into bytes that were all 0.
-pub fn written(bytes: &[u8]) -> &[u8] {
-    for end in 0..bytes.len() {
-        if bytes[end] == 0 {
-            return &bytes[..end];
-        }
-    }
-    bytes
-}
-
-/// A writer that keeps what it is given, and hands it on only where it is flushed: it fails once it has been flushed so often,
-/// or where no room is left.
+/// A writer that only counts. It fails where no room is left, and hands on what was written only where it is flushed.
 #[derive(Drop)]
-pub struct Buffer<'a> {
-    bytes: &'a mut [u8],
-    handed_on: &'a mut usize,
-    len: usize,
-    flushes_left: u32,
+pub struct Counter<'a> {
+    pub count: &'a mut Count,
 }
 
-impl<'a> Buffer<'a> {
-    pub fn new(bytes: &'a mut [u8], handed_on: &'a mut usize, flushes_left: u32) -> Buffer<'a> {
-        Buffer {
-            bytes,
-            handed_on,
-            len: 0,
-            flushes_left,
-        }
-    }
-}
-
-impl<'a> Write for Buffer<'a> {
+impl<'a> Write for Counter<'a> {
     fn write(&mut self, buf: &[u8]) -> io::Result<usize> {
-        if self.len >= self.bytes.len() {
+        if self.count.room == 0 {
             return Err(io::ErrorKind::Other.into());
         }
-        let count = buf.len().min(self.bytes.len() - self.len);
-        let end = self.len + count;
-        self.bytes[self.len..end].copy_from_slice(&buf[..count]);
-        self.len = end;
-        Ok(count)
+        let taken = self.count.room.min(buf.len());
+        self.count.room -= taken;
+        self.count.written = self.count.written.saturating_add(taken);
+        Ok(taken)
     }
 
     fn flush(&mut self) -> io::Result<()> {
-        if self.flushes_left == 0 {
+        if self.count.flushes_left == 0 {
             return Err(io::ErrorKind::Other.into());
         }
-        self.flushes_left -= 1;
-        *self.handed_on = self.len;
+        self.count.flushes_left -= 1;
+        self.count.handed_on = self.count.written;
         Ok(())
     }
 }

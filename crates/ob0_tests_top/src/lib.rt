@@ -1,22 +1,16 @@
-//! Tests of the session and of what stands on it: conversations, commands, command lines, and worlds of an editor and a
-//! server. They ask what no contract says, and examples with known answers.
+//! Tests of the session, of the commands and of worlds of an editor and a server. They ask what no contract says, and
+//! examples with known answers; what the built program shows is asked by the end-to-end tests.
 #![tactic(auto)]
 
 #[cfg(test)]
 mod acts;
 #[cfg(test)]
-mod cli;
-#[cfg(test)]
 mod commands;
 #[cfg(test)]
 mod devices;
 #[cfg(test)]
-mod refused;
-#[cfg(test)]
-mod session;
+mod serving;
 #[cfg(test)]
 mod stories;
-#[cfg(test)]
-mod talks;
 #[cfg(test)]
 mod world;

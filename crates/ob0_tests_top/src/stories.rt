@@ -1,6 +1,6 @@
 //! What happens in worlds of an editor and a server: names, constants, layouts, and answers that are dropped.
 
-use crate::acts::{Act, Edited, Published, Run, Sight, Story};
+use crate::acts::{Act, Edited, Published, Sight, Story};
 use ob0_text::Unit;
 
 const COUNTS: &str =
@@ -47,49 +47,48 @@ const WIDE_RENAMED: &str = "MODULE M;\nVAR (* 😀 *) k: INTEGER;\nBEGIN (* 😀
 /// The first name written over: the second is that of nothing.
 const WIDE_WRITTEN: &str = "MODULE M;\nVAR (* 😀 *) k: INTEGER;\nBEGIN (* 😀 *) n := 1 END M.\n";
 
-pub static ANOTHER_NAME: Story = Story {
-    name: "another name is applied",
-    moments: &[
-        (Act::Open(COUNTS), Sight::Sent),
-        (NAME, Sight::Sent),
-        (Act::Serve, Sight::Served(1)),
-        (Act::Serve, Sight::Served(1)),
-        (Act::Take, Sight::Published(true)),
-        (Act::Take, Sight::Answered(1, true)),
-        (Act::Apply(1), Sight::Applied(1)),
-        (Act::Apply(1), Sight::Nothing),
-        (Act::Serve, Sight::Served(1)),
-        (Act::Take, Sight::Published(true)),
-    ],
-    applied: &[Edited {
-        before: COUNTS,
-        after: RENAMED,
-    }],
-    made: &[
-        Published {
-            version: 1,
-            text: COUNTS,
-            empty: true,
-        },
-        Published {
-            version: 2,
-            text: RENAMED,
-            empty: true,
-        },
-    ],
-};
+/// All of them. (What names the table itself is as dear as the table is long.)
+pub fn stories() -> &'static [Story] {
+    STORIES
+}
 
-/// Runs of the module that counts down, under that name and under the other.
-pub static COUNTED: &[Run] = &[
-    (b"", 3, 3, ("", "fault: InputEnd\n", 1)),
-    (b"7", 0, 3, ("\n\n\n", "fault: TurnBound\n", 1)),
-    (b"2", 0, 3, ("\n\n", "fault: CallBound\n", 1)),
-    (b"2", 1, 3, ("\n\n 0", "", 0)),
-];
-
-const STORIES: &[Story] = &[
+/// The first one is played by itself too.
+static STORIES: &[Story] = &[
+    Story {
+        name: "another name is applied",
+        unit: Unit::Utf16,
+        moments: &[
+            (Act::Open(COUNTS), Sight::Sent),
+            (NAME, Sight::Sent),
+            (Act::Serve, Sight::Served(1)),
+            (Act::Serve, Sight::Served(1)),
+            (Act::Take, Sight::Published(true)),
+            (Act::Take, Sight::Answered(1, true)),
+            (Act::Apply(1), Sight::Applied(1)),
+            (Act::Apply(1), Sight::Nothing),
+            (Act::Serve, Sight::Served(1)),
+            (Act::Take, Sight::Published(true)),
+        ],
+        applied: &[Edited {
+            before: COUNTS,
+            after: RENAMED,
+        }],
+        made: &[
+            Published {
+                version: 1,
+                text: COUNTS,
+                empty: true,
+            },
+            Published {
+                version: 2,
+                text: RENAMED,
+                empty: true,
+            },
+        ],
+    },
     Story {
         name: "a layout is applied",
+        unit: Unit::Utf16,
         moments: &[
             (Act::Open(COUNTS), Sight::Sent),
             (Act::Format, Sight::Sent),
@@ -144,6 +143,7 @@ const STORIES: &[Story] = &[
     },
     Story {
         name: "an answer about an earlier opening is dropped",
+        unit: Unit::Utf16,
         moments: &[
             (Act::Open(COUNTS), Sight::Sent),
             (NAME, Sight::Sent),
@@ -176,6 +176,7 @@ const STORIES: &[Story] = &[
     },
     Story {
         name: "of two answers the second is dropped",
+        unit: Unit::Utf16,
         moments: &[
             (Act::Open(COUNTS), Sight::Sent),
             (NAME, Sight::Sent),
@@ -201,6 +202,7 @@ const STORIES: &[Story] = &[
     },
     Story {
         name: "nothing happens",
+        unit: Unit::Utf16,
         moments: &[
             (Act::Apply(7), Sight::Nothing),
             (Act::Discard(7), Sight::Nothing),
@@ -223,6 +225,7 @@ const STORIES: &[Story] = &[
     },
     Story {
         name: "an answer is let go",
+        unit: Unit::Utf16,
         moments: &[
             (Act::Open(COUNTS), Sight::Sent),
             (NAME, Sight::Sent),
@@ -243,6 +246,7 @@ const STORIES: &[Story] = &[
     },
     Story {
         name: "an answer about a closed document is dropped",
+        unit: Unit::Utf16,
         moments: &[
             (Act::Open(COUNTS), Sight::Sent),
             (NAME, Sight::Sent),
@@ -264,6 +268,7 @@ const STORIES: &[Story] = &[
     },
     Story {
         name: "of two documents each has its own text, version and diagnostics",
+        unit: Unit::Utf16,
         moments: &[
             (Act::Open(COUNTS), Sight::Sent),
             (Act::Other(&Act::Open(FAULTY_TEXT)), Sight::Sent),
@@ -308,6 +313,7 @@ const STORIES: &[Story] = &[
     },
     Story {
         name: "a constant is inlined everywhere, asked for at its declaration",
+        unit: Unit::Utf16,
         moments: &[
             (Act::Open(LEAST), Sight::Sent),
             (Act::InlineAll(1, 6), Sight::Sent),
@@ -334,6 +340,7 @@ const STORIES: &[Story] = &[
     },
     Story {
         name: "a value whose name is another's is not written",
+        unit: Unit::Utf16,
         moments: &[
             (Act::Open(SHADOWED), Sight::Sent),
             (Act::InlineHere(2, 46), Sight::Sent),
@@ -352,12 +359,9 @@ const STORIES: &[Story] = &[
             empty: true,
         }],
     },
-];
-
-/// Characters that count differently in the two units.
-const WIDE_IN_UTF16: &[Story] = &[
     Story {
         name: "another name, in UTF-16 units",
+        unit: Unit::Utf16,
         moments: &[
             (Act::Open(WIDE), Sight::Sent),
             (Act::Rename(1, 13, "k"), Sight::Sent),
@@ -379,6 +383,7 @@ const WIDE_IN_UTF16: &[Story] = &[
     },
     Story {
         name: "a change of a range, in UTF-16 units",
+        unit: Unit::Utf16,
         moments: &[
             (Act::Open(WIDE), Sight::Sent),
             (Act::Write(1, 13, 14, "k"), Sight::Sent),
@@ -401,11 +406,9 @@ const WIDE_IN_UTF16: &[Story] = &[
             },
         ],
     },
-];
-
-const WIDE_IN_UTF8: &[Story] = &[
     Story {
         name: "another name, in bytes",
+        unit: Unit::Utf8,
         moments: &[
             (Act::Open(WIDE), Sight::Sent),
             (Act::Rename(1, 15, "k"), Sight::Sent),
@@ -427,6 +430,7 @@ const WIDE_IN_UTF8: &[Story] = &[
     },
     Story {
         name: "a change of a range, in bytes",
+        unit: Unit::Utf8,
         moments: &[
             (Act::Open(WIDE), Sight::Sent),
             (Act::Write(1, 15, 16, "k"), Sight::Sent),
@@ -449,11 +453,4 @@ const WIDE_IN_UTF8: &[Story] = &[
             },
         ],
     },
-];
-
-/// Units of positions, and what happens in worlds that count in them.
-pub static WORLDS: &[(Unit, &[Story])] = &[
-    (Unit::Utf16, STORIES),
-    (Unit::Utf16, WIDE_IN_UTF16),
-    (Unit::Utf8, WIDE_IN_UTF8),
 ];
