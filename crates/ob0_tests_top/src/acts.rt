@@ -1,7 +1,7 @@
 //! Worlds as tables: what happens and what is seen of it, and what has come of it all. What a world's events take for
 //! themselves is asked for a second time where it is refused, since only one allocation is.
 
-use ob0_text::{Change, Indent, Lines, Position, Range, Unit};
+use ob0_text::{Change, Indent, Lines, Position, Range, TextStore, Unit};
 use ob0_world::{Applied, Ask, Event, Made, PlayFault, Played, Seen, World, WorldFault};
 use std::alloc::{AllocError, Global};
 
@@ -199,7 +199,7 @@ fn sight_of(seen: &Seen) -> Sight {
 }
 
 /// What a world shows of an event.
-fn stepped(world: &mut World<Lines>, event: &Event) -> Sight {
+fn stepped<T: TextStore>(world: &mut World<T>, event: &Event) -> Sight {
     if world.steps() > 1_000_000 {
         return Sight::Unmade;
     }
@@ -211,21 +211,21 @@ fn stepped(world: &mut World<Lines>, event: &Event) -> Sight {
 }
 
 /// What a world shows of an act.
-fn shown(alloc: Global, world: &mut World<Lines>, act: Act) -> Sight {
+fn shown<T: TextStore>(alloc: Global, world: &mut World<T>, act: Act) -> Sight {
     match event_again(alloc, act) {
         Ok(event) => stepped(world, &event),
         Err(AllocError) => Sight::Unmade,
     }
 }
 
-fn begun(alloc: Global, unit: Unit) -> Result<World<Lines>, WorldFault> {
+fn begun<T: TextStore>(alloc: Global, unit: Unit) -> Result<World<T>, WorldFault> {
     match unit {
         Unit::Utf16 => World::new(alloc),
         Unit::Utf8 => World::new_in(alloc, unit),
     }
 }
 
-fn begun_again(alloc: Global, unit: Unit) -> Result<World<Lines>, WorldFault> {
+fn begun_again<T: TextStore>(alloc: Global, unit: Unit) -> Result<World<T>, WorldFault> {
     match begun(alloc, unit) {
         Ok(world) => Ok(world),
         Err(_refused) => begun(alloc, unit),
@@ -252,8 +252,8 @@ fn way_on(way: Way, seen: Sight, wanted: Sight) -> Way {
 }
 
 /// How a story goes, event by event.
-pub fn way_of(alloc: Global, story: &Story) -> Way {
-    let Ok(mut world) = begun_again(alloc, story.unit) else {
+pub fn way_of<T: TextStore>(alloc: Global, story: &Story) -> Way {
+    let Ok(mut world) = begun_again::<T>(alloc, story.unit) else {
         return Way::Otherwise;
     };
     let mut way = Way::AsTold;

@@ -110,6 +110,7 @@ static STORIES: &[Story] = &[
     },
     Story {
         name: "a layout is applied, and another has nothing to change",
+        unit: Unit::Utf16,
         moments: &[
             (Act::Open(CROWDED), Sight::Sent),
             (Act::Format, Sight::Sent),

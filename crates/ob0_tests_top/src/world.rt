@@ -1,7 +1,8 @@
-//! Whole lists of events at both ends, step by step and played, in both units of positions.
+//! Whole lists of events at both ends, step by step and played, in both units of positions, over both stores.
 
 use crate::acts::{Story, Way, left, way_of};
 use crate::stories::stories;
+use ob0_text::{Lines, Whole};
 use std::alloc::Global;
 use std::process::Abort;
 
@@ -14,7 +15,9 @@ fn leaves_all(alloc: Global, story: &Story) -> bool {
 }
 
 fn goes_as_told(alloc: Global, story: &Story) -> bool {
-    way_of(alloc, story) == Way::AsTold && leaves_all(alloc, story)
+    way_of::<Lines>(alloc, story) == Way::AsTold
+        && way_of::<Whole>(alloc, story) == Way::AsTold
+        && leaves_all(alloc, story)
 }
 
 /// The name of the first story that doesn't go as it is told; of none the empty one.
@@ -36,7 +39,7 @@ fn worlds_go_as_they_are_told(rt: HostRuntime) {
 /// The name of the first story that goes otherwise than up to a refusal; of none the empty one.
 fn first_astray(alloc: Global) -> &'static str {
     for story in stories() {
-        if way_of(alloc, story) == Way::Otherwise {
+        if way_of::<Lines>(alloc, story) == Way::Otherwise {
             return story.name;
         }
     }
