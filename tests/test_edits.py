@@ -370,8 +370,10 @@ def inline_values():
     same(actions(SHADOWED, 2, 46), {}, "shadowed")
     comment = "MODULE M; CONST c (* five *) = 5; BEGIN Write(c) END M."
     same([*actions(comment, 0, comment.index("c)"))], ["Inline here"], "a comment in the declaration")
-    deep = "MODULE M; CONST c = -1; VAR x: INTEGER; BEGIN x := " + "(" * 100 + "c" + ")" * 100 + " END M."
-    same(actions(deep, 0, deep.index("c)")), {}, "nested too deep")
+    both = ["Inline here", "Inline everywhere"]
+    for levels, value, offered in ((100, "-1", []), (99, "-1", both), (100, "1", both)):
+        deep = f"MODULE M; CONST c = {value}; VAR x: INTEGER; BEGIN x := " + "(" * levels + "c" + ")" * levels + " END M."
+        same([*actions(deep, 0, deep.index("c)"))], offered, f"{value} below {levels} levels")
 
 
 @test("inline: both actions at a use as document changes, byte by byte")

@@ -7,6 +7,7 @@ use Rattle.ob0_tree.specs.Order.{AreIdentifiers, Ascending}
 use Rattle.ob0_tree.specs.Parsed.{named_tree_of, tree_of}
 use Rattle.ob0_tree.specs.Tree.{Tree, factor, occurrences, spell}
 use Rattle.ob0_edits.specs.Changed.{at_each, changed, is_among, words_of}
+use Rattle.ob0_edits.specs.Inlined.{inlined}
 use Rattle.ob0_edits.specs.OfTrees.{factor_at, number_at, placed, text_at}
 use Rattle.ob0_edits.specs.Removed.{without}
 use Rattle.ob0_edits.specs.Replaced.{AreNames}
@@ -96,6 +97,26 @@ in_list (x ∷ is) (suc j) i e = ap (λ b. (i == x) || b) (in_list is j i e) ∙
     either true = refl
     either false = refl
 
+agree : (r : Resolution) → IsResolution r → (d j i : ℕ) → slice_get r.uses j ≡ Some i → is_among i (bound_tokens r.ordinals d r.uses) ≡ all_bound_to (named_tree_of r.module_read) d j
+agree r is d j i e =
+    among_bound r.ordinals d i r.uses
+    ∙ (ap (λ b. same_ordinal (ordinal_in r.ordinals i) d && b) (in_list r.uses j i e)
+    ∙ (and_true (same_ordinal (ordinal_in r.ordinals i) d) ∙ ap (λ o. same_ordinal o d) (bound_at r is j (Some i) (sym e))))
+  where
+    and_true : (b : Bool) → (b && true) ≡ b
+    and_true true = refl
+    and_true false = refl
+
+-- a factor at all uses of the tree without the declaration is the factor in the place of them, and the declaration taken out
+pub inlined_is : (r : Resolution) → IsResolution r → (d : ℕ) (v : Tree Name factor)
+    → inlined (factor_at (bound_tokens r.ordinals d r.uses) v) (text_at (words_of r.module_read.source)) (number_at (words_of r.module_read.source)) (gone_module d (tree_of r.module_read))
+    ≡ inlined_everywhere (named_tree_of r.module_read) d v
+inlined_is r is d v =
+    let m = r.module_read in
+    let places = bound_tokens r.ordinals d r.uses in
+    gone_module_inlined (factor_at places v) (text_at (words_of m.source)) (number_at (words_of m.source)) d (tree_of m)
+    ∙ ap (module_without d) (inlined_by_number r places (all_bound_to (named_tree_of m) d) v is (agree r is d))
+
 module _ (r : Resolution) (is : IsResolution r) (d : ℕ) (w : Value) (worth : value_of_constant (named_tree_of r.module_read) d ≡ Some w) (spelled : spell (tree_of r.module_read) ≡ placed 0 (words_of r.module_read.source)) where
   -- the declaration of the constant
   abbrev pub late_here : Late d 7 (block_declares (module_block (tree_of r.module_read))) (placed 0 (words_of r.module_read.source)) (spell (gone_module d (tree_of r.module_read))) (occurrences (tree_of r.module_read))
@@ -122,13 +143,5 @@ module _ (r : Resolution) (is : IsResolution r) (d : ℕ) (w : Value) (worth : v
       let c = factor_at places v in
       let bound = are_bound r d r.uses (λ j i e. (j, e)) in
       let factors = replaces_module c d (tree_of m) (stand_alone r is d v places bound alone) in
-      let agree : (j i : ℕ) → slice_get r.uses j ≡ Some i → is_among i places ≡ all_bound_to (named_tree_of m) d j =
-      λ j i e. among_bound r.ordinals d i r.uses
-      ∙ (ap (λ b. same_ordinal (ordinal_in r.ordinals i) d && b) (in_list r.uses j i e)
-      ∙ (and_true (same_ordinal (ordinal_in r.ordinals i) d) ∙ ap (λ o. same_ordinal o d) (bound_at r is j (Some i) (sym e)))) in
       words_left m.source (suc (last_token late_here.taken)) places are_names v vs same d 7 (block_declares (module_block (tree_of m))) (gone_module d (tree_of m)) late_here.taken factors
-      ∙ ap spell (gone_module_inlined c (text_at (words_of m.source)) (number_at (words_of m.source)) d (tree_of m) ∙ ap (module_without d) (inlined_by_number r places (all_bound_to (named_tree_of m) d) v is agree))
-    where
-      and_true : (b : Bool) → (b && true) ≡ b
-      and_true true = refl
-      and_true false = refl
+      ∙ ap spell (inlined_is r is d v)

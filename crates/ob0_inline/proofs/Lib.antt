@@ -10,5 +10,6 @@ pub mod Earlier
 pub mod Late
 pub mod Behind
 pub mod EverywhereAt
+pub mod Shallower
 pub mod Ended
 pub mod AtConstants

@@ -1,20 +1,43 @@
 //! How deep a text is nested once it is edited.
 
-ghost use Rattle.std.specs.Prelude.{◌≡◌, List, IfOk, IfErr, map, nat_le, nat_lt, ℕ};
+ghost use Rattle.std.specs.Prelude.{◌≡◌, ◌≤◌, ◌+◌, List, IfOk, IfErr, map, nat_le, nat_lt, ℕ};
 ghost use Rattle.ob0_edits.specs.Replaced.{LeavesWords};
 ghost use Rattle.ob0_edits.specs.Words.{word_lexeme};
 ghost use Rattle.ob0_scan.specs.Scanned.{IsScan, Scanned, Word};
 ghost use Rattle.ob0_text.specs.declared.refusals.EditRefusal.TheVariants.{Memory};
 ghost use Rattle.ob0_tree.specs.Module.{text_lexemes};
+ghost use Rattle.ob0_tree.specs.Parsed.{tree_of};
 ghost use Rattle.ob0_tree.specs.Tree.{Tree, module_text, nesting, spell};
 
 use ob0_parse::{ParseRefusal, parse};
 use ob0_scan::{ScanRefusal, Tokens, scan};
 use ob0_text::{Edit, EditRefusal, PatchFault, TextStore, patch};
+use ob0_tree::Module;
 use std::alloc::Global;
 
-/// Whether the text that these edits make is nested deeper than a module may be.
+/// How deep constructs may stand in one another in a module.
+const MAX_NESTING: u32 = 100;
+
+/// Whether the text that these edits make is nested deeper than a module may be, where they make a module deeper by one
+/// level at most. Only where the module itself is nested as deep as it may be is the text parsed.
 pub(crate) fn is_too_deep<T: TextStore>(
+    alloc: Global,
+    store: &T,
+    read: &Module,
+    edits: &[Edit],
+) -> Result<bool, EditRefusal>
+    ensures deep { (ws : List Word) (t : Tree (List ℕ) module_text) → LeavesWords (T.unit_of store.now) (T.content store.now) edits.now ws → map word_lexeme ws ≡ spell t → nesting t ≤ nesting (tree_of read.now) + 1
+        → IfOk result (λ deep. deep ≡ nat_lt 100 (nesting t)) }
+    ensures memory { IfErr result (λ refusal. refusal ≡ Memory) }
+{
+    if read.nesting() < MAX_NESTING {
+        return Ok(false);
+    }
+    is_parsed_too_deep(alloc, store, edits)
+}
+
+/// The same by the text itself.
+fn is_parsed_too_deep<T: TextStore>(
     alloc: Global,
     store: &T,
     edits: &[Edit],

@@ -94,12 +94,12 @@ fn edits_everywhere<T: TextStore>(
     ensures deep_and_short { IsErrOf result TooDeep → length (text_without names.now.module_read constant) ≤ max_text }
     ensures refusals { IfErr result (λ refusal. (refusal ≡ TooLong) ⊎ ((refusal ≡ TooDeep) ⊎ (refusal ≡ Memory))) }
 {
-    let _module = names.module();
+    let read = names.module();
     let text = value_text(alloc, constant.value)?;
     let uses = uses_of(alloc, names, constant.ordinal)?;
     let (first, last) = (constant.first, constant.last);
     let edits = edits_without(alloc, store, names.tokens(), first, last, &uses, &text)?;
-    if is_too_deep(alloc, store, &edits)? {
+    if is_too_deep(alloc, store, read, &edits)? {
         return Err(EditRefusal::TooDeep);
     }
     Ok(edits)

@@ -35,10 +35,10 @@ pub(crate) fn edits_at<T: TextStore>(
     ensures deep_and_short { IsErrOf result TooDeep → length (with_text_at names.now.module_read.source places.now (value_text value)) ≤ max_text }
     ensures refusals { IfErr result (λ refusal. (refusal ≡ TooLong) ⊎ ((refusal ≡ TooDeep) ⊎ (refusal ≡ Memory))) }
 {
-    let _module = names.module();
+    let read = names.module();
     let text = value_text(alloc, value)?;
     let edits = edits_for(alloc, store, names.tokens(), places, &text)?;
-    if is_too_deep(alloc, store, &edits)? {
+    if is_too_deep(alloc, store, read, &edits)? {
         return Err(EditRefusal::TooDeep);
     }
     Ok(edits)

@@ -1,13 +1,10 @@
-use Rattle.std.proofs.Common.{sym, ap, ◌∙◌, subst, not, map}
-use Rattle.std.specs.Str.{IsUtf8}
-use Rattle.ob0_edits.specs.Words.{word_lexeme}
+use Rattle.std.proofs.Common.{sym, arith}
+use Rattle.std.proofs.lemmas.Bool.{le-ltb}
 use Rattle.ob0_tree.specs.Tree.{nesting}
-use Rattle.ob0_inline.proofs.Depths.{not_shallow_is, same_bytes, lexemes_of_words}
 use Rattle.ob0_inline.proofs.depth.is_too_deep.Goals as goal
 
-pub returns-in_ok-module-in-Ok-clause-deep : goal.returns-in_ok-module-in-Ok-clause-deep
-returns-in_ok-module-in-Ok-clause-deep g c = λ ws t leaves spelled.
-    let utf8 = subst IsUtf8 c.as_str.ensures.value c.as_str.utf8 in
-    let text = same_bytes leaves.after.text c.in-Ok.text.bytes.items _ leaves.scan.utf8 utf8 leaves.made c.in-Ok.ensures.ok in
-    let found = c.in_ok-module-in-Ok.ensures.shallow leaves.after t leaves.scan (text ∙ sym c.as_str.ensures.value) (lexemes_of_words leaves.after ∙ (ap (map word_lexeme) leaves.words_are ∙ spelled)) in
-    ap not found ∙ not_shallow_is (nesting t)
+pub returns-then-nesting-lt-MAX_NESTING-clause-deep : goal.returns-then-nesting-lt-MAX_NESTING-clause-deep
+returns-then-nesting-lt-MAX_NESTING-clause-deep g c = λ ws t leaves spelled low. sym (le-ltb 100 (nesting t) (omega (arith, low, c.nesting.ensures, c.if-nesting-lt-MAX_NESTING.true)))
+
+pub returns-clause-deep : goal.returns-clause-deep
+returns-clause-deep g c = λ ws t leaves spelled low. c.is_parsed_too_deep.ensures.deep ws t leaves spelled

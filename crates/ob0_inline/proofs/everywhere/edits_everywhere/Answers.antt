@@ -1,7 +1,8 @@
-use Rattle.std.proofs.Common.{ℕ, suc, List, sym, ◌∙◌, subst}
+use Rattle.std.proofs.Common.{◌+◌, ◌≤◌, ℕ, suc, List, sym, ◌∙◌, subst}
 use Rattle.std.proofs.lemmas.Bool.{ltb-true, ltb-false}
 use Rattle.ob0_scan.specs.Scanned.{Scanned, Word}
 use Rattle.ob0_text.specs.declared.edits.Edit.{Edit}
+use Rattle.ob0_tree.specs.Parsed.{Parsed, tree_of}
 use Rattle.ob0_tree.specs.Tree.{nesting}
 use Rattle.ob0_edits.specs.Changed.{at_each, changed, words_of}
 use Rattle.ob0_edits.specs.Removed.{IsDeclaration, without}
@@ -9,20 +10,21 @@ use Rattle.ob0_edits.specs.Replaced.{AreNames, LeavesWords, StandsForName}
 use Rattle.ob0_inline.specs.Everywhere.{inlined_all, uses_of}
 use Rattle.ob0_inline.specs.Values.{value_words}
 use Rattle.ob0_inline.proofs.Ended.{are_uses, is_taken, left_spelled}
+use Rattle.ob0_inline.proofs.Shallower.{everywhere_shallow}
 use Rattle.ob0_inline.proofs.ModuleTexts.{leaves_module}
 use Rattle.ob0_inline.proofs.everywhere.edits_everywhere.Goals as goal
 
 pub edits_without-requires-clause-declaration : goal.edits_without-requires-clause-declaration
 edits_without-requires-clause-declaration g c =
     subst (λ (s : Scanned). IsDeclaration s.tokens c.args.constant.first c.args.constant.last) (sym c.tokens.ensures)
-    (is_taken c.args.names.now c.module-module.ensures.resolved c.args.constant c.requires.is_constant)
+    (is_taken c.args.names.now c.module-read.ensures.resolved c.args.constant c.requires.is_constant)
 
 pub edits_without-requires-clause-names : goal.edits_without-requires-clause-names
 edits_without-requires-clause-names g c =
     let uses = c.deref.ensures.value ∙ c.in_ok-uses.ensures in
     subst (λ (s : Scanned). AreNames s.tokens (suc c.args.constant.last) c.deref.result.now) (sym c.tokens.ensures)
     (subst (AreNames c.args.names.now.module_read.source.tokens (suc c.args.constant.last)) (sym uses)
-    (are_uses c.args.names.now c.module-module.ensures.resolved c.args.constant c.requires.is_constant))
+    (are_uses c.args.names.now c.module-read.ensures.resolved c.args.constant c.requires.is_constant))
 
 pub returns-then-branch-clause-too_deep : goal.returns-then-branch-clause-too_deep
 returns-then-branch-clause-too_deep g c = λ alone _.
@@ -33,14 +35,15 @@ returns-then-branch-clause-too_deep g c = λ alone _.
     let content = g.T.TextStore.content c.args.store.now in
     let items = c.in_ok-edits.edits.items in
     let ws : List Word = changed (without k.first k.last (at_each (uses_of m k.ordinal) vs)) 0 (words_of m.source) in
-    let spelled = left_spelled c.args.names.now c.module-module.ensures.resolved k c.requires.is_constant alone in
+    let spelled = left_spelled c.args.names.now c.module-read.ensures.resolved k c.requires.is_constant alone in
     let stands = subst (λ n. StandsForName n vs) (sym (c.deref-2.ensures ∙ c.in_ok-text.ensures.text)) c.value_text.ensures.stands in
     let uses = c.deref.ensures.value ∙ c.in_ok-uses.ensures in
     let leaves : LeavesWords unit content items ws =
     subst (λ (ps : List ℕ). LeavesWords unit content items (changed (without k.first k.last (at_each ps vs)) 0 (words_of m.source))) uses
     (subst (λ (s : Scanned). LeavesWords unit content items (changed (without k.first k.last (at_each c.deref.result.now vs)) 0 (words_of s))) c.tokens.ensures (c.in_ok-edits.ensures.words vs stands)) in
+    let shallow = subst (λ (p : Parsed). nesting (inlined_all m k) ≤ nesting (tree_of p) + 1) (sym c.module-read.ensures.value) (everywhere_shallow c.args.names.now c.module-read.ensures.resolved k) in
     let passed = subst (λ (es : List Edit). LeavesWords unit content es ws) (sym c.deref-3.ensures.value) leaves in
-    ltb-true 100 (nesting (inlined_all m k)) (sym (c.in_ok-is_too_deep.ensures.deep ws (inlined_all m k) passed spelled) ∙ c.if-branch.true)
+    ltb-true 100 (nesting (inlined_all m k)) (sym (c.in_ok-is_too_deep.ensures.deep ws (inlined_all m k) passed spelled shallow) ∙ c.if-branch.true)
 
 pub returns-clause-inlined : goal.returns-clause-inlined
 returns-clause-inlined g c = λ alone.
@@ -51,12 +54,13 @@ returns-clause-inlined g c = λ alone.
     let content = g.T.TextStore.content c.args.store.now in
     let items = c.in_ok-edits.edits.items in
     let ws : List Word = changed (without k.first k.last (at_each (uses_of m k.ordinal) vs)) 0 (words_of m.source) in
-    let spelled = left_spelled c.args.names.now c.module-module.ensures.resolved k c.requires.is_constant alone in
+    let spelled = left_spelled c.args.names.now c.module-read.ensures.resolved k c.requires.is_constant alone in
     let stands = subst (λ n. StandsForName n vs) (sym (c.deref-2.ensures ∙ c.in_ok-text.ensures.text)) c.value_text.ensures.stands in
     let uses = c.deref.ensures.value ∙ c.in_ok-uses.ensures in
     let leaves : LeavesWords unit content items ws =
     subst (λ (ps : List ℕ). LeavesWords unit content items (changed (without k.first k.last (at_each ps vs)) 0 (words_of m.source))) uses
     (subst (λ (s : Scanned). LeavesWords unit content items (changed (without k.first k.last (at_each c.deref.result.now vs)) 0 (words_of s))) c.tokens.ensures (c.in_ok-edits.ensures.words vs stands)) in
+    let shallow = subst (λ (p : Parsed). nesting (inlined_all m k) ≤ nesting (tree_of p) + 1) (sym c.module-read.ensures.value) (everywhere_shallow c.args.names.now c.module-read.ensures.resolved k) in
     let passed = subst (λ (es : List Edit). LeavesWords unit content es ws) (sym c.deref-3.ensures.value) leaves in
-    let low = ltb-false 100 (nesting (inlined_all m k)) (sym (c.in_ok-is_too_deep.ensures.deep ws (inlined_all m k) passed spelled) ∙ c.if-branch.false) in
+    let low = ltb-false 100 (nesting (inlined_all m k)) (sym (c.in_ok-is_too_deep.ensures.deep ws (inlined_all m k) passed spelled shallow) ∙ c.if-branch.false) in
     leaves_module unit content items ws (inlined_all m k) leaves spelled low
