@@ -9,5 +9,6 @@ returns g c =
     record {
       found = tells_wrong c.in-Some.text.now c.args.file.now c.in_ok-told.told.items c.as_slice.result.now (g.O.Write.contents c.args.out.now) _ (g.O.Write.contents c.print_diagnoses.new.out)
           here.0 (ap g.O.Write.contents here.1) c.as_slice.ensures.value c.in_ok-told.ensures some c.in_ok-print_diagnoses.ensures.printed;
+      flushed = c.in_ok-print_diagnoses.ensures.flushed;
       fault = tt;
     }

@@ -17,4 +17,4 @@ returns-clause-handed_on g c =
     let here = rw c.in-Some.is at c.in_ok-text.ensures.found in
     let after = c.rename_in_text.new.out in
     IfOk-weaker c.rename_in_text.result _ _ (λ status h one.
-    subst (λ before. IsHandedOn (g.O.is_flushed after) before after) here.1 (h one)) c.rename_in_text.ensures.handed_on
+    subst (λ before. IsHandedOn (g.O.Output.is_flushed after) before after) here.1 (h one)) c.rename_in_text.ensures.handed_on
