@@ -1,5 +1,5 @@
 -- The run of a module is what the machine does that is ready for it.
-use Rattle.std.proofs.Common.{arith, ◌+◌, ◌<◌, ◌≤◌, ◌≡◌, ℕ, ℤ, List, [], ◌∷◌, length, Option, Ok, Err, Result, refl, sym, ap, ◌∙◌, subst}
+use Rattle.std.proofs.Common.{arith, ◌+◌, ◌<◌, ◌≤◌, ◌≡◌, ◌≢◌, ℕ, ℤ, List, [], ◌∷◌, length, Option, Ok, Err, Result, refl, sym, ap, ◌∙◌, subst}
 use denote.MutBor.{MutBor}
 use Rattle.ob0_scan.specs.Scanned.{Scanned}
 use Rattle.ob0_tree.specs.declared.tree.Block.{Block, out-Block}
@@ -19,12 +19,14 @@ use Rattle.ob0_types.specs.CheckedModules.{IsWellTyped}
 use Rattle.ob0_values.specs.Values as values
 use Rattle.ob0_run.specs.declared.machine.Machine.{Machine}
 use Rattle.ob0_run.specs.declared.running.Outcome.{Outcome}
+use Rattle.ob0_run.specs.declared.scene.Ending.{Ending}
+use Rattle.ob0_run.specs.declared.scene.Ending.TheVariants as ending
 use Rattle.ob0_run.specs.declared.scene.Stop.{Stop}
 use Rattle.ob0_run.specs.declared.scene.Stop.TheVariants as stop
 use Rattle.ob0_run.specs.Activations.{Declares, Stands, surroundings}
 use Rattle.ob0_run.specs.CallSteps.{Enters, executed_body}
 use Rattle.ob0_run.specs.Machines.{Does, Steps, state_in}
-use Rattle.ob0_run.specs.Outcomes.{HasMeaning, IsEndOf, IsReady, block_run, end_in, first_frame, run_of}
+use Rattle.ob0_run.specs.Outcomes.{IsReady, block_run, end_in, first_frame, run_of}
 use Rattle.ob0_semantics.specs.Runs.{Frame, Progress, State, call, declare_block, execute_body, finished, in_frame, run, run_numbered, run_over, stopped}
 use Rattle.ob0_run.specs.Scenes.{end_of, label_with, ordinal_in, read_with}
 use Rattle.ob0_run.specs.States.{Runs, items_out}
@@ -33,6 +35,12 @@ use Rattle.ob0_run.proofs.Executing.{Post}
 use Rattle.ob0_semantics.proofs.Proved.{runs_by_ordinal-holds}
 use Rattle.ob0_run.proofs.Returning.{body_does}
 use Rattle.ob0_semantics.proofs.SoundCalls.{never_stuck-holds}
+
+-- how a step of the machine ends a run; no end where memory was refused
+abbrev pub IsEndOf : Result (Unit {0}) Stop → values.End → Type 0
+IsEndOf (Ok done) e = e ≡ values.Done
+IsEndOf (Err (stop.Ended x)) e = e ≡ end_of x
+IsEndOf (Err stop.Memory) e = ⊥
 
 -- the block of a module
 runs_from : (q : Result (Unit {0}) Stop) (m m' : Machine) (p : Progress) → Steps q m m' p → Runs q m'.state p
@@ -109,7 +117,8 @@ module _ (m m' : Machine) (r : Resolution) (input : List ℤ) (c t : ℕ) (q : R
       ap (λ items. record { output = items_out items; ending = end_in o.end }) output
       ∙ sym (run_is m r input c t well_typed.resolved ready ∙ ended (end_in o.end) _ (runs ready.stands) is)
 
-  pub has_meaning : HasMeaning q
-  has_meaning e =
+  pub has_meaning : (x : Ending) → q ≡ Err (stop.Ended x) → x ≢ ending.Stuck
+  has_meaning x ends stuck =
+      let e : q ≡ Err (stop.Ended ending.Stuck) = ends ∙ ap (λ x. Err (stop.Ended x)) stuck in
       never_stuck-holds (named_tree_of r.module_read) well_typed.well_typed input c t
       (ap (λ r. r.ending) (run_is m r input c t well_typed.resolved ready) ∙ ap (λ p. (finished p).ending) (subst (λ q. Runs q m'.state (block_run c m.turns (read_with m.tokens.now m.ordinals.items (block_of r.module_read.block)) (state_in m))) e (runs ready.stands)))

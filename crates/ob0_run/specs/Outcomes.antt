@@ -1,5 +1,5 @@
 -- What the answer of the interpreter says of a run.
-use Rattle.std.specs.Prelude.{◌≡◌, ◌≢◌, ◌<◌, ℕ, ℤ, List, [], Some, Ok, Err, Result, length, slice_get, true, false}
+use Rattle.std.specs.Prelude.{◌≡◌, ◌<◌, ℕ, ℤ, List, [], Some, length, slice_get, true, false}
 use Rattle.ob0_tree.specs.Tree.{Tree, block}
 use Rattle.ob0_scope.specs.Names.{Label, as_labels}
 use Rattle.ob0_scope.specs.Parts.{block_statements}
@@ -13,18 +13,15 @@ use Rattle.ob0_run.specs.declared.machine.Machine.{Machine}
 use Rattle.ob0_run.specs.declared.running.End.{End}
 use Rattle.ob0_run.specs.declared.running.End.TheVariants as end
 use Rattle.ob0_run.specs.declared.running.Outcome.{Outcome}
-use Rattle.ob0_run.specs.declared.scene.Ending.TheVariants as ending
 use Rattle.ob0_run.specs.declared.scene.Meant.{Meant}
 use Rattle.ob0_run.specs.declared.scene.Meant.TheVariants as meant
 use Rattle.ob0_run.specs.declared.scene.Standard.TheVariants as standards
 use Rattle.ob0_run.specs.declared.shapes.Shape.{Integer, Boolean}
-use Rattle.ob0_run.specs.declared.scene.Stop.{Stop}
-use Rattle.ob0_run.specs.declared.scene.Stop.TheVariants as stop
 use Rattle.ob0_run.specs.Activations.{Stands}
 use Rattle.ob0_run.specs.Bindings.{Table, with_binding}
 use Rattle.ob0_run.specs.Machines.{state_in}
 use Rattle.ob0_semantics.specs.Runs.{Frame, Progress, Run, State, call, declare_block, execute_body, in_frame}
-use Rattle.ob0_run.specs.Scenes.{end_of, ordinal_in}
+use Rattle.ob0_run.specs.Scenes.{ordinal_in}
 use Rattle.ob0_run.specs.States.{items_out}
 
 abbrev pub end_in : End → values.End
@@ -39,16 +36,6 @@ end_in end.TurnBound = values.TurnBound
 -- the run that an answer tells
 abbrev pub run_of : Outcome → Run
 run_of o = record { output = items_out o.output.items; ending = end_in o.end }
-
--- how a step of the machine ends a run; no end where memory was refused
-abbrev pub IsEndOf : Result (Unit {0}) Stop → values.End → Type 0
-IsEndOf (Ok done) e = e ≡ values.Done
-IsEndOf (Err (stop.Ended x)) e = e ≡ end_of x
-IsEndOf (Err stop.Memory) e = ⊥
-
--- no step without a meaning
-abbrev pub HasMeaning : Result (Unit {0}) Stop → Type 0
-HasMeaning r = r ≢ Err (stop.Ended ending.Stuck)
 
 -- the frame that a module's block begins with
 abbrev pub first_frame : Frame Label

@@ -12,8 +12,6 @@ use Rattle.ob0_scope.specs.Scopes.{as_label}
 use Rattle.ob0_typing.specs.Expressions.{Meanings, Object, a_constant, a_procedure, a_standard, a_type, a_variable, element_step, evaluate, evaluate_factor, evaluate_term, reads, writes, writes_line}
 use Rattle.ob0_typing.specs.Expressions as standard
 use Rattle.ob0_typing.specs.WellTyped.{Mode, by_place, by_value}
-use Rattle.ob0_values.specs.declared.scalar.Fault.{Fault}
-use Rattle.ob0_values.specs.declared.scalar.Fault.TheVariants as fault
 use Rattle.ob0_values.specs.Stored.{path_of, place_of, value_of}
 use Rattle.std.specs.declared.vec.Vec.{Vec}
 use Rattle.std.specs.declared.alloc.Global.{Global}
@@ -41,11 +39,6 @@ end_of ending.InputEnd = values.InputEnd
 end_of ending.CallBound = values.CallBound
 end_of ending.TurnBound = values.TurnBound
 end_of ending.Stuck = values.Stuck
-
-abbrev pub stop_of : Fault → Stop
-stop_of fault.Overflow = stop.Ended ending.Overflow
-stop_of fault.Divisor = stop.Ended ending.Divisor
-stop_of fault.Operand = stop.Ended ending.Stuck
 
 -- an answer is what a step gives or how it ends the run, but where memory was refused
 abbrev pub Answers : {A B : Type 0} → (A → B) → Result A Stop → Outcome B → Type 0

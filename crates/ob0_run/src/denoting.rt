@@ -57,7 +57,7 @@ impl<'r, 't> Scene<'r, 't> {
         let length = self.length(&a.size)?;
         let inner = one_more(next)?;
         let element = self.denote(inner, &a.element)?;
-        within_limits(Shape::Array(next, length, Box::new(self.alloc, element)?))
+        Ok(within_limits(Shape::Array(next, length, Box::new(self.alloc, element)?))?)
     }
 
     #[cycle(denoting)]
@@ -70,7 +70,7 @@ impl<'r, 't> Scene<'r, 't> {
             self.add_group(behind, group, &mut fields)?;
             behind = after_group(behind, group)?;
         }
-        within_limits(Shape::Record(next, fields))
+        Ok(within_limits(Shape::Record(next, fields))?)
     }
 
     /// Puts the fields of a group behind those so far.

@@ -6,6 +6,7 @@ ghost use Rattle.ob0_typing.specs.Expressions.{designate, element_step, evaluate
 ghost use Rattle.ob0_typing.specs.Expressions as expressions;
 ghost use Rattle.ob0_values.specs.Values.{at_path, gives, or_stuck, part, read_place};
 ghost use Rattle.ob0_values.specs.Stored.{given, path_of, place_of, step_of, store_of, value_of};
+ghost use Rattle.ob0_run.specs.Endings.{Tells};
 ghost use Rattle.ob0_run.specs.Scenes.{Answers, added_by, label_in, meaning_in, meant_by, multiplied_by, read_in, step_by, steps_of};
 
 use crate::operands::{
@@ -19,46 +20,46 @@ use ob0_values::{Place, Scalar, Step, Value};
 use std::alloc::Global;
 
 /// The step to an array's element. An index below 0 or not below the length ends the run.
-fn element<'t>(value: &Value, index: &Value) -> Result<Step<'t>, Stop>
-    ensures { Answers step_of result (element_step (value_of value.now) (value_of index.now)) }
+fn element<'t>(value: &Value, index: &Value) -> Result<Step<'t>, Ending>
+    ensures { Tells step_of result (element_step (value_of value.now) (value_of index.now)) }
 {
     let Some(length) = count(value) else {
-        return Err(Stop::Ended(Ending::Stuck));
+        return Err(Ending::Stuck);
     };
     match scalar_of(index) {
         Some(Scalar::Number(i)) => {
             if i < 0 {
-                return Err(Stop::Ended(Ending::Index));
+                return Err(Ending::Index);
             }
             let i = i as usize;
             if i < length {
                 Ok(Step::Index(i))
             } else {
-                Err(Stop::Ended(Ending::Index))
+                Err(Ending::Index)
             }
         }
-        Some(Scalar::Truth(_)) => Err(Stop::Ended(Ending::Stuck)),
-        None => Err(Stop::Ended(Ending::Stuck)),
+        Some(Scalar::Truth(_)) => Err(Ending::Stuck),
+        None => Err(Ending::Stuck),
     }
 }
 
 /// The part of a value at the end of a path.
-fn reach<'v, 't>(value: &'v Value<'t>, path: &[Step<'t>]) -> Result<&'v Value<'t>, Stop>
-    ensures { Answers given result (or_stuck (at_path (path_of path.now) (value_of value.now))) }
+fn reach<'v, 't>(value: &'v Value<'t>, path: &[Step<'t>]) -> Result<&'v Value<'t>, Ending>
+    ensures { Tells given result (or_stuck (at_path (path_of path.now) (value_of value.now))) }
 {
     match at_path(value, path) {
         Some(part) => Ok(part),
-        None => Err(Stop::Ended(Ending::Stuck)),
+        None => Err(Ending::Stuck),
     }
 }
 
 /// The part of a value one step further.
-fn reach_part<'v, 't>(value: &'v Value<'t>, step: Step<'t>) -> Result<&'v Value<'t>, Stop>
-    ensures { Answers given result (or_stuck (part (value_of value.now) (step_of step.entry))) }
+fn reach_part<'v, 't>(value: &'v Value<'t>, step: Step<'t>) -> Result<&'v Value<'t>, Ending>
+    ensures { Tells given result (or_stuck (part (value_of value.now) (step_of step.entry))) }
 {
     match part(value, step) {
         Some(part) => Ok(part),
-        None => Err(Stop::Ended(Ending::Stuck)),
+        None => Err(Ending::Stuck),
     }
 }
 
@@ -77,12 +78,12 @@ fn beyond<'t>(alloc: Global, place: &Place<'t>, steps: &[Step<'t>]) -> Result<Pl
 
 impl<'r, 't> Scene<'r, 't> {
     /// What stands at a place.
-    fn standing(&self, place: &Place<'t>) -> Result<&'r Value<'t>, Stop>
-        ensures { Answers given result (or_stuck (read_place (store_of self.now.store.now) (place_of place.now))) }
+    fn standing(&self, place: &Place<'t>) -> Result<&'r Value<'t>, Ending>
+        ensures { Tells given result (or_stuck (read_place (store_of self.now.store.now) (place_of place.now))) }
     {
         match read_place(self.store, place) {
             Some(value) => Ok(value),
-            None => Err(Stop::Ended(Ending::Stuck)),
+            None => Err(Ending::Stuck),
         }
     }
 
@@ -124,7 +125,7 @@ impl<'r, 't> Scene<'r, 't> {
             None => Ok(left),
             Some(compared) => {
                 let right = self.simple(&compared.right)?;
-                related(compared.relation, &left, &right)
+                Ok(related(compared.relation, &left, &right)?)
             }
         }
     }
@@ -150,7 +151,7 @@ impl<'r, 't> Scene<'r, 't> {
             return Ok(so_far);
         }
         let right = self.term(&addend.term)?;
-        added(addend.operator, &so_far, &right)
+        Ok(added(addend.operator, &so_far, &right)?)
     }
 
     #[cycle(evaluation)]
@@ -173,7 +174,7 @@ impl<'r, 't> Scene<'r, 't> {
             return Ok(so_far);
         }
         let right = self.factor(&multiplier.factor)?;
-        multiplied(multiplier.operator, &so_far, &right)
+        Ok(multiplied(multiplier.operator, &so_far, &right)?)
     }
 
     #[cycle(evaluation)]
@@ -190,7 +191,7 @@ impl<'r, 't> Scene<'r, 't> {
             Factor::Parenthesised(e) => self.expression(e),
             Factor::Not(f) => {
                 let operand = self.factor(f)?;
-                complement(&operand)
+                Ok(complement(&operand)?)
             }
         }
     }
@@ -219,7 +220,7 @@ impl<'r, 't> Scene<'r, 't> {
             Selector::Field(name) => Ok(Step::Field(self.written(*name))),
             Selector::Index(e) => {
                 let index = self.expression(e)?;
-                element(value, &index)
+                Ok(element(value, &index)?)
             }
         }
     }

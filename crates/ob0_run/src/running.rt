@@ -1,17 +1,18 @@
 //! Runs of well-typed modules.
 
-ghost use Rattle.std.specs.Prelude.{◌≡◌, ◌<◌, ◌≤◌, ℕ, IfOk, List, OnOk, Some, length, option_and_then, slice_get};
+ghost use Rattle.std.specs.Prelude.{◌≡◌, ◌≢◌, ◌<◌, ◌≤◌, ℕ, IfOk, List, OnOk, Some, length, option_and_then, slice_get};
 ghost use Rattle.ob0_scope.specs.Names.{as_labels};
 ghost use Rattle.ob0_scope.specs.Resolution as resolution;
 ghost use Rattle.ob0_tree.specs.Parsed.{named_tree_of};
 ghost use Rattle.ob0_tree.specs.View.{block_of};
+ghost use Rattle.ob0_run.specs.declared.scene.Ending.TheVariants.{Stuck};
 ghost use Rattle.ob0_run.specs.Activations.{Stands};
 ghost use Rattle.ob0_run.specs.Bindings.{with_binding};
 ghost use Rattle.ob0_run.specs.Held.{Reaches};
 ghost use Rattle.ob0_run.specs.Machines.{state_in};
-ghost use Rattle.ob0_run.specs.Outcomes.{AllNothing, HasMeaning, IsEndOf, IsReady, block_run, end_in, first_frame, predeclared_table, run_of};
+ghost use Rattle.ob0_run.specs.Outcomes.{AllNothing, IsReady, block_run, end_in, first_frame, predeclared_table, run_of};
 ghost use Rattle.ob0_semantics.specs.Runs.{run};
-ghost use Rattle.ob0_run.specs.Scenes.{ordinal_in, read_with};
+ghost use Rattle.ob0_run.specs.Scenes.{end_of, ordinal_in, read_with};
 ghost use Rattle.ob0_run.specs.States.{Runs};
 
 use crate::calls::{body, call};
@@ -155,23 +156,19 @@ fn run_block<'t>(machine: &mut Machine<'_, 't>, calls: u64, block: &'t Block) ->
     body(&block.body, machine, &enter)
 }
 
-/// How a run ends whose last step answered this.
-fn end_of(ended: Result<(), Stop>) -> Result<End, AllocError>
-    requires { HasMeaning ended }
-    ensures { IfOk result (λ e. IsEndOf ended (end_in e)) }
+/// How a run ends that a step with a meaning ended.
+fn end_of(ending: Ending) -> End
+    requires { ending ≢ Stuck }
+    ensures { end_in result ≡ end_of ending }
 {
-    match ended {
-        Ok(()) => Ok(End::Done),
-        Err(Stop::Memory) => Err(AllocError),
-        Err(Stop::Ended(ending)) => match ending {
-            Ending::Overflow => Ok(End::Overflow),
-            Ending::Divisor => Ok(End::Divisor),
-            Ending::Index => Ok(End::Index),
-            Ending::InputEnd => Ok(End::InputEnd),
-            Ending::CallBound => Ok(End::CallBound),
-            Ending::TurnBound => Ok(End::TurnBound),
-            Ending::Stuck => unreachable!(),
-        },
+    match ending {
+        Ending::Overflow => End::Overflow,
+        Ending::Divisor => End::Divisor,
+        Ending::Index => End::Index,
+        Ending::InputEnd => End::InputEnd,
+        Ending::CallBound => End::CallBound,
+        Ending::TurnBound => End::TurnBound,
+        Ending::Stuck => unreachable!(),
     }
 }
 
@@ -193,7 +190,13 @@ pub fn run(
     let resolved = checked.resolved();
     let mut machine = machine_for(alloc, resolved, input, turns)?;
     let ended = run_block(&mut machine, calls as u64, resolved.module().block());
-    let end = end_of(ended)?;
+    let end = match ended {
+        Ok(()) => End::Done,
+        Err(stop) => match stop {
+            Stop::Ended(ending) => end_of(ending),
+            Stop::Memory => return Err(AllocError),
+        },
+    };
     let state = machine.state;
     Ok(Outcome {
         output: state.output,

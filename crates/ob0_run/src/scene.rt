@@ -6,13 +6,13 @@ ghost use Rattle.ob0_tree.specs.Places.{value_at};
 ghost use Rattle.ob0_typing.specs.Expressions.{place_of, value_of};
 ghost use Rattle.ob0_values.specs.Stored as stored;
 ghost use Rattle.ob0_values.specs.Stored.{given, store_of};
-ghost use Rattle.ob0_run.specs.Scenes.{Answers, label_in, meant_by, object_of, ordinal_in, stop_of};
+ghost use Rattle.ob0_run.specs.Scenes.{label_in, meant_by, object_of, ordinal_in};
 
 use crate::shapes::Shape;
 use ob0_scan::{TokenKind, Tokens};
 use ob0_tree::Procedure;
 use ob0_values::value::read_place;
-use ob0_values::{Fault, Place, Scalar, Value};
+use ob0_values::{Place, Value};
 use std::alloc::{AllocError, AllocFailed, Global};
 
 /// How a run ends where it doesn't reach the end of the module's body.
@@ -34,6 +34,16 @@ pub enum Stop {
     Ended(Ending),
     /// Memory was refused.
     Memory,
+}
+
+impl From<Ending> for Stop {
+    ghost use Rattle.ob0_run.specs.declared.scene.Stop.TheVariants.{Ended};
+
+    ghost from_gives = { λ x e. e ≡ Ended x };
+
+    fn from(ending: Ending) -> Stop {
+        Stop::Ended(ending)
+    }
 }
 
 impl From<AllocError> for Stop {
@@ -98,17 +108,6 @@ pub struct Scene<'r, 't> {
     pub store: &'r [Value<'t>],
 }
 
-/// How an operation's fault ends a run.
-pub fn stopped_by(fault: Fault) -> Stop
-    ensures { result ≡ stop_of fault }
-{
-    match fault {
-        Fault::Overflow => Stop::Ended(Ending::Overflow),
-        Fault::Divisor => Stop::Ended(Ending::Divisor),
-        Fault::Operand => Stop::Ended(Ending::Stuck),
-    }
-}
-
 /// The ordinal that a table has at a token.
 pub(crate) fn ordinal_at(ordinals: &[Option<usize>], token: usize) -> Option<usize>
     ensures { result ≡ ordinal_in ordinals.now token }
@@ -171,37 +170,41 @@ impl<'r, 't> Scene<'r, 't> {
             0
         }
     }
+}
+
+impl<'r, 't> Scene<'r, 't> {
+    ghost use Rattle.ob0_run.specs.Endings.{Tells};
 
     /// The place of the variable that a name stands for.
-    pub(crate) fn place(&self, name: usize) -> Result<&'r Place<'t>, Stop>
-        ensures { Answers (λ p. stored.place_of p.now) result (place_of (meant_by self.now (label_in self.now name))) }
+    pub(crate) fn place(&self, name: usize) -> Result<&'r Place<'t>, Ending>
+        ensures { Tells (λ p. stored.place_of p.now) result (place_of (meant_by self.now (label_in self.now name))) }
     {
         match self.meant(name) {
             Some(Meant::Variable(place)) => Ok(place),
-            Some(Meant::Type(_)) => Err(Stop::Ended(Ending::Stuck)),
-            Some(Meant::Constant(_)) => Err(Stop::Ended(Ending::Stuck)),
-            Some(Meant::Procedure(_)) => Err(Stop::Ended(Ending::Stuck)),
-            Some(Meant::Standard(_)) => Err(Stop::Ended(Ending::Stuck)),
-            Some(Meant::Nothing) => Err(Stop::Ended(Ending::Stuck)),
-            None => Err(Stop::Ended(Ending::Stuck)),
+            Some(Meant::Type(_)) => Err(Ending::Stuck),
+            Some(Meant::Constant(_)) => Err(Ending::Stuck),
+            Some(Meant::Procedure(_)) => Err(Ending::Stuck),
+            Some(Meant::Standard(_)) => Err(Ending::Stuck),
+            Some(Meant::Nothing) => Err(Ending::Stuck),
+            None => Err(Ending::Stuck),
         }
     }
 
     /// What the variable or constant of a name holds.
-    pub fn held(&self, name: usize) -> Result<&'r Value<'t>, Stop>
-        ensures { Answers given result (value_of (store_of self.now.store.now) (meant_by self.now (label_in self.now name))) }
+    pub fn held(&self, name: usize) -> Result<&'r Value<'t>, Ending>
+        ensures { Tells given result (value_of (store_of self.now.store.now) (meant_by self.now (label_in self.now name))) }
     {
         match self.meant(name) {
-            None => Err(Stop::Ended(Ending::Stuck)),
+            None => Err(Ending::Stuck),
             Some(Meant::Constant(value)) => Ok(value),
             Some(Meant::Variable(place)) => match read_place(self.store, place) {
                 Some(value) => Ok(value),
-                None => Err(Stop::Ended(Ending::Stuck)),
+                None => Err(Ending::Stuck),
             },
-            Some(Meant::Type(_)) => Err(Stop::Ended(Ending::Stuck)),
-            Some(Meant::Procedure(_)) => Err(Stop::Ended(Ending::Stuck)),
-            Some(Meant::Standard(_)) => Err(Stop::Ended(Ending::Stuck)),
-            Some(Meant::Nothing) => Err(Stop::Ended(Ending::Stuck)),
+            Some(Meant::Type(_)) => Err(Ending::Stuck),
+            Some(Meant::Procedure(_)) => Err(Ending::Stuck),
+            Some(Meant::Standard(_)) => Err(Ending::Stuck),
+            Some(Meant::Nothing) => Err(Ending::Stuck),
         }
     }
 }

@@ -3,10 +3,10 @@
 ghost use Rattle.std.specs.Prelude.{◌≡◌, ◌-◌, ◌^◌, ◌&&◌, min, nat_le};
 ghost use Rattle.ob0_typing.specs.Typing.{depth, scalars, within_limits};
 ghost use Rattle.ob0_values.specs.Values.{or_stuck};
-ghost use Rattle.ob0_run.specs.Scenes.{Answers};
+ghost use Rattle.ob0_run.specs.Endings.{Tells};
 ghost use Rattle.ob0_run.specs.Shapes.{shape_of};
 
-use crate::scene::{Ending, Stop};
+use crate::scene::Ending;
 use crate::shapes::Shape;
 use ob0_symbols::{MOST_DEPTH, MOST_SCALARS};
 
@@ -53,12 +53,12 @@ fn is_within(shape: &Shape) -> bool
 }
 
 /// A type that is not too large.
-pub(crate) fn within_limits<'t>(shape: Shape<'t>) -> Result<Shape<'t>, Stop>
-    ensures { Answers shape_of result (or_stuck (within_limits (shape_of shape.entry))) }
+pub(crate) fn within_limits<'t>(shape: Shape<'t>) -> Result<Shape<'t>, Ending>
+    ensures { Tells shape_of result (or_stuck (within_limits (shape_of shape.entry))) }
 {
     if is_within(&shape) {
         Ok(shape)
     } else {
-        Err(Stop::Ended(Ending::Stuck))
+        Err(Ending::Stuck)
     }
 }

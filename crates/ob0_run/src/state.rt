@@ -12,6 +12,7 @@ ghost use Rattle.ob0_run.specs.Finding.{Finds};
 ghost use Rattle.ob0_run.specs.Storing.{target_of};
 ghost use Rattle.ob0_semantics.specs.Runs.{Calls, execute, put_out, read_number, running, store_at};
 ghost use Rattle.ob0_run.specs.States.{Runs, item_of, state_of};
+ghost use Rattle.ob0_run.specs.Endings.{Moves, Tells};
 
 use crate::operands::scalar_of;
 use crate::scene::{Ending, Meant, Scene, Stop};
@@ -47,13 +48,13 @@ pub struct State<'i, 't> {
 }
 
 /// The truth that a value is.
-fn truth(value: &Value) -> Result<bool, Stop>
-    ensures { Answers (λ b. b) result (truth_of (value_of value.now)) }
+fn truth(value: &Value) -> Result<bool, Ending>
+    ensures { Tells (λ b. b) result (truth_of (value_of value.now)) }
 {
     match scalar_of(value) {
         Some(Scalar::Truth(truth)) => Ok(truth),
-        Some(Scalar::Number(_)) => Err(Stop::Ended(Ending::Stuck)),
-        None => Err(Stop::Ended(Ending::Stuck)),
+        Some(Scalar::Number(_)) => Err(Ending::Stuck),
+        None => Err(Ending::Stuck),
     }
 }
 
@@ -128,7 +129,7 @@ impl<'i, 't> State<'i, 't> {
         ensures { Answers (λ b. b) result (condition_in (meaning_with names.entry.meant.now) (state_of self.now).store (read_with names.entry.tokens.now names.entry.ordinals.now (expression_of e.now))) }
     {
         let value = self.evaluate(names, e)?;
-        truth(&value)
+        Ok(truth(&value)?)
     }
 
     /// An assignment finds its place, then evaluates its right side, then stores a copy.
@@ -164,26 +165,26 @@ impl<'i, 't> State<'i, 't> {
     {
         let place = self.designate(names, &a.target)?;
         let value = self.evaluate(names, &a.value)?;
-        self.store_at(&place, value)
+        Ok(self.store_at(&place, value)?)
     }
 
     /// Stores a value at a place.
-    pub fn store_at(&mut self, place: &Place<'t>, value: Value<'t>) -> Result<(), Stop>
-        ensures { Runs result self.new (store_at (state_of self.old) (place_of place.now) (value_of value.entry)) }
+    pub fn store_at(&mut self, place: &Place<'t>, value: Value<'t>) -> Result<(), Ending>
+        ensures { Moves result self.new (store_at (state_of self.old) (place_of place.now) (value_of value.entry)) }
     {
         if write_place(&mut self.store, place, value) {
             Ok(())
         } else {
-            Err(Stop::Ended(Ending::Stuck))
+            Err(Ending::Stuck)
         }
     }
 
     /// `Read`: stores the next number of the input.
-    pub fn read_number(&mut self, place: &Place<'t>) -> Result<(), Stop>
-        ensures { Runs result self.new (read_number (state_of self.old) (place_of place.now) (state_of self.old).input) }
+    pub fn read_number(&mut self, place: &Place<'t>) -> Result<(), Ending>
+        ensures { Moves result self.new (read_number (state_of self.old) (place_of place.now) (state_of self.old).input) }
     {
         match self.input {
-            [] => Err(Stop::Ended(Ending::InputEnd)),
+            [] => Err(Ending::InputEnd),
             [next, rest @ ..] => {
                 let number = *next;
                 self.input = rest;

@@ -13,6 +13,7 @@ ghost use Rattle.ob0_semantics.specs.Runs as run;
 ghost use Rattle.ob0_semantics.specs.Runs.{Calls, execute, perform};
 ghost use Rattle.ob0_run.specs.Scenes.{Answers, condition_in, label_with, meant_with};
 ghost use Rattle.ob0_run.specs.States.{Runs, state_of};
+ghost use Rattle.ob0_run.specs.Endings.{Moves};
 
 use crate::calling::Argument;
 use crate::machine::{Machine, names_in};
@@ -87,14 +88,14 @@ fn only<'a, 't>(args: &'a [Argument<'t>]) -> Option<&'a Argument<'t>>
     }
 }
 
-fn read<'t>(state: &mut State<'_, 't>, args: &[Argument<'t>]) -> Result<(), Stop>
-    ensures { (enter : List run.Argument → run.State → run.Progress) → Runs result state.new (perform (Some (a_standard reads)) enter (map argument_of args.now) (state_of state.old)) }
+fn read<'t>(state: &mut State<'_, 't>, args: &[Argument<'t>]) -> Result<(), Ending>
+    ensures { (enter : List run.Argument → run.State → run.Progress) → Moves result state.new (perform (Some (a_standard reads)) enter (map argument_of args.now) (state_of state.old)) }
 {
     match only(args) {
-        None => Err(Stop::Ended(Ending::Stuck)),
+        None => Err(Ending::Stuck),
         Some(argument) => match argument {
             Argument::Place(place) => state.read_number(place),
-            Argument::Value(_) => Err(Stop::Ended(Ending::Stuck)),
+            Argument::Value(_) => Err(Ending::Stuck),
         },
     }
 }
@@ -145,7 +146,7 @@ fn standard<'t>(
     ensures { (enter : List run.Argument → run.State → run.Progress) → Runs result state.new (perform (Some (mode_taken standard)) enter (map argument_of args.now) (state_of state.old)) }
 {
     match standard {
-        Standard::Read => read(state, args),
+        Standard::Read => Ok(read(state, args)?),
         Standard::Write => write(state, args),
         Standard::WriteLn => write_line(state, args),
     }

@@ -1,12 +1,18 @@
-use Rattle.std.proofs.Common.{suc, Ok, Err, option_and_then, Some, map, sym, ap, ◌∙◌, subst, add-one}
+use Rattle.std.proofs.Common.{◌≡◌, ℕ, ◌+◌, suc, Ok, Err, option_and_then, Some, map, sym, ap, ◌∙◌, subst, add-one}
 use Rattle.std.proofs.lemmas.Result.{err_from_is_err_and}
+use Rattle.ob0_tree.specs.declared.tree.ArrayType.{ArrayType}
+use Rattle.ob0_tree.specs.declared.tree.WrittenType.{WrittenType}
 use Rattle.ob0_tree.specs.View.{expression_of, fields_of, names_of, record_listed, type_of}
 use Rattle.ob0_tree.proofs.Viewed.{record_made}
+use Rattle.ob0_checker.specs.DenotedTables.{array_in}
 use Rattle.ob0_scope.specs.Names.{label_text}
 use Rattle.ob0_scope.specs.Parts.{names_listed}
 use Rattle.ob0_typing.specs.Typing.{array_length, constant_value, denoted, denoted_group, with_fields, within_limits}
-use Rattle.ob0_values.specs.Values.{array_shape, or_stuck, ◌>>=◌}
+use Rattle.ob0_values.specs.Values.{array_shape, gives, or_stuck, ◌>>=◌}
+use Rattle.ob0_run.specs.declared.scene.Scene.{Scene}
+use Rattle.ob0_run.specs.declared.shapes.Shape as code
 use Rattle.ob0_run.specs.DeclaredFrames.{Extends, with_named}
+use Rattle.ob0_run.specs.declared.scene.Stop.TheVariants as stop
 use Rattle.ob0_run.specs.Scenes.{Answers, label_in, meaning_in, read_in}
 use Rattle.ob0_run.specs.Shapes.{shape_of}
 use Rattle.ob0_run.proofs.Evaluating.{exits, fails}
@@ -14,6 +20,19 @@ use Rattle.ob0_run.proofs.FramesDeclared.{or_stuck-gives}
 use Rattle.ob0_run.proofs.Shaping.{fields_made}
 use Rattle.ob0_run.proofs.TypesRead.{array-worth, extends_as, extends_by_none, extends_left, extends_nothing, gathered_begins, gathered_on, list-split, named-worth, record_fails, record_found}
 use Rattle.ob0_run.proofs.scene.Scene.+denoting.Goals as goal
+
+-- an array whose length and elements are known
+array_found : (s : Scene) (k : ℕ) (a : ArrayType) (inner : ℕ) (w : WrittenType) (n : ℕ) (t made : code.Shape) → inner ≡ k + 1 → w ≡ a.element.value
+    → or_stuck (option_and_then array_length (constant_value (meaning_in s) (read_in s (expression_of a.size)))) ≡ gives n → or_stuck (denoted (meaning_in s) inner (read_in s (type_of w))) ≡ gives (shape_of t) → made ≡ t
+    → or_stuck (denoted (meaning_in s) k (read_in s (array_in a))) ≡ or_stuck (within_limits (array_shape k n (shape_of made)))
+array_found s k a inner w n t made next element length denotes same =
+    let m = meaning_in s in
+    let u = read_in s (type_of a.element.value) in
+    array-worth m k (read_in s (expression_of a.size)) u
+    ∙ ap (λ o. o >>= (λ n. or_stuck (denoted m (suc k) u) >>= (λ t. or_stuck (within_limits (array_shape k n t))))) length
+    ∙ ap (λ o. or_stuck o >>= (λ t. or_stuck (within_limits (array_shape k n t)))) (sym (λ i. denoted m ((next ∙ add-one k) i) (read_in s (type_of (element i)))))
+    ∙ ap (λ o. o >>= (λ t. or_stuck (within_limits (array_shape k n t)))) denotes
+    ∙ ap (λ x. or_stuck (within_limits (array_shape k n (shape_of x)))) (sym same)
 
 pub add_group-returns-in-Empty : goal.add_group-returns-in-Empty
 add_group-returns-in-Empty t c =
@@ -79,17 +98,16 @@ denote_array-returns-in_err-element t c =
     ∙ ap (λ o. or_stuck o >>= (λ t. or_stuck (within_limits (array_shape c.args.next c.in_ok-length.length t)))) (sym (λ i. denoted m ((c.in_ok-inner.ensures ∙ add-one c.args.next) i) (read_in s (type_of (c.deref.ensures i)))))))
     (fails shape_of shape_of c.in_err-element.field-0.0 (or_stuck (denoted m c.in_ok-inner.inner u')) (λ t. or_stuck (within_limits (array_shape c.args.next c.in_ok-length.length t))) c.in_err-element.ensures))
 
+pub denote_array-returns-in_err-within_limits : goal.denote_array-returns-in_err-within_limits
+denote_array-returns-in_err-within_limits t c =
+    exits shape_of c.from_residual-in_err-within_limits.result (stop.Ended c.in_err-within_limits.field-0.0) _ (err_from_is_err_and c.from_residual-in_err-within_limits.result c.from_residual-in_err-within_limits.ensures.1)
+    (array_found c.args.self.now c.args.next c.args.a.now c.in_ok-inner.inner c.deref.result.now c.in_ok-length.length c.in_ok-element.element c.in_ok-new.field-0.value c.in_ok-inner.ensures c.deref.ensures c.in_ok-length.ensures c.in_ok-element.ensures c.in_ok-new.ensures.ok
+    ∙ c.in_err-within_limits.ensures)
+
 pub denote_array-returns : goal.denote_array-returns
 denote_array-returns t c =
-    let s = c.args.self.now in
-    let m = meaning_in s in
-    let e = read_in s (expression_of c.args.a.now.size) in
-    let u = read_in s (type_of c.args.a.now.element.value) in
-    subst (Answers shape_of c.within_limits.result) (sym (array-worth m c.args.next e u
-    ∙ ap (λ o. o >>= (λ n. or_stuck (denoted m (suc c.args.next) u) >>= (λ t. or_stuck (within_limits (array_shape c.args.next n t))))) c.in_ok-length.ensures
-    ∙ ap (λ o. or_stuck o >>= (λ t. or_stuck (within_limits (array_shape c.args.next c.in_ok-length.length t)))) (sym (λ i. denoted m ((c.in_ok-inner.ensures ∙ add-one c.args.next) i) (read_in s (type_of (c.deref.ensures i)))))
-    ∙ ap (λ o. o >>= (λ t. or_stuck (within_limits (array_shape c.args.next c.in_ok-length.length t)))) c.in_ok-element.ensures))
-    (subst (λ x. Answers shape_of c.within_limits.result (or_stuck (within_limits (array_shape c.args.next c.in_ok-length.length (shape_of x))))) c.in_ok-new.ensures.ok c.within_limits.ensures)
+    array_found c.args.self.now c.args.next c.args.a.now c.in_ok-inner.inner c.deref.result.now c.in_ok-length.length c.in_ok-element.element c.in_ok-new.field-0.value c.in_ok-inner.ensures c.deref.ensures c.in_ok-length.ensures c.in_ok-element.ensures c.in_ok-new.ensures.ok
+    ∙ c.in_ok-within_limits.ensures
 
 pub denote_record-loop-group-init : goal.denote_record-loop-group-init
 denote_record-loop-group-init t c = gathered_begins c.args.self.now c.in_ok-behind.behind c.deref-group-items.result.now c.new-fields.result.items c.new-fields.ensures.items
@@ -105,9 +123,17 @@ pub denote_record-loop-group-preserved : goal.denote_record-loop-group-preserved
 denote_record-loop-group-preserved t c =
     gathered_on c.args.self.now c.group-item.result c.loop-group.invariant c.loop-group-test.true c.group-item.is c.add_group.new.fields.items _ c.in_ok-add_group.ensures c.in_ok-behind-2.ensures
 
+pub denote_record-returns-in_err-within_limits : goal.denote_record-returns-in_err-within_limits
+denote_record-returns-in_err-within_limits t c =
+    let s = c.args.self.now in
+    exits shape_of c.from_residual-in_err-within_limits.result (stop.Ended c.in_err-within_limits.field-0.0) _ (err_from_is_err_and c.from_residual-in_err-within_limits.result c.from_residual-in_err-within_limits.ensures.1)
+    (ap (λ gs. or_stuck (denoted (meaning_in s) c.args.next (read_in s (record_listed gs)))) (sym c.deref-group-items.ensures.value)
+    ∙ record_found c.args.next c.loop-group.invariant c.loop-group-test.false c.in_ok-behind.ensures
+    ∙ ap (λ x. or_stuck (within_limits x)) (sym (fields_made c.args.next c.loop-group.fields)) ∙ c.in_err-within_limits.ensures)
+
 pub denote_record-returns : goal.denote_record-returns
 denote_record-returns t c =
     let s = c.args.self.now in
-    subst (Answers shape_of c.within_limits.result) (sym (ap (λ gs. or_stuck (denoted (meaning_in s) c.args.next (read_in s (record_listed gs)))) (sym c.deref-group-items.ensures.value)
-    ∙ record_found c.args.next c.loop-group.invariant c.loop-group-test.false c.in_ok-behind.ensures))
-    (subst (λ x. Answers shape_of c.within_limits.result (or_stuck (within_limits x))) (fields_made c.args.next c.loop-group.fields) c.within_limits.ensures)
+    ap (λ gs. or_stuck (denoted (meaning_in s) c.args.next (read_in s (record_listed gs)))) (sym c.deref-group-items.ensures.value)
+    ∙ record_found c.args.next c.loop-group.invariant c.loop-group-test.false c.in_ok-behind.ensures
+    ∙ ap (λ x. or_stuck (within_limits x)) (sym (fields_made c.args.next c.loop-group.fields)) ∙ c.in_ok-within_limits.ensures

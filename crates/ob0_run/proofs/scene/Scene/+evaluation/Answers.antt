@@ -12,6 +12,7 @@ use Rattle.ob0_typing.specs.Expressions as expressions
 use Rattle.ob0_typing.specs.Expressions.{evaluate, evaluate_addends, evaluate_factor, evaluate_multipliers, evaluate_simple, evaluate_term, follow}
 use Rattle.ob0_values.specs.Stored.{given, path_of, step_of, value_of}
 use Rattle.ob0_values.specs.Values.{at_path, gives, negated, number, or_stuck, relate, signed, ◌>>=◌}
+use Rattle.ob0_run.specs.declared.scene.Stop.TheVariants as stop
 use Rattle.ob0_run.specs.Scenes.{Answers, label_in, meaning_in, meant_by, read_in, steps_of}
 use Rattle.ob0_run.proofs.Evaluating.{Following, adding_ends, adding_fails, adding_goes_on, compared_by, compared_in, designator_worth, exits, expression_alone, expression_pair, expression_worth, fails, following_begins, following_ends, following_fails, following_goes_on, following_misses, held_in, integer-worth, multiplying_ends, multiplying_fails, multiplying_goes_on, negation-split, parenthesised-worth, same_error, simple_worth, term_worth}
 use Rattle.ob0_run.proofs.scene.Scene.+evaluation.Goals as goal
@@ -30,14 +31,19 @@ relation-returns-in_err-right-in-Some t c =
     exits value_of c.from_residual-in_err-right-in-Some.result c.in_err-right-in-Some.field-0.0 _ (err_from_is_err_and c.from_residual-in_err-right-in-Some.result c.from_residual-in_err-right-in-Some.ensures.1)
     (subst (Answers value_of (Err c.in_err-right-in-Some.field-0.0)) (sym (expression_pair c.args.self.now c.args.e.now (value_of c.in_ok-left.left) c.in-Some.compared c.in_ok-left.ensures c.in-Some.is)) (fails value_of value_of c.in_err-right-in-Some.field-0.0 (evaluate_simple (meaning_in c.args.self.now) (held_in c.args.self.now) (read_in c.args.self.now (simple_of (out-Comparison c.in-Some.compared).right))) (λ y. relate (out-Comparison c.in-Some.compared).relation (value_of c.in_ok-left.left) y) c.in_err-right-in-Some.ensures))
 
+pub relation-returns-in_err-related-in-Some : goal.relation-returns-in_err-related-in-Some
+relation-returns-in_err-related-in-Some t c =
+    exits value_of c.from_residual-in_err-related-in-Some.result (stop.Ended c.in_err-related-in-Some.field-0.0) _ (err_from_is_err_and c.from_residual-in_err-related-in-Some.result c.from_residual-in_err-related-in-Some.ensures.1)
+    (expression_pair c.args.self.now c.args.e.now (value_of c.in_ok-left.left) c.in-Some.compared c.in_ok-left.ensures c.in-Some.is ∙ ap (λ o. o >>= (λ y. relate (out-Comparison c.in-Some.compared).relation (value_of c.in_ok-left.left) y)) c.in_ok-right-in-Some.ensures ∙ c.in_err-related-in-Some.ensures)
+
 pub relation-returns : goal.relation-returns
 relation-returns t c =
-    subst (Answers value_of c.related.result) (sym (expression_pair c.args.self.now c.args.e.now (value_of c.in_ok-left.left) c.in-Some.compared c.in_ok-left.ensures c.in-Some.is ∙ ap (λ o. o >>= (λ y. relate (out-Comparison c.in-Some.compared).relation (value_of c.in_ok-left.left) y)) c.in_ok-right-in-Some.ensures)) c.related.ensures
+    expression_pair c.args.self.now c.args.e.now (value_of c.in_ok-left.left) c.in-Some.compared c.in_ok-left.ensures c.in-Some.is ∙ ap (λ o. o >>= (λ y. relate (out-Comparison c.in-Some.compared).relation (value_of c.in_ok-left.left) y)) c.in_ok-right-in-Some.ensures ∙ c.in_ok-related-in-Some.ensures
 
 pub factor-returns-in_err-held-in-Designator : goal.factor-returns-in_err-held-in-Designator
 factor-returns-in_err-held-in-Designator t c =
-    exits value_of c.from_residual.result c.in_err-held-in-Designator.field-0.0 _ (err_from_is_err_and c.from_residual.result c.from_residual.ensures.1)
-    (subst (Answers value_of (Err c.in_err-held-in-Designator.field-0.0)) (sym (designator_worth c.args.self.now c.args.f.now c.in-Designator.d c.in-Designator.is)) (fails given value_of c.in_err-held-in-Designator.field-0.0 (expressions.value_of (held_in c.args.self.now) (meant_by c.args.self.now (label_in c.args.self.now c.in-Designator.d.name))) (λ v. follow (meaning_in c.args.self.now) (held_in c.args.self.now) v (read_in c.args.self.now (items_of selector_of c.in-Designator.d.selectors.items)) >>= (λ steps. or_stuck (at_path steps v))) c.in_err-held-in-Designator.ensures))
+    exits value_of c.from_residual.result (stop.Ended c.in_err-held-in-Designator.field-0.0) _ (err_from_is_err_and c.from_residual.result c.from_residual.ensures.1)
+    (subst (Answers value_of (Err (stop.Ended c.in_err-held-in-Designator.field-0.0))) (sym (designator_worth c.args.self.now c.args.f.now c.in-Designator.d c.in-Designator.is)) (fails given value_of (stop.Ended c.in_err-held-in-Designator.field-0.0) (expressions.value_of (held_in c.args.self.now) (meant_by c.args.self.now (label_in c.args.self.now c.in-Designator.d.name))) (λ v. follow (meaning_in c.args.self.now) (held_in c.args.self.now) v (read_in c.args.self.now (items_of selector_of c.in-Designator.d.selectors.items)) >>= (λ steps. or_stuck (at_path steps v))) c.in_err-held-in-Designator.ensures))
 
 pub factor-returns-in_err-path-in-Designator : goal.factor-returns-in_err-path-in-Designator
 factor-returns-in_err-path-in-Designator t c =
@@ -46,8 +52,8 @@ factor-returns-in_err-path-in-Designator t c =
 
 pub factor-returns-in_err-reach-in-Designator : goal.factor-returns-in_err-reach-in-Designator
 factor-returns-in_err-reach-in-Designator t c =
-    exits value_of c.from_residual-in_err-reach-in-Designator.result c.in_err-reach-in-Designator.field-0.0 _ (err_from_is_err_and c.from_residual-in_err-reach-in-Designator.result c.from_residual-in_err-reach-in-Designator.ensures.1)
-    (subst (Answers value_of (Err c.in_err-reach-in-Designator.field-0.0)) (sym (designator_worth c.args.self.now c.args.f.now c.in-Designator.d c.in-Designator.is ∙ ap (λ o. o >>= (λ v. follow (meaning_in c.args.self.now) (held_in c.args.self.now) v (read_in c.args.self.now (items_of selector_of c.in-Designator.d.selectors.items)) >>= (λ steps. or_stuck (at_path steps v)))) c.in_ok-held-in-Designator.ensures ∙ ap (λ o. o >>= (λ steps. or_stuck (at_path steps (value_of c.in_ok-held-in-Designator.held.now)))) c.in_ok-path-in-Designator.ensures ∙ sym (ap (λ p. or_stuck (at_path (path_of p) (value_of c.in_ok-held-in-Designator.held.now))) c.deref.ensures.value))) (same_error given value_of c.in_err-reach-in-Designator.field-0.0 _ c.in_err-reach-in-Designator.ensures))
+    exits value_of c.from_residual-in_err-reach-in-Designator.result (stop.Ended c.in_err-reach-in-Designator.field-0.0) _ (err_from_is_err_and c.from_residual-in_err-reach-in-Designator.result c.from_residual-in_err-reach-in-Designator.ensures.1)
+    (subst (Answers value_of (Err (stop.Ended c.in_err-reach-in-Designator.field-0.0))) (sym (designator_worth c.args.self.now c.args.f.now c.in-Designator.d c.in-Designator.is ∙ ap (λ o. o >>= (λ v. follow (meaning_in c.args.self.now) (held_in c.args.self.now) v (read_in c.args.self.now (items_of selector_of c.in-Designator.d.selectors.items)) >>= (λ steps. or_stuck (at_path steps v)))) c.in_ok-held-in-Designator.ensures ∙ ap (λ o. o >>= (λ steps. or_stuck (at_path steps (value_of c.in_ok-held-in-Designator.held.now)))) c.in_ok-path-in-Designator.ensures ∙ sym (ap (λ p. or_stuck (at_path (path_of p) (value_of c.in_ok-held-in-Designator.held.now))) c.deref.ensures.value))) (same_error given value_of (stop.Ended c.in_err-reach-in-Designator.field-0.0) _ c.in_err-reach-in-Designator.ensures))
 
 pub factor-returns-in_ok-reach-in-Designator : goal.factor-returns-in_ok-reach-in-Designator
 factor-returns-in_ok-reach-in-Designator t c =
@@ -67,9 +73,14 @@ factor-returns-in_err-operand-in-Not t c =
     exits value_of c.from_residual-in_err-operand-in-Not.result c.in_err-operand-in-Not.field-0.0 _ (err_from_is_err_and c.from_residual-in_err-operand-in-Not.result c.from_residual-in_err-operand-in-Not.ensures.1)
     (subst (Answers value_of (Err c.in_err-operand-in-Not.field-0.0)) (sym (ap (λ f. evaluate_factor (meaning_in c.args.self.now) (held_in c.args.self.now) (read_in c.args.self.now (factor_of f))) c.in-Not.is ∙ negation-split (meaning_in c.args.self.now) (held_in c.args.self.now) (read_in c.args.self.now (factor_of c.in-Not.f.value)) ∙ ap (λ f. evaluate_factor (meaning_in c.args.self.now) (held_in c.args.self.now) (read_in c.args.self.now (factor_of f)) >>= negated) (sym c.deref-in-Not.ensures))) (fails value_of value_of c.in_err-operand-in-Not.field-0.0 (evaluate_factor (meaning_in c.args.self.now) (held_in c.args.self.now) (read_in c.args.self.now (factor_of c.deref-in-Not.result.now))) negated c.in_err-operand-in-Not.ensures))
 
-pub factor-returns-in_ok-operand-in-Not : goal.factor-returns-in_ok-operand-in-Not
-factor-returns-in_ok-operand-in-Not t c =
-    subst (Answers value_of c.complement.result) (sym (ap (λ f. evaluate_factor (meaning_in c.args.self.now) (held_in c.args.self.now) (read_in c.args.self.now (factor_of f))) c.in-Not.is ∙ negation-split (meaning_in c.args.self.now) (held_in c.args.self.now) (read_in c.args.self.now (factor_of c.in-Not.f.value)) ∙ ap (λ f. evaluate_factor (meaning_in c.args.self.now) (held_in c.args.self.now) (read_in c.args.self.now (factor_of f)) >>= negated) (sym c.deref-in-Not.ensures) ∙ ap (λ o. o >>= negated) c.in_ok-operand-in-Not.ensures)) c.complement.ensures
+pub factor-returns-in_err-complement-in-Not : goal.factor-returns-in_err-complement-in-Not
+factor-returns-in_err-complement-in-Not t c =
+    exits value_of c.from_residual-in_err-complement-in-Not.result (stop.Ended c.in_err-complement-in-Not.field-0.0) _ (err_from_is_err_and c.from_residual-in_err-complement-in-Not.result c.from_residual-in_err-complement-in-Not.ensures.1)
+    (ap (λ f. evaluate_factor (meaning_in c.args.self.now) (held_in c.args.self.now) (read_in c.args.self.now (factor_of f))) c.in-Not.is ∙ negation-split (meaning_in c.args.self.now) (held_in c.args.self.now) (read_in c.args.self.now (factor_of c.in-Not.f.value)) ∙ ap (λ f. evaluate_factor (meaning_in c.args.self.now) (held_in c.args.self.now) (read_in c.args.self.now (factor_of f)) >>= negated) (sym c.deref-in-Not.ensures) ∙ ap (λ o. o >>= negated) c.in_ok-operand-in-Not.ensures ∙ c.in_err-complement-in-Not.ensures)
+
+pub factor-returns-in_ok-complement-in-Not : goal.factor-returns-in_ok-complement-in-Not
+factor-returns-in_ok-complement-in-Not t c =
+    ap (λ f. evaluate_factor (meaning_in c.args.self.now) (held_in c.args.self.now) (read_in c.args.self.now (factor_of f))) c.in-Not.is ∙ negation-split (meaning_in c.args.self.now) (held_in c.args.self.now) (read_in c.args.self.now (factor_of c.in-Not.f.value)) ∙ ap (λ f. evaluate_factor (meaning_in c.args.self.now) (held_in c.args.self.now) (read_in c.args.self.now (factor_of f)) >>= negated) (sym c.deref-in-Not.ensures) ∙ ap (λ o. o >>= negated) c.in_ok-operand-in-Not.ensures ∙ c.in_ok-complement-in-Not.ensures
 
 pub follow-loop-selector-init : goal.follow-loop-selector-init
 follow-loop-selector-init t c =
@@ -82,8 +93,8 @@ follow-returns-in_err-step t c =
 
 pub follow-returns-in_err-reach_part : goal.follow-returns-in_err-reach_part
 follow-returns-in_err-reach_part t c =
-    exits steps_of c.from_residual-in_err-reach_part.result c.in_err-reach_part.field-0.0 _ (err_from_is_err_and c.from_residual-in_err-reach_part.result c.from_residual-in_err-reach_part.ensures.1)
-    (subst (λ xs. Answers steps_of (Err c.in_err-reach_part.field-0.0) (follow (meaning_in c.args.self.now) (held_in c.args.self.now) (value_of c.args.value.now) (read_in c.args.self.now (items_of selector_of xs)))) c.deref-selector-items.ensures.value (following_misses given steps_of c.selector-item.result (step_of c.in_ok-step.step) (value_of c.in_ok-reached.reached.now) c.in_err-reach_part.field-0.0 c.loop-selector.invariant c.loop-selector-test.true c.selector-item.is (ap (λ p. or_stuck (at_path (path_of p) (value_of c.args.value.now))) (sym c.deref.ensures.value) ∙ c.in_ok-reached.ensures) c.in_ok-step.ensures c.in_err-reach_part.ensures))
+    exits steps_of c.from_residual-in_err-reach_part.result (stop.Ended c.in_err-reach_part.field-0.0) _ (err_from_is_err_and c.from_residual-in_err-reach_part.result c.from_residual-in_err-reach_part.ensures.1)
+    (subst (λ xs. Answers steps_of (Err (stop.Ended c.in_err-reach_part.field-0.0)) (follow (meaning_in c.args.self.now) (held_in c.args.self.now) (value_of c.args.value.now) (read_in c.args.self.now (items_of selector_of xs)))) c.deref-selector-items.ensures.value (following_misses given steps_of c.selector-item.result (step_of c.in_ok-step.step) (value_of c.in_ok-reached.reached.now) (stop.Ended c.in_err-reach_part.field-0.0) c.loop-selector.invariant c.loop-selector-test.true c.selector-item.is (ap (λ p. or_stuck (at_path (path_of p) (value_of c.args.value.now))) (sym c.deref.ensures.value) ∙ c.in_ok-reached.ensures) c.in_ok-step.ensures c.in_err-reach_part.ensures))
 
 pub follow-loop-selector-preserved : goal.follow-loop-selector-preserved
 follow-loop-selector-preserved t c =
@@ -101,8 +112,8 @@ simple-returns-in_err-first t c =
 
 pub simple-returns-in_err-so_far : goal.simple-returns-in_err-so_far
 simple-returns-in_err-so_far t c =
-    exits value_of c.from_residual-in_err-so_far.result c.in_err-so_far.field-0.0 _ (err_from_is_err_and c.from_residual-in_err-so_far.result c.from_residual-in_err-so_far.ensures.1)
-    (subst (Answers value_of (Err c.in_err-so_far.field-0.0)) (sym (simple_worth c.args.self.now c.args.s.now ∙ ap (λ o. o >>= (λ a. signed (out-Simple c.args.s.now).sign a >>= (λ y. evaluate_addends (meaning_in c.args.self.now) (held_in c.args.self.now) y (read_in c.args.self.now (items_of addend_of (out-Simple c.args.s.now).more.items))))) c.in_ok-first.ensures)) (fails value_of value_of c.in_err-so_far.field-0.0 (signed (out-Simple c.args.s.now).sign (value_of c.in_ok-first.first)) (λ y. evaluate_addends (meaning_in c.args.self.now) (held_in c.args.self.now) y (read_in c.args.self.now (items_of addend_of (out-Simple c.args.s.now).more.items))) c.in_err-so_far.ensures))
+    exits value_of c.from_residual-in_err-so_far.result (stop.Ended c.in_err-so_far.field-0.0) _ (err_from_is_err_and c.from_residual-in_err-so_far.result c.from_residual-in_err-so_far.ensures.1)
+    (subst (Answers value_of (Err (stop.Ended c.in_err-so_far.field-0.0))) (sym (simple_worth c.args.self.now c.args.s.now ∙ ap (λ o. o >>= (λ a. signed (out-Simple c.args.s.now).sign a >>= (λ y. evaluate_addends (meaning_in c.args.self.now) (held_in c.args.self.now) y (read_in c.args.self.now (items_of addend_of (out-Simple c.args.s.now).more.items))))) c.in_ok-first.ensures)) (fails value_of value_of (stop.Ended c.in_err-so_far.field-0.0) (signed (out-Simple c.args.s.now).sign (value_of c.in_ok-first.first)) (λ y. evaluate_addends (meaning_in c.args.self.now) (held_in c.args.self.now) y (read_in c.args.self.now (items_of addend_of (out-Simple c.args.s.now).more.items))) c.in_err-so_far.ensures))
 
 pub simple-returns-in_err-so_far-2 : goal.simple-returns-in_err-so_far-2
 simple-returns-in_err-so_far-2 t c =
