@@ -7,7 +7,7 @@ use Rattle.ob0_rpc.specs.Messages.{Reads, meaning_of}
 use Rattle.ob0_session.specs.Answers.{State, start, begins, reacts, Answers}
 use Rattle.ob0_session.specs.Standing.{Standing, serving, failed}
 use Rattle.ob0_editor.specs.Beginning.{initialize_message, client_for}
-use Rattle.ob0_world.specs.Queues.{Contents, bytes, Stands, held_by, IsAnswered}
+use Rattle.ob0_world.specs.Queues.{Contents, bytes, Stands, held_by, IsInitialized, new_session, Both, new_both, IsAnswered}
 use Rattle.ob0_world.proofs.Answering.{reacts_so}
 
 begun : (unit : Unit) → (reacts start (meaning_of (initialize_message unit))).after ≡ begins (client_for unit)
@@ -18,11 +18,18 @@ holds_none : (unit : Unit) → (begins (client_for unit)).held ≡ none_open uni
 holds_none Utf16 = refl
 holds_none Utf8 = refl
 
+is_initialized : (unit : Unit) → IsInitialized unit (new_session unit)
+is_initialized unit = record { state = begins (client_for unit); serves = refl; runs = (refl, refl, refl); holds_none = holds_none unit }
+
+pub begins_initialized : (unit : Unit) (w : Both) → w ≡ new_both unit → IsInitialized unit w.session
+begins_initialized unit w is = subst (λ (w : Both). IsInitialized unit w.session) (sym is) (is_initialized unit)
+
 abbrev state_of : Standing → State → State
 state_of (serving s) other = s
 state_of failed other = other
 
 pub record Begun (unit : Unit) (session : Standing) : Type 0 where
+  pub is : session ≡ new_session unit
   pub stands : Stands session
   pub held : held_by session ≡ none_open unit
 
@@ -32,4 +39,4 @@ begins_so unit content sent session reads (before, after, was, is, how) =
     let from_start : Answers start content (bytes sent) after = subst (λ s. Answers s content (bytes sent) after) (sym same) how in
     let so : after ≡ begins (client_for unit) = (reacts_so start after content (bytes sent) (initialize_message unit) from_start reads).0 ∙ begun unit in
     let standing : session ≡ serving (begins (client_for unit)) = is ∙ ap serving so in
-    record { stands = subst Stands (sym standing) (refl, refl, refl); held = ap held_by standing ∙ holds_none unit }
+    record { is = standing; stands = subst Stands (sym standing) (refl, refl, refl); held = ap held_by standing ∙ holds_none unit }

@@ -2,15 +2,17 @@
 use Rattle.std.specs.Prelude.{◌≡◌, ⊤, ℕ, ℤ, List, [], ◌∷◌, ◌++◌, map, All, Bool, true, Option, Some, None, Vec, option_and_then, filter_map}
 use Rattle.std.specs.declared.alloc.Global.{Global}
 use Rattle.ob0_text.specs.OpenDocuments.{OpenDocuments, Document, InStep, OutOfStep, document_at, none_open}
+use Rattle.ob0_text.specs.declared.positions.Unit.{Unit}
 use Rattle.ob0_text.specs.declared.positions.Unit.TheVariants.{Utf16}
-use Rattle.ob0_session.specs.Answers.{State, Answers}
+use Rattle.ob0_session.specs.Answers.{State, begins, Answers}
 use Rattle.ob0_session.specs.Standing.{Standing, serving, failed}
 use Rattle.ob0_session.specs.declared.server.Phase.TheVariants.{Running}
+use Rattle.ob0_editor.specs.Beginning.{client_for}
 use Rattle.ob0_editor.specs.Heard.{heard, Says}
 use Rattle.ob0_editor.specs.Understood.{understood}
 use Rattle.ob0_editor.specs.Code.{applied_of}
 use Rattle.ob0_editor.specs.declared.applied.Applied as applied
-use Rattle.ob0_ends.specs.Ends.{Asked, Editor, ToServer, ToEditor, publishes, answers, Made, Ends}
+use Rattle.ob0_ends.specs.Ends.{Asked, Editor, ToServer, ToEditor, publishes, answers, Made, Ends, start}
 use Rattle.ob0_ends.specs.Happens.{nothing, sent}
 use Rattle.ob0_world.specs.declared.events.Seen as seen
 use Rattle.ob0_world.specs.declared.played.Made as made
@@ -52,6 +54,18 @@ abbrev pub held_by : Standing → OpenDocuments
 held_by (serving s) = s.held
 held_by failed = none_open Utf16
 
+-- A session that was initialized by this editor, and was told nothing else: it runs with such a client, counts positions in
+-- this unit and holds no document.
+pub record IsInitialized (unit : Unit) (session : Standing) : Type 0 where
+  pub state : State
+  pub serves : session ≡ serving state
+  pub runs : IsRunning state
+  pub holds_none : state.held ≡ none_open unit
+
+-- the session that the editor's `initialize` makes
+abbrev pub new_session : Unit → Standing
+new_session unit = serving (begins (client_for unit))
+
 -- ---- publications
 
 -- what a publication with a version was made for: the text that is held now
@@ -88,6 +102,18 @@ ends_from e to_server session to_editor applied made =
       applied = map applied_of applied;
       made = map made_of made;
     }
+
+-- both ends, and the session that the server is
+pub record Both : Type 0 where
+  pub ends : Ends
+  pub session : Standing
+
+abbrev pub both_from : Editor → Contents → Standing → Contents → List applied.Applied → List made.Made → Both
+both_from e to_server session to_editor applied made = record { ends = ends_from e to_server session to_editor applied made; session = session }
+
+-- nothing has happened yet
+abbrev pub new_both : Unit → Both
+new_both unit = record { ends = start unit; session = new_session unit }
 
 -- ---- the steps of a server's turn
 

@@ -5,21 +5,25 @@ use Rattle.ob0_world.specs.declared.events.Event as event
 use Rattle.ob0_world.specs.declared.played.Played as played
 use Rattle.ob0_world.specs.declared.faults.WorldFault.{WorldFault}
 use Rattle.ob0_world.specs.declared.faults.WorldFault.TheVariants.{Memory, Ended}
+use Rattle.ob0_session.specs.Standing.{Standing}
 use Rattle.ob0_world.specs.Code.{event_of, all_applied, all_made}
+use Rattle.ob0_world.specs.Queues.{new_session}
 use Rattle.ob0_ends.specs.Ends.{Open, Editor, open_at, Ends, start}
 use Rattle.ob0_ends.specs.Happens.{Event, Seen, Happens, Run}
 use Rattle.ob0_ends.specs.Headline.{Holds}
 
 pub record World : Type 0 where
   pub ends : Ends
+  -- the server, as its session stands
+  pub session : Standing
   -- how many steps were made
   pub steps : ℕ
   -- whether memory was refused
   pub ended : Bool
 
--- nothing was done yet
+-- nothing was done yet but that the editor has initialized the session
 abbrev pub new_world : Unit → World
-new_world unit = record { ends = start unit; steps = 0; ended = false }
+new_world unit = record { ends = start unit; session = new_session unit; steps = 0; ended = false }
 
 -- what is counted has risen by one a step at most
 pub record Within (n : ℕ) (e : Editor) : Type 0 where

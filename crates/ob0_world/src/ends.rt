@@ -6,11 +6,10 @@ ghost use Rattle.ob0_session.specs.Standing.{failed};
 ghost use Rattle.ob0_editor.specs.Code.{ask_of};
 ghost use Rattle.ob0_editor.specs.Moves.{AreFew};
 ghost use Rattle.ob0_editor.specs.Understood.{understood};
-ghost use Rattle.ob0_ends.specs.Ends.{start};
 ghost use Rattle.ob0_ends.specs.Happens as events;
 ghost use Rattle.ob0_ends.specs.Happens.{Happens, open_document, change_document, close_document, ask_about, take_message};
 ghost use Rattle.ob0_world.specs.Code.{event_of, seen_of, made_of};
-ghost use Rattle.ob0_world.specs.Queues.{IsAnswered, IsSent, made_for, made_of_document, made_sent};
+ghost use Rattle.ob0_world.specs.Queues.{new_both, IsAnswered, IsSent, made_for, made_of_document, made_sent};
 ghost use Rattle.ob0_world.specs.Worlds.{HasCome, SameHistory};
 
 use crate::events::{Event, Seen};
@@ -38,14 +37,13 @@ impl<T: TextStore> Model for Ends<T> {
     ghost use Rattle.std.specs.Coded.{codes};
     ghost use Rattle.ob0_text.specs.OpenDocuments.{documents_code};
     ghost use Rattle.ob0_editor.specs.Entries.{open_documents_code};
-    ghost use Rattle.ob0_ends.specs.Ends as ends;
-    ghost use Rattle.ob0_world.specs.Queues.{Sound, ends_from};
+    ghost use Rattle.ob0_world.specs.Queues.{Sound, Both, both_from};
 
-    ghost Value = { ends.Ends };
+    ghost Value = { Both };
 
     ghost coded = { Prim.hlevel (codes, documents_code, open_documents_code) };
 
-    ghost view = { λ w. ends_from w.editor w.to_server.items w.session w.to_editor.items w.applied.items w.made.items };
+    ghost view = { λ w. both_from w.editor w.to_server.items w.session w.to_editor.items w.applied.items w.made.items };
 
     ghost invariant = { λ w. Sound w.editor.asked w.to_server.items w.to_editor.items w.session };
 }
@@ -53,7 +51,7 @@ impl<T: TextStore> Model for Ends<T> {
 impl<T: TextStore> Ends<T> {
     /// An editor with no document and a session that has begun, both of which count positions in this unit.
     pub fn new(alloc: Global, unit: Unit) -> Result<Ends<T>, AllocError>
-        ensures { IfOk result (λ w. w ≡ start unit) }
+        ensures { IfOk result (λ w. w ≡ new_both unit) }
     {
         let mut session = Session::new(alloc);
         let content = initialize(alloc, unit)?;
@@ -71,7 +69,7 @@ impl<T: TextStore> Ends<T> {
 
     /// What has come of the events.
     pub fn into_played(self) -> Played
-        ensures { HasCome self result }
+        ensures { HasCome self.ends result }
     {
         Played {
             applied: self.applied,
@@ -81,9 +79,9 @@ impl<T: TextStore> Ends<T> {
 
     /// What an event does.
     pub fn make(&mut self, event: &Event) -> Result<Seen, AllocError>
-        requires { AreFew self.old.editor }
-        ensures ok { IfOk result (λ seen. Happens self.old (event_of event.now) (seen_of seen) self.new) }
-        ensures err { OnErr result (SameHistory self.old self.new) }
+        requires { AreFew self.old.ends.editor }
+        ensures ok { IfOk result (λ seen. Happens self.old.ends (event_of event.now) (seen_of seen) self.new.ends) }
+        ensures err { OnErr result (SameHistory self.old.ends self.new.ends) }
     {
         match event {
             Event::OpenDoc { uri, text } => self.open(uri.as_str(), text.as_str()),
@@ -98,35 +96,35 @@ impl<T: TextStore> Ends<T> {
     }
 
     fn open(&mut self, uri: &str, text: &str) -> Result<Seen, AllocError>
-        requires { AreFew self.old.editor }
-        ensures ok { IfOk result (λ seen. Happens self.old (open_document uri.now (chars text.now)) (seen_of seen) self.new) }
-        ensures err { OnErr result (SameHistory self.old self.new) }
+        requires { AreFew self.old.ends.editor }
+        ensures ok { IfOk result (λ seen. Happens self.old.ends (open_document uri.now (chars text.now)) (seen_of seen) self.new.ends) }
+        ensures err { OnErr result (SameHistory self.old.ends self.new.ends) }
     {
         let content = self.editor.open(uri, text)?;
         send(&mut self.to_server, content)
     }
 
     fn change(&mut self, uri: &str, changes: &[Change]) -> Result<Seen, AllocError>
-        requires { AreFew self.old.editor }
-        ensures ok { IfOk result (λ seen. Happens self.old (change_document uri.now (map told_change changes.now)) (seen_of seen) self.new) }
-        ensures err { OnErr result (SameHistory self.old self.new) }
+        requires { AreFew self.old.ends.editor }
+        ensures ok { IfOk result (λ seen. Happens self.old.ends (change_document uri.now (map told_change changes.now)) (seen_of seen) self.new.ends) }
+        ensures err { OnErr result (SameHistory self.old.ends self.new.ends) }
     {
         let content = self.editor.change(uri, changes)?;
         send(&mut self.to_server, content)
     }
 
     fn close(&mut self, uri: &str) -> Result<Seen, AllocError>
-        ensures ok { IfOk result (λ seen. Happens self.old (close_document uri.now) (seen_of seen) self.new) }
-        ensures err { OnErr result (SameHistory self.old self.new) }
+        ensures ok { IfOk result (λ seen. Happens self.old.ends (close_document uri.now) (seen_of seen) self.new.ends) }
+        ensures err { OnErr result (SameHistory self.old.ends self.new.ends) }
     {
         let content = self.editor.close(uri)?;
         send(&mut self.to_server, content)
     }
 
     fn ask(&mut self, uri: &str, ask: &Ask) -> Result<Seen, AllocError>
-        requires { AreFew self.old.editor }
-        ensures ok { IfOk result (λ seen. Happens self.old (ask_about uri.now (ask_of ask.now)) (seen_of seen) self.new) }
-        ensures err { OnErr result (SameHistory self.old self.new) }
+        requires { AreFew self.old.ends.editor }
+        ensures ok { IfOk result (λ seen. Happens self.old.ends (ask_about uri.now (ask_of ask.now)) (seen_of seen) self.new.ends) }
+        ensures err { OnErr result (SameHistory self.old.ends self.new.ends) }
     {
         let content = self.editor.ask(uri, ask)?;
         send(&mut self.to_server, content)
@@ -135,8 +133,8 @@ impl<T: TextStore> Ends<T> {
     /// The server takes one message, and sends what it answers. What it publishes with a version is made for the text
     /// that it holds then.
     fn serve(&mut self) -> Result<Seen, AllocError>
-        ensures ok { IfOk result (λ seen. Happens self.old events.serve (seen_of seen) self.new) }
-        ensures err { OnErr result (SameHistory self.old self.new) }
+        ensures ok { IfOk result (λ seen. Happens self.old.ends events.serve (seen_of seen) self.new.ends) }
+        ensures err { OnErr result (SameHistory self.old.ends self.new.ends) }
     {
         let Some(content) = self.to_server.pop_front() else {
             return Ok(Seen::Nothing);
@@ -157,8 +155,8 @@ impl<T: TextStore> Ends<T> {
     }
 
     fn take(&mut self) -> Result<Seen, AllocError>
-        ensures ok { IfOk result (λ seen. Happens self.old take_message (seen_of seen) self.new) }
-        ensures err { OnErr result (SameHistory self.old self.new) }
+        ensures ok { IfOk result (λ seen. Happens self.old.ends take_message (seen_of seen) self.new.ends) }
+        ensures err { OnErr result (SameHistory self.old.ends self.new.ends) }
     {
         let Some(content) = self.to_editor.pop_front() else {
             return Ok(Seen::Nothing);
@@ -180,9 +178,9 @@ impl<T: TextStore> Ends<T> {
     }
 
     fn apply(&mut self, k: u64) -> Result<Seen, AllocError>
-        requires { AreFew self.old.editor }
-        ensures ok { IfOk result (λ seen. Happens self.old (events.apply k) (seen_of seen) self.new) }
-        ensures err { OnErr result (SameHistory self.old self.new) }
+        requires { AreFew self.old.ends.editor }
+        ensures ok { IfOk result (λ seen. Happens self.old.ends (events.apply k) (seen_of seen) self.new.ends) }
+        ensures err { OnErr result (SameHistory self.old.ends self.new.ends) }
     {
         match self.editor.apply(k)? {
             Applying::NotHeld => Ok(Seen::Nothing),
@@ -196,7 +194,7 @@ impl<T: TextStore> Ends<T> {
     }
 
     fn discard(&mut self, k: u64) -> Seen
-        ensures { Happens self.old (events.discard k) (seen_of result) self.new }
+        ensures { Happens self.old.ends (events.discard k) (seen_of result) self.new.ends }
     {
         if self.editor.discard(k) {
             Seen::Dropped { k }

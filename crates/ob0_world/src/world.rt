@@ -6,6 +6,7 @@ ghost use Rattle.ob0_ends.specs.Ends.{start};
 ghost use Rattle.ob0_ends.specs.Headline.{Holds};
 ghost use Rattle.ob0_ends.specs.Played.{AreApplied, ArePublished, AreLatest, MirrorsInTheEnd};
 ghost use Rattle.ob0_world.specs.Code.{event_of, seen_of, all_applied, all_made};
+ghost use Rattle.ob0_world.specs.Queues.{IsInitialized};
 ghost use Rattle.ob0_world.specs.Worlds.{new_world, HasCome, Plays, PlaysBefore, Steps, Fails};
 ghost use Rattle.ob0_world.specs.declared.faults.WorldFault.TheVariants.{Memory};
 
@@ -37,23 +38,26 @@ impl<T: TextStore> Model for World<T> {
 
     ghost coded = { Prim.hlevel (codes, documents_code, open_documents_code) };
 
-    ghost view = { λ w. record { ends = w.ends; steps = w.steps; ended = w.has_ended } };
+    ghost view = { λ w. record { ends = w.ends.ends; session = w.ends.session; steps = w.steps; ended = w.has_ended } };
 
-    ghost invariant = { λ w. w.has_ended ≡ false → Within w.steps w.ends.editor × IsReached w.ends };
+    ghost invariant = { λ w. w.has_ended ≡ false → Within w.steps w.ends.ends.editor × IsReached w.ends.ends };
 }
 
 impl<T: TextStore> World<T> {
-    /// Both ends count positions in UTF-16 units.
+    /// No document is open and nothing waits. The editor has initialized the session, which writes edits with the versions of
+    /// their documents and offers code actions as literals. Both ends count positions in UTF-16 units.
     pub fn new(alloc: Global) -> Result<World<T>, WorldFault>
         ensures start { IfOk result (λ w. w ≡ new_world Utf16) }
+        ensures initialized { IfOk result (λ w. IsInitialized Utf16 w.session) }
         ensures err { IfErr result (λ fault. fault ≡ Memory) }
     {
         World::new_in(alloc, Unit::Utf16)
     }
 
-    /// Both ends count positions in this unit.
+    /// The same, where both ends count positions in this unit.
     pub fn new_in(alloc: Global, unit: Unit) -> Result<World<T>, WorldFault>
         ensures start { IfOk result (λ w. w ≡ new_world unit) }
+        ensures initialized { IfOk result (λ w. IsInitialized unit w.session) }
         ensures err { IfErr result (λ fault. fault ≡ Memory) }
     {
         match Ends::new(alloc, unit) {

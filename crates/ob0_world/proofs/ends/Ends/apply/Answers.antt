@@ -1,10 +1,10 @@
-use Rattle.std.proofs.Common.{subst}
+use Rattle.std.proofs.Common.{ap, subst}
 use Rattle.std.specs.Prelude.{is_ok}
 use Rattle.ob0_editor.specs.Moves.{ComesOf}
 use Rattle.ob0_ends.specs.Ends.{Ends}
 use Rattle.ob0_ends.specs.Editing.{applies_answer, held_answer}
 use Rattle.ob0_ends.specs.Happens.{Is, comes_of, applies}
-use Rattle.ob0_world.specs.Queues.{ends_from}
+use Rattle.ob0_world.specs.Queues.{Both, ends_from}
 use Rattle.ob0_world.proofs.Moved.{same_sound, comes_asks, apply_keeps_asks, made_says, made_happens, maybe_pushed}
 use Rattle.ob0_world.proofs.ends.Ends.apply.Goals as goal
 
@@ -50,7 +50,7 @@ invariant_of-self-in-Made g c =
 pub returns-in_ok-push-in-Made-clause-ok : goal.returns-in_ok-push-in-Made-clause-ok
 returns-in_ok-push-in-Made-clause-ok g c =
     subst (λ (w : Ends). Is (comes_of w c.args.k (applies_answer w.editor c.args.k (held_answer c.args.k w.editor.answers))) (applies c.args.k)
-    (ends_from c.apply.new.self c.push_back.new.self.items c.self.inside.session c.self.inside.to_editor.items c.push.new.self.items c.self.inside.made.items)) c.self.view_is
+    (ends_from c.apply.new.self c.push_back.new.self.items c.self.inside.session c.self.inside.to_editor.items c.push.new.self.items c.self.inside.made.items)) (ap (λ (w : Both). w.ends) c.self.view_is)
     (made_happens c.self.inside.editor c.apply.new.self c.args.k (applies_answer c.self.inside.editor c.args.k (held_answer c.args.k c.self.inside.editor.answers)) c.in-Made.applied c.in-Made.content
     c.self.inside.to_server.items c.push_back.new.self.items c.self.inside.to_editor.items c.self.inside.session c.self.inside.applied.items c.push.new.self.items c.self.inside.made.items
     (apply_keeps_asks c.self.inside.editor c.args.k (held_answer c.args.k c.self.inside.editor.answers))

@@ -1,5 +1,7 @@
+use Rattle.std.proofs.Common.{ap}
 use Rattle.ob0_ends.specs.Ends.{Editor, open_at}
 use Rattle.ob0_ends.specs.Editing.{closes_document}
+use Rattle.ob0_world.specs.Queues.{Both}
 use Rattle.ob0_world.proofs.Moved.{sent_sound, sent_happens, close_extends}
 use Rattle.ob0_world.proofs.ends.Ends.close.Goals as goal
 
@@ -10,5 +12,5 @@ invariant_of-self-2 g c =
 
 pub returns-clause-ok : goal.returns-clause-ok
 returns-clause-ok g c =
-    sent_happens (λ (e : Editor). closes_document e c.args.uri.now (open_at e c.args.uri.now)) c.args.self.now c.self.inside.editor c.close.new.self c.in_ok-content.content c.self.inside.to_server.items c.send.new.queue.items c.self.inside.to_editor.items c.self.inside.session
-    c.self.inside.applied.items c.self.inside.made.items c.send.result c.self.view_is (close_extends c.self.inside.editor c.args.uri.now (open_at c.self.inside.editor c.args.uri.now)) c.in_ok-content.ensures.ok c.send.ensures.ok c.self.invariant
+    sent_happens (λ (e : Editor). closes_document e c.args.uri.now (open_at e c.args.uri.now)) c.args.self.now.ends c.self.inside.editor c.close.new.self c.in_ok-content.content c.self.inside.to_server.items c.send.new.queue.items c.self.inside.to_editor.items c.self.inside.session
+    c.self.inside.applied.items c.self.inside.made.items c.send.result (ap (λ (w : Both). w.ends) c.self.view_is) (close_extends c.self.inside.editor c.args.uri.now (open_at c.self.inside.editor c.args.uri.now)) c.in_ok-content.ensures.ok c.send.ensures.ok c.self.invariant

@@ -6,14 +6,14 @@ use Rattle.ob0_world.proofs.Stepping.{reached_more, reached_holds}
 use Rattle.ob0_world.proofs.world.World.step.Goals as goal
 
 pub make-requires : goal.make-requires
-make-requires g c = few c.self.inside.steps c.self.inside.ends.editor (c.self.invariant c.if-self.false).0 (subst (λ (w : World). w.steps < 2 ^ 63 - 1) (sym c.self.view_is) c.requires.few)
+make-requires g c = few c.self.inside.steps c.self.inside.ends.ends.editor (c.self.invariant c.if-self.false).0 (subst (λ (w : World). w.steps < 2 ^ 63 - 1) (sym c.self.view_is) c.requires.few)
 
 pub invariant_of-self : goal.invariant_of-self
 invariant_of-self g c = λ goes_on. (
-  within_step c.self.inside.steps c.self.inside.ends (c.self.invariant c.if-self.false).0 (event_of c.args.event.now) (seen_of c.in-Ok.seen) c.make.new.self c.in-Ok.ensures.ok,
-  reached_more c.self.inside.ends (event_of c.args.event.now) (seen_of c.in-Ok.seen) c.make.new.self (c.self.invariant c.if-self.false).1 c.in-Ok.ensures.ok,
+  within_step c.self.inside.steps c.self.inside.ends.ends (c.self.invariant c.if-self.false).0 (event_of c.args.event.now) (seen_of c.in-Ok.seen) c.make.new.self.ends c.in-Ok.ensures.ok,
+  reached_more c.self.inside.ends.ends (event_of c.args.event.now) (seen_of c.in-Ok.seen) c.make.new.self.ends (c.self.invariant c.if-self.false).1 c.in-Ok.ensures.ok,
 )
 
 pub returns-in-Ok-clause-holds : goal.returns-in-Ok-clause-holds
 returns-in-Ok-clause-holds g c =
-    reached_holds c.make.new.self (reached_more c.self.inside.ends (event_of c.args.event.now) (seen_of c.in-Ok.seen) c.make.new.self (c.self.invariant c.if-self.false).1 c.in-Ok.ensures.ok)
+    reached_holds c.make.new.self.ends (reached_more c.self.inside.ends.ends (event_of c.args.event.now) (seen_of c.in-Ok.seen) c.make.new.self.ends (c.self.invariant c.if-self.false).1 c.in-Ok.ensures.ok)
