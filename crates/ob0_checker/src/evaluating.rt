@@ -11,7 +11,7 @@ ghost use Rattle.ob0_typing.specs.Typing.{given_value};
 use crate::names::Names;
 use ob0_symbols::number_at;
 use ob0_symbols::operators::{added, complement, multiplied, related, with_sign};
-use ob0_tree::{Designator, Expression, Factor, Simple, Term};
+use ob0_tree::{Comparison, Designator, Expression, Factor, Simple, Term};
 use ob0_values::Scalar;
 
 impl<'a, 't> Names<'a, 't> {
@@ -44,6 +44,7 @@ impl<'a, 't> Names<'a, 't> {
         match &e.compared {
             None => left,
             Some(compared) => {
+                let compared: &Comparison = compared;
                 let right = self.evaluate_simple(&compared.right);
                 related(compared.relation, left, right)
             }

@@ -5,7 +5,7 @@ ghost use Rattle.ob0_tree.specs.View.{designator_of, expression_of, factor_of, s
 
 use crate::names::Names;
 use ob0_symbols::{TypeId, added, complement, multiplied, related, with_sign};
-use ob0_tree::{Designator, Expression, Factor, Selector, Simple, Term};
+use ob0_tree::{Comparison, Designator, Expression, Factor, Selector, Simple, Term};
 
 impl<'a, 't> Names<'a, 't> {
     ghost use Rattle.ob0_symbols.specs.KnownTables.{label_object, shapes_of};
@@ -26,6 +26,7 @@ impl<'a, 't> Names<'a, 't> {
         match &e.compared {
             None => left,
             Some(compared) => {
+                let compared: &Comparison = compared;
                 let right = self.type_of_simple(&compared.right);
                 related(compared.relation, left, right)
             }

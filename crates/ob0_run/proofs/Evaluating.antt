@@ -1,5 +1,7 @@
 -- Steps of the evaluation of chains: operands from left to right, and selectors.
 use Rattle.std.proofs.Common.{◌≡◌, ℕ, ◌+◌, ◌<◌, ◌≤◌, List, [], ◌∷◌, ◌++◌, length, get_or, drop, refl, sym, ap, ◌∙◌, subst, append_assoc, append-nil, pos, Err, Some, None, Option, Result, option_and_then, unwrap_or}
+use Rattle.std.specs.declared.boxed.Box.{Box}
+use Rattle.std.specs.declared.alloc.Global.{Global}
 use Rattle.std.proofs.lemmas.List.{drop_all, drop_more}
 use Rattle.ob0_tree.specs.Tree.{Tree, adds, addend, compares, comparison, designator, end, expression, factor, field, index, integer, item, items, maybe, more, multiplies, multiplier, negation, none, one, parenthesised, product, relates, selector, simple, sum, term}
 use Rattle.ob0_tree.specs.declared.tree.Expression.{Expression, out-Expression, roll-out-Expression, back-Expression-compared}
@@ -116,13 +118,13 @@ unfolding evaluate
 negation-split m s f = refl
 
 -- trees by the fields of their nodes
-abbrev pub compared_in : Option Comparison → Tree ℕ (maybe comparison)
+abbrev pub compared_in : Option (Box Comparison Global) → Tree ℕ (maybe comparison)
 compared_in None = none
-compared_in (Some c) = one (relates (out-Comparison c).relation (simple_of (out-Comparison c).right))
+compared_in (Some c) = one (relates (out-Comparison c.value).relation (simple_of (out-Comparison c.value).right))
 
-compared_back : (o : Option Comparison) → compared_of (back-Expression-compared o) ≡ compared_in o
+compared_back : (o : Option (Box Comparison Global)) → compared_of (back-Expression-compared o) ≡ compared_in o
 compared_back None = refl
-compared_back (Some c) = ap one (sym (ap comparison_of (roll-out-Comparison c)) ∙ comparison_made (out-Comparison c))
+compared_back (Some c) = ap one (sym (ap comparison_of (roll-out-Comparison c.value)) ∙ comparison_made (out-Comparison c.value))
 
 pub expression_parts : (e : Expression) → expression_of e ≡ compares (simple_of (out-Expression e).left) (compared_in (out-Expression e).compared)
 expression_parts e = sym (ap expression_of (roll-out-Expression e)) ∙ expression_made (out-Expression e) ∙ ap (compares (simple_of (out-Expression e).left)) (compared_back (out-Expression e).compared)
@@ -284,10 +286,11 @@ pub expression_alone : (s : Scene) (e : Expression) (x : Value) → evaluate_sim
 expression_alone s e x left alone = expression_worth s e ∙ ap (λ o. o >>= (λ x. compared_by (meaning_in s) (held_in s) x (read_in s (compared_in (out-Expression e).compared)))) left
     ∙ ap (λ o. compared_by (meaning_in s) (held_in s) x (read_in s (compared_in o))) alone
 
-pub expression_pair : (s : Scene) (e : Expression) (x : Value) (c : Comparison) → evaluate_simple (meaning_in s) (held_in s) (read_in s (simple_of (out-Expression e).left)) ≡ gives x → (out-Expression e).compared ≡ Some c
-    → evaluate (meaning_in s) (held_in s) (read_in s (expression_of e)) ≡ (evaluate_simple (meaning_in s) (held_in s) (read_in s (simple_of (out-Comparison c).right)) >>= (λ y. relate (out-Comparison c).relation x y))
-expression_pair s e x c left pair = expression_worth s e ∙ ap (λ o. o >>= (λ x. compared_by (meaning_in s) (held_in s) x (read_in s (compared_in (out-Expression e).compared)))) left
+pub expression_pair : (s : Scene) (e : Expression) (x : Value) (c : Box Comparison Global) (k : Comparison) → k ≡ c.value → evaluate_simple (meaning_in s) (held_in s) (read_in s (simple_of (out-Expression e).left)) ≡ gives x → (out-Expression e).compared ≡ Some c
+    → evaluate (meaning_in s) (held_in s) (read_in s (expression_of e)) ≡ (evaluate_simple (meaning_in s) (held_in s) (read_in s (simple_of (out-Comparison k).right)) >>= (λ y. relate (out-Comparison k).relation x y))
+expression_pair s e x c k same left pair = expression_worth s e ∙ ap (λ o. o >>= (λ x. compared_by (meaning_in s) (held_in s) x (read_in s (compared_in (out-Expression e).compared)))) left
     ∙ ap (λ o. compared_by (meaning_in s) (held_in s) x (read_in s (compared_in o))) pair
+    ∙ ap (λ k. evaluate_simple (meaning_in s) (held_in s) (read_in s (simple_of (out-Comparison k).right)) >>= (λ y. relate (out-Comparison k).relation x y)) (sym same)
 
 pub simple_worth : (s : Scene) (x : Simple) → evaluate_simple (meaning_in s) (held_in s) (read_in s (simple_of x))
     ≡ (evaluate_term (meaning_in s) (held_in s) (read_in s (term_of (out-Simple x).first)) >>= (λ a. signed (out-Simple x).sign a >>= (λ y. evaluate_addends (meaning_in s) (held_in s) y (read_in s (items_of addend_of (out-Simple x).more.items)))))

@@ -1,5 +1,7 @@
 -- What the quick way finds: of each node, from what it finds of the node's parts.
 use Rattle.std.proofs.Common.{◌≡◌, ℕ, ◌+◌, ◌<◌, ◌≤◌, Bool, List, [], ◌∷◌, length, get_or, drop, refl, sym, ap, ◌∙◌, subst, None, Some, Option, arith}
+use Rattle.std.specs.declared.boxed.Box.{Box}
+use Rattle.std.specs.declared.alloc.Global.{Global}
 use Rattle.std.proofs.lemmas.List.{drop_all, drop_more}
 use Rattle.std.specs.Prelude.{option_and_then, option_map, slice_get}
 use denote.Ref.{Bor}
@@ -42,10 +44,10 @@ pub alone_found : {A : Type 0} (view : A → Value) (s : Scene) (e : Expression)
 alone_found view s e None alone h = tt
 alone_found view s e (Some x) alone h = expression_alone s e (view x) h alone
 
-pub pair_found : (s : Scene) (e : Expression) (x : Value) (c : Comparison) (o : Option Bool) → evaluate_simple (meaning_in s) (held_in s) (read_in s (simple_of (out-Expression e).left)) ≡ gives x
-    → (out-Expression e).compared ≡ Some c → Finds truth o (related_to (meaning_in s) (held_in s) x (read_in s (comparison_of c))) → Finds truth o (evaluate (meaning_in s) (held_in s) (read_in s (expression_of e)))
-pair_found s e x c o left pair h = finds_same truth o _ _
-    (ap (λ t. related_to (meaning_in s) (held_in s) x (read_in s t)) (comparison_parts c) ∙ sym (expression_pair s e x c left pair)) h
+pub pair_found : (s : Scene) (e : Expression) (x : Value) (c : Box Comparison Global) (k : Comparison) (o : Option Bool) → k ≡ c.value → evaluate_simple (meaning_in s) (held_in s) (read_in s (simple_of (out-Expression e).left)) ≡ gives x
+    → (out-Expression e).compared ≡ Some c → Finds truth o (related_to (meaning_in s) (held_in s) x (read_in s (comparison_of k))) → Finds truth o (evaluate (meaning_in s) (held_in s) (read_in s (expression_of e)))
+pair_found s e x c k o same left pair h = finds_same truth o _ _
+    (ap (λ t. related_to (meaning_in s) (held_in s) x (read_in s t)) (comparison_parts k) ∙ sym (expression_pair s e x c k same left pair)) h
 
 -- factors
 pub designator_found : {A : Type 0} (view : A → Value) (s : Scene) (f : Factor) (d : code_designator.Designator) (o : Option A) (v : Value) → f ≡ Designator d

@@ -14,7 +14,7 @@ use crate::operands::scalar_of;
 use crate::scene::{Ending, Meant, Scene, Stop};
 use ob0_checker::array_length;
 use ob0_symbols::{TypeId, added, complement, multiplied, related, scalar_type, with_sign};
-use ob0_tree::{Designator, Expression, Factor, Simple, Term};
+use ob0_tree::{Comparison, Designator, Expression, Factor, Simple, Term};
 use ob0_values::Value;
 
 /// The type of a constant. Only numbers and truths have one.
@@ -70,6 +70,7 @@ impl<'r, 't> Scene<'r, 't> {
         match &e.compared {
             None => left,
             Some(compared) => {
+                let compared: &Comparison = compared;
                 let right = self.type_of_simple(&compared.right);
                 related(compared.relation, left, right)
             }

@@ -14,7 +14,9 @@ use crate::operands::{
     with_sign,
 };
 use crate::scene::{Ending, Meant, Scene, Stop};
-use ob0_tree::{Addend, Designator, Expression, Factor, Multiplier, Selector, Simple, Term};
+use ob0_tree::{
+    Addend, Comparison, Designator, Expression, Factor, Multiplier, Selector, Simple, Term,
+};
 use ob0_values::value::{at_path, copied, count, further, part, read_place};
 use ob0_values::{Place, Scalar, Step, Value};
 use std::alloc::Global;
@@ -124,6 +126,7 @@ impl<'r, 't> Scene<'r, 't> {
         match &e.compared {
             None => Ok(left),
             Some(compared) => {
+                let compared: &Comparison = compared;
                 let right = self.simple(&compared.right)?;
                 Ok(related(compared.relation, &left, &right)?)
             }

@@ -18,8 +18,8 @@ expression_alone e h =
     sym (ap expression_of (roll-out-Expression e)) ∙ expression_made (out-Expression e)
     ∙ ap (λ c. compares (simple_of (out-Expression e).left) (compared_of (back-Expression-compared c))) h
 
-pub expression_related : (e : Expression) (c : _) → (out-Expression e).compared ≡ Some c → expression_of e ≡ compares (simple_of (out-Expression e).left) (one (relates (out-Comparison c).relation (simple_of (out-Comparison c).right)))
+pub expression_related : (e : Expression) (c : _) → (out-Expression e).compared ≡ Some c → expression_of e ≡ compares (simple_of (out-Expression e).left) (one (relates (out-Comparison c.value).relation (simple_of (out-Comparison c.value).right)))
 expression_related e c h =
     sym (ap expression_of (roll-out-Expression e)) ∙ expression_made (out-Expression e)
     ∙ ap (λ o. compares (simple_of (out-Expression e).left) (compared_of (back-Expression-compared o))) h
-    ∙ ap (λ t. compares (simple_of (out-Expression e).left) (one t)) (comparison_parts c)
+    ∙ ap (λ t. compares (simple_of (out-Expression e).left) (one t)) (comparison_parts c.value)

@@ -16,5 +16,5 @@ returns-in-None c =
 pub returns-in-Some : goal.returns-in-Some
 returns-in-Some c =
     let left = simple_of (out-Expression c.args.e.now).left in
-    let compared = out-Comparison c.in-Some.field-0 in
+    let compared = out-Comparison c.in-Some.field-0.value in
     sym (compared_designated left (relates compared.relation (simple_of compared.right))) ∙ sym (ap designated (expression_related c.args.e.now c.in-Some.field-0 c.in-Some.is))

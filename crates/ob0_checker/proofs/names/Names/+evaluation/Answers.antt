@@ -5,6 +5,7 @@ use Rattle.ob0_tree.specs.declared.tree.Comparison.{out-Comparison}
 use Rattle.ob0_tree.specs.declared.tree.Expression.{out-Expression}
 use Rattle.ob0_tree.specs.declared.tree.Simple.{out-Simple}
 use Rattle.ob0_tree.specs.declared.tree.Term.{out-Term}
+use Rattle.ob0_tree.specs.Tree.{compares, one, relates}
 use Rattle.ob0_tree.specs.View.{items_of, addend_of, multiplier_of, term_of, factor_of, simple_of}
 use Rattle.ob0_checker.specs.Constants.{constants_in, value_added}
 use Rattle.ob0_symbols.specs.Operators.{product_value, sum_value}
@@ -29,13 +30,14 @@ pub evaluate-returns-in-Some : goal.evaluate-returns-in-Some
 evaluate-returns-in-Some t c =
     let m = constants_in c.args.self.now.known.now in
     let r = c.args.self.now.resolved.now in
-    let relation = (out-Comparison c.in-Some.compared).relation in
+    let relation = (out-Comparison c.deref-compared.result.now).relation in
     let left = in_labels r (simple_of (out-Expression c.args.e.now).left) in
-    let right = in_labels r (simple_of (out-Comparison c.in-Some.compared).right) in
+    let right = in_labels r (simple_of (out-Comparison c.deref-compared.result.now).right) in
     c.related.ensures
     ∙ ap (λ x. both (λ x y. given_value (relate relation x y)) x (option_map scalar_value c.evaluate_simple-right.result)) c.evaluate_simple-left.ensures
     ∙ ap (both (λ x y. given_value (relate relation x y)) (given_value (evaluate_simple m [] left))) c.evaluate_simple-right.ensures
     ∙ sym (related_valued m relation left right)
+    ∙ ap (λ k. given_value (evaluate m [] (in_labels r (compares (simple_of (out-Expression c.args.e.now).left) (one (relates (out-Comparison k).relation (simple_of (out-Comparison k).right))))))) c.deref-compared.ensures
     ∙ sym (ap (λ e. given_value (evaluate m [] (in_labels r e))) (expression_related c.args.e.now c.in-Some.compared c.in-Some.is))
 
 pub evaluate_factor-returns-in-Designator : goal.evaluate_factor-returns-in-Designator

@@ -29,16 +29,16 @@ relation-returns-in-None t c =
 pub relation-returns-in_err-right-in-Some : goal.relation-returns-in_err-right-in-Some
 relation-returns-in_err-right-in-Some t c =
     exits value_of c.from_residual-in_err-right-in-Some.result c.in_err-right-in-Some.field-0.0 _ (err_from_is_err_and c.from_residual-in_err-right-in-Some.result c.from_residual-in_err-right-in-Some.ensures.1)
-    (subst (Answers value_of (Err c.in_err-right-in-Some.field-0.0)) (sym (expression_pair c.args.self.now c.args.e.now (value_of c.in_ok-left.left) c.in-Some.compared c.in_ok-left.ensures c.in-Some.is)) (fails value_of value_of c.in_err-right-in-Some.field-0.0 (evaluate_simple (meaning_in c.args.self.now) (held_in c.args.self.now) (read_in c.args.self.now (simple_of (out-Comparison c.in-Some.compared).right))) (λ y. relate (out-Comparison c.in-Some.compared).relation (value_of c.in_ok-left.left) y) c.in_err-right-in-Some.ensures))
+    (subst (Answers value_of (Err c.in_err-right-in-Some.field-0.0)) (sym (expression_pair c.args.self.now c.args.e.now (value_of c.in_ok-left.left) c.in-Some.compared c.deref-compared.result.now c.deref-compared.ensures c.in_ok-left.ensures c.in-Some.is)) (fails value_of value_of c.in_err-right-in-Some.field-0.0 (evaluate_simple (meaning_in c.args.self.now) (held_in c.args.self.now) (read_in c.args.self.now (simple_of (out-Comparison c.deref-compared.result.now).right))) (λ y. relate (out-Comparison c.deref-compared.result.now).relation (value_of c.in_ok-left.left) y) c.in_err-right-in-Some.ensures))
 
 pub relation-returns-in_err-related-in-Some : goal.relation-returns-in_err-related-in-Some
 relation-returns-in_err-related-in-Some t c =
     exits value_of c.from_residual-in_err-related-in-Some.result (stop.Ended c.in_err-related-in-Some.field-0.0) _ (err_from_is_err_and c.from_residual-in_err-related-in-Some.result c.from_residual-in_err-related-in-Some.ensures.1)
-    (expression_pair c.args.self.now c.args.e.now (value_of c.in_ok-left.left) c.in-Some.compared c.in_ok-left.ensures c.in-Some.is ∙ ap (λ o. o >>= (λ y. relate (out-Comparison c.in-Some.compared).relation (value_of c.in_ok-left.left) y)) c.in_ok-right-in-Some.ensures ∙ c.in_err-related-in-Some.ensures)
+    (expression_pair c.args.self.now c.args.e.now (value_of c.in_ok-left.left) c.in-Some.compared c.deref-compared.result.now c.deref-compared.ensures c.in_ok-left.ensures c.in-Some.is ∙ ap (λ o. o >>= (λ y. relate (out-Comparison c.deref-compared.result.now).relation (value_of c.in_ok-left.left) y)) c.in_ok-right-in-Some.ensures ∙ c.in_err-related-in-Some.ensures)
 
 pub relation-returns : goal.relation-returns
 relation-returns t c =
-    expression_pair c.args.self.now c.args.e.now (value_of c.in_ok-left.left) c.in-Some.compared c.in_ok-left.ensures c.in-Some.is ∙ ap (λ o. o >>= (λ y. relate (out-Comparison c.in-Some.compared).relation (value_of c.in_ok-left.left) y)) c.in_ok-right-in-Some.ensures ∙ c.in_ok-related-in-Some.ensures
+    expression_pair c.args.self.now c.args.e.now (value_of c.in_ok-left.left) c.in-Some.compared c.deref-compared.result.now c.deref-compared.ensures c.in_ok-left.ensures c.in-Some.is ∙ ap (λ o. o >>= (λ y. relate (out-Comparison c.deref-compared.result.now).relation (value_of c.in_ok-left.left) y)) c.in_ok-right-in-Some.ensures ∙ c.in_ok-related-in-Some.ensures
 
 pub factor-returns-in_err-held-in-Designator : goal.factor-returns-in_err-held-in-Designator
 factor-returns-in_err-held-in-Designator t c =

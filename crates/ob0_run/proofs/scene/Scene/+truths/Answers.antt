@@ -17,11 +17,11 @@ quick_truth-returns-in-None t c = alone_found truth c.args.self.now c.args.e.now
 pub quick_truth-returns-in-Some-quick_sum : goal.quick_truth-returns-in-Some-quick_sum
 quick_truth-returns-in-Some-quick_sum t c =
     let fits : FitsSigned w32 c.in-Some-quick_sum.a = search rules in
-    pair_found c.args.self.now c.args.e.now (number (to_z w32 (of_z w32 c.in-Some-quick_sum.a))) c.in-Some.compared c.numbers_related.result (c.in-Some-quick_sum.ensures ∙ ap (λ n. gives (number n)) (sym (to_z-of_z w32 c.in-Some-quick_sum.a fits))) c.in-Some.is c.numbers_related.ensures
+    pair_found c.args.self.now c.args.e.now (number (to_z w32 (of_z w32 c.in-Some-quick_sum.a))) c.in-Some.compared c.deref.result.now c.numbers_related.result c.deref.ensures (c.in-Some-quick_sum.ensures ∙ ap (λ n. gives (number n)) (sym (to_z-of_z w32 c.in-Some-quick_sum.a fits))) c.in-Some.is c.numbers_related.ensures
 
 pub quick_truth-returns-in_ok-a-in-None-quick_sum : goal.quick_truth-returns-in_ok-a-in-None-quick_sum
 quick_truth-returns-in_ok-a-in-None-quick_sum t c =
-    pair_found c.args.self.now c.args.e.now (truth c.in_ok-a-in-None-quick_sum.a) c.in-Some.compared c.truths_related.result c.in_ok-a-in-None-quick_sum.ensures c.in-Some.is c.truths_related.ensures
+    pair_found c.args.self.now c.args.e.now (truth c.in_ok-a-in-None-quick_sum.a) c.in-Some.compared c.deref-in-None-quick_sum.result.now c.truths_related.result c.deref-in-None-quick_sum.ensures c.in_ok-a-in-None-quick_sum.ensures c.in-Some.is c.truths_related.ensures
 
 pub truth_of_factor-returns-in_ok-quick_part-in-Designator : goal.truth_of_factor-returns-in_ok-quick_part-in-Designator
 truth_of_factor-returns-in_ok-quick_part-in-Designator t c =

@@ -5,6 +5,7 @@ use Rattle.ob0_tree.specs.declared.tree.Comparison.{out-Comparison}
 use Rattle.ob0_tree.specs.declared.tree.Expression.{out-Expression}
 use Rattle.ob0_tree.specs.declared.tree.Simple.{out-Simple}
 use Rattle.ob0_tree.specs.declared.tree.Term.{out-Term}
+use Rattle.ob0_tree.specs.Tree.{compares, one, relates}
 use Rattle.ob0_tree.specs.View.{expression_of, items_of, addend_of, multiplier_of, term_of, factor_of, simple_of}
 use Rattle.ob0_typing.specs.Selected.{both, type_added}
 use Rattle.ob0_symbols.specs.Tables.{type_shape}
@@ -26,13 +27,14 @@ pub type_of-returns-in-Some : goal.type_of-returns-in-Some
 type_of-returns-in-Some t c =
     let m = constants_in c.args.self.now in
     let s = c.args.self.now in
-    let operation = relation_type (out-Comparison c.in-Some.compared).relation in
+    let operation = relation_type (out-Comparison c.deref-compared.result.now).relation in
     let left = read_in s (simple_of (out-Expression c.args.e.now).left) in
-    let right = read_in s (simple_of (out-Comparison c.in-Some.compared).right) in
+    let right = read_in s (simple_of (out-Comparison c.deref-compared.result.now).right) in
     c.related.ensures []
     ∙ ap (λ x. both operation x (option_map (type_shape []) c.type_of_simple-right.result)) c.type_of_simple-left.ensures
     ∙ ap (both operation (type_of_simple m left)) c.type_of_simple-right.ensures
-    ∙ sym (related_typed m (out-Comparison c.in-Some.compared).relation left right)
+    ∙ sym (related_typed m (out-Comparison c.deref-compared.result.now).relation left right)
+    ∙ ap (λ k. type_of m (read_in s (compares (simple_of (out-Expression c.args.e.now).left) (one (relates (out-Comparison k).relation (simple_of (out-Comparison k).right)))))) c.deref-compared.ensures
     ∙ sym (ap (λ e. type_of m (read_in s e)) (expression_related c.args.e.now c.in-Some.compared c.in-Some.is))
 
 pub type_of_factor-returns-in-Designator : goal.type_of_factor-returns-in-Designator
