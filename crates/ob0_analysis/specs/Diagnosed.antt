@@ -109,9 +109,8 @@ TellsFaults text told = TellsLexemes text told ⊎ (TellsParser text told ⊎ Te
 abbrev pub Tells : List ℕ → List Complaint → Type 0
 Tells text told = (IsWellTypedModule text × (told ≡ [])) ⊎ (¬ IsWellTypedModule text × TellsFaults text told)
 
--- ---- what a text leaves for the next scan
+-- ---- what is kept for the next scan
 
--- its tokens and comments, exactly where it has lexemes and isn't too long
-abbrev pub TokensOf : List ℕ → Option Scanned → Type 0
-TokensOf text (Some scanned) = IsScanOf text scanned
-TokensOf text None = IsScannable text → ⊥
+-- the text's tokens and comments; what was kept before, exactly where it has no lexemes or is too long
+abbrev pub Keeps : List ℕ → Option Scanned → Option Scanned → Type 0
+Keeps text before after = ((scanned : Scanned) × IsScanOf text scanned × (after ≡ Some scanned)) ⊎ ((IsScannable text → ⊥) × (after ≡ before))

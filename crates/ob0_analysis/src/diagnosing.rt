@@ -1,9 +1,9 @@
 //! What is wrong with a text.
 
-ghost use Rattle.std.specs.Prelude.{◌≡◌, ⊤, IfOk, IfErr, map};
+ghost use Rattle.std.specs.Prelude.{◌≡◌, ⊤, IfOk, IfErr, OnOk, map};
 ghost use Rattle.ob0_scan.specs.Scanned.{IsScanOf};
 ghost use Rattle.ob0_scan.specs.Refused.{IsRightRefusal};
-ghost use Rattle.ob0_analysis.specs.Diagnosed.{Tells, TokensOf, complaint_in};
+ghost use Rattle.ob0_analysis.specs.Diagnosed.{Keeps, Tells, complaint_in};
 
 use crate::analysis::{Asked, Question, ask_tokens};
 use crate::diagnoses::{Diagnosis, of_faults};
@@ -26,45 +26,34 @@ impl Question for IsModule {
     }
 }
 
-/// What is wrong with a text, and its tokens where it has lexemes.
-#[derive(Drop)]
-pub struct Diagnosed {
-    pub told: Vec<Diagnosis>,
-    pub tokens: Option<Tokens>,
-}
-
 /// What is wrong with a text, which is nothing exactly for a well-typed module. Faults of its lexemes are told in text order, the
 /// first hundred, and then nothing else; a text that has lexemes and no tree is told by the one place at which the parser
 /// refuses it; of one with a tree the faults of names and types are told, the first hundred.
 pub fn diagnose(alloc: Global, text: &str) -> Result<Vec<Diagnosis>, AllocError>
     ensures { IfOk result (λ list. Tells text.now (map complaint_in list.items)) }
 {
-    let found = diagnose_again(alloc, text, None)?;
-    Ok(found.told)
+    diagnose_again(alloc, text, &mut None)
 }
 
-/// The same, and the text's tokens. What it has in common with the text of other tokens is taken over from these.
+/// The same. What the text has in common with that of the tokens that were kept is taken over from these, and where it has lexemes
+/// its own tokens are kept in their place.
 pub fn diagnose_again(
     alloc: Global,
     text: &str,
-    kept: Option<&Tokens>,
-) -> Result<Diagnosed, AllocError>
-    ensures told { IfOk result (λ found. Tells text.now (map complaint_in found.told.items)) }
-    ensures tokens { IfOk result (λ found. TokensOf text.now found.tokens) }
+    kept: &mut Option<Tokens>,
+) -> Result<Vec<Diagnosis>, AllocError>
+    ensures told { IfOk result (λ list. Tells text.now (map complaint_in list.items)) }
+    ensures keeps { OnOk result (Keeps text.now kept.old kept.new) }
 {
-    match scan_again(alloc, text, kept) {
+    match scan_again(alloc, text, kept.as_ref()) {
         Ok(tokens) => {
+            *kept = None;
             let told = diagnose_tokens(alloc, &tokens)?;
-            Ok(Diagnosed {
-                told,
-                tokens: Some(tokens),
-            })
+            *kept = Some(tokens);
+            Ok(told)
         }
         Err(refusal) => match refusal {
-            ScanRefusal::Faults(faults) => Ok(Diagnosed {
-                told: of_faults(alloc, faults.as_slice())?,
-                tokens: None,
-            }),
+            ScanRefusal::Faults(faults) => of_faults(alloc, faults.as_slice()),
             ScanRefusal::Memory => Err(AllocError),
         },
     }

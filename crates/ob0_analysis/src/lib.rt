@@ -8,4 +8,4 @@ mod differences;
 
 pub use analysis::{Asked, Question, ask};
 pub use diagnoses::Diagnosis;
-pub use diagnosing::{Diagnosed, diagnose, diagnose_again};
+pub use diagnosing::{diagnose, diagnose_again};

@@ -76,7 +76,7 @@ formats unit indent text edits names m is h same made u lexed law =
     let source = names.module_read.source in
     lays_out unit indent text edits w (is_made.0 scan) (is_made.2 scan same) (is_made.1 scan) (u indent source scan w.tree) (lexed indent source scan w.tree w.text_of.module_of) law
 
--- the refusal, which isn't want of memory
+-- the refusal, where memory didn't run out
 pub too_long : (indent : Indent) (text : List ℕ) (names : Resolution) (m : Parsed) (refusal : EditRefusal) → m ≡ names.module_read → IsModuleIn (utf8 text) names
     → ((scan : IsScan m.source) → refusal ≡ TooLong → max_text < length (layout indent (named_tree_of m) scan.lexemes))
     → (refusal ≡ TooLong) ⊎ (refusal ≡ Memory) → (refusal ≡ Memory → ⊥) → (refusal ≡ TooLong) × IsTooLongLaidOut indent text

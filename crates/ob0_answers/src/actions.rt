@@ -71,7 +71,7 @@ impl<'a, T: TextStore> Question for InlinedAt<'a, T> {
     }
 }
 
-/// The edits of an inliner; none where they are refused. Want of memory is no refusal.
+/// The edits of an inliner; none where they are refused. Running out of memory is no refusal.
 fn offered(answer: Result<Vec<Edit>, EditRefusal>) -> Result<Option<Vec<Edit>>, AllocError>
     ensures { IfOk result (λ edits. IsOffered answer edits) }
 {
@@ -97,8 +97,7 @@ fn inlinings_in<T: TextStore>(
     ensures { IfOk result (λ found. FindsInlinings (T.unit_of store.now) (T.content store.now) (place_in (T.unit_of store.now) (T.content store.now) range) found) }
 {
     let place = place_of(store, range);
-    let text = store.to_string(alloc)?;
-    ask(alloc, text.as_str(), kept, &InlinedAt { store, place })
+    ask(alloc, store.as_str(), kept, &InlinedAt { store, place })
 }
 
 /// The start of a range, and the end of one that is swapped.

@@ -1,8 +1,8 @@
 //! The diagnostics of a text.
 
-ghost use Rattle.std.specs.Prelude.{◌≡◌, List, IfOk, map};
+ghost use Rattle.std.specs.Prelude.{◌≡◌, List, IfOk, OnOk, map};
 ghost use Rattle.serde_json.specs.View.{view};
-ghost use Rattle.ob0_analysis.specs.Diagnosed.{TokensOf, complaint_in};
+ghost use Rattle.ob0_analysis.specs.Diagnosed.{Keeps, complaint_in};
 ghost use Rattle.ob0_analysis.specs.Texts.{utf8};
 ghost use Rattle.ob0_answers.specs.Diagnostics.{Diagnoses, DiagnosticsAre, diagnostic_of};
 ghost use Rattle.ob0_answers.specs.Shapes.{Diagnostic, diagnostic_value};
@@ -16,28 +16,18 @@ use ob0_text::{Position, TextStore};
 use serde_json::{Value, json};
 use std::alloc::{AllocError, Global};
 
-/// The list that is published for a text, and the text's tokens where it has lexemes.
-#[derive(Drop)]
-pub struct Published {
-    pub list: Vec<Value>,
-    pub tokens: Option<Tokens>,
-}
-
-/// What is published for a text. What the text has in common with that of other tokens is taken over from these.
+/// The list that is published for a text. What the text has in common with that of the tokens that were kept is taken over from
+/// these, and where it has lexemes its own tokens are kept in their place.
 pub fn diagnostics<T: TextStore>(
     alloc: Global,
     store: &T,
-    kept: Option<&Tokens>,
-) -> Result<Published, AllocError>
-    ensures list { IfOk result (λ found. (ds : List Diagnostic) × Diagnoses (T.unit_of store.now) (T.content store.now) ds × DiagnosticsAre ds found.list.items) }
-    ensures tokens { IfOk result (λ found. TokensOf (utf8 (T.content store.now)) found.tokens) }
+    kept: &mut Option<Tokens>,
+) -> Result<Vec<Value>, AllocError>
+    ensures list { IfOk result (λ list. (ds : List Diagnostic) × Diagnoses (T.unit_of store.now) (T.content store.now) ds × DiagnosticsAre ds list.items) }
+    ensures keeps { OnOk result (Keeps (utf8 (T.content store.now)) kept.old kept.new) }
 {
-    let found = diagnose_again(alloc, store.as_str(), kept)?;
-    let list = all_diagnostics(alloc, store, found.told.as_slice())?;
-    Ok(Published {
-        list,
-        tokens: found.tokens,
-    })
+    let told = diagnose_again(alloc, store.as_str(), kept)?;
+    all_diagnostics(alloc, store, told.as_slice())
 }
 
 /// The diagnostics at their positions, which are found in one pass over the text.

@@ -64,8 +64,7 @@ pub fn formatted<T: TextStore>(
 ) -> Result<Vec<u8>, AllocError>
     ensures { IfOk result (λ bytes. (message : Data) × AnswersFormatting (T.unit_of store.now) (id_data id.now) indent (T.content store.now) message × Writes message bytes.items) }
 {
-    let text = store.to_string(alloc)?;
-    match ask(alloc, text.as_str(), kept, &Formatting { store, indent })? {
+    match ask(alloc, store.as_str(), kept, &Formatting { store, indent })? {
         Asked::Answered(outcome) => match outcome {
             Ok(edits) => {
                 let edits = edits.as_slice();

@@ -158,8 +158,7 @@ fn shown_value<T: TextStore>(
     ensures { IfOk result (λ v. AnswersName (T.unit_of store.now) (T.content store.now) (at_seen place.now) Hover (view v)) }
 {
     let offset = store.offset(place.position);
-    let text = store.to_string(alloc)?;
-    match ask(alloc, text.as_str(), kept, &HoverAt { offset })? {
+    match ask(alloc, store.as_str(), kept, &HoverAt { offset })? {
         Asked::Answered(found) => shown_or_null(alloc, store, found),
         Asked::IllTyped(_told) => Ok(Value::Null),
     }
@@ -174,10 +173,9 @@ fn definition_value<T: TextStore>(
     ensures { IfOk result (λ v. AnswersName (T.unit_of store.now) (T.content store.now) (at_seen place.now) Definition (view v)) }
 {
     let offset = store.offset(place.position);
-    let text = store.to_string(alloc)?;
-    match ask(alloc, text.as_str(), kept, &DefinitionAt { offset })? {
+    match ask(alloc, store.as_str(), kept, &DefinitionAt { offset })? {
         Asked::Answered(found) => location_or_null(alloc, store, place.uri.as_str(), found),
-        Asked::IllTyped(_) => Ok(Value::Null),
+        Asked::IllTyped(_told) => Ok(Value::Null),
     }
 }
 
@@ -196,8 +194,7 @@ fn references_answer<T: TextStore>(
         offset: store.offset(place.position),
         include_declaration,
     };
-    let text = store.to_string(alloc)?;
-    match ask(alloc, text.as_str(), kept, &question)? {
+    match ask(alloc, store.as_str(), kept, &question)? {
         Asked::Answered(found) => locations(alloc, id, store, place.uri.as_str(), found.as_slice()),
         Asked::IllTyped(_) => {
             let none = Vec::new(alloc);
@@ -215,10 +212,9 @@ fn renamable_value<T: TextStore>(
     ensures { IfOk result (λ v. AnswersName (T.unit_of store.now) (T.content store.now) (at_seen place.now) PrepareRename (view v)) }
 {
     let offset = store.offset(place.position);
-    let text = store.to_string(alloc)?;
-    match ask(alloc, text.as_str(), kept, &RenamableAt { offset })? {
+    match ask(alloc, store.as_str(), kept, &RenamableAt { offset })? {
         Asked::Answered(found) => range_or_null(alloc, store, found),
-        Asked::IllTyped(_) => Ok(Value::Null),
+        Asked::IllTyped(_told) => Ok(Value::Null),
     }
 }
 

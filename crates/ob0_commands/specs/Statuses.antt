@@ -6,7 +6,7 @@ use Rattle.ob0_run.specs.declared.running.End.TheVariants as end
 use Rattle.ob0_commands.specs.declared.faults.Fault.{Fault}
 use Rattle.ob0_commands.specs.declared.faults.Fault.TheVariants as fault
 
--- 5 for want of memory, 4 for what can't be read or written
+-- 5 where memory runs out, 4 for what can't be read or written
 abbrev pub status_of : Fault → ℕ
 status_of fault.File = 4
 status_of fault.Utf8 = 4

@@ -7,7 +7,7 @@ use Rattle.ob0_rpc.specs.declared.incoming.RpcFault.TheVariants.{NotJson, NotAMe
 abbrev pub minus : ℕ → ℤ
 minus n = negsuc (n - 1)
 
--- want of memory is never told
+-- running out of memory is never told
 abbrev pub error_code : RpcFault → ℤ
 error_code NotJson = minus 32700
 error_code NotAMessage = minus 32600

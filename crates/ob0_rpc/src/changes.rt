@@ -5,21 +5,21 @@ ghost use Rattle.serde_json.specs.Find.{get, as_array};
 ghost use Rattle.serde_json.specs.View.{view, items_view};
 ghost use Rattle.ob0_rpc.specs.Notes.{changes_of as changes_in, change_in, range_by};
 
-use crate::members::{is_absent, range_of, text_in};
+use crate::members::{into_member, into_text_in, is_absent, range_of};
 use ob0_text::{Change, Range};
 use serde_json::Value;
 use std::alloc::{AllocError, Global};
 
 /// The changes, none where an entry can't be read.
-pub fn read_changes(alloc: Global, params: &Value) -> Result<Option<Vec<Change>>, AllocError>
-    ensures { IfOk result (λ found. option_map (λ cs. map told_change cs.items) found ≡ changes_in (view params.now)) }
+pub fn read_changes(alloc: Global, params: Value) -> Result<Option<Vec<Change>>, AllocError>
+    ensures { IfOk result (λ found. option_map (λ cs. map told_change cs.items) found ≡ changes_in (view params)) }
 {
     let Some(entries) = entries_of(params) else {
         return Ok(None);
     };
     let mut changes = Vec::new(alloc);
     for entry in entries {
-        match read_change_in(alloc, entry)? {
+        match read_change_in(entry) {
             Some(change) => changes.push(change)?,
             None => return Ok(None),
         }
@@ -27,25 +27,33 @@ pub fn read_changes(alloc: Global, params: &Value) -> Result<Option<Vec<Change>>
     Ok(Some(changes))
 }
 
-fn entries_of(params: &Value) -> Option<&Vec<Value>>
-    ensures { option_map (λ v. items_view v.now.items) result
-        ≡ option_and_then as_array (get (codes "contentChanges") (view params.now)) }
+fn entries_of(params: Value) -> Option<Vec<Value>>
+    ensures { option_map (λ v. items_view v.items) result
+        ≡ option_and_then as_array (get (codes "contentChanges") (view params)) }
 {
-    params.get("contentChanges")?.as_array()
+    into_list(into_member(params, "contentChanges")?)
+}
+
+fn into_list(value: Value) -> Option<Vec<Value>>
+    ensures { option_map (λ v. items_view v.items) result ≡ as_array (view value) }
+{
+    match value {
+        Value::Null => None,
+        Value::Bool(_) => None,
+        Value::Number(_) => None,
+        Value::String(_) => None,
+        Value::Array(list) => Some(list),
+        Value::Object(_) => None,
+    }
 }
 
 /// A change of a range, or one of the whole text.
-fn read_change_in(alloc: Global, entry: &Value) -> Result<Option<Change>, AllocError>
-    ensures { IfOk result (λ found. option_map told_change found ≡ change_in (view entry.now)) }
+fn read_change_in(entry: Value) -> Option<Change>
+    ensures { option_map told_change result ≡ change_in (view entry) }
 {
-    let Some(range) = range_told(entry.get("range")) else {
-        return Ok(None);
-    };
-    let Some(text) = text_in(entry, "text") else {
-        return Ok(None);
-    };
-    let text = String::from_str(alloc, text)?;
-    Ok(Some(Change { range, text }))
+    let range = range_told(entry.get("range"))?;
+    let text = into_text_in(entry, "text")?;
+    Some(Change { range, text })
 }
 
 /// The range that is told, or that none is; none where it can't be read.

@@ -5,6 +5,7 @@ ghost use Rattle.serde_json.specs.Data.{number};
 ghost use Rattle.ob0_rpc.specs.Messages.{is_id, params_of};
 ghost use Rattle.ob0_rpc.specs.Seen.{MeansAs, ReadsAs, id_data};
 
+use crate::members::into_member;
 use serde_json::{Number, Value};
 use std::alloc::{AllocError, AllocFailed, Global};
 use thiserror::Error;
@@ -98,7 +99,7 @@ pub fn read(alloc: Global, content: &[u8]) -> Result<Incoming, RpcFault>
     ensures { ReadsAs content.now result }
 {
     match Value::from_slice(alloc, content) {
-        Ok(value) => meaning(alloc, &value),
+        Ok(value) => meaning(alloc, value),
         Err(error) => if error.is_memory() {
             Err(RpcFault::Memory)
         } else {
@@ -108,8 +109,8 @@ pub fn read(alloc: Global, content: &[u8]) -> Result<Incoming, RpcFault>
 }
 
 // What a JSON value means.
-fn meaning(alloc: Global, message: &Value) -> Result<Incoming, RpcFault>
-    ensures { MeansAs (view message.now) result }
+fn meaning(alloc: Global, message: Value) -> Result<Incoming, RpcFault>
+    ensures { MeansAs (view message) result }
 {
     let Some(method) = message.get("method") else {
         return if message.get("result").is_some() || message.get("error").is_some() {
@@ -123,22 +124,22 @@ fn meaning(alloc: Global, message: &Value) -> Result<Incoming, RpcFault>
     };
     let Some(id) = message.get("id") else {
         let method = String::from_str(alloc, method)?;
-        return Ok(Incoming::Notice(method, read_params(message)?));
+        return Ok(Incoming::Notice(method, params_in(message)));
     };
     let Some(id) = read_id(alloc, id)? else {
         return Err(RpcFault::NotAMessage);
     };
     let method = String::from_str(alloc, method)?;
-    Ok(Incoming::Request(id, method, read_params(message)?))
+    Ok(Incoming::Request(id, method, params_in(message)))
 }
 
-// The params, null where they are absent.
-fn read_params(message: &Value) -> Result<Value, AllocError>
-    ensures { IfOk result (λ params. view params ≡ params_of (view message.now)) }
+// The params, taken out of a message; null where they are absent.
+fn params_in(message: Value) -> Value
+    ensures { view result ≡ params_of (view message) }
 {
-    match message.get("params") {
-        Some(params) => params.clone(),
-        None => Ok(Value::Null),
+    match into_member(message, "params") {
+        Some(params) => params,
+        None => Value::Null,
     }
 }
 

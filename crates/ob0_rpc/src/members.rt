@@ -1,6 +1,7 @@
 //! What the members of params hold.
-ghost use Rattle.std.specs.Prelude.{◌≡◌, option_map};
+ghost use Rattle.std.specs.Prelude.{◌≡◌, option_map, string_bytes};
 ghost use Rattle.std.specs.Str.{chars};
+ghost use Rattle.serde_json.specs.Find.{as_str, get};
 ghost use Rattle.serde_json.specs.View.{view};
 ghost use Rattle.ob0_rpc.specs.Members.{is_absent as absent, text_in as text_of_member, truth_in as truth_of_member, count_in as count_of_member, uri_of as uri_told, version_of as version_told, text_of as text_told, position_of as position_told, position_in as position_of_member, range_of as range_told, range_in as range_of_member};
 
@@ -49,10 +50,45 @@ pub fn version_of(params: &Value) -> Option<i64>
     params.get("textDocument")?.get("version")?.as_i64()
 }
 
-pub fn document_text(params: &Value) -> Option<&str>
-    ensures { option_map (λ s. chars s.now) result ≡ text_told (view params.now) }
+/// The text of the document that params name, taken out of them.
+pub fn into_document_text(params: Value) -> Option<String>
+    ensures { option_map (λ s. chars (string_bytes s)) result ≡ text_told (view params) }
 {
-    params.get("textDocument")?.get("text")?.as_str()
+    into_text_in(into_member(params, "textDocument")?, "text")
+}
+
+/// The text of a member, taken out of a value.
+pub fn into_text_in(value: Value, name: &str) -> Option<String>
+    ensures { option_map string_bytes result ≡ text_of_member name.now (view value) }
+{
+    into_text(into_member(value, name)?)
+}
+
+/// A member, taken out of a value.
+pub fn into_member(value: Value, name: &str) -> Option<Value>
+    ensures { option_map view result ≡ get name.now (view value) }
+{
+    match value {
+        Value::Null => None,
+        Value::Bool(_) => None,
+        Value::Number(_) => None,
+        Value::String(_) => None,
+        Value::Array(_) => None,
+        Value::Object(mut members) => members.remove(name),
+    }
+}
+
+fn into_text(value: Value) -> Option<String>
+    ensures { option_map string_bytes result ≡ as_str (view value) }
+{
+    match value {
+        Value::Null => None,
+        Value::Bool(_) => None,
+        Value::Number(_) => None,
+        Value::String(text) => Some(text),
+        Value::Array(_) => None,
+        Value::Object(_) => None,
+    }
 }
 
 pub fn position_of(value: &Value) -> Option<Position>

@@ -7,7 +7,7 @@ ghost use Rattle.ob0_rpc.specs.Seen.{TellsAs, seen_note};
 
 use crate::changes::read_changes;
 use crate::incoming::RpcFault;
-use crate::members::{document_text, uri_of, version_of};
+use crate::members::{into_document_text, uri_of, version_of};
 use ob0_text::Change;
 use serde_json::Value;
 use std::alloc::{AllocError, Global};
@@ -36,9 +36,9 @@ pub enum Note {
     Other,
 }
 
-/// Reads a notification by its method. The only fault is want of memory.
-pub fn notice(alloc: Global, method: &str, params: &Value) -> Result<Note, RpcFault>
-    ensures { TellsAs method.now (view params.now) result }
+/// Reads a notification by its method, and takes its texts out of the params. The only fault is running out of memory.
+pub fn notice(alloc: Global, method: &str, params: Value) -> Result<Note, RpcFault>
+    ensures { TellsAs method.now (view params) result }
 {
     if method == "exit" {
         Ok(Note::Exit)
@@ -47,37 +47,33 @@ pub fn notice(alloc: Global, method: &str, params: &Value) -> Result<Note, RpcFa
     } else if method == "textDocument/didChange" {
         Ok(read_change(alloc, params)?)
     } else if method == "textDocument/didClose" {
-        Ok(read_close(alloc, params)?)
+        Ok(read_close(alloc, &params)?)
     } else {
         Ok(Note::Other)
     }
 }
 
-fn read_open(alloc: Global, params: &Value) -> Result<Note, AllocError>
-    ensures { IfOk result (λ note. seen_note note ≡ open_of (uri_in (view params.now)) (version_in (view params.now)) (text_in (view params.now))) }
+fn read_open(alloc: Global, params: Value) -> Result<Note, AllocError>
+    ensures { IfOk result (λ note. seen_note note ≡ open_of (uri_in (view params)) (version_in (view params)) (text_in (view params))) }
 {
-    let Some(uri) = uri_of(params) else {
+    let Some(uri) = uri_of(&params) else {
         return Ok(Note::Unreadable { uri: None });
     };
     let uri = String::from_str(alloc, uri)?;
-    match (version_of(params), document_text(params)) {
-        (Some(version), Some(text)) => Ok(Note::Open {
-            uri,
-            version,
-            text: String::from_str(alloc, text)?,
-        }),
+    match (version_of(&params), into_document_text(params)) {
+        (Some(version), Some(text)) => Ok(Note::Open { uri, version, text }),
         _ => Ok(Note::Unreadable { uri: Some(uri) }),
     }
 }
 
-fn read_change(alloc: Global, params: &Value) -> Result<Note, AllocError>
-    ensures { IfOk result (λ note. seen_note note ≡ change_of (uri_in (view params.now)) (version_in (view params.now)) (changes_in (view params.now))) }
+fn read_change(alloc: Global, params: Value) -> Result<Note, AllocError>
+    ensures { IfOk result (λ note. seen_note note ≡ change_of (uri_in (view params)) (version_in (view params)) (changes_in (view params))) }
 {
-    let Some(uri) = uri_of(params) else {
+    let Some(uri) = uri_of(&params) else {
         return Ok(Note::Unreadable { uri: None });
     };
     let uri = String::from_str(alloc, uri)?;
-    match (version_of(params), read_changes(alloc, params)?) {
+    match (version_of(&params), read_changes(alloc, params)?) {
         (Some(version), Some(changes)) => Ok(Note::Change {
             uri,
             version,

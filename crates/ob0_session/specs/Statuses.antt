@@ -3,7 +3,7 @@ use Rattle.std.specs.Prelude.{ℕ}
 use Rattle.ob0_session.specs.declared.serving.ServeFault.{ServeFault}
 use Rattle.ob0_session.specs.declared.serving.ServeFault.TheVariants as fault
 
--- 3 for a stream that isn't framed, 4 for what can't be read or written, 5 for want of memory
+-- 3 for a stream that isn't framed, 4 for what can't be read or written, 5 where memory runs out
 abbrev pub status_of : ServeFault → ℕ
 status_of fault.BadHead = 3
 status_of fault.Truncated = 3

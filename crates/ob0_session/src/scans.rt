@@ -24,6 +24,11 @@ impl Scans {
         self.by_uri.get(uri)
     }
 
+    /// Those of a document, which are kept no more.
+    pub fn take(&mut self, uri: &str) -> Option<Tokens> {
+        self.by_uri.remove(uri)
+    }
+
     pub fn keep(&mut self, uri: &str, tokens: Tokens) -> Result<(), AllocError> {
         let key = String::from_str(self.alloc, uri)?;
         self.by_uri.insert(key, tokens)?;
@@ -31,6 +36,6 @@ impl Scans {
     }
 
     pub fn forget(&mut self, uri: &str) {
-        self.by_uri.remove(uri);
+        self.take(uri);
     }
 }

@@ -1,5 +1,4 @@
-use Rattle.std.proofs.Common.{◌∙◌, ℕ, List, ap, subst, sym}
-use Rattle.std.specs.Str.{chars}
+use Rattle.std.proofs.Common.{ℕ, List, subst, sym}
 use Rattle.std.proofs.lemmas.Result.{IfOk-weaker}
 use Rattle.ob0_text.specs.Texts.{offset_of}
 use Rattle.ob0_text.specs.Units.{width_of}
@@ -8,7 +7,7 @@ use Rattle.ob0_answers.proofs.Inlined.{inlinings_found}
 use Rattle.ob0_answers.proofs.actions.inlinings_in.Goals as goal
 
 pub ask-requires : goal.ask-requires
-ask-requires g c = sym (ap chars c.as_str.ensures.value ∙ c.in_ok-text.ensures)
+ask-requires g c = sym c.as_str.ensures
 
 pub returns : goal.returns
 returns g c =
@@ -17,4 +16,4 @@ returns g c =
     let offset : ℕ = offset_of (width_of unit) text c.place_of-place.result in
     IfOk-weaker c.ask.result _ _ (λ found h.
     subst (λ (o : ℕ). FindsInlinings unit text o found) c.place_of-place.ensures
-    (inlinings_found unit c.as_str.result.now text offset found c.as_str.utf8 (ap chars c.as_str.ensures.value ∙ c.in_ok-text.ensures) h)) c.ask.ensures
+    (inlinings_found unit c.as_str.result.now text offset found c.as_str.utf8 c.as_str.ensures h)) c.ask.ensures

@@ -1,5 +1,4 @@
 use Rattle.std.proofs.Common.{◌∙◌, ℕ, List, Result, Vec, Global, codes, ap, inl, inr, refl, subst}
-use Rattle.std.specs.Str.{chars}
 use Rattle.std.proofs.lemmas.Result.{IfOk-weaker}
 use Rattle.serde_json.specs.Data.{Data}
 use Rattle.ob0_rpc.specs.Seen.{id_data}
@@ -20,7 +19,7 @@ pub returns-in-Ok : goal.returns-in-Ok
 returns-in-Ok g c =
     let unit = g.T.TextStore.unit_of c.args.store.now in
     let text : List ℕ = g.T.TextStore.content c.args.store.now in
-    let found = found_of unit c.args.indent c.as_str.result.now text c.in_ok-outcome.field-0 c.as_str.utf8 (ap chars c.as_str.ensures.value ∙ c.in_ok-text.ensures) c.in_ok-outcome.ensures in
+    let found = found_of unit c.args.indent c.as_str.result.now text c.in_ok-outcome.field-0 c.as_str.utf8 c.as_str.ensures c.in_ok-outcome.ensures in
     let outcome = subst (λ (o : Asked (Result (Vec Edit Global) EditRefusal)). FoundOf unit c.args.indent text o) c.in-Answered.is found in
     let laid = subst (λ (o : Result (Vec Edit Global) EditRefusal). Formats unit c.args.indent text o) c.in-Ok.is outcome in
     let is = ap edits_value c.as_slice-edits.ensures.value in
@@ -34,7 +33,7 @@ pub returns-in-Answered : goal.returns-in-Answered
 returns-in-Answered g c =
     let unit = g.T.TextStore.unit_of c.args.store.now in
     let text : List ℕ = g.T.TextStore.content c.args.store.now in
-    let found = found_of unit c.args.indent c.as_str.result.now text c.in_ok-outcome.field-0 c.as_str.utf8 (ap chars c.as_str.ensures.value ∙ c.in_ok-text.ensures) c.in_ok-outcome.ensures in
+    let found = found_of unit c.args.indent c.as_str.result.now text c.in_ok-outcome.field-0 c.as_str.utf8 c.as_str.ensures c.in_ok-outcome.ensures in
     let outcome = subst (λ (o : Asked (Result (Vec Edit Global) EditRefusal)). FoundOf unit c.args.indent text o) c.in-Answered.is found in
     let long = subst (λ (o : Result (Vec Edit Global) EditRefusal). Formats unit c.args.indent text o) c.in-Err.is outcome in
     let is = c.as_str-in-Err.ensures.value ∙ (c.in_ok-text-in-Err.ensures ∙ ap refusal_text long.0) in
@@ -48,6 +47,6 @@ pub returns : goal.returns
 returns g c =
     let unit = g.T.TextStore.unit_of c.args.store.now in
     let text : List ℕ = g.T.TextStore.content c.args.store.now in
-    let found = found_of unit c.args.indent c.as_str.result.now text c.in_ok-outcome.field-0 c.as_str.utf8 (ap chars c.as_str.ensures.value ∙ c.in_ok-text.ensures) c.in_ok-outcome.ensures in
+    let found = found_of unit c.args.indent c.as_str.result.now text c.in_ok-outcome.field-0 c.as_str.utf8 c.as_str.ensures c.in_ok-outcome.ensures in
     let ill = subst (λ (o : Asked (Result (Vec Edit Global) EditRefusal)). FoundOf unit c.args.indent text o) c.in-IllTyped.is found in
     IfOk-weaker c.refused_ill_typed.result _ _ (λ bytes sent. (edit_refused (id_data c.args.id.now) (codes "ill-typed"), inr (inr (ill, refl)), sent)) c.refused_ill_typed.ensures

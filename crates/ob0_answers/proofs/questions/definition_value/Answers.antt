@@ -1,5 +1,4 @@
 use Rattle.std.proofs.Common.{◌≡◌, ◌∙◌, ℕ, List, Option, ap, option_map, inl, inr, subst}
-use Rattle.std.specs.Str.{chars}
 use Rattle.std.proofs.lemmas.Result.{IfOk-weaker}
 use Rattle.ob0_rpc.specs.Seen.{at_seen}
 use Rattle.ob0_scan.specs.declared.lexeme.Span.{Span}
@@ -16,7 +15,7 @@ returns-in-Answered g c =
     let text : List ℕ = g.T.TextStore.content c.args.store.now in
     let at = at_seen c.args.place.now in
     let is = λ (r : Resolution) (found : Option Span). found ≡ definition_at r c.offset-offset.result in
-    let found = found_of c.as_str.result.now text is c.in_ok-found.field-0 c.as_str.utf8 (ap chars c.as_str.ensures.value ∙ c.in_ok-text.ensures) c.in_ok-found.ensures in
+    let found = found_of c.as_str.result.now text is c.in_ok-found.field-0 c.as_str.utf8 c.as_str.ensures c.in_ok-found.ensures in
     let there = subst (λ (a : Asked (Option Span)). FoundOf text is a) c.in-Answered.is found in
     let same = there.2 ∙ ap (definition_at there.0) c.offset-offset.ensures in
     IfOk-weaker c.location_or_null.result _ _ (λ v shown. inl (
@@ -25,9 +24,9 @@ returns-in-Answered g c =
       shown ∙ (λ i. or_null (option_map (location_at unit (c.as_str-in-Answered.ensures.value i) text) (same i))),
     )) c.location_or_null.ensures
 
-pub returns : goal.returns
-returns g c =
+pub returns-in-IllTyped : goal.returns-in-IllTyped
+returns-in-IllTyped g c =
     let text : List ℕ = g.T.TextStore.content c.args.store.now in
     let is = λ (r : Resolution) (found : Option Span). found ≡ definition_at r c.offset-offset.result in
-    let found = found_of c.as_str.result.now text is c.in_ok-found.field-0 c.as_str.utf8 (ap chars c.as_str.ensures.value ∙ c.in_ok-text.ensures) c.in_ok-found.ensures in
+    let found = found_of c.as_str.result.now text is c.in_ok-found.field-0 c.as_str.utf8 c.as_str.ensures c.in_ok-found.ensures in
     inr (subst (λ (a : Asked (Option Span)). FoundOf text is a) c.in-IllTyped.is found, view-Null)

@@ -1,5 +1,4 @@
 use Rattle.std.proofs.Common.{◌≡◌, ◌∙◌, ℕ, List, Vec, Global, ap, map, inl, inr, refl, arith, subst, sym}
-use Rattle.std.specs.Str.{chars}
 use Rattle.std.proofs.lemmas.Result.{IfOk-weaker}
 use Rattle.serde_json.specs.Data.{Data, array}
 use Rattle.serde_json.specs.View.{items_of, items_view}
@@ -22,7 +21,7 @@ returns-in-Answered g c =
     let at = at_seen c.args.place.now in
     let id = id_data c.args.id.now in
     let is = λ (r : Resolution) (found : Vec Span Global). AreReferencesAt r c.offset.result c.args.include_declaration found.items in
-    let found = found_of c.as_str.result.now text is c.in_ok-found.field-0 c.as_str.utf8 (ap chars c.as_str.ensures.value ∙ c.in_ok-text.ensures) c.in_ok-found.ensures in
+    let found = found_of c.as_str.result.now text is c.in_ok-found.field-0 c.as_str.utf8 c.as_str.ensures c.in_ok-found.ensures in
     let there = subst (λ (a : Asked (Vec Span Global)). FoundOf text is a) c.in-Answered.is found in
     let spans = c.in-Answered.found.items in
     let are = subst (λ (offset : ℕ). AreReferencesAt there.0 offset c.args.include_declaration spans) c.offset.ensures there.2 in
@@ -38,7 +37,7 @@ returns g c =
     let text : List ℕ = g.T.TextStore.content c.args.store.now in
     let id = id_data c.args.id.now in
     let is = λ (r : Resolution) (found : Vec Span Global). AreReferencesAt r c.offset.result c.args.include_declaration found.items in
-    let found = found_of c.as_str.result.now text is c.in_ok-found.field-0 c.as_str.utf8 (ap chars c.as_str.ensures.value ∙ c.in_ok-text.ensures) c.in_ok-found.ensures in
+    let found = found_of c.as_str.result.now text is c.in_ok-found.field-0 c.as_str.utf8 c.as_str.ensures c.in_ok-found.ensures in
     let none = view-Array _ ∙ ap (λ (vs : List Value). array (items_view vs)) c.new-none.ensures.items in
     let can = subst CanBeSent (sym none) (record { whole = refl; shallow = omega arith }) in
     IfOk-weaker c.result.result _ _ (λ bytes sent. (
