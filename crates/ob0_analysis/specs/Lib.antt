@@ -2,3 +2,4 @@ pub mod Analysed
 pub mod Diagnosed
 pub mod RunsKept
 pub mod Texts
+pub mod Pieces

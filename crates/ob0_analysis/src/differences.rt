@@ -1,7 +1,8 @@
 //! Where two texts differ.
 
-ghost use Rattle.std.specs.Prelude.{◌≡◌, ◌+◌, ◌-◌, ◌≤◌, length, take, drop};
+ghost use Rattle.std.specs.Prelude.{◌≡◌, ◌+◌, ◌-◌, ◌<◌, ◌≤◌, true, length, take, drop};
 ghost use Rattle.ob0_scan.specs.Reused.{IsReplaced};
+ghost use Rattle.ob0_analysis.specs.Pieces.{IsCommonPiece};
 
 /// The `removed` bytes of a text from byte `from` on, which gave way to `added` other bytes.
 #[derive(Clone, Copy, Debug, Drop, PartialEq, Eq)]
@@ -27,15 +28,32 @@ impl Difference {
     }
 }
 
+/// So many bytes are compared together, as long as they are the same.
+const PIECE: usize = 256;
+
 /// How many bytes two texts have in common in front.
 fn common_front(a: &[u8], b: &[u8]) -> usize
     ensures in_a { result ≤ length a.now }
     ensures in_b { result ≤ length b.now }
     ensures same { take result a.now ≡ take result b.now }
 {
-    let mut count = 0;
-    while count < a.len() && count < b.len() && a[count] == b[count] {
-        count += 1;
+    let known = further_in_front(a, b, 0, PIECE);
+    further_in_front(a, b, known, 1)
+}
+
+/// How many bytes two texts have in common in front, as far as they are found by pieces of this size behind those that are known.
+fn further_in_front(a: &[u8], b: &[u8], known: usize, size: usize) -> usize
+    requires some { 0 < size }
+    requires in_a { known ≤ length a.now }
+    requires in_b { known ≤ length b.now }
+    requires same { take known a.now ≡ take known b.now }
+    ensures in_a { result ≤ length a.now }
+    ensures in_b { result ≤ length b.now }
+    ensures same { take result a.now ≡ take result b.now }
+{
+    let mut count = known;
+    while is_same_piece(a, b, count, count, size) {
+        count += size;
     }
     count
 }
@@ -49,9 +67,37 @@ fn common_back(a: &[u8], b: &[u8], from: usize) -> usize
     ensures same { drop (length a.now - result) a.now ≡ drop (length b.now - result) b.now }
 {
     let most = (a.len() - from).min(b.len() - from);
-    let mut count = 0;
-    while count < most && a[a.len() - 1 - count] == b[b.len() - 1 - count] {
-        count += 1;
+    let known = further_behind(a, b, most, 0, PIECE);
+    further_behind(a, b, most, known, 1)
+}
+
+/// How many bytes two texts have in common behind, `most` at most, as far as they are found by pieces of this size before those
+/// that are known.
+fn further_behind(a: &[u8], b: &[u8], most: usize, known: usize, size: usize) -> usize
+    requires some { 0 < size }
+    requires in_a { most ≤ length a.now }
+    requires in_b { most ≤ length b.now }
+    requires within { known ≤ most }
+    requires same { drop (length a.now - known) a.now ≡ drop (length b.now - known) b.now }
+    ensures within { result ≤ most }
+    ensures same { drop (length a.now - result) a.now ≡ drop (length b.now - result) b.now }
+{
+    let mut count = known;
+    while most - count >= size
+        && is_same_piece(a, b, a.len() - count - size, b.len() - count - size, size)
+    {
+        count += size;
     }
     count
+}
+
+/// Whether a piece of this size lies behind both places, and is the same.
+fn is_same_piece(a: &[u8], b: &[u8], in_a: usize, in_b: usize, size: usize) -> bool
+    ensures yes { result ≡ true → IsCommonPiece a.now b.now in_a in_b size }
+{
+    in_a <= a.len()
+        && in_b <= b.len()
+        && a.len() - in_a >= size
+        && b.len() - in_b >= size
+        && a[in_a..in_a + size] == b[in_b..in_b + size]
 }

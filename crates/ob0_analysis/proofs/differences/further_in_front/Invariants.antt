@@ -1,5 +1,5 @@
 use Rattle.std.proofs.Common.{◌≡◌, ◌-◌, ◌≤◌, length, take}
-use Rattle.ob0_analysis.proofs.differences.common_front.Given as goal
+use Rattle.ob0_analysis.proofs.differences.further_in_front.Given as goal
 
 abbrev pub invariant-loop-count : goal.invariant-loop-count
 invariant-loop-count l = (l.count ≤ length l.a) × (l.count ≤ length l.b) × (take l.count l.a ≡ take l.count l.b)

@@ -1,5 +1,5 @@
 use Rattle.std.proofs.Common.{◌≡◌, ◌-◌, ◌≤◌, length, drop}
-use Rattle.ob0_analysis.proofs.differences.common_back.Given as goal
+use Rattle.ob0_analysis.proofs.differences.further_behind.Given as goal
 
 abbrev pub invariant-loop-count : goal.invariant-loop-count
 invariant-loop-count l = (l.count ≤ l.most) × (drop (length l.a - l.count) l.a ≡ drop (length l.b - l.count) l.b)

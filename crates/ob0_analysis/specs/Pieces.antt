@@ -1,0 +1,8 @@
+-- What two texts have in common, piece by piece.
+use Rattle.std.specs.Prelude.{◌≡◌, ◌+◌, ◌≤◌, ℕ, List, length, take, drop}
+
+-- so many bytes lie behind these places, and are the same
+pub record IsCommonPiece (a b : List ℕ) (in_a in_b size : ℕ) : Type 0 where
+  pub inside_a : in_a + size ≤ length a
+  pub inside_b : in_b + size ≤ length b
+  pub same : take size (drop in_a a) ≡ take size (drop in_b b)
