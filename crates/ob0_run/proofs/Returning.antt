@@ -337,7 +337,7 @@ module _ (m m₁ : Machine) (c left name : ℕ) (r : Routine) (i : Interrupted) 
           let cut : take (length (state_in m).store) (state_in m₃).store ≡ (state_in m₄).store =
           ap (λ n. take n (store_of m₃.state.store.items)) many ∙ take-map value_of i.variables m₃.state.store.items ∙ ap store_of (sym back.stored) in
           let table : table_of m₄ ≡ table_of m =
-          back.rebound ∙ ap (rewound (reverse i.hidden.items)) (
+          back.rebound ∙ ap (rewound i.hidden.items) (
           ap (λ n. down_to n (table_of m₃)) waits.depth_is ∙ ap (λ n. down_to (length m₁.bound.items) record { meant = n.meant; bound = n.bound }) does.1
           ∙ ap (down_to (length m₁.bound.items)) begun.0.bindings.1 ∙ taken_back begun.0.bindings.0 (table_of m₁)
           ) ∙ waits.restored in (

@@ -1,6 +1,6 @@
 -- What a call does to the machine, step by step: the bindings that the called procedure can't see are taken back, its activation
 -- is made and its body run, and all is as it was.
-use Rattle.std.specs.Prelude.{◌≡◌, ℕ, List, Option, None, Some, Result, length, option_and_then, reverse, slice_get, take}
+use Rattle.std.specs.Prelude.{◌≡◌, ℕ, List, Option, None, Some, Result, length, option_and_then, slice_get, take}
 use Rattle.ob0_tree.specs.Tree.{Tree, begins, body, item, maybe, none, one, procedure}
 use Rattle.ob0_tree.specs.declared.tree.Procedure.{Procedure}
 use Rattle.ob0_tree.specs.View.{procedure_of}
@@ -40,7 +40,7 @@ pub record Interrupts (i : Interrupted) (depth : ℕ) (m m' : Machine) : Type 0 
   pub stored : m'.state.store.items ≡ m.state.store.items
   pub waiting : m'.passed.items ≡ m.passed.items
   pub unwound : table_of m' ≡ down_to depth (table_of m)
-  pub restored : rewound (reverse i.hidden.items) (table_of m') ≡ table_of m
+  pub restored : rewound i.hidden.items (table_of m') ≡ table_of m
   pub depth_is : i.depth ≡ length m'.bound.items
   pub variables_are : i.variables ≡ length m.state.store.items
 
@@ -68,7 +68,7 @@ pub record GivesUp (variables depth : ℕ) (m m' : Machine) : Type 0 where
 pub record Resumes (i : Interrupted) (m m' : Machine) : Type 0 where
   pub same : surroundings m' ≡ surroundings m
   pub stored : m'.state.store.items ≡ take i.variables m.state.store.items
-  pub rebound : table_of m' ≡ rewound (reverse i.hidden.items) (down_to i.depth (table_of m))
+  pub rebound : table_of m' ≡ rewound i.hidden.items (down_to i.depth (table_of m))
 
 -- a call, of which c may be open, of what a name stands for in each environment that the machine holds
 abbrev pub Enters : Result (Unit {0}) Stop → Machine → Machine → ℕ → ℕ → Type 0

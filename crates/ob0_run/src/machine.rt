@@ -1,6 +1,6 @@
 //! A run under way: what the names stand for in the activation that runs, and the state.
 
-ghost use Rattle.std.specs.Prelude.{◌≡◌, ◌++◌, ◌<◌, ◌≤◌, IfOk, MatchOption, OnOk, length, option_to_list, reverse};
+ghost use Rattle.std.specs.Prelude.{◌≡◌, ◌≤◌, IfOk, OnOk, drop, length, take};
 ghost use Rattle.ob0_run.specs.Bindings.{exchanged, put_at, rewound, with_binding};
 ghost use Rattle.ob0_run.specs.Held.{down_to};
 ghost use Rattle.ob0_run.specs.Scenes.{ordinal_in};
@@ -57,35 +57,38 @@ pub(crate) fn names_in<'s, 't>(
 }
 
 /// What the ordinal of a binding stands for, and what is kept with the binding, change places.
-fn exchange<'t>(meant: &mut Vec<Meant<'t>>, bound: Bound<'t>) -> Bound<'t>
-    ensures meant { meant.new.items ≡ put_at bound.entry.ordinal bound.entry.hidden meant.old.items }
-    ensures bound { result ≡ exchanged bound.entry meant.old.items }
+#[inline(always)]
+fn exchange<'t>(meant: &mut Vec<Meant<'t>>, bound: &mut Bound<'t>)
+    ensures meant { meant.new.items ≡ put_at bound.old.ordinal bound.old.hidden meant.old.items }
+    ensures bound { bound.new ≡ exchanged bound.old meant.old.items }
 {
     match bound.ordinal {
-        None => bound,
+        None => {}
         Some(k) => {
             if k < meant.len() {
-                let hidden = mem::replace(&mut meant[k], bound.hidden);
-                Bound {
-                    ordinal: Some(k),
-                    hidden,
-                }
-            } else {
-                bound
+                mem::swap(&mut meant[k], &mut bound.hidden);
             }
         }
     }
 }
 
-/// The newest binding, where there are more than were to be left.
-fn newest_above<'t>(bound: &mut Vec<Bound<'t>>, depth: usize) -> Option<Bound<'t>>
-    ensures items { bound.old.items ≡ bound.new.items ++ option_to_list result }
-    ensures many { MatchOption result (length bound.old.items ≤ depth) (λ b. depth < length bound.old.items) }
+fn count_of(bound: &Vec<Bound>) -> usize
+    ensures { result ≡ length bound.now.items }
 {
-    if bound.len() <= depth {
-        None
-    } else {
-        bound.pop()
+    bound.len()
+}
+
+/// Takes back the newest bindings where they lie, until no more are left than were to be. What they hid is visible again.
+fn uncover<'t>(meant: &mut Vec<Meant<'t>>, bound: &mut Vec<Bound<'t>>, depth: usize)
+    requires { depth ≤ length bound.old.items }
+    ensures restored { rewound (drop depth bound.new.items) record { meant = meant.new.items; bound = take depth bound.new.items } ≡ record { meant = meant.old.items; bound = bound.old.items } }
+    ensures left { record { meant = meant.new.items; bound = take depth bound.new.items } ≡ down_to depth record { meant = meant.old.items; bound = bound.old.items } }
+    ensures many { length bound.new.items ≡ length bound.old.items }
+{
+    let mut visible = count_of(bound);
+    while depth < visible {
+        visible -= 1;
+        exchange(meant, &mut bound[visible]);
     }
 }
 
@@ -100,30 +103,25 @@ pub fn unwind<'t>(
     bound: &mut Vec<Bound<'t>>,
     depth: usize,
 ) -> Result<Vec<Bound<'t>>, AllocError>
-    ensures restored { IfOk result (λ taken. rewound (reverse taken.items) record { meant = meant.new.items; bound = bound.new.items } ≡ record { meant = meant.old.items; bound = bound.old.items }) }
+    ensures restored { IfOk result (λ taken. rewound taken.items record { meant = meant.new.items; bound = bound.new.items } ≡ record { meant = meant.old.items; bound = bound.old.items }) }
     ensures left { OnOk result (record { meant = meant.new.items; bound = bound.new.items } ≡ down_to depth record { meant = meant.old.items; bound = bound.old.items }) }
 {
-    let mut taken = Vec::new(alloc);
-    while let Some(newest) = newest_above(bound, depth) {
-        taken.push(exchange(meant, newest))?;
+    if count_of(bound) <= depth {
+        return Ok(Vec::new(alloc));
     }
-    Ok(taken)
-}
-
-/// Takes back a binding for good. What it hid is visible again.
-fn uncover<'t>(meant: &mut Vec<Meant<'t>>, bound: Bound<'t>)
-    ensures { meant.new.items ≡ put_at bound.entry.ordinal bound.entry.hidden meant.old.items }
-{
-    let _forgotten = exchange(meant, bound);
+    uncover(meant, bound, depth);
+    bound.split_off(depth)
 }
 
 /// Takes back the newest bindings for good, until no more are left than were to be. What they hid is visible again.
 pub(crate) fn forget<'t>(meant: &mut Vec<Meant<'t>>, bound: &mut Vec<Bound<'t>>, depth: usize)
     ensures { record { meant = meant.new.items; bound = bound.new.items } ≡ down_to depth record { meant = meant.old.items; bound = bound.old.items } }
 {
-    while let Some(newest) = newest_above(bound, depth) {
-        uncover(meant, newest);
+    if count_of(bound) <= depth {
+        return;
     }
+    uncover(meant, bound, depth);
+    bound.truncate(depth);
 }
 
 /// Binds again what `unwind` took back.
@@ -136,10 +134,13 @@ pub fn rewind<'t>(
     bound: &mut Vec<Bound<'t>>,
     mut taken: Vec<Bound<'t>>,
 ) -> Result<(), AllocError>
-    ensures { OnOk result (record { meant = meant.new.items; bound = bound.new.items } ≡ rewound (reverse taken.entry.items) record { meant = meant.old.items; bound = bound.old.items }) }
+    ensures { OnOk result (record { meant = meant.new.items; bound = bound.new.items } ≡ rewound taken.entry.items record { meant = meant.old.items; bound = bound.old.items }) }
 {
-    while let Some(last) = taken.pop() {
-        bound.push(exchange(meant, last))?;
+    let mut visible = count_of(bound);
+    bound.append(&mut taken)?;
+    while visible < count_of(bound) {
+        exchange(meant, &mut bound[visible]);
+        visible += 1;
     }
     Ok(())
 }
@@ -149,6 +150,7 @@ pub fn rewind<'t>(
 /// # Errors
 ///
 /// Want of memory.
+#[inline(always)]
 pub(crate) fn bind_at<'t>(
     meant: &mut Vec<Meant<'t>>,
     bound: &mut Vec<Bound<'t>>,
@@ -157,11 +159,12 @@ pub(crate) fn bind_at<'t>(
 ) -> Result<(), AllocError>
     ensures { OnOk result (record { meant = meant.new.items; bound = bound.new.items } ≡ with_binding ordinal stands_for.entry record { meant = meant.old.items; bound = bound.old.items }) }
 {
-    let newest = Bound {
+    let mut newest = Bound {
         ordinal,
         hidden: stands_for,
     };
-    bound.push(exchange(meant, newest))?;
+    exchange(meant, &mut newest);
+    bound.push(newest)?;
     Ok(())
 }
 
@@ -170,6 +173,7 @@ pub(crate) fn bind_at<'t>(
 /// # Errors
 ///
 /// Want of memory.
+#[inline(always)]
 pub(crate) fn bind<'t>(
     ordinals: &[Option<usize>],
     meant: &mut Vec<Meant<'t>>,

@@ -1,8 +1,6 @@
-use Rattle.std.proofs.Common.{◌++◌, ◌∷◌, [], ap, ◌∙◌}
-use Rattle.ob0_run.proofs.Rewinding.{unwinding_goes_on}
+use Rattle.std.proofs.Common.{arith}
+use Rattle.ob0_run.proofs.Rewinding.{uncovered_none}
 use Rattle.ob0_run.proofs.machine.unwind.Goals as goal
 
-pub loop-newest-preserved : goal.loop-newest-preserved
-loop-newest-preserved c =
-    unwinding_goes_on c.loop-newest.taken.items _ c.in-Some.newest c.loop-newest.meant.items _ c.loop-newest.bound.items _ c.args.depth _ c.loop-newest.invariant c.in-Some.ensures.items c.in-Some.ensures.many c.exchange.ensures.meant
-    (c.in_ok-push.ensures.items ∙ ap (λ b. c.loop-newest.taken.items ++ b ∷ []) c.exchange.ensures.bound)
+pub returns-then-count_of-depth-clause-left : goal.returns-then-count_of-depth-clause-left
+returns-then-count_of-depth-clause-left c = uncovered_none c.args.depth _ (omega (arith, c.count_of.ensures, c.if-count_of-depth.true))

@@ -1,9 +1,0 @@
-use Rattle.std.proofs.Common.{length}
-use Rattle.ob0_run.proofs.Rewinding.{Unwinding}
-use Rattle.ob0_run.proofs.machine.unwind.Given as goal
-
-abbrev pub invariant-loop-newest : goal.invariant-loop-newest
-invariant-loop-newest l = Unwinding l.taken.items l.meant.items l.bound.items l.depth record { meant = l.initial.meant.items; bound = l.initial.bound.items }
-
-abbrev pub decreases-loop-newest : goal.decreases-loop-newest
-decreases-loop-newest l = length l.bound.items
