@@ -56,7 +56,6 @@ pub fn rename_in<T: TextStore>(
 ) -> Result<Asked<Result<Vec<Edit>, EditRefusal>>, AllocError>
     ensures { IfOk result (λ found. FindsNewName (T.unit_of store.now) (T.content store.now) place new.now found) }
 {
-    let text = store.to_string(alloc)?;
     let question = NewName { store, place, new };
-    ask(alloc, text.as_str(), kept, &question)
+    ask(alloc, store.as_str(), kept, &question)
 }

@@ -1,14 +1,13 @@
-use Rattle.std.proofs.Common.{◌∙◌, ℕ, List, ap, sym}
-use Rattle.std.specs.Str.{chars}
+use Rattle.std.proofs.Common.{ℕ, List, sym}
 use Rattle.std.proofs.lemmas.Result.{IfOk-weaker}
 use Rattle.ob0_rename.proofs.InTexts.{new_name_found}
 use Rattle.ob0_rename.proofs.texts.rename_in.Goals as goal
 
 pub ask-requires : goal.ask-requires
-ask-requires g c = sym (ap chars c.as_str.ensures.value ∙ c.in_ok-text.ensures)
+ask-requires g c = sym c.as_str.ensures
 
 pub returns : goal.returns
 returns g c =
     let text : List ℕ = g.T.TextStore.content c.args.store.now in
     IfOk-weaker c.ask.result _ _ (λ found h.
-    new_name_found (g.T.TextStore.unit_of c.args.store.now) c.as_str.result.now text c.args.place c.args.new.now found c.as_str.utf8 (ap chars c.as_str.ensures.value ∙ c.in_ok-text.ensures) h) c.ask.ensures
+    new_name_found (g.T.TextStore.unit_of c.args.store.now) c.as_str.result.now text c.args.place c.args.new.now found c.as_str.utf8 c.as_str.ensures h) c.ask.ensures
