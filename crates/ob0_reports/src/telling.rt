@@ -10,11 +10,9 @@ mod statements;
 mod supposed;
 mod written_types;
 
-use crate::telling::expressions::Operand;
-use crate::telling::supposed::{Composite, Meaning, PREDECLARED_MEANINGS, STANDARD_FORMALS};
-use ob0_scan::{Code, Fault, Span};
+use crate::telling::supposed::{Meaning, PREDECLARED_MEANINGS, STANDARD_FORMALS, Supposed};
+use ob0_scan::{Code, Fault};
 use ob0_scope::Resolved;
-use ob0_symbols::{Formal, text_at};
 use std::alloc::{AllocError, Global};
 
 /// The faults of a module's types, and its names that nothing binds, in no order. Its second declarations and closing names
@@ -30,13 +28,7 @@ pub fn tell<'t>(alloc: Global, resolved: &'t Resolved<'t>) -> Result<Vec<Fault>,
 #[derive(Drop)]
 struct Teller<'t> {
     alloc: Global,
-    resolved: &'t Resolved<'t>,
-    /// What the declarations so far are, by their ordinals. A name is bound only to what is declared before it.
-    meanings: Vec<Option<Meaning>>,
-    /// The formal parameters of all procedures so far, those of each together.
-    formals: Vec<Formal>,
-    /// The arrays and records so far, by their places in a `TypeId`.
-    composites: Vec<Composite<'t>>,
+    supposed: Supposed<'t>,
     faults: Vec<Fault>,
 }
 
@@ -49,12 +41,15 @@ impl<'t> Teller<'t> {
         for _declaration in resolved.declarations() {
             meanings.push(None)?;
         }
-        Ok(Teller {
-            alloc,
+        let supposed = Supposed {
             resolved,
             meanings,
             formals: Vec::from_slice(alloc, &STANDARD_FORMALS)?,
             composites: Vec::new(alloc),
+        };
+        Ok(Teller {
+            alloc,
+            supposed,
             faults: Vec::new(alloc),
         })
     }
@@ -62,10 +57,7 @@ impl<'t> Teller<'t> {
     fn into_faults(self) -> Vec<Fault> {
         let Teller {
             alloc: _,
-            resolved: _,
-            meanings: _,
-            formals: _,
-            composites: _,
+            supposed: _,
             faults,
         } = self;
         faults
@@ -73,7 +65,7 @@ impl<'t> Teller<'t> {
 
     /// Tells the names that nothing binds.
     fn tell_undeclared(&mut self) -> Result<(), AllocError> {
-        for fault in self.resolved.faults() {
+        for fault in self.supposed.resolved.faults() {
             if fault.code == Code::Undeclared {
                 self.faults.push(*fault)?;
             }
@@ -81,51 +73,18 @@ impl<'t> Teller<'t> {
         Ok(())
     }
 
-    /// Tells a fault at the tokens from `first` to `last`.
-    fn tell(&mut self, code: Code, first: usize, last: usize) -> Result<(), AllocError> {
-        let tokens = self.resolved.tokens().tokens();
-        if let Some(from) = tokens.get(first)
-            && let Some(to) = tokens.get(last)
-        {
-            let span = Span {
-                start: from.span.start,
-                end: to.span.end,
-            };
-            self.faults.push(Fault { code, span })?;
-        }
-        Ok(())
-    }
-
-    /// Tells a fault at one token.
-    fn tell_at(&mut self, code: Code, token: usize) -> Result<(), AllocError> {
-        self.tell(code, token, token)
-    }
-
-    /// Tells a fault at a whole expression.
-    fn tell_of(&mut self, code: Code, operand: Operand) -> Result<(), AllocError> {
-        self.tell(code, operand.first, operand.last)
-    }
-
-    /// How a token is written.
-    fn text(&self, token: usize) -> &'t str {
-        text_at(self.resolved.tokens(), token)
-    }
-
     /// What a name stands for. None where nothing binds it.
     fn meaning(&self, token: usize) -> Option<Meaning> {
-        let ordinal = self.resolved.ordinal_at(token)?;
-        match self.meanings.get(ordinal) {
-            Some(meaning) => *meaning,
-            None => None,
-        }
+        self.supposed.meaning(token)
     }
 
     /// Says what the declaration at a token is.
     fn define(&mut self, token: usize, meaning: Meaning) {
-        if let Some(ordinal) = self.resolved.ordinal_at(token)
-            && ordinal < self.meanings.len()
-        {
-            self.meanings[ordinal] = Some(meaning);
-        }
+        self.supposed.define(token, meaning);
+    }
+
+    /// Tells a fault at one token.
+    fn tell_at(&mut self, code: Code, token: usize) -> Result<(), AllocError> {
+        self.supposed.tell_at(&mut self.faults, code, token)
     }
 }

@@ -18,7 +18,7 @@ impl<'t> Teller<'t> {
         }
         match &b.body {
             None => Ok(()),
-            Some(statements) => self.sequence(statements),
+            Some(statements) => self.supposed.sequence(&mut self.faults, statements),
         }
     }
 
@@ -31,7 +31,7 @@ impl<'t> Teller<'t> {
     }
 
     fn heading(&mut self, sections: &Option<Vec<Section>>) -> Result<Formals, AllocError> {
-        let first = self.formals.len();
+        let first = self.supposed.formals.len();
         if let Some(sections) = sections {
             for s in sections {
                 self.section(s)?;
@@ -39,7 +39,7 @@ impl<'t> Teller<'t> {
         }
         Ok(Formals {
             first,
-            count: self.formals.len().saturating_sub(first),
+            count: self.supposed.formals.len().saturating_sub(first),
         })
     }
 
@@ -49,9 +49,9 @@ impl<'t> Teller<'t> {
             by_place: s.by_reference,
             of,
         };
-        self.formals.push(formal)?;
+        self.supposed.formals.push(formal)?;
         for _name in &s.names.more {
-            self.formals.push(formal)?;
+            self.supposed.formals.push(formal)?;
         }
         self.define_all(&s.names, Meaning::Variable(of));
         Ok(())
@@ -67,7 +67,7 @@ impl<'t> Teller<'t> {
     fn constants(&mut self, section: &Option<Vec<Constant>>) -> Result<(), AllocError> {
         if let Some(constants) = section {
             for c in constants {
-                let value = self.constant_value(&c.value)?;
+                let value = self.supposed.constant_value(&mut self.faults, &c.value)?;
                 self.define(c.name, Meaning::Constant(value));
             }
         }

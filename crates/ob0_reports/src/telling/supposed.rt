@@ -1,8 +1,14 @@
 //! What is supposed of types and declarations while faults are told; each may be unknown, as a whole or in parts.
 
-use crate::telling::Teller;
-use ob0_scan::Code;
-use ob0_symbols::{Formal, MOST_DEPTH, MOST_SCALARS, TypeId};
+ghost use Rattle.std.specs.Prelude.{◌≡◌, ◌∷◌, [], ◌++◌, OnOk, slice_get, slice_index_or, None};
+ghost use Rattle.ob0_scope.specs.Resolution.{span_at};
+ghost use Rattle.ob0_tree.specs.Places.{text_at};
+ghost use Rattle.ob0_reports.specs.Operations.{fault_between, token_behind};
+ghost use Rattle.ob0_reports.specs.SupposedFacts.{declared_at, elements_of, field_of};
+
+use ob0_scan::{Code, Fault, Span};
+use ob0_scope::{Resolved, token_span};
+use ob0_symbols::{Formal, MOST_DEPTH, MOST_SCALARS, TypeId, text_at};
 use ob0_values::Scalar;
 use std::alloc::AllocError;
 use std::collections::BTreeMap;
@@ -119,7 +125,97 @@ impl Size {
     }
 }
 
-impl<'t> Teller<'t> {
+/// What is supposed of a module's names and types.
+#[derive(Drop)]
+pub(crate) struct Supposed<'t> {
+    pub(crate) resolved: &'t Resolved<'t>,
+    /// What the declarations so far are, by their ordinals. A name is bound only to what is declared before it.
+    pub(crate) meanings: Vec<Option<Meaning>>,
+    /// The formal parameters of all procedures so far, those of each together.
+    pub(crate) formals: Vec<Formal>,
+    /// The arrays and records so far, by their places in a `TypeId`.
+    pub(crate) composites: Vec<Composite<'t>>,
+}
+
+impl<'t> Supposed<'t> {
+    /// How a token is written.
+    pub(crate) fn text(&self, token: usize) -> &'t str
+        ensures { result.now ≡ text_at self.now.resolved.now.module_read.source token }
+    {
+        text_at(self.resolved.tokens(), token)
+    }
+
+    /// The token behind another. Behind the end of the text is none.
+    pub(crate) fn token_behind(&self, token: usize) -> usize
+        ensures { result ≡ token_behind self.now.resolved.now.module_read.source token }
+    {
+        if token < self.resolved.tokens().tokens().len() {
+            token + 1
+        } else {
+            token
+        }
+    }
+
+    /// Tells a fault from one token to another.
+    pub(crate) fn tell(
+        &self,
+        faults: &mut Vec<Fault>,
+        code: Code,
+        first: usize,
+        last: usize,
+    ) -> Result<(), AllocError>
+        ensures { OnOk result (faults.new.items ≡ faults.old.items ++ fault_between self.now.resolved.now.module_read.source code first last ∷ []) }
+    {
+        let tokens = self.resolved.tokens();
+        let span = Span {
+            start: token_span(tokens, first).start,
+            end: token_span(tokens, last).end,
+        };
+        faults.push(Fault { code, span })?;
+        Ok(())
+    }
+
+    /// Tells a fault at one token.
+    pub(crate) fn tell_at(
+        &self,
+        faults: &mut Vec<Fault>,
+        code: Code,
+        token: usize,
+    ) -> Result<(), AllocError>
+        ensures { OnOk result (faults.new.items ≡ faults.old.items ++ fault_between self.now.resolved.now.module_read.source code token token ∷ []) }
+    {
+        self.tell(faults, code, token, token)
+    }
+
+    /// What a name stands for. None where nothing binds it.
+    pub(crate) fn meaning(&self, token: usize) -> Option<Meaning>
+        ensures { result ≡ declared_at self.now token }
+    {
+        match self.resolved.ordinal_at(token) {
+            None => None,
+            Some(ordinal) => self.declared(ordinal),
+        }
+    }
+
+    /// What the declaration of an ordinal is.
+    fn declared(&self, ordinal: usize) -> Option<Meaning>
+        ensures { result ≡ slice_index_or self.now.meanings.items ordinal None }
+    {
+        match self.meanings.get(ordinal) {
+            Some(meaning) => *meaning,
+            None => None,
+        }
+    }
+
+    /// Says what the declaration at a token is.
+    pub(crate) fn define(&mut self, token: usize, meaning: Meaning) {
+        if let Some(ordinal) = self.resolved.ordinal_at(token)
+            && ordinal < self.meanings.len()
+        {
+            self.meanings[ordinal] = Some(meaning);
+        }
+    }
+
     fn composite(&self, of: TypeId) -> Option<&Composite<'t>> {
         match of {
             TypeId::Array(place) => self.composites.get(place),
@@ -144,34 +240,42 @@ impl<'t> Teller<'t> {
         }
     }
 
-    /// The type of an array's elements. Unknown for every other type.
-    pub(crate) fn element_of(&self, of: TypeId) -> TypeId {
-        match self.composite(of) {
+    /// The type of the elements of the array at a place.
+    pub(crate) fn elements(&self, place: usize) -> TypeId
+        ensures { result ≡ elements_of (slice_get self.now.composites.items place) }
+    {
+        match self.composites.get(place) {
+            None => TypeId::Unknown,
             Some(composite) => match &composite.parts {
                 Parts::Elements(element) => *element,
                 Parts::Fields(_) => TypeId::Unknown,
             },
-            None => TypeId::Unknown,
         }
     }
 
-    /// The type of the first field of this name. None where the type has no such field.
-    pub(crate) fn field_of(&self, of: TypeId, name: &str) -> Option<TypeId> {
-        match &self.composite(of)?.parts {
-            Parts::Elements(_) => None,
-            Parts::Fields(fields) => fields.get(name).copied(),
+    /// The type of the first field of this name of the record at a place. None where it has no such field.
+    pub(crate) fn field(&self, place: usize, name: &str) -> Option<TypeId>
+        ensures { result ≡ field_of (slice_get self.now.composites.items place) name.now }
+    {
+        match self.composites.get(place) {
+            None => None,
+            Some(composite) => match &composite.parts {
+                Parts::Elements(_) => None,
+                Parts::Fields(fields) => fields.get(name).copied(),
+            },
         }
     }
 
     /// Makes an array or record, whose word is this token. One that is too large is told, and unknown.
     pub(crate) fn make(
         &mut self,
+        faults: &mut Vec<Fault>,
         token: usize,
         parts: Parts<'t>,
         size: Size,
     ) -> Result<TypeId, AllocError> {
         if !size.is_within() {
-            self.tell_at(Code::TypeTooLarge, token)?;
+            self.tell_at(faults, Code::TypeTooLarge, token)?;
             return Ok(TypeId::Unknown);
         }
         let place = self.composites.len();

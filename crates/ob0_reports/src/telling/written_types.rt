@@ -55,25 +55,32 @@ impl<'t> Teller<'t> {
         match length {
             None => Ok(TypeId::Unknown),
             Some(length) => {
-                let size = self.size_of(element).times(length).inside();
-                self.make(a.token, Parts::Elements(element), size)
+                let size = self.supposed.size_of(element).times(length).inside();
+                self.supposed
+                    .make(&mut self.faults, a.token, Parts::Elements(element), size)
             }
         }
     }
 
     /// The length of an array, from 1 to 65,536. None where it has a fault.
     fn length(&mut self, e: &Expression) -> Result<Option<usize>, AllocError> {
-        let operand = self.expression(e, true)?;
-        if self.ask(TypeId::Integer, operand)? != TypeId::Integer {
+        let operand = self.supposed.expression(&mut self.faults, e, true)?;
+        if self
+            .supposed
+            .ask(&mut self.faults, TypeId::Integer, operand)?
+            != TypeId::Integer
+        {
             return Ok(None);
         }
         let Some(Scalar::Number(number)) = operand.value else {
-            self.tell_of(Code::ConstFault, operand)?;
+            self.supposed
+                .tell_of(&mut self.faults, Code::ConstFault, operand)?;
             return Ok(None);
         };
         let length = usize::try_from(number).unwrap_or(0);
         if length < 1 || length > MOST_SCALARS {
-            self.tell_of(Code::ArrayLength, operand)?;
+            self.supposed
+                .tell_of(&mut self.faults, Code::ArrayLength, operand)?;
             return Ok(None);
         }
         Ok(Some(length))
@@ -92,7 +99,12 @@ impl<'t> Teller<'t> {
             }
         }
         let Gathered { fields, size } = gathered;
-        self.make(r.token, Parts::Fields(fields), size.or_one().inside())
+        self.supposed.make(
+            &mut self.faults,
+            r.token,
+            Parts::Fields(fields),
+            size.or_one().inside(),
+        )
     }
 
     #[cycle(types)]
@@ -108,10 +120,10 @@ impl<'t> Teller<'t> {
         gathered: &mut Gathered<'t>,
     ) -> Result<(), AllocError> {
         let count = names.more.len().saturating_add(1);
-        gathered.size = gathered.size.and(self.size_of(of).times(count));
-        gathered.add(self.text(names.first), of)?;
+        gathered.size = gathered.size.and(self.supposed.size_of(of).times(count));
+        gathered.add(self.supposed.text(names.first), of)?;
         for name in &names.more {
-            gathered.add(self.text(*name), of)?;
+            gathered.add(self.supposed.text(*name), of)?;
         }
         Ok(())
     }

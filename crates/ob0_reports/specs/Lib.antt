@@ -1,0 +1,4 @@
+pub mod Known
+pub mod Operations
+pub mod ExpressionFaults
+pub mod SupposedFacts
