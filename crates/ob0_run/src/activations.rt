@@ -17,7 +17,6 @@ use ob0_tree::Procedure;
 use ob0_values::{Place, Value};
 
 /// Binds a name to the place of a variable.
-#[inline(always)]
 fn bind_variable<'t>(
     machine: &mut Machine<'_, 't>,
     name: usize,

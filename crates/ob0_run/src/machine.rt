@@ -150,7 +150,6 @@ pub fn rewind<'t>(
 /// # Errors
 ///
 /// Want of memory.
-#[inline(always)]
 pub(crate) fn bind_at<'t>(
     meant: &mut Vec<Meant<'t>>,
     bound: &mut Vec<Bound<'t>>,
@@ -173,7 +172,6 @@ pub(crate) fn bind_at<'t>(
 /// # Errors
 ///
 /// Want of memory.
-#[inline(always)]
 pub(crate) fn bind<'t>(
     ordinals: &[Option<usize>],
     meant: &mut Vec<Meant<'t>>,
