@@ -17,5 +17,5 @@ returns g c =
         diagnostics_of_all _ _ _ (rw c.as_slice.ensures.value at h),
       )) c.all_diagnostics.ensures;
       keeps = IfOk-weaker c.all_diagnostics.result _ _ (λ list h.
-        subst (λ t. Keeps t c.args.kept.now c.diagnose_again.new.kept) (utf8_of bytes text c.as_str.utf8 c.as_str.ensures) c.in_ok-told.ensures.keeps) c.all_diagnostics.ensures;
+          subst (λ t. Keeps t c.args.kept.now c.diagnose_again.new.kept) (utf8_of bytes text c.as_str.utf8 c.as_str.ensures) c.in_ok-told.ensures.keeps) c.all_diagnostics.ensures;
     }
