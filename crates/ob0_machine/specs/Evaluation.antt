@@ -1,6 +1,6 @@
 -- What places, numbers and truths of lowered code are worth, in activations and over cells.
 use Rattle.std.specs.Prelude.{ℕ, zero, suc, ◌+◌, ◌-◌, ◌*◌, ◌/◌, ◌%◌, ◌^◌, Bool, true, false, not, ◌&&◌, List, [], ◌∷◌, ℤ, pos, negsuc, ◌+ℤ◌, ◌-ℤ◌, ◌*ℤ◌, neg_ℤ, if◌then◌else◌, nat_lt, slice_index_or, int_lt, int_le, drop}
-use Rattle.ob0_machine.specs.Lowered.{Place, in_module, here, outside, passed, element, part, Number, literal, cell, negative, sum, difference, product, quotient, remainder, Relation, equal, not_equal, less, less_equal, greater, greater_equal, Truth, constant, flag, negation, both, either, related, same, different}
+use Rattle.ob0_machine.specs.Lowered.{Place, in_module, here, outside, passed, element, part, Number, literal, cell, negative, operation, Operator, sum, difference, product, quotient, remainder, Relation, equal, not_equal, less, less_equal, greater, greater_equal, Truth, constant, flag, negation, both, either, related, same, different}
 
 infixl 20 ◌>>=◌
 -- how a run ends
@@ -68,9 +68,12 @@ divided_by result a (pos zero) = ends Divisor
 divided_by result a (pos (suc b)) = in_range (result a (suc b))
 divided_by result a (negsuc b) = ends Divisor
 
--- two numbers, the left one first, and what an operator makes of them
-abbrev pub operate : (ℤ → ℤ → Outcome ℤ) → Outcome ℤ → Outcome ℤ → Outcome ℤ
-operate operator left right = left >>= (λ a. right >>= operator a)
+abbrev pub operate : Operator → ℤ → ℤ → Outcome ℤ
+operate sum a b = in_range (a +ℤ b)
+operate difference a b = in_range (a -ℤ b)
+operate product a b = in_range (a *ℤ b)
+operate quotient a b = divided_by quotient_of a b
+operate remainder a b = divided_by remainder_of a b
 
 unfoldable mutual
   pub address : Levels → List ℤ → Place → Outcome ℕ
@@ -86,11 +89,7 @@ unfoldable mutual
   number ls cells (literal n) = gives n
   number ls cells (cell p) = address ls cells p >>= (λ a. gives (cell_at cells a))
   number ls cells (negative n) = number ls cells n >>= (λ a. in_range (neg_ℤ a))
-  number ls cells (sum m n) = operate (λ a b. in_range (a +ℤ b)) (number ls cells m) (number ls cells n)
-  number ls cells (difference m n) = operate (λ a b. in_range (a -ℤ b)) (number ls cells m) (number ls cells n)
-  number ls cells (product m n) = operate (λ a b. in_range (a *ℤ b)) (number ls cells m) (number ls cells n)
-  number ls cells (quotient m n) = operate (divided_by quotient_of) (number ls cells m) (number ls cells n)
-  number ls cells (remainder m n) = operate (divided_by remainder_of) (number ls cells m) (number ls cells n)
+  number ls cells (operation o m n) = number ls cells m >>= (λ a. number ls cells n >>= operate o a)
 
 abbrev pub compare : Relation → ℤ → ℤ → Bool
 compare equal a b = int_le a b && int_le b a

@@ -1,3 +1,4 @@
 pub mod Lowered
 pub mod Evaluation
 pub mod Execution
+pub mod View

@@ -2,6 +2,10 @@
 -- name their procedure by its index.
 use Rattle.std.specs.Prelude.{ℕ, Bool, List, ℤ}
 
+-- the operators between two numbers
+pub data Operator : Type 0 where
+  sum difference product quotient remainder : Operator
+
 mutual
   -- where a variable or a part of one is
   pub data Place : Type 0 where
@@ -22,7 +26,7 @@ mutual
     literal : ℤ → Number
     cell : Place → Number
     negative : Number → Number
-    sum difference product quotient remainder : Number → Number → Number
+    operation : Operator → Number → Number → Number
 
 -- the relations of numbers
 pub data Relation : Type 0 where
