@@ -75,7 +75,7 @@ operate product a b = in_range (a *ℤ b)
 operate quotient a b = divided_by quotient_of a b
 operate remainder a b = divided_by remainder_of a b
 
-unfoldable mutual
+abbrev mutual
   pub address : Levels → List ℤ → Place → Outcome ℕ
   address ls cells (in_module offset) = gives offset
   address ls cells (here offset) = gives (forward (innermost ls).base offset)
@@ -113,8 +113,7 @@ abbrev pub alike : Bool → Bool → Bool
 alike true b = b
 alike false b = not b
 
-unfoldable pub truth : Levels → List ℤ → Truth → Outcome Bool
-unfolding address number
+abbrev pub truth : Levels → List ℤ → Truth → Outcome Bool
 truth ls cells (constant b) = gives b
 truth ls cells (flag p) = address ls cells p >>= (λ a. gives (is_true (cell_at cells a)))
 truth ls cells (negation t) = truth ls cells t >>= (λ a. gives (not a))

@@ -2,3 +2,5 @@ pub mod Lowered
 pub mod Evaluation
 pub mod Execution
 pub mod View
+pub mod Levels
+pub mod Answers

@@ -8,11 +8,14 @@ use Rattle.ob0_machine.specs.declared.code.Number.{Number}
 use Rattle.ob0_machine.specs.declared.code.Chain as chain
 use Rattle.ob0_machine.specs.declared.code.Operator.{Operator}
 use Rattle.ob0_machine.specs.declared.code.Operator.TheVariants as operator
-use Rattle.ob0_machine.specs.declared.code.Operands.{out-Operands}
+use Rattle.ob0_machine.specs.declared.code.Element.{Element, out-Element}
+use Rattle.ob0_machine.specs.declared.code.Link.{Link, out-Link}
+use Rattle.ob0_machine.specs.declared.code.Operands.{Operands, out-Operands}
 use Rattle.ob0_machine.specs.declared.code.Relation.{Relation}
 use Rattle.ob0_machine.specs.declared.code.Relation.TheVariants as relation
 use Rattle.ob0_machine.specs.declared.code.Truth as truth
 use Rattle.ob0_machine.specs.declared.code.Truth.{Truth}
+use Rattle.ob0_machine.specs.declared.code.Several.{Several, out-Several}
 use Rattle.ob0_machine.specs.declared.code.Argument as argument_type
 use Rattle.ob0_machine.specs.declared.code.Argument.TheVariants as argument
 use Rattle.ob0_machine.specs.declared.code.Statement as statement
@@ -57,6 +60,20 @@ abbrev mutual
   chained_by chain.end_of-Link left = left
   chained_by (chain.more_of-Link o right row) left = chained_by row (lowered.operation (operator_of o) left (number_of right))
 
+-- the same by the fields of a node
+abbrev pub element_of : Element → lowered.Place
+element_of e = lowered.element (place_of (out-Element e).array) (number_of (out-Element e).index) (out-Element e).length (out-Element e).stride
+
+abbrev pub operation_of : Operator → Operands → lowered.Number
+operation_of o operands = lowered.operation (operator_of o) (number_of (out-Operands operands).left) (number_of (out-Operands operands).right)
+
+abbrev pub chained_from : lowered.Number → List Link → lowered.Number
+chained_from left [] = left
+chained_from left (l ∷ ls) = chained_from (lowered.operation (operator_of (out-Link l).operator) left (number_of (out-Link l).operand)) ls
+
+abbrev pub chained_in : chain.Chain → lowered.Number
+chained_in c = chained_from (number_of (chain.out-Chain c).first) (chain.out-Chain c).rest.items
+
 abbrev pub relation_of : Relation → lowered.Relation
 relation_of relation.Equal = lowered.equal
 relation_of relation.NotEqual = lowered.not_equal
@@ -64,6 +81,9 @@ relation_of relation.Less = lowered.less
 relation_of relation.LessEqual = lowered.less_equal
 relation_of relation.Greater = lowered.greater
 relation_of relation.GreaterEqual = lowered.greater_equal
+
+abbrev pub related_by : Relation → Operands → lowered.Truth
+related_by r o = lowered.related (relation_of r) (number_of (out-Operands o).left) (number_of (out-Operands o).right)
 
 abbrev mutual
   pub truth_of : Truth → lowered.Truth
@@ -74,7 +94,7 @@ abbrev mutual
   truth_of (truth.Either' pointer left right) = lowered.either (truth_of left) (truth_of right)
   truth_of (truth.All' pointer first shape row) = all_of row (truth_of first)
   truth_of (truth.Any' pointer first shape row) = any_of row (truth_of first)
-  truth_of (truth.Related r o) = lowered.related (relation_of r) (number_of (out-Operands o.value).left) (number_of (out-Operands o.value).right)
+  truth_of (truth.Related r o) = related_by r o.value
   truth_of (truth.Same' pointer left right) = lowered.same (truth_of left) (truth_of right)
   truth_of (truth.Different' pointer left right) = lowered.different (truth_of left) (truth_of right)
 
@@ -85,6 +105,21 @@ abbrev mutual
   pub any_of : {n : _} → truth.Row_of-Truth n → lowered.Truth → lowered.Truth
   any_of truth.end_of-Truth left = left
   any_of (truth.more_of-Truth t row) left = any_of row (lowered.either left (truth_of t))
+
+-- the same by the fields of a node
+abbrev pub all_from : lowered.Truth → List Truth → lowered.Truth
+all_from left [] = left
+all_from left (t ∷ ts) = all_from (lowered.both left (truth_of t)) ts
+
+abbrev pub any_from : lowered.Truth → List Truth → lowered.Truth
+any_from left [] = left
+any_from left (t ∷ ts) = any_from (lowered.either left (truth_of t)) ts
+
+abbrev pub all_in : Several → lowered.Truth
+all_in s = all_from (truth_of (out-Several s).first) (out-Several s).rest.items
+
+abbrev pub any_in : Several → lowered.Truth
+any_in s = any_from (truth_of (out-Several s).first) (out-Several s).rest.items
 
 abbrev pub argument_of : argument_type.Argument → lowered.Argument
 argument_of (argument.Place p) = lowered.by_place (place_of p)

@@ -2,4 +2,7 @@
 #![tactic(auto)]
 
 pub mod code;
+pub mod ending;
+pub mod evaluating;
 pub mod level;
+pub mod operators;
