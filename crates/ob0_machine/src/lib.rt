@@ -5,4 +5,5 @@ pub mod code;
 pub mod ending;
 pub mod evaluating;
 pub mod level;
+pub mod machine;
 pub mod operators;
