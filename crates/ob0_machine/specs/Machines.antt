@@ -1,5 +1,5 @@
 -- What the machine stands for, and what a step of it says of the run.
-use Rattle.std.specs.Prelude.{◌≡◌, ℕ, List, map, Ok, Err, Result}
+use Rattle.std.specs.Prelude.{◌≡◌, ℕ, ℤ, List, map, Ok, Err, Result}
 use denote.MutBor.{MutBor}
 use denote.Ref.{Bor}
 use Rattle.ob0_machine.specs.declared.ending.Ending.{Ending}
@@ -10,8 +10,8 @@ use Rattle.ob0_machine.specs.declared.machine.Item.{Item}
 use Rattle.ob0_machine.specs.declared.machine.Item.TheVariants as item
 use Rattle.ob0_machine.specs.declared.machine.Machine.{Machine}
 use Rattle.ob0_machine.specs.Answers.{end_of}
-use Rattle.ob0_machine.specs.Evaluation.{Levels}
-use Rattle.ob0_machine.specs.Execution.{Calls, Progress, State, Written, execute, execute_all, line_out, number_out, running, stopped}
+use Rattle.ob0_machine.specs.Evaluation.{Levels, Outcome, ends, gives}
+use Rattle.ob0_machine.specs.Execution.{Calls, Passed, Progress, State, Written, execute, execute_all, line_out, number_out, running, stopped}
 use Rattle.ob0_machine.specs.Levels.{levels_of}
 use Rattle.ob0_machine.specs.Lowered.{Statement, Statements}
 
@@ -59,3 +59,13 @@ executed_all t ls as_listed enters s = execute_all enters t ls as_listed s
 -- a step of the machine does what `doing` says, where calls do what they say
 abbrev pub Does : Post → Result (Unit {0}) Stop → Machine → Machine → Doing → Type 0
 Does post r m m' doing = (enters : Calls) → Performs post enters → Steps r m' (doing enters (state_of m))
+
+-- what was passed, on top of what was there
+abbrev pub passed_in : List ℤ → List ℕ → Passed
+passed_in cells addresses = record { cells = cells; addresses = addresses }
+
+-- an argument is passed, or it ends the run, but where memory was refused
+abbrev pub Passes : Result (Unit {0}) Stop → List ℤ → List ℕ → Outcome Passed → Type 0
+Passes (Ok done) cells addresses o = o ≡ gives (passed_in cells addresses)
+Passes (Err (stop.Ended e)) cells addresses o = o ≡ ends (end_of e)
+Passes (Err stop.Memory) cells addresses o = Unit {0}

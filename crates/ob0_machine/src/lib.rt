@@ -7,3 +7,4 @@ pub mod evaluating;
 pub mod level;
 pub mod machine;
 pub mod operators;
+pub mod passing;
