@@ -8,3 +8,4 @@ pub mod level;
 pub mod machine;
 pub mod operators;
 pub mod passing;
+pub mod statements;
