@@ -1,0 +1,5 @@
+pub mod Splits
+pub mod Parts
+pub mod Places
+pub mod Same
+pub mod Variables

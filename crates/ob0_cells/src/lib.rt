@@ -1,0 +1,4 @@
+//! The store of a run as one list of cells: definitions, and the laws that tie values, places and stores to their cells.
+#![tactic(auto)]
+
+pub mod laws;
