@@ -1,0 +1,6 @@
+pub mod Lowered
+pub mod Evaluation
+pub mod Execution
+pub mod View
+pub mod Levels
+pub mod Answers

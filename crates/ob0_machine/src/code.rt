@@ -1,0 +1,191 @@
+//! Lowered code: variables are offsets of cells, designators are bases, bounds and offsets, and a call names its procedure by its index.
+
+/// The operators between two numbers.
+#[derive(Clone, Copy, PartialEq, Eq, Debug)]
+pub enum Operator {
+    Sum,
+    Difference,
+    Product,
+    Quotient,
+    Remainder,
+}
+
+/// Where a variable or a part of one is.
+#[cycle(numbers)]
+#[derive(Drop)]
+pub enum Place {
+    /// At an offset in the cells of the module.
+    Module(usize),
+    /// At an offset in the cells of the running activation.
+    Here(usize),
+    /// At an offset, the second number, in the cells of the activation so many levels out.
+    Outside(usize, usize),
+    /// Where a VAR parameter of the activation so many levels out leads, by its index among these parameters.
+    Passed(usize, usize),
+    Element(Box<Element>),
+    /// A part at an offset.
+    Part(Box<Place>, usize),
+}
+
+/// An element of an array, whose elements have so many cells each.
+#[cycle(numbers)]
+#[derive(Drop)]
+pub struct Element {
+    pub array: Place,
+    pub index: Number,
+    pub length: usize,
+    pub stride: usize,
+}
+
+#[cycle(numbers)]
+#[derive(Drop)]
+pub enum Number {
+    Literal(i32),
+    Cell(Place),
+    Negative(Box<Number>),
+    Operation(Operator, Box<Operands>),
+    /// Many operations in a row, from left to right.
+    Chain(Box<Chain>),
+}
+
+#[cycle(numbers)]
+#[derive(Drop)]
+pub struct Operands {
+    pub left: Number,
+    pub right: Number,
+}
+
+#[cycle(numbers)]
+#[derive(Drop)]
+pub struct Chain {
+    pub first: Number,
+    pub rest: Vec<Link>,
+}
+
+/// An operator and what stands to the right of it.
+#[cycle(numbers)]
+#[derive(Drop)]
+pub struct Link {
+    pub operator: Operator,
+    pub operand: Number,
+}
+
+/// The relations of numbers.
+#[derive(Clone, Copy, PartialEq, Eq, Debug)]
+pub enum Relation {
+    Equal,
+    NotEqual,
+    Less,
+    LessEqual,
+    Greater,
+    GreaterEqual,
+}
+
+#[cycle(truths)]
+#[derive(Drop)]
+pub enum Truth {
+    Constant(bool),
+    Flag(Place),
+    Negation(Box<Truth>),
+    Both(Box<Truths>),
+    Either(Box<Truths>),
+    /// Many truths between which `&` stands.
+    All(Box<Several>),
+    /// Many truths between which `OR` stands.
+    Any(Box<Several>),
+    Related(Relation, Box<Operands>),
+    Same(Box<Truths>),
+    Different(Box<Truths>),
+}
+
+#[cycle(truths)]
+#[derive(Drop)]
+pub struct Truths {
+    pub left: Truth,
+    pub right: Truth,
+}
+
+#[cycle(truths)]
+#[derive(Drop)]
+pub struct Several {
+    pub first: Truth,
+    pub rest: Vec<Truth>,
+}
+
+/// A place for a VAR parameter, a value for another.
+#[derive(Drop)]
+pub enum Argument {
+    Place(Place),
+    Number(Number),
+    Truth(Truth),
+    /// So many cells of an array or a record.
+    Block(Place, usize),
+}
+
+#[cycle(statements)]
+#[derive(Drop)]
+pub enum Statement {
+    StoreNumber(Place, Number),
+    StoreTruth(Place, Truth),
+    /// So many cells from the second place go to the first.
+    Copy(Place, Place, usize),
+    Read(Place),
+    Write(Number),
+    WriteLine,
+    If(If),
+    While(While),
+    Repeat(Repeat),
+    Call(Call),
+}
+
+/// IF and its ELSIF parts, and what is executed where no condition is TRUE.
+#[cycle(statements)]
+#[derive(Drop)]
+pub struct If {
+    pub branches: Vec<Branch>,
+    pub otherwise: Vec<Statement>,
+}
+
+#[cycle(statements)]
+#[derive(Drop)]
+pub struct Branch {
+    pub condition: Truth,
+    pub body: Vec<Statement>,
+}
+
+#[cycle(statements)]
+#[derive(Drop)]
+pub struct While {
+    pub condition: Truth,
+    pub body: Vec<Statement>,
+}
+
+#[cycle(statements)]
+#[derive(Drop)]
+pub struct Repeat {
+    pub body: Vec<Statement>,
+    pub condition: Truth,
+}
+
+/// A call of a procedure that is declared in the activation so many levels out.
+#[derive(Drop)]
+pub struct Call {
+    pub procedure: usize,
+    pub up: usize,
+    pub arguments: Vec<Argument>,
+}
+
+/// A procedure has so many cells beside those of its parameters.
+#[derive(Drop)]
+pub struct Procedure {
+    pub cells: usize,
+    pub body: Vec<Statement>,
+}
+
+/// A module has so many cells of its own.
+#[derive(Drop)]
+pub struct Program {
+    pub cells: usize,
+    pub body: Vec<Statement>,
+    pub procedures: Vec<Procedure>,
+}

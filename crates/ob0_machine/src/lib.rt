@@ -1,0 +1,8 @@
+//! Lowered code, and the machine that runs it over one store of cells.
+#![tactic(auto)]
+
+pub mod code;
+pub mod ending;
+pub mod evaluating;
+pub mod level;
+pub mod operators;
