@@ -3,3 +3,8 @@ pub mod Parts
 pub mod Places
 pub mod Same
 pub mod Variables
+pub mod LoweredOutcomes
+pub mod LoweredNumbers
+pub mod LoweredTruths
+pub mod LoweredPlaces
+pub mod Lowered

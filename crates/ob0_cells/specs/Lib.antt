@@ -1,2 +1,4 @@
 pub mod Cells
 pub mod CellLaws
+pub mod Lowering
+pub mod LoweringLaws
