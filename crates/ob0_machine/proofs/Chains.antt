@@ -1,11 +1,11 @@
 -- Chains: operations in a row, from left to right.
-use Rattle.std.proofs.Common.{◌≡◌, ℕ, ◌+◌, ◌<◌, ◌≤◌, ℤ, List, [], ◌∷◌, length, get_or, drop, refl, sym, ap, ◌∙◌, subst, Ok, Err, Result, true, false}
+use Rattle.std.proofs.Common.{◌≡◌, ℕ, ◌+◌, ◌<◌, ◌≤◌, ℤ, List, [], ◌∷◌, length, get_or, drop, refl, sym, ap, ◌∙◌}
 use Rattle.std.proofs.lemmas.List.{drop_all, drop_more}
 use Rattle.ob0_machine.specs.declared.code.Link.{Link, out-Link}
-use Rattle.ob0_machine.specs.declared.code.Number.{Number, Chain}
+use Rattle.ob0_machine.specs.declared.code.Number.{Chain}
 use Rattle.ob0_machine.specs.declared.code.Chain.{out-Chain, roll-Chain, rolls-Chain', roll-out-Chain, Row_of-Link, end_of-Link, more_of-Link, items-the_row-Link, items_hidden-the_row-Link-0}
 use Rattle.ob0_machine.specs.declared.code.Number.TheBlock.{hidden-the_row-Link-0}
-use Rattle.ob0_machine.specs.Evaluation.{Level, Levels, Outcome, address, ends, gives, number, operate, ◌>>=◌}
+use Rattle.ob0_machine.specs.Evaluation.{Levels, Outcome, ends, gives, number, ◌>>=◌}
 use Rattle.ob0_machine.specs.Lowered as lowered
 use Rattle.ob0_machine.specs.Answers.{linked}
 use Rattle.ob0_machine.specs.View.{chain_of, chained_by, chained_from, chained_in, number_of, operator_of}
@@ -58,7 +58,6 @@ chain_on l b c less is h = record { so_far = chain_goes l (gives b) c less is h 
 
 pub chain_ends : {ls : Levels} {cells : List ℤ} {whole : Outcome ℤ} {links : List Link} {done : ℕ} {left : ℤ} → Continuing ls cells whole links done left → length links ≤ done → gives left ≡ whole
 chain_ends {ls = ls} {cells = cells} {links = links} {done = done} {left = left} c all = sym (c.so_far ∙ ap (λ ls'. continued ls cells ls' left) (drop_all done links all))
-
 
 chained_listed : (n : _) (row : Row_of-Link n) (left : lowered.Number) → chained_by row left ≡ chained_from left (items-the_row-Link n row)
 chained_listed _ end_of-Link left = refl

@@ -1,5 +1,5 @@
 -- What the machine's steps answer.
-use Rattle.std.specs.Prelude.{◌≡◌, ℕ, ℤ, List, Option, Some, None, Ok, Err, Result}
+use Rattle.std.specs.Prelude.{◌≡◌, ℤ, List, Option, Some, None, Ok, Err, Result}
 use Rattle.ob0_machine.specs.declared.ending.Ending.{Ending}
 use Rattle.ob0_machine.specs.declared.ending.Ending.TheVariants as ending
 use Rattle.ob0_machine.specs.declared.ending.Stop.{Stop}

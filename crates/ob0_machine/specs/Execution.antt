@@ -69,7 +69,6 @@ abbrev pub pass_cells : Passed → List ℤ → Passed
 pass_cells p more = record p { cells = p.cells ++ more }
 
 unfoldable pub pass : Levels → Argument → Passed → Outcome Passed
-unfolding address number truth
 pass ls (by_place p) done = address ls done.cells p >>= (λ a. gives record done { addresses = done.addresses ++ a ∷ [] })
 pass ls (by_number n) done = number ls done.cells n >>= (λ a. gives (pass_cells done (a ∷ [])))
 pass ls (by_truth t) done = truth ls done.cells t >>= (λ a. gives (pass_cells done (as_cell a ∷ [])))
@@ -105,7 +104,7 @@ entered ls base up p = record { base = base; addresses = p.addresses } ∷ drop 
 
 -- an assignment finds its place, then evaluates its right side, then stores
 unfoldable mutual
-  unfolding address number truth pass_all
+  unfolding pass_all
 
   pub execute : Calls → ℕ → Levels → Statement → State → Progress
   execute enter t ls (stores_number p n) s =

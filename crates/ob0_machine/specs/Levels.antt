@@ -1,8 +1,8 @@
 -- The activations that an activation sees, itself first.
-use Rattle.std.specs.Prelude.{ℕ, Option, Some, None, List, [], ◌∷◌}
+use Rattle.std.specs.Prelude.{Option, Some, None, [], ◌∷◌}
 use denote.Ref.{Bor}
 use Rattle.ob0_machine.specs.declared.level.Level as code
-use Rattle.ob0_machine.specs.Evaluation.{Level, Levels}
+use Rattle.ob0_machine.specs.Evaluation.{Levels}
 
 abbrev mutual
   pub levels_of : code.Level → Levels

@@ -1,6 +1,5 @@
 -- The lowered code that a value of the code's types stands for, and the activations.
-use Rattle.std.specs.Prelude.{ℕ, Option, Some, None, List, [], ◌∷◌, map}
-use denote.Ref.{Bor}
+use Rattle.std.specs.Prelude.{List, [], ◌∷◌, map}
 use Rattle.ob0_machine.specs.declared.code.Place as place
 use Rattle.ob0_machine.specs.declared.code.Place.{Place}
 use Rattle.ob0_machine.specs.declared.code.Number as number

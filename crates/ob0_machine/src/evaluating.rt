@@ -74,7 +74,12 @@ pub fn number(n: &Number, level: &Level<'_>, cells: &[i32]) -> Result<i32, Endin
 }
 
 #[cycle(evaluation)]
-fn operation(operator: Operator, operands: &Operands, level: &Level<'_>, cells: &[i32]) -> Result<i32, Ending>
+fn operation(
+    operator: Operator,
+    operands: &Operands,
+    level: &Level<'_>,
+    cells: &[i32],
+) -> Result<i32, Ending>
     ensures { told result ≡ number (levels_of level.now) cells.now (operation_of operator operands.now) }
 {
     let left = number(&operands.left, level, cells)?;
@@ -199,7 +204,11 @@ fn all(several: &Several, level: &Level<'_>, cells: &[i32]) -> Result<bool, Endi
 fn and(left: bool, t: &Truth, level: &Level<'_>, cells: &[i32]) -> Result<bool, Ending>
     ensures { told result ≡ (if left then truth (levels_of level.now) cells.now (truth_of t.now) else gives false) }
 {
-    if left { truth(t, level, cells) } else { Ok(false) }
+    if left {
+        truth(t, level, cells)
+    } else {
+        Ok(false)
+    }
 }
 
 /// `OR` between many: from the first TRUE on nothing is evaluated.
@@ -219,5 +228,9 @@ fn any(several: &Several, level: &Level<'_>, cells: &[i32]) -> Result<bool, Endi
 fn or(left: bool, t: &Truth, level: &Level<'_>, cells: &[i32]) -> Result<bool, Ending>
     ensures { told result ≡ (if left then gives true else truth (levels_of level.now) cells.now (truth_of t.now)) }
 {
-    if left { Ok(true) } else { truth(t, level, cells) }
+    if left {
+        Ok(true)
+    } else {
+        truth(t, level, cells)
+    }
 }
