@@ -8,3 +8,8 @@ pub mod LoweredNumbers
 pub mod LoweredTruths
 pub mod LoweredPlaces
 pub mod Lowered
+pub mod Represented
+pub mod LoweredControl
+pub mod LoweredAssignments
+pub mod PassedArguments
+pub mod StatementsLowered

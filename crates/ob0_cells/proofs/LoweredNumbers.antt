@@ -1,15 +1,15 @@
 -- Numbers of lowered code mean the expressions that they stand for.
-use Rattle.std.proofs.Common.{◌≡◌, ℕ, Bool, true, false, List, ℤ, pos, neg_ℤ, if◌then◌else◌, Some, None, Option, sym, refl, ap, ◌∙◌, subst}
+use Rattle.std.proofs.Common.{◌≡◌, ℕ, Bool, true, false, pos, neg_ℤ, Some, None, sym, refl, ap, ◌∙◌}
 use Rattle.ob0_tree.specs.declared.tree.Sign.TheVariants as sign
 use Rattle.ob0_tree.specs.declared.tree.AddOperator.{AddOperator}
 use Rattle.ob0_tree.specs.declared.tree.MultiplyOperator.{MultiplyOperator}
-use Rattle.ob0_tree.specs.Tree.{Tree, addend, adds, compares, end, expression, factor, integer, items, more, multiplier, multiplies, none, parenthesised, product, simple, sum, term}
-use Rattle.ob0_typing.specs.Expressions.{evaluate, evaluate_addends, evaluate_multipliers}
+use Rattle.ob0_tree.specs.Tree.{Tree, addend, adds, compares, expression, factor, integer, items, more, multiplier, multiplies, none, parenthesised, product, simple, sum, term}
+use Rattle.ob0_typing.specs.Expressions.{evaluate}
 use Rattle.ob0_typing.specs.WellTyped.{Typed}
 use Rattle.ob0_values.specs.Values.{Outcome, Value, add, add_is_settled, ends, gives, multiply, multiply_is_settled, number, signed, ◌>>=◌}
 use Rattle.ob0_machine.specs.Evaluation as machine
 use Rattle.ob0_machine.specs.Lowered as lowered
-use Rattle.ob0_cells.specs.Lowering.{Evaluated, Has32Bits, Leads, Moment, NumberLeads, NumberMeans, Rest, Shows, Slot, addends_left, cells_in, multipliers_left, outcome_of, worth, worth_of_factor, worth_of_simple, worth_of_term}
+use Rattle.ob0_cells.specs.Lowering.{Evaluated, Moment, NumberLeads, NumberMeans, Rest, Slot, addends_left, cells_in, multipliers_left, worth, worth_of_factor, worth_of_simple, worth_of_term}
 use Rattle.ob0_cells.proofs.LoweredOutcomes.{Operates, bits-then, gives-then, grouped-then, in_range-bits, in_range-same, operate-bits, outcome-then, plus-same, followed_by}
 
 pub each-then : {A B : Type 0} (o : Outcome A) (f g : A → Outcome B) → ((a : A) → f a ≡ g a) → (o >>= f) ≡ (o >>= g)

@@ -1,17 +1,17 @@
 -- Steps of lowered code and of the definition, one after the other.
-use Rattle.std.proofs.Common.{◌≡◌, ℕ, zero, suc, ◌<◌, ◌+◌, ◌-ℤ◌, ◌+ℤ◌, ◌*ℤ◌, neg_ℤ, ◌^◌, Bool, true, false, not, ℤ, pos, negsuc, if◌then◌else◌, nat_lt, Some, None, Option, option_and_then, sym, refl, ap, ◌∙◌, subst, arith}
+use Rattle.std.proofs.Common.{◌≡◌, ℕ, zero, suc, ◌<◌, ◌+◌, ◌-ℤ◌, ◌+ℤ◌, ◌*ℤ◌, ◌^◌, Bool, true, false, ℤ, pos, negsuc, if◌then◌else◌, Some, None, Option, option_and_then, sym, refl, ap, ◌∙◌, subst}
 use Rattle.std.proofs.Math.Nat.{mod-eq_of_lt}
 use Rattle.ob0_tree.specs.declared.tree.Relation.{Relation}
 use Rattle.ob0_tree.specs.declared.tree.Relation.TheVariants as relation
 use Rattle.ob0_tree.specs.declared.tree.Sign.TheVariants as sign
 use Rattle.ob0_tree.specs.declared.tree.AddOperator.TheVariants as add_operator
 use Rattle.ob0_tree.specs.declared.tree.MultiplyOperator.TheVariants as multiply_operator
-use Rattle.ob0_values.specs.Values.{Divisor, End, Outcome, Overflow, Place, Shape, Value, add, divided_by, ends, fits, gives, in_range, multiply, negated, number, or_stuck, quotient, relate, remainder, same_truth, signed, truth, ◌>>=◌}
+use Rattle.ob0_values.specs.Values.{End, Outcome, Overflow, Place, Shape, Value, add, divided_by, ends, fits, gives, in_range, multiply, number, or_stuck, quotient, relate, remainder, same_truth, signed, truth, ◌>>=◌}
 use Rattle.ob0_semantics.specs.Fitting.{PlaceFits, StoreTyping}
 use Rattle.ob0_machine.specs.Evaluation as machine
 use Rattle.ob0_machine.specs.Lowered as lowered
 use Rattle.ob0_cells.specs.Cells.{address}
-use Rattle.ob0_cells.specs.Lowering.{GivesPlace, Has32Bits, end_of, outcome_of, relation_of}
+use Rattle.ob0_cells.specs.Lowering.{GivesPlace, Has32Bits, outcome_of, relation_of}
 
 abbrev pub followed_by : {A B : Type 0} → machine.Outcome A → (A → machine.Outcome B) → machine.Outcome B
 followed_by = machine.◌>>=◌
@@ -134,6 +134,12 @@ pub record Led (typing : StoreTyping) (s : Shape) (o : machine.Outcome ℕ) (w :
 
 pub given-same : {A : Type 0} (a b : A) → gives a ≡ gives b → a ≡ b
 given-same {A} a b e = ap (λ o. elim o [ gives x ↦ x | ends x ↦ a ]) e
+
+abbrev pub ended : End → Outcome ℕ
+ended x = ends x
+
+pub ended-same : (x y : End) → ended x ≡ ended y → x ≡ y
+ended-same x y e = ap (λ o. elim o [ gives a ↦ y | ends z ↦ z ]) e
 
 -- one step further from a place
 pub led-then : (typing : StoreTyping) (s t : Shape) (o : machine.Outcome ℕ) (w : Outcome Place) (k : ℕ → machine.Outcome ℕ) (j : Place → Outcome Place)

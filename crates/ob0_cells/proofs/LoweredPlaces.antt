@@ -1,10 +1,10 @@
 -- Places of lowered code mean the designators that they stand for, and cells at them what those are worth.
-use Rattle.std.proofs.Common.{◌≡◌, ℕ, zero, suc, ◌+◌, ◌*◌, ◌<◌, ◌≤◌, ◌^◌, Bool, true, false, List, [], ◌∷◌, ◌++◌, ℤ, pos, negsuc, if◌then◌else◌, nat_lt, slice_get, slice_index_or, Some, None, Option, option_map, option_and_then, unwrap_or, sym, refl, ap, ◌∙◌, subst, subst₂, arith, append_assoc, append-nil}
+use Rattle.std.proofs.Common.{◌≡◌, ℕ, zero, suc, ◌+◌, ◌*◌, ◌<◌, ◌^◌, Bool, true, false, List, [], ◌∷◌, ◌++◌, ℤ, pos, negsuc, if◌then◌else◌, nat_lt, slice_get, Some, None, Option, option_map, option_and_then, unwrap_or, sym, refl, ap, ◌∙◌, subst, subst₂, arith, append_assoc, append-nil}
 use Rattle.std.proofs.lemmas.Option.{get_or_from_slice_get}
 use Rattle.ob0_tree.specs.Tree.{Tree, designator, end, expression, field, index, items, more, selector}
 use Rattle.ob0_typing.specs.Expressions.{Meanings, Object, a_constant, a_procedure, a_standard, a_type, a_variable, designate, element_step, evaluate, follow, place_of, value_of}
 use Rattle.ob0_typing.specs.Typing.{shape_of_field}
-use Rattle.ob0_typing.specs.WellTyped.{Mode, Signature, Typed}
+use Rattle.ob0_typing.specs.WellTyped.{Mode, Typed}
 use Rattle.ob0_values.specs.Values.{FieldShapes, Index, Outcome, Place, Shape, Step, Store, Value, Values, array_shape, at_field, at_index, at_path, boolean_shape, count_values, elements, ends, gives, integer_shape, number, or_stuck, part, read_place, record_shape, truth, ◌>>=◌}
 use Rattle.ob0_semantics.specs.Fitting.{HasShape, ObjectFits, PlaceFits, StoreFits, StoreTyping, part_shape, shape_at_path}
 use Rattle.ob0_semantics.proofs.Sound.{is_elements}
@@ -12,7 +12,7 @@ use Rattle.ob0_machine.specs.Evaluation as machine
 use Rattle.ob0_machine.specs.Evaluation.{Levels}
 use Rattle.ob0_machine.specs.Lowered as lowered
 use Rattle.ob0_cells.specs.Cells.{address, all_cells, field_offset, offset, size, sizes, step_offset, truth_cell}
-use Rattle.ob0_cells.specs.Lowering.{Evaluated, GivesPlace, Has32Bits, Leads, Moment, NumberMeans, PlaceLeads, PlaceMeans, Rest, Shows, Slot, TruthMeans, cells_in, further, held, lent, of_module, outcome_of, place_of_designator, selectors_left, slot_address, slot_place, worth, worth_of_factor}
+use Rattle.ob0_cells.specs.Lowering.{Evaluated, GivesPlace, Has32Bits, Moment, NumberMeans, PlaceLeads, PlaceMeans, Shows, Slot, TruthMeans, cells_in, further, held, lent, of_module, outcome_of, place_of_designator, selectors_left, slot_address, slot_place, worth, worth_of_factor}
 use Rattle.ob0_cells.proofs.LoweredNumbers.{each-then}
 use Rattle.ob0_cells.proofs.LoweredOutcomes.{Led, addresses, forward-same, given-same, gives-then, grouped-then, led-then, same, stuck-then, followed_by}
 use Rattle.ob0_cells.proofs.Places.{numbers_are_cells-holds, parts_have_addresses-holds, place-lies, places_are_slices-holds, truths_are_cells-holds}

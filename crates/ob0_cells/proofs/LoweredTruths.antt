@@ -1,16 +1,16 @@
 -- Truths of lowered code mean the expressions that they stand for.
-use Rattle.std.proofs.Common.{◌≡◌, ℕ, Bool, true, false, not, List, ℤ, if◌then◌else◌, Some, None, Option, sym, refl, ap, ◌∙◌, subst}
+use Rattle.std.proofs.Common.{◌≡◌, Bool, true, false, not, if◌then◌else◌, None, sym, refl, ap, ◌∙◌, subst}
 use Rattle.ob0_tree.specs.declared.tree.Relation.{Relation}
 use Rattle.ob0_tree.specs.declared.tree.Relation.TheVariants as relation
 use Rattle.ob0_tree.specs.declared.tree.AddOperator.TheVariants as add_operator
 use Rattle.ob0_tree.specs.declared.tree.MultiplyOperator.TheVariants as multiply_operator
-use Rattle.ob0_tree.specs.Tree.{Tree, addend, adds, compares, end, expression, factor, items, more, multiplier, multiplies, negation, none, one, parenthesised, product, relates, simple, sum, term}
+use Rattle.ob0_tree.specs.Tree.{Tree, addend, adds, compares, expression, factor, items, more, multiplier, multiplies, negation, none, one, parenthesised, product, relates, simple, sum, term}
 use Rattle.ob0_typing.specs.Expressions.{evaluate}
 use Rattle.ob0_typing.specs.WellTyped.{Typed}
-use Rattle.ob0_values.specs.Values.{Outcome, Value, add, add_is_settled, ends, gives, multiply, multiply_is_settled, negated, number, relate, truth, ◌>>=◌}
+use Rattle.ob0_values.specs.Values.{Outcome, Value, add, add_is_settled, gives, multiply, multiply_is_settled, negated, number, relate, truth, ◌>>=◌}
 use Rattle.ob0_machine.specs.Evaluation as machine
 use Rattle.ob0_machine.specs.Lowered as lowered
-use Rattle.ob0_cells.specs.Lowering.{Evaluated, Leads, Moment, NumberMeans, Rest, Shows, Slot, TruthLeads, TruthMeans, addends_left, cells_in, multipliers_left, outcome_of, relation_of, worth, worth_of_factor, worth_of_simple, worth_of_term}
+use Rattle.ob0_cells.specs.Lowering.{Evaluated, Moment, NumberMeans, Rest, Slot, TruthLeads, TruthMeans, addends_left, cells_in, multipliers_left, outcome_of, relation_of, worth, worth_of_factor, worth_of_simple, worth_of_term}
 use Rattle.ob0_cells.proofs.LoweredNumbers.{each-then}
 use Rattle.ob0_cells.proofs.LoweredOutcomes.{alike-same, compare-same, gives-then, grouped-then, outcome-then, followed_by}
 

@@ -1,11 +1,11 @@
 -- What places hold lies in the cells of the store.
-use Rattle.std.proofs.Common.{◌≡◌, ℕ, zero, suc, ◌+◌, ◌≤◌, Bool, List, [], ◌∷◌, ◌++◌, length, take, ℤ, slice_get, slice_set, Some, None, Option, option_map, option_and_then, unwrap_or, sym, refl, ap, ◌∙◌, subst, arith, length-append}
+use Rattle.std.proofs.Common.{◌≡◌, ℕ, zero, suc, ◌+◌, List, [], ◌∷◌, ◌++◌, length, take, ℤ, slice_get, slice_set, Some, option_map, option_and_then, unwrap_or, sym, refl, ap, ◌∙◌, subst, arith, length-append}
 use Rattle.ob0_values.specs.Values.{Place, Shape, Step, Store, Value, at_path, boolean_shape, integer_shape, number, read_place, truth, with_at_path, write_place}
 use Rattle.ob0_semantics.specs.Fitting.{HasShape, PlaceFits, StoreFits, StoreTyping, part_shape, shape_at_path}
 use Rattle.ob0_semantics.proofs.Sound.{is_number, is_truth, of_some, some-gives}
 use Rattle.ob0_semantics.proofs.SoundStatements.{PlaceFits-grows, set-fits, slice_get-grows, with_path-fits}
 use Rattle.ob0_cells.specs.CellLaws.{AddressesStay, NumbersAreCells, PartsHaveAddresses, PlacesAreSlices, TruthsAreCells, TypesTellSizes, WritingPlacesWritesSlices}
-use Rattle.ob0_cells.specs.Cells.{address, all_cells, cells_at, cells_of, cells_with, offset, size, sizes, step_offset, truth_cell}
+use Rattle.ob0_cells.specs.Cells.{address, all_cells, cells_at, cells_of, cells_with, offset, size, sizes, truth_cell}
 use Rattle.ob0_cells.proofs.Parts.{cells-size, lies-inside, path-lies}
 use Rattle.ob0_cells.proofs.Splits.{Lies, lies-behind, lies-first, lies-within, split-at, split-get, split-set, split-with}
 

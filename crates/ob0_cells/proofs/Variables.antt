@@ -1,11 +1,11 @@
 -- Variables that begin, are added, and are given up.
-use Rattle.std.proofs.Common.{◌≡◌, ℕ, zero, suc, ◌+◌, ◌*◌, Bool, List, [], ◌∷◌, ◌++◌, length, replicate, take, ℤ, pos, slice_get, Some, option_and_then, option_map, unwrap_or, sym, refl, ap, ◌∙◌, subst, arith, append_assoc, append-nil}
+use Rattle.std.proofs.Common.{◌≡◌, ℕ, zero, suc, ◌+◌, ◌*◌, List, [], ◌∷◌, ◌++◌, length, replicate, take, ℤ, pos, slice_get, Some, option_and_then, option_map, unwrap_or, sym, refl, ap, ◌∙◌, arith, append_assoc, append-nil}
 use Rattle.std.proofs.lemmas.List.{replicate-append-replicate, take_at}
-use Rattle.ob0_values.specs.Values.{FieldShapes, Place, Shape, Store, Value, array_shape, boolean_shape, copies, initial, initial_members, integer_shape, next_field_shape, no_field_shape, record_shape}
-use Rattle.ob0_semantics.specs.Fitting.{HasShape, StoreFits, StoreTyping, shape_at_path}
+use Rattle.ob0_values.specs.Values.{FieldShapes, Shape, Store, Value, array_shape, boolean_shape, copies, initial, initial_members, integer_shape, next_field_shape, no_field_shape, record_shape}
+use Rattle.ob0_semantics.specs.Fitting.{StoreFits, StoreTyping, shape_at_path}
 use Rattle.ob0_semantics.proofs.SoundCalls.{cut-fits, initial-fits, last-shape, store-appends}
 use Rattle.ob0_cells.specs.CellLaws.{InitialCellsAreZero, VariablesAreAdded, VariablesAreGivenUp}
-use Rattle.ob0_cells.specs.Cells.{address, all_cells, cells_of, element_cells, field_sizes, member_cells, offset, size, sizes}
+use Rattle.ob0_cells.specs.Cells.{all_cells, cells_of, element_cells, field_sizes, member_cells, offset, size, sizes}
 use Rattle.ob0_cells.proofs.Places.{store-size}
 
 pub zeros-join : (m n : ℕ) (a b : List ℤ) → a ≡ replicate m (pos 0) → b ≡ replicate n (pos 0) → a ++ b ≡ replicate (m + n) (pos 0)

@@ -2,3 +2,5 @@ pub mod Cells
 pub mod CellLaws
 pub mod Lowering
 pub mod LoweringLaws
+pub mod LoweredStatements
+pub mod StatementLaws

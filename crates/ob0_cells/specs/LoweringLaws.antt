@@ -14,7 +14,7 @@ use Rattle.ob0_values.specs.Values.{FieldShapes, Place, Shape, Value, array_shap
 use Rattle.ob0_machine.specs.Evaluation as machine
 use Rattle.ob0_machine.specs.Lowered as lowered
 use Rattle.ob0_cells.specs.Cells.{field_offset, size}
-use Rattle.ob0_cells.specs.Lowering.{Evaluated, Leads, NumberLeads, NumberMeans, PlaceLeads, PlaceMeans, Rest, Slot, TruthLeads, TruthMeans, addends_left, multipliers_left, place_of_designator, relation_of, slot_place, worth, worth_of_factor, worth_of_simple, worth_of_term}
+use Rattle.ob0_cells.specs.Lowering.{Evaluated, NumberLeads, NumberMeans, PlaceLeads, PlaceMeans, Slot, TruthLeads, TruthMeans, addends_left, multipliers_left, place_of_designator, relation_of, slot_place, worth, worth_of_factor, worth_of_simple, worth_of_term}
 
 -- a variable is at its slot
 abbrev pub VariablesLower : Type 0

@@ -3,3 +3,4 @@
 
 pub mod laws;
 pub mod lowering_laws;
+pub mod statement_laws;

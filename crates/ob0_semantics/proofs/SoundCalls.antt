@@ -17,8 +17,8 @@ use Rattle.ob0_semantics.specs.Runs.{Activation, Argument, Calls, Code, Frame, P
 use Rattle.ob0_semantics.proofs.ByOrdinal.{with_mode}
 use Rattle.ob0_semantics.proofs.Sound.{some-gives}
 use Rattle.ob0_semantics.proofs.SoundStatements.{ObjectFits-grows, PlaceFits-grows, ProgressFits-grown, both_true, execute_all-keeps, keeps-here, same_store-fits}
-use Rattle.ob0_semantics.specs.Fitting.{EachHasShape, HasShape, HaveShapes, ObjectFits, StoreFits, StoreTyping, modes_in, shape_at_path}
-use Rattle.ob0_semantics.proofs.Soundness.{ArgumentsFit, CallsFit, ProgressFits}
+use Rattle.ob0_semantics.specs.Fitting.{ArgumentsFit, EachHasShape, HasShape, HaveShapes, ObjectFits, StoreFits, StoreTyping, modes_in, shape_at_path}
+use Rattle.ob0_semantics.proofs.Soundness.{CallsFit, ProgressFits}
 
 -- environments that fit
 

@@ -4,9 +4,9 @@ use Rattle.ob0_tree.specs.Tree.{Tree, expression, statement}
 use Rattle.ob0_typing.specs.Expressions.{Meanings, a_procedure, evaluate}
 use Rattle.ob0_typing.specs.Typing.{type_of}
 use Rattle.ob0_values.specs.Values.{Outcome, Place, Shape, Store, Stuck, ends, gives}
-use Rattle.ob0_typing.specs.WellTyped.{Mode, Signature, Typed, by_place, by_value, statement_fits}
-use Rattle.ob0_semantics.specs.Fitting.{HasShape, MeaningsFit, PlaceFits, StoreFits, StoreTyping}
-use Rattle.ob0_semantics.specs.Runs.{Argument, Calls, Progress, State, execute, place_argument, running, stopped, value_argument}
+use Rattle.ob0_typing.specs.WellTyped.{Mode, Signature, Typed, statement_fits}
+use Rattle.ob0_semantics.specs.Fitting.{ArgumentsFit, HasShape, MeaningsFit, StoreFits, StoreTyping}
+use Rattle.ob0_semantics.specs.Runs.{Argument, Calls, Progress, State, execute, running, stopped}
 
 -- an outcome is of the wanted kind, or an end other than Stuck
 abbrev pub OutcomeFits : {A : Type 0} → (A → Type 0) → Outcome A → Type 0
@@ -17,12 +17,6 @@ OutcomeFits Fits (ends e) = e ≢ Stuck
 abbrev pub ProgressFits : StoreTyping → Progress → Type 0
 ProgressFits typing (running s) = (others : StoreTyping) × StoreFits (typing ++ others) s.store
 ProgressFits typing (stopped e out) = e ≢ Stuck
-
-abbrev pub ArgumentsFit : StoreTyping → Signature → List Argument → Type 0
-ArgumentsFit typing [] [] = Unit {0}
-ArgumentsFit typing (f ∷ fs) (place_argument p ∷ args) = (f.mode ≡ by_place) × PlaceFits typing p f.shape × ArgumentsFit typing fs args
-ArgumentsFit typing (f ∷ fs) (value_argument v ∷ args) = (f.mode ≡ by_value) × HasShape v f.shape × ArgumentsFit typing fs args
-ArgumentsFit typing _ _ = ⊥
 
 -- calls with arguments of the signature keep the invariant, in every store that grew since
 abbrev pub CallsFit : {N : Type 0} → StoreTyping → Typed N → Calls N → Type 0

@@ -2,8 +2,9 @@
 use Rattle.std.specs.Prelude.{◌≡◌, ℕ, List, [], ◌∷◌, map, if◌then◌else◌, nat_lt, slice_get, Some, None, Option, option_and_then}
 use Rattle.ob0_typing.specs.Expressions.{Meanings, Object, a_constant, a_procedure, a_standard, a_type, a_variable}
 use Rattle.ob0_typing.specs.Typing.{shape_of_field}
-use Rattle.ob0_typing.specs.WellTyped.{Mode, Signature, Typed}
+use Rattle.ob0_typing.specs.WellTyped.{Mode, Signature, Typed, by_place, by_value}
 use Rattle.ob0_values.specs.Values.{FieldShapes, Members, Place, Shape, Step, Store, Value, Values, array_shape, at_field, at_index, boolean_shape, count_values, elements, integer_shape, members, next_field_shape, next_member, next_value, no_field_shape, no_member, no_value, number, record_shape, truth}
+use Rattle.ob0_semantics.specs.Runs.{Argument, place_argument, value_argument}
 
 -- a value has a type
 abbrev mutual
@@ -61,3 +62,10 @@ ObjectFits typing _ _ = ⊥
 abbrev pub MeaningsFit : {N : Type 0} → StoreTyping → Typed N → Meanings N Place (List Mode) → Type 0
 MeaningsFit {N} typing checked active =
     ((x : N) → ObjectFits typing (checked.stands_for x) (active.stands_for x)) × ((x : N) → checked.written x ≡ active.written x)
+
+-- the arguments of a call, by the signature of what is called
+abbrev pub ArgumentsFit : StoreTyping → Signature → List Argument → Type 0
+ArgumentsFit typing [] [] = Unit {0}
+ArgumentsFit typing (f ∷ fs) (place_argument p ∷ args) = (f.mode ≡ by_place) × PlaceFits typing p f.shape × ArgumentsFit typing fs args
+ArgumentsFit typing (f ∷ fs) (value_argument v ∷ args) = (f.mode ≡ by_value) × HasShape v f.shape × ArgumentsFit typing fs args
+ArgumentsFit typing _ _ = ⊥
