@@ -1,3 +1,4 @@
 pub mod Chains
 pub mod Exits
 pub mod Several
+pub mod InOrder

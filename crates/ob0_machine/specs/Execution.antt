@@ -68,15 +68,14 @@ pub record Passed : Type 0 where
 abbrev pub pass_cells : Passed → List ℤ → Passed
 pass_cells p more = record p { cells = p.cells ++ more }
 
-unfoldable pub pass : Levels → Argument → Passed → Outcome Passed
+abbrev pub pass : Levels → Argument → Passed → Outcome Passed
 pass ls (by_place p) done = address ls done.cells p >>= (λ a. gives record done { addresses = done.addresses ++ a ∷ [] })
 pass ls (by_number n) done = number ls done.cells n >>= (λ a. gives (pass_cells done (a ∷ [])))
 pass ls (by_truth t) done = truth ls done.cells t >>= (λ a. gives (pass_cells done (as_cell a ∷ [])))
 pass ls (by_block p n) done = address ls done.cells p >>= (λ a. gives (pass_cells done (block_at done.cells a n)))
 
 -- arguments are evaluated and passed from left to right
-unfoldable pub pass_all : Levels → List Argument → Passed → Outcome Passed
-unfolding pass
+abbrev pub pass_all : Levels → List Argument → Passed → Outcome Passed
 pass_all ls [] done = gives done
 pass_all ls (a ∷ as_given) done = pass ls a done >>= pass_all ls as_given
 
@@ -104,8 +103,6 @@ entered ls base up p = record { base = base; addresses = p.addresses } ∷ drop 
 
 -- an assignment finds its place, then evaluates its right side, then stores
 unfoldable mutual
-  unfolding pass_all
-
   pub execute : Calls → ℕ → Levels → Statement → State → Progress
   execute enter t ls (stores_number p n) s =
       use_in s (address ls s.cells p) (λ a. use_in s (number ls s.cells n) (λ v. running (store_at s a v)))

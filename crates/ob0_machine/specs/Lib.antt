@@ -4,3 +4,4 @@ pub mod Execution
 pub mod View
 pub mod Levels
 pub mod Answers
+pub mod Machines

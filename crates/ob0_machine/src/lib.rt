@@ -5,4 +5,7 @@ pub mod code;
 pub mod ending;
 pub mod evaluating;
 pub mod level;
+pub mod machine;
 pub mod operators;
+pub mod passing;
+pub mod statements;

@@ -1,0 +1,59 @@
+//! Arguments: values are cells at the end, VAR parameters addresses.
+
+ghost use Rattle.std.specs.Prelude.{map};
+ghost use Rattle.ob0_machine.specs.Execution.{pass, pass_all};
+ghost use Rattle.ob0_machine.specs.Levels.{levels_of};
+ghost use Rattle.ob0_machine.specs.Machines.{Passes, passed_in};
+ghost use Rattle.ob0_machine.specs.View.{argument_of};
+
+use crate::code::Argument;
+use crate::ending::Stop;
+use crate::evaluating::{address, number, truth};
+use crate::level::Level;
+use crate::machine::push_block;
+use crate::operators::as_cell;
+
+/// Evaluates an argument and passes it.
+fn pass(
+    argument: &Argument,
+    level: &Level<'_>,
+    cells: &mut Vec<i32>,
+    addresses: &mut Vec<usize>,
+) -> Result<(), Stop>
+    ensures { Passes result cells.new.items addresses.new.items (pass (levels_of level.now) (argument_of argument.now) (passed_in cells.old.items addresses.old.items)) }
+{
+    match argument {
+        Argument::Place(place) => {
+            let a = address(place, level, cells.as_slice())?;
+            addresses.push(a)?;
+        }
+        Argument::Number(n) => {
+            let a = number(n, level, cells.as_slice())?;
+            cells.push(a)?;
+        }
+        Argument::Truth(t) => {
+            let a = truth(t, level, cells.as_slice())?;
+            cells.push(as_cell(a))?;
+        }
+        Argument::Block(place, count) => {
+            let a = address(place, level, cells.as_slice())?;
+            push_block(cells, a, *count)?;
+        }
+    }
+    Ok(())
+}
+
+/// Evaluates and passes arguments, from left to right.
+pub(crate) fn pass_all(
+    arguments: &[Argument],
+    level: &Level<'_>,
+    cells: &mut Vec<i32>,
+    addresses: &mut Vec<usize>,
+) -> Result<(), Stop>
+    ensures { Passes result cells.new.items addresses.new.items (pass_all (levels_of level.now) (map argument_of arguments.now) (passed_in cells.old.items addresses.old.items)) }
+{
+    for argument in arguments {
+        pass(argument, level, cells, addresses)?;
+    }
+    Ok(())
+}
