@@ -13,3 +13,7 @@ pub mod LoweredControl
 pub mod LoweredAssignments
 pub mod PassedArguments
 pub mod StatementsLowered
+pub mod PlacedEnvironments
+pub mod PlacedDeclarations
+pub mod CallsLowered
+pub mod RunsLowered

@@ -107,7 +107,7 @@ numbers-before (x ∷ xs) ys h (suc i) = numbers-before xs ys (λ i. h (suc i)) 
 module _ {N : Type 0} (checked : Typed N) (slots : N → Slot) (targets : N → Target) (b : Body N) (shown : ShowsBody checked slots targets b) (store : Store) (fits : StoreFits b.typing store) where
   pub argument-passed : (f : Formal) (c : lowered.Argument) (e : Tree N expression) → ArgumentMeans checked slots f c e → (done : execution.Passed) (passed : List ℤ) → done.cells ≡ all_cells store ++ passed → HaveNumbers done.cells
       → Both (λ p a. Passes b.typing (f ∷ []) done p (a ∷ [])) (execution.pass b.levels c done) (evaluate_argument b.active store f.mode e)
-  unfolding execution.pass evaluate_argument
+  unfolding evaluate_argument
   argument-passed f (lowered.by_place q) e h done passed same numbers =
       let (x, path, v, d, ex, hq) = h.1 in
       subst (λ m. Both (λ p a. Passes b.typing (f ∷ []) done p (a ∷ [])) (execution.pass b.levels (lowered.by_place q) done) (evaluate_argument b.active store m e)) (sym h.0)
@@ -164,7 +164,7 @@ module _ {N : Type 0} (checked : Typed N) (slots : N → Slot) (targets : N → 
 
   pub arguments-passed : (fs : Signature) (cs : List lowered.Argument) (es : List (Tree N expression)) → ArgumentsMean checked slots fs cs es → (done : execution.Passed) (passed : List ℤ) → done.cells ≡ all_cells store ++ passed → HaveNumbers done.cells
       → Both (λ p args. Passes b.typing fs done p args) (execution.pass_all b.levels cs done) (evaluate_arguments b.active store (modes_in fs) es)
-  unfolding execution.pass_all evaluate_arguments
+  unfolding evaluate_arguments
   arguments-passed [] [] [] h done passed same numbers = record { arguments_fit = tt; cells_passed = sym (append-nil done.cells); addresses_passed = sym (append-nil done.addresses); have_numbers = numbers }
   arguments-passed (f ∷ fs) (c ∷ cs) (e ∷ es) h done passed same numbers =
       both-then (λ p a. Passes b.typing (f ∷ []) done p (a ∷ [])) (λ p args. Passes b.typing (f ∷ fs) done p args) (execution.pass b.levels c done) (evaluate_argument b.active store f.mode e) (execution.pass_all b.levels cs) (λ a. evaluate_arguments b.active store (modes_in fs) es >>= (λ rest. gives (a ∷ rest)))

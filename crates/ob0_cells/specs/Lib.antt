@@ -4,3 +4,5 @@ pub mod Lowering
 pub mod LoweringLaws
 pub mod LoweredStatements
 pub mod StatementLaws
+pub mod Activations
+pub mod ActivationLaws

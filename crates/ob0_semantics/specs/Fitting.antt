@@ -1,10 +1,12 @@
 -- Values, places and what names stand for, by the types that a checked module gives them.
-use Rattle.std.specs.Prelude.{◌≡◌, ℕ, List, [], ◌∷◌, map, if◌then◌else◌, nat_lt, slice_get, Some, None, Option, option_and_then}
+use Rattle.std.specs.Prelude.{◌≡◌, ℕ, true, List, [], ◌∷◌, map, if◌then◌else◌, nat_lt, slice_get, Some, None, Option, option_and_then}
+use Rattle.ob0_scope.specs.Names.{Naming}
+use Rattle.ob0_scope.specs.Parts.{procedure_formals}
 use Rattle.ob0_typing.specs.Expressions.{Meanings, Object, a_constant, a_procedure, a_standard, a_type, a_variable}
 use Rattle.ob0_typing.specs.Typing.{shape_of_field}
-use Rattle.ob0_typing.specs.WellTyped.{Mode, Signature, Typed, by_place, by_value}
+use Rattle.ob0_typing.specs.WellTyped.{Mode, Signature, TypeEnvironment, Typed, TypedParameter, bind_typed, by_place, by_value, heading, procedure_fits, typed_parameters}
 use Rattle.ob0_values.specs.Values.{FieldShapes, Members, Place, Shape, Step, Store, Value, Values, array_shape, at_field, at_index, boolean_shape, count_values, elements, integer_shape, members, next_field_shape, next_member, next_value, no_field_shape, no_member, no_value, number, record_shape, truth}
-use Rattle.ob0_semantics.specs.Runs.{Argument, place_argument, value_argument}
+use Rattle.ob0_semantics.specs.Runs.{Activation, Argument, Code, passing, place_argument, value_argument}
 
 -- a value has a type
 abbrev mutual
@@ -69,3 +71,15 @@ ArgumentsFit typing [] [] = Unit {0}
 ArgumentsFit typing (f ∷ fs) (place_argument p ∷ args) = (f.mode ≡ by_place) × PlaceFits typing p f.shape × ArgumentsFit typing fs args
 ArgumentsFit typing (f ∷ fs) (value_argument v ∷ args) = (f.mode ≡ by_value) × HasShape v f.shape × ArgumentsFit typing fs args
 ArgumentsFit typing _ _ = ⊥
+
+-- one binding of a checked environment and one of an activation, over the bindings below them
+abbrev pub BindingFits : {N : Type 0} → Naming N → StoreTyping → TypeEnvironment N → N → Object Shape Signature → Object Place (Code N) → Type 0
+BindingFits {N} naming typing checked x (a_procedure signature) (a_procedure code) =
+    (ps : List (TypedParameter N)) × (typed_parameters naming checked code.first_constructor (procedure_formals code.text) ≡ Some ps) × (signature ≡ map (λ p. p.formal) ps)
+    × (procedure_fits naming (bind_typed ps (heading x ps checked)) code.first_constructor code.text ≡ true)
+BindingFits naming typing checked x o r = ObjectFits typing (Some o) (passing (Some r))
+
+abbrev pub EnvironmentsFit : {N : Type 0} → Naming N → StoreTyping → TypeEnvironment N → Activation N → Type 0
+EnvironmentsFit naming typing [] [] = Unit {0}
+EnvironmentsFit naming typing (b ∷ checked) (d ∷ active) = (b.0 ≡ d.0) × BindingFits naming typing checked b.0 b.1 d.1 × EnvironmentsFit naming typing checked active
+EnvironmentsFit naming typing _ _ = ⊥
