@@ -17,3 +17,4 @@ pub mod PlacedEnvironments
 pub mod PlacedDeclarations
 pub mod CallsLowered
 pub mod RunsLowered
+pub mod WorkedProgram
