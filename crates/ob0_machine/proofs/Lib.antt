@@ -2,3 +2,6 @@ pub mod Chains
 pub mod Exits
 pub mod Several
 pub mod InOrder
+pub mod Viewed
+pub mod Executing
+pub mod Returning

@@ -5,3 +5,4 @@ pub mod View
 pub mod Levels
 pub mod Answers
 pub mod Machines
+pub mod Outcomes

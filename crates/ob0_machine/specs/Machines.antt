@@ -1,5 +1,5 @@
 -- What the machine stands for, and what a step of it says of the run.
-use Rattle.std.specs.Prelude.{◌≡◌, ℕ, ℤ, List, map, Ok, Err, Result}
+use Rattle.std.specs.Prelude.{◌≡◌, ℕ, ℤ, List, map, Ok, Err, Option, Result}
 use denote.MutBor.{MutBor}
 use denote.Ref.{Bor}
 use Rattle.ob0_machine.specs.declared.ending.Ending.{Ending}
@@ -11,9 +11,11 @@ use Rattle.ob0_machine.specs.declared.machine.Item.TheVariants as item
 use Rattle.ob0_machine.specs.declared.machine.Machine.{Machine}
 use Rattle.ob0_machine.specs.Answers.{end_of}
 use Rattle.ob0_machine.specs.Evaluation.{Levels, Outcome, ends, gives}
-use Rattle.ob0_machine.specs.Execution.{Calls, Passed, Progress, State, Written, execute, execute_all, line_out, number_out, running, stopped}
+use Rattle.ob0_machine.specs.Execution.{Calls, Passed, Progress, State, Written, activate, call, execute, execute_all, line_out, number_out, running, stopped}
 use Rattle.ob0_machine.specs.Levels.{levels_of}
-use Rattle.ob0_machine.specs.Lowered.{Statement, Statements}
+use Rattle.ob0_machine.specs.Lowered.{Procedure, Statement, Statements}
+use Rattle.ob0_machine.specs.View.{program_of}
+use Rattle.ob0_machine.specs.declared.code.Program.{Program}
 
 abbrev pub item_of : Item → Written
 item_of (item.Number n) = number_out n
@@ -57,8 +59,8 @@ abbrev pub executed_all : ℕ → Levels → Statements → Doing
 executed_all t ls as_listed enters s = execute_all enters t ls as_listed s
 
 -- a step of the machine does what `doing` says, where calls do what they say
-abbrev pub Does : Post → Result (Unit {0}) Stop → Machine → Machine → Doing → Type 0
-Does post r m m' doing = (enters : Calls) → Performs post enters → Steps r m' (doing enters (state_of m))
+pub record Does (post : Post) (r : Result (Unit {0}) Stop) (m m' : Machine) (doing : Doing) : Type 0 where
+  pub as_defined : (enters : Calls) → Performs post enters → Steps r m' (doing enters (state_of m))
 
 -- what was passed, on top of what was there
 abbrev pub passed_in : List ℤ → List ℕ → Passed
@@ -69,3 +71,11 @@ abbrev pub Passes : Result (Unit {0}) Stop → List ℤ → List ℕ → Outcome
 Passes (Ok done) cells addresses o = o ≡ gives (passed_in cells addresses)
 Passes (Err (stop.Ended e)) cells addresses o = o ≡ ends (end_of e)
 Passes (Err stop.Memory) cells addresses o = Unit {0}
+
+-- the body of a procedure runs, if there is one
+abbrev pub activated : Option Procedure → ℕ → Levels → Doing
+activated o t ls enters s = activate enters t ls o s
+
+-- a call, of which c may be open, does what it does in the program
+abbrev pub Enters : Result (Unit {0}) Stop → Machine → Machine → Program → ℕ → ℕ → ℕ → level.Level → Type 0
+Enters r m m' program c t k l = Steps r m' (call (program_of program).procedures c t k (levels_of l) (state_of m))

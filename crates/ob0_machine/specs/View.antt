@@ -173,3 +173,6 @@ procedure_of p = record { cells = p.cells; body = sequence_of p.body.items }
 
 abbrev pub program_of : program.Program → lowered.Program
 program_of p = record { cells = p.cells; body = sequence_of p.body.items; procedures = map procedure_of p.procedures.items }
+
+abbrev pub branches_in : if_statement.If → lowered.Statement
+branches_in i = lowered.chooses (all_branches (if_statement.out-If i).branches.items) (sequence_of (if_statement.out-If i).otherwise.items)

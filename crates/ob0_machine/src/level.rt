@@ -13,7 +13,7 @@ pub struct Level<'l> {
 }
 
 /// The activation so many levels out.
-fn outside<'l>(level: &'l Level<'l>, up: usize) -> Option<&'l Level<'l>>
+pub fn outside<'l>(level: &'l Level<'l>, up: usize) -> Option<&'l Level<'l>>
     ensures { levels_seen result ≡ drop up (levels_of level.now) }
 {
     if up == 0 {

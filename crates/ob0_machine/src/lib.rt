@@ -1,6 +1,7 @@
 //! Lowered code, and the machine that runs it over one store of cells.
 #![tactic(auto)]
 
+pub mod calls;
 pub mod code;
 pub mod ending;
 pub mod evaluating;
@@ -8,4 +9,9 @@ pub mod level;
 pub mod machine;
 pub mod operators;
 pub mod passing;
+pub mod running;
 pub mod statements;
+
+pub use ending::Ending;
+pub use machine::Item;
+pub use running::{End, Outcome, run};

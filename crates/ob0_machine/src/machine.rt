@@ -1,11 +1,11 @@
 //! The machine: the cells of all variables, the rest of the input, and what was put out.
 
-ghost use Rattle.std.specs.Prelude.{◌≡◌, ◌++◌, IsOk, OnOk, slice_set};
+ghost use Rattle.std.specs.Prelude.{◌≡◌, ◌++◌, IsOk, OnOk, length, slice_set};
 ghost use Rattle.ob0_machine.specs.Execution.{block_at, copied, put_out, read_number, zeros};
 ghost use Rattle.ob0_machine.specs.Machines.{Steps, item_of, moved, state_of};
 
 use crate::ending::{Ending, Stop};
-use std::alloc::AllocError;
+use std::alloc::{AllocError, Global};
 
 /// What a run puts out.
 #[derive(Clone, Copy, PartialEq, Eq, Debug)]
@@ -16,6 +16,7 @@ pub enum Item {
 
 #[derive(Drop)]
 pub struct Machine<'i> {
+    pub alloc: Global,
     /// The cells of all variables, those of the module first.
     pub cells: Vec<i32>,
     /// The numbers that weren't read yet.
@@ -68,6 +69,13 @@ pub(crate) fn push_zeros(cells: &mut Vec<i32>, count: usize) -> Result<(), Alloc
 }
 
 impl<'i> Machine<'i> {
+    /// How many cells there are.
+    pub(crate) fn size(&self) -> usize
+        ensures { result ≡ length self.now.cells.items }
+    {
+        self.cells.len()
+    }
+
     /// Takes the next number of the input.
     pub(crate) fn read_number(&mut self, address: usize) -> Result<(), Ending>
         ensures { moved result self.new ≡ read_number (state_of self.old) address (state_of self.old).input }
