@@ -1,5 +1,6 @@
 -- The run of a lowered program is the run of its module.
-use Rattle.std.proofs.Common.{◌≡◌, ℕ, suc, ◌+◌, ◌*◌, ◌^◌, ◌<◌, true, List, [], ℤ, sym, refl, ap, ◌∙◌, subst, arith}
+use Rattle.std.proofs.Common.{◌≡◌, ℕ, suc, ◌+◌, ◌*◌, ◌^◌, ◌<◌, ◌≤◌, true, List, [], ℤ, sym, refl, ap, ◌∙◌, subst, arith}
+use Rattle.std.proofs.lemmas.Nat.{mul-le}
 use Rattle.ob0_tree.specs.Tree.{Tree, is_module, module_text}
 use Rattle.ob0_scope.specs.Names.{Naming, as_labels}
 use Rattle.ob0_scope.specs.Parts.{block_statements}
@@ -12,7 +13,7 @@ use Rattle.ob0_semantics.specs.Runs.{Frame, Progress, State, call, execute_body,
 use Rattle.ob0_semantics.proofs.Proved.{runs_by_ordinal-holds}
 use Rattle.ob0_machine.specs.Execution as execution
 use Rattle.ob0_machine.specs.Lowered as lowered
-use Rattle.ob0_cells.specs.ActivationLaws.{RunsLowered, run_of}
+use Rattle.ob0_cells.specs.ActivationLaws.{BoundsHaveRoom, RunsLowered, run_of}
 use Rattle.ob0_cells.specs.Activations.{Placed, ProgramMeans, outermost_placing}
 use Rattle.ob0_cells.specs.Cells.{sizes}
 use Rattle.ob0_cells.specs.LoweredStatements.{HaveNumbers, ProgressRepresents, Represents}
@@ -59,3 +60,8 @@ pub runs_lowered-holds : RunsLowered
 unfolding WellTyped run_numbered
 runs_lowered-holds m program most c t input well means few numbers =
     run-lowered as_labels (numbered m) program most c t input (sym (fits_by_ordinal-holds m) ∙ well.1) means few numbers ∙ sym (runs_by_ordinal-holds m input c t)
+
+pub bounds_have_room-holds : BoundsHaveRoom
+bounds_have_room-holds c most h k =
+    let product : suc c * most ≤ 2 ^ 32 * 4294967295 = mul-le (suc c) most (2 ^ 32) 4294967295 h (omega (arith, k)) in
+    omega (arith, product)
