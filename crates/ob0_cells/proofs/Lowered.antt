@@ -6,7 +6,7 @@ use Rattle.ob0_tree.specs.Tree.{end}
 use Rattle.ob0_typing.specs.Expressions.{evaluate}
 use Rattle.ob0_machine.specs.Lowered as lowered
 use Rattle.ob0_cells.specs.Lowering.{addends_left, multipliers_left}
-use Rattle.ob0_cells.specs.LoweringLaws.{AddendsLower, CellsLower, ConjunctionsLower, ConstantsLower, DisjunctionsLower, ExpressionsLower, FieldsLower, IndexesLower, IntegersLower, NegationsLower, OperatorsEnd, ParenthesesLower, ProductsLower, RelationsLower, SelectorsEnd, SumsLower, TermsLower, VariablesLower}
+use Rattle.ob0_cells.specs.LoweringLaws.{AddendsLower, BlocksLower, CellsLower, ConjunctionsLower, ConstantsLower, DisjunctionsLower, ExpressionsLower, FieldsLower, IndexesLower, IntegersLower, NegationsLower, OperatorsEnd, ParenthesesLower, ProductsLower, RelationsLower, SelectorsEnd, SumsLower, TermsLower, VariablesLower}
 use Rattle.ob0_cells.proofs.LoweredNumbers as numbers
 use Rattle.ob0_cells.proofs.LoweredOutcomes.{difference-operates, product-operates, quotient-operates, remainder-operates, sum-operates}
 use Rattle.ob0_cells.proofs.LoweredPlaces as places
@@ -83,4 +83,11 @@ pub relations_lower-holds : RelationsLower
 relations_lower-holds checked slots d e = (
   λ r m n hm hn. truths.related-means checked slots d e r m n hm hn,
   λ t u ht hu. (truths.same-means checked slots d e t u ht hu, truths.different-means checked slots d e t u ht hu),
+)
+
+pub blocks_lower-holds : BlocksLower
+blocks_lower-holds checked slots q s = (
+  λ x v path e hq. places.block-designator checked slots q s x v path e hq,
+  λ e h. places.block-parenthesised checked slots q s e h,
+  λ f h. places.block-alone checked slots q s f h,
 )

@@ -1,12 +1,11 @@
 -- Assignments and the standard procedures in lowered code.
 use Rattle.std.proofs.Common.{◌≡◌, ℕ, ◌+◌, ◌≤◌, true, ◌&&◌, List, [], ◌∷◌, ◌++◌, length, take, drop, ℤ, if◌then◌else◌, nat_le, Some, None, Option, sym, refl, ap, ◌∙◌, subst}
 use Rattle.std.proofs.lemmas.Bool.{le-leb}
-use Rattle.ob0_tree.specs.Tree.{Tree, arguments, assigns, calls, compares, designator, end, expression, items, maybe, none, product, selector, sum}
+use Rattle.ob0_tree.specs.Tree.{Tree, arguments, assigns, calls, expression, items, maybe, selector}
 use Rattle.ob0_typing.specs.Arguments.{arguments_listed}
-use Rattle.ob0_typing.specs.Expressions.{Meanings, Object, Standard, a_constant, a_procedure, a_standard, a_type, a_variable, designate, evaluate, evaluate_factor, reads, writes, writes_line}
-use Rattle.ob0_typing.specs.Typing.{designated}
+use Rattle.ob0_typing.specs.Expressions.{Object, Standard, a_constant, a_procedure, a_standard, a_type, a_variable, designate, evaluate, reads, writes, writes_line}
 use Rattle.ob0_typing.specs.WellTyped.{Mode, Typed, by_place, by_value}
-use Rattle.ob0_values.specs.Values.{Outcome, Place, Shape, Store, Value, boolean_shape, ends, gives, integer_shape, number, or_stuck, read_place, truth, ◌>>=◌}
+use Rattle.ob0_values.specs.Values.{Outcome, Place, Shape, Value, boolean_shape, ends, gives, integer_shape, number, or_stuck, read_place, truth, ◌>>=◌}
 use Rattle.ob0_semantics.specs.Fitting.{ObjectFits, PlaceFits, StoreTyping}
 use Rattle.ob0_semantics.specs.Runs.{Argument, Progress, State, evaluate_arguments, execute, modes_of, perform, place_argument, read_number, running, store_at, use_in, value_argument}
 use Rattle.ob0_machine.specs.Evaluation as machine
@@ -14,12 +13,10 @@ use Rattle.ob0_machine.specs.Execution as execution
 use Rattle.ob0_machine.specs.Lowered as lowered
 use Rattle.ob0_cells.specs.Cells.{address, all_cells, cells_of, size, sizes}
 use Rattle.ob0_cells.specs.LoweredStatements.{HaveNumbers, IsAt, ProgressRepresents, Represents, StatementMeans, Target}
-use Rattle.ob0_cells.specs.Lowering.{Has32Bits, NumberMeans, PlaceMeans, Slot, TruthMeans, place_of_designator, worth}
-use Rattle.ob0_cells.proofs.LoweredOutcomes.{gives-then}
-use Rattle.ob0_cells.proofs.LoweredPlaces.{value-there, variable-stands}
+use Rattle.ob0_cells.specs.Lowering.{Has32Bits, NumberMeans, PlaceMeans, Slot, TruthMeans, ValueAt, place_of_designator, worth}
 use Rattle.ob0_cells.proofs.Parts.{cells-size}
 use Rattle.ob0_cells.proofs.Places.{places_are_slices-holds, store-size, writing_places_writes_slices-holds}
-use Rattle.ob0_cells.proofs.Represented.{number-in, number-read, number-stored, numbers-append, numbers-drop, numbers-take, place-in, put-represents, truth-in, truth-stored, use-place, use-represents}
+use Rattle.ob0_cells.proofs.Represented.{alone-cells, moment, moment-shown, number-in, number-read, number-stored, numbers-append, numbers-drop, numbers-take, place-in, put-represents, truth-in, truth-stored, use-place, use-represents}
 
 pub standard-stands : (typing : StoreTyping) (q : Standard) (a : Option (Object Place (List Mode))) → ObjectFits typing (Some (a_standard q)) a → a ≡ Some (a_standard q)
 standard-stands typing q (Some (a_standard p)) h = ap (λ q. Some (a_standard q)) (sym h)
@@ -28,30 +25,6 @@ standard-stands typing q (Some (a_type s)) h = absurd h
 standard-stands typing q (Some (a_constant v)) h = absurd h
 standard-stands typing q (Some (a_variable p)) h = absurd h
 standard-stands typing q (Some (a_procedure p)) h = absurd h
-
--- an expression that is a designator alone
-
-abbrev pub alone : {N : Type 0} → N → Tree N (items selector) → Tree N expression
-alone x path = compares (sum None (product (designator x path) end) end) none
-
-pub designated-alone : {N : Type 0} (e : Tree N expression) (x : N) (path : Tree N (items selector)) → designated e ≡ Some (x, path) → e ≡ alone x path
-designated-alone (compares (sum None (product (designator y others) end) end) none) x path h = λ i. alone (ap (λ o. elim o [ None ↦ y | Some d ↦ d.0 ]) h i) (ap (λ o. elim o [ None ↦ others | Some d ↦ d.1 ]) h i)
-designated-alone _ x path h = absurd (cc)
-
-pub alone-worth : {N : Type 0} (active : Meanings N Place (List Mode)) (store : Store) (x : N) (path : Tree N (items selector)) → evaluate active store (alone x path) ≡ evaluate_factor active store (designator x path)
-unfolding evaluate
-alone-worth active store x path =
-    gives-then (evaluate_factor active store (designator x path) >>= gives) ∙ gives-then (evaluate_factor active store (designator x path))
-
-pub factor-worth : {N : Type 0} (active : Meanings N Place (List Mode)) (store : Store) (x : N) (path : Tree N (items selector)) (p : Place) → active.stands_for x ≡ Some (a_variable p)
-    → evaluate_factor active store (designator x path) ≡ (designate active store x path >>= (λ p. or_stuck (read_place store p)))
-unfolding evaluate designate
-factor-worth active store x path p e = value-there active store x path p e
-
-pub designator-worth : {N : Type 0} (active : Meanings N Place (List Mode)) (store : Store) (e : Tree N expression) (x : N) (path : Tree N (items selector)) (p : Place) → designated e ≡ Some (x, path) → active.stands_for x ≡ Some (a_variable p)
-    → evaluate active store e ≡ (designate active store x path >>= (λ p. or_stuck (read_place store p)))
-designator-worth active store e x path p d st =
-    ap (evaluate active store) (designated-alone e x path d) ∙ (alone-worth active store x path ∙ factor-worth active store x path p st)
 
 -- cells copied
 
@@ -122,17 +95,18 @@ module _ {N : Type 0} (checked : Typed N) (slots : N → Slot) (targets : N → 
       (λ p fit. use-represents b.typing truth low s (machine.truth b.levels low.cells u) (evaluate b.active s.store e) (λ v. execution.running (execution.store_at low (address b.typing p) (machine.as_cell v))) (store_at s p) h (truth-in checked slots targets b shown u (worth e) hu low s h)
       (λ v is. truth-stored b.typing low s p v h fit))
 
-  pub block-assigned : (x : N) (path : Tree N (items selector)) (e : Tree N expression) (q r : lowered.Place) (shape : Shape) → PlaceMeans checked slots q shape (place_of_designator x path) → IsAt checked slots r shape e → StatementMeans checked slots targets (lowered.copies q r (size shape)) (assigns x path e)
+  pub block-assigned : (x : N) (path : Tree N (items selector)) (e : Tree N expression) (q r : lowered.Place) (shape : Shape) → PlaceMeans checked slots q shape (place_of_designator x path) → ValueAt checked slots r shape (worth e) → StatementMeans checked slots targets (lowered.copies q r (size shape)) (assigns x path e)
   unfolding execution.execute execute
   block-assigned x path e q r shape hq hr b shown t low s h =
-      let (y, others, v, d, ey, hp) = hr in
-      let (p₀, st, fit₀) = variable-stands b.typing v (b.active.stands_for y) (subst (λ o. ObjectFits b.typing o (b.active.stands_for y)) ey (shown.names_fit.0 y)) in
+      let (w, hw, same) = hr in
+      let here = moment b s.store [] in
+      let value : evaluate b.active s.store e ≡ (w here >>= (λ p. or_stuck (read_place s.store p))) = same here (moment-shown checked slots targets b shown s.store [] low.cells h.store_fits (alone-cells checked slots targets b shown low s h) h.cells_have_numbers) in
       use-place b.typing shape low s (machine.address b.levels low.cells q) (designate b.active s.store x path) (λ to. execution.use_in low (machine.address b.levels low.cells r) (λ from. execution.running record low { cells = execution.copied low.cells to from (size shape) })) (λ p. use_in s (evaluate b.active s.store e) (store_at s p)) h
       (place-in checked slots targets b shown q shape (place_of_designator x path) hq low s h)
       (λ p fit. subst (λ w. ProgressRepresents b.typing (execution.use_in low (machine.address b.levels low.cells r) (λ from. execution.running record low { cells = execution.copied low.cells (address b.typing p) from (size shape) })) w)
-      (sym (ap (λ w. use_in s w (store_at s p)) (designator-worth b.active s.store e y others p₀ d st) ∙ use-then s (designate b.active s.store y others) (λ p. or_stuck (read_place s.store p)) (store_at s p)))
-      (use-place b.typing shape low s (machine.address b.levels low.cells r) (designate b.active s.store y others) (λ from. execution.running record low { cells = execution.copied low.cells (address b.typing p) from (size shape) }) (λ p'. use_in s (or_stuck (read_place s.store p')) (store_at s p)) h
-      (place-in checked slots targets b shown r shape (place_of_designator y others) hp low s h)
+      (sym (ap (λ w. use_in s w (store_at s p)) value ∙ use-then s (w here) (λ p. or_stuck (read_place s.store p)) (store_at s p)))
+      (use-place b.typing shape low s (machine.address b.levels low.cells r) (w here) (λ from. execution.running record low { cells = execution.copied low.cells (address b.typing p) from (size shape) }) (λ p'. use_in s (or_stuck (read_place s.store p')) (store_at s p)) h
+      (place-in checked slots targets b shown r shape w hw low s h)
       (λ p' fit'. cells-copied b.typing low s p p' shape h fit fit')))
 
   pub reads-mean : (x : N) (es : Tree N (maybe arguments)) (e : Tree N expression) (q : lowered.Place) → checked.stands_for x ≡ Some (a_standard reads) → arguments_listed es ≡ e ∷ [] → IsAt checked slots q integer_shape e → StatementMeans checked slots targets (lowered.reads q) (calls x es)

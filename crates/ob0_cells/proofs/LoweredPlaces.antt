@@ -1,7 +1,7 @@
 -- Places of lowered code mean the designators that they stand for, and cells at them what those are worth.
 use Rattle.std.proofs.Common.{◌≡◌, ℕ, zero, suc, ◌+◌, ◌*◌, ◌<◌, ◌^◌, Bool, true, false, List, [], ◌∷◌, ◌++◌, ℤ, pos, negsuc, if◌then◌else◌, nat_lt, slice_get, Some, None, Option, option_map, option_and_then, unwrap_or, sym, refl, ap, ◌∙◌, subst, subst₂, arith, append_assoc, append-nil}
 use Rattle.std.proofs.lemmas.Option.{get_or_from_slice_get}
-use Rattle.ob0_tree.specs.Tree.{Tree, designator, end, expression, field, index, items, more, selector}
+use Rattle.ob0_tree.specs.Tree.{Tree, compares, designator, end, expression, factor, field, index, items, more, none, parenthesised, product, selector, sum}
 use Rattle.ob0_typing.specs.Expressions.{Meanings, Object, a_constant, a_procedure, a_standard, a_type, a_variable, designate, element_step, evaluate, follow, place_of, value_of}
 use Rattle.ob0_typing.specs.Typing.{shape_of_field}
 use Rattle.ob0_typing.specs.WellTyped.{Mode, Typed}
@@ -12,7 +12,7 @@ use Rattle.ob0_machine.specs.Evaluation as machine
 use Rattle.ob0_machine.specs.Evaluation.{Levels}
 use Rattle.ob0_machine.specs.Lowered as lowered
 use Rattle.ob0_cells.specs.Cells.{address, all_cells, field_offset, offset, size, sizes, step_offset, truth_cell}
-use Rattle.ob0_cells.specs.Lowering.{Evaluated, GivesPlace, Has32Bits, Moment, NumberMeans, PlaceLeads, PlaceMeans, Shows, Slot, TruthMeans, cells_in, further, held, lent, of_module, outcome_of, place_of_designator, selectors_left, slot_address, slot_place, worth, worth_of_factor}
+use Rattle.ob0_cells.specs.Lowering.{Evaluated, GivesPlace, Has32Bits, Moment, NumberMeans, PlaceLeads, PlaceMeans, Shows, Slot, TruthMeans, ValueAt, cells_in, further, held, lent, of_module, outcome_of, place_of_designator, selectors_left, slot_address, slot_place, worth, worth_of_factor}
 use Rattle.ob0_cells.proofs.LoweredNumbers.{each-then}
 use Rattle.ob0_cells.proofs.LoweredOutcomes.{Led, addresses, forward-same, given-same, gives-then, grouped-then, led-then, same, stuck-then, followed_by}
 use Rattle.ob0_cells.proofs.Places.{numbers_are_cells-holds, parts_have_addresses-holds, place-lies, places_are_slices-holds, truths_are_cells-holds}
@@ -270,3 +270,16 @@ module _ {N : Type 0} (checked : Typed N) (slots : N → Slot) where
   truth-constant x b e z shown =
       let stands : z.active.stands_for x ≡ Some (a_constant (truth b)) = constant-stands z.typing (truth b) (z.active.stands_for x) (subst (λ o. ObjectFits z.typing o (z.active.stands_for x)) e (shown.names_fit.0 x)) in
       sym (ap (λ o. value_of {P = List Mode} z.store o >>= (λ v. gives [] >>= (λ steps. or_stuck (at_path steps v)))) stands)
+
+  pub block-designator : (q : lowered.Place) (s : Shape) (x : N) (v : Shape) (path : Tree N (items selector)) → checked.stands_for x ≡ Some (a_variable v) → PlaceMeans checked slots q s (place_of_designator x path) → ValueAt checked slots q s (worth_of_factor (designator x path))
+  unfolding evaluate designate
+  block-designator q s x v path e hq =
+      (place_of_designator x path, hq, λ z shown. let (p, ep, fit) = variable-stands z.typing v (z.active.stands_for x) (subst (λ o. ObjectFits z.typing o (z.active.stands_for x)) e (shown.names_fit.0 x)) in value-there z.active z.store x path p ep)
+
+  pub block-parenthesised : (q : lowered.Place) (s : Shape) (e : Tree N expression) → ValueAt checked slots q s (worth e) → ValueAt checked slots q s (worth_of_factor (parenthesised e))
+  unfolding evaluate
+  block-parenthesised q s e h = (h.0, h.1, λ z shown. h.2 z shown)
+
+  pub block-alone : (q : lowered.Place) (s : Shape) (f : Tree N factor) → ValueAt checked slots q s (worth_of_factor f) → ValueAt checked slots q s (worth (compares (sum None (product f end) end) none))
+  unfolding evaluate
+  block-alone q s f h = (h.0, h.1, λ z shown. gives-then (worth_of_factor f z >>= gives) ∙ (gives-then (worth_of_factor f z) ∙ h.2 z shown))

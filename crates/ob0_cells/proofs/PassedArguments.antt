@@ -16,11 +16,9 @@ use Rattle.ob0_machine.specs.Lowered as lowered
 use Rattle.ob0_cells.specs.Cells.{address, all_cells, cells_of, size, sizes}
 use Rattle.ob0_cells.specs.LoweredStatements.{ArgumentMeans, ArgumentsMean, Body, HaveNumbers, ProgressRepresents, Represents, ShowsBody, StatementMeans, Target, argument_addresses, argument_cells}
 use Rattle.ob0_cells.specs.Lowering.{Has32Bits, Slot, end_of, outcome_of, place_of_designator, worth}
-use Rattle.ob0_cells.proofs.LoweredAssignments.{designator-worth}
 use Rattle.ob0_cells.proofs.LoweredOutcomes.{Led, ended-same, given-same, grouped-then}
-use Rattle.ob0_cells.proofs.LoweredPlaces.{variable-stands}
 use Rattle.ob0_cells.proofs.Places.{places_are_slices-holds, store-size}
-use Rattle.ob0_cells.proofs.Represented.{alone-cells, as_cell-same, number-at, numbers-append, numbers-drop, numbers-take, place-at, truth-at, truth-number}
+use Rattle.ob0_cells.proofs.Represented.{alone-cells, as_cell-same, moment, moment-shown, number-at, numbers-append, numbers-drop, numbers-take, place-at, truth-at, truth-number}
 
 -- both give what is related, or both end alike
 abbrev pub Both : {A B : Type 0} → (A → B → Type 0) → machine.Outcome A → Outcome B → Type 0
@@ -142,13 +140,14 @@ module _ {N : Type 0} (checked : Typed N) (slots : N → Slot) (targets : N → 
         have_numbers = numbers-append done.cells (machine.as_cell a ∷ []) numbers (one-number (machine.as_cell a) (truth-number a));
       }))
   argument-passed f (lowered.by_block q n) e h done passed same numbers =
-      let (x, path, v, d, ex, hq) = h.2 in
-      let (p₀, st, fit₀) = variable-stands b.typing v (b.active.stands_for x) (subst (λ o. ObjectFits b.typing o (b.active.stands_for x)) ex (shown.names_fit.0 x)) in
+      let (place, hq, reads_it) = h.2 in
+      let here = moment b store passed in
+      let value : evaluate b.active store e ≡ (place here >>= (λ p. or_stuck (read_place store p))) = reads_it here (moment-shown checked slots targets b shown store passed done.cells fits same numbers) in
       subst (λ m. Both (λ p a. Passes b.typing (f ∷ []) done p (a ∷ [])) (execution.pass b.levels (lowered.by_block q n) done) (evaluate_argument b.active store m e)) (sym h.0)
-      (subst (λ w. Both (λ p a. Passes b.typing (f ∷ []) done p (a ∷ [])) (execution.pass b.levels (lowered.by_block q n) done) (w >>= (λ v. gives (value_argument v)))) (sym (designator-worth b.active store e x path p₀ d st))
-      (subst (λ w. Both (λ p a. Passes b.typing (f ∷ []) done p (a ∷ [])) (execution.pass b.levels (lowered.by_block q n) done) w) (sym (grouped-then (designate b.active store x path) (λ p. or_stuck (read_place store p)) (λ v. gives (value_argument v))))
-      (both-then (λ a p. (a ≡ address b.typing p) × PlaceFits b.typing p f.shape) (λ p a. Passes b.typing (f ∷ []) done p (a ∷ [])) (machine.address b.levels done.cells q) (designate b.active store x path) (λ a. machine.gives (execution.pass_cells done (execution.block_at done.cells a n))) (λ p. or_stuck (read_place store p) >>= (λ v. gives (value_argument v)))
-      (both-led b.typing f.shape (machine.address b.levels done.cells q) (designate b.active store x path) (place-at checked slots targets b shown q f.shape (place_of_designator x path) hq store passed done.cells fits same numbers))
+      (subst (λ w. Both (λ p a. Passes b.typing (f ∷ []) done p (a ∷ [])) (execution.pass b.levels (lowered.by_block q n) done) (w >>= (λ v. gives (value_argument v)))) (sym value)
+      (subst (λ w. Both (λ p a. Passes b.typing (f ∷ []) done p (a ∷ [])) (execution.pass b.levels (lowered.by_block q n) done) w) (sym (grouped-then (place here) (λ p. or_stuck (read_place store p)) (λ v. gives (value_argument v))))
+      (both-then (λ a p. (a ≡ address b.typing p) × PlaceFits b.typing p f.shape) (λ p a. Passes b.typing (f ∷ []) done p (a ∷ [])) (machine.address b.levels done.cells q) (place here) (λ a. machine.gives (execution.pass_cells done (execution.block_at done.cells a n))) (λ p. or_stuck (read_place store p) >>= (λ v. gives (value_argument v)))
+      (both-led b.typing f.shape (machine.address b.levels done.cells q) (place here) (place-at checked slots targets b shown q f.shape place hq store passed done.cells fits same numbers))
       (λ a p r. let (inside, at_p) = places_are_slices-holds b.typing store p f.shape fits r.1 in
       let (w, read, hw, slice) = at_p in
       let m : sizes b.typing ≡ length (all_cells store) = sym (store-size b.typing store fits) in

@@ -1,17 +1,17 @@
 -- A worked program: a module with a procedure, a VAR parameter among its two, and the program that means it.
-use Rattle.std.proofs.Common.{◌≡◌, ℕ, zero, suc, ◌*◌, ◌<◌, ◌^◌, List, [], ◌∷◌, Some, None, pos, refl, arith}
-use Rattle.ob0_tree.specs.Tree.{Tree, assigns, begins, block, calls, compares, declares, declares_procedure, declares_variable, declares_variables, designator, end, expression, has_body, integer, is_module, item, listed, module_text, more, named_type, none, one, procedure, product, runs, selector, items, some_arguments, some_formals, sum, then_argument, then_section, then_statement, value_section, variable_section}
+use Rattle.std.proofs.Common.{◌≡◌, ℕ, List, [], ◌∷◌, Some, None, pos, refl, arith}
+use Rattle.ob0_tree.specs.Tree.{Tree, assigns, begins, calls, compares, declares, declares_procedure, declares_variable, declares_variables, designator, end, expression, has_body, integer, is_module, item, listed, module_text, more, named_type, none, one, procedure, product, runs, some_arguments, some_formals, sum, then_argument, then_section, then_statement, value_section, variable_section}
 use Rattle.ob0_scope.specs.Names.{Label, as_labels, as_written, declared}
 use Rattle.ob0_typing.specs.Declarations.{declare_first}
 use Rattle.ob0_typing.specs.Environments.{meanings, outermost}
-use Rattle.ob0_typing.specs.Expressions.{a_procedure, a_standard, a_variable, writes}
-use Rattle.ob0_typing.specs.WellTyped.{Signature, TypeEnvironment, Typed, TypedParameter, bind_typed, by_place, by_value, declare_typed, fits_over, heading, typed_parameters}
+use Rattle.ob0_typing.specs.Expressions.{a_variable}
+use Rattle.ob0_typing.specs.WellTyped.{TypeEnvironment, Typed, TypedParameter, bind_typed, by_place, by_value, declare_typed, fits_over, heading, typed_parameters}
 use Rattle.ob0_values.specs.Values.{Shape, integer_shape}
-use Rattle.ob0_semantics.specs.Runs.{Run, run_over}
+use Rattle.ob0_semantics.specs.Runs.{run_over}
 use Rattle.ob0_machine.specs.Execution as execution
 use Rattle.ob0_machine.specs.Lowered as lowered
 use Rattle.ob0_cells.specs.ActivationLaws.{run_of}
-use Rattle.ob0_cells.specs.Activations.{BodyMeans, Placed, Placing, ProcedureMeans, ProgramMeans, entered_placing, in_slot, outermost_placing, own_target, place_variables, slots_in, targets_in}
+use Rattle.ob0_cells.specs.Activations.{BodyMeans, Placed, Placing, ProgramMeans, entered_placing, in_slot, outermost_placing, own_target, place_variables, slots_in, targets_in}
 use Rattle.ob0_cells.specs.LoweredStatements.{Target}
 use Rattle.ob0_cells.specs.Lowering.{NumberMeans, PlaceMeans, Slot, of_module, place_of_designator, slot_place, worth}
 use Rattle.ob0_cells.proofs.Lowered.{cells_lower-holds, expressions_lower-holds, integers_lower-holds, operators_end-holds, selectors_end-holds, sums_lower-holds, terms_lower-holds, variables_lower-holds}

@@ -93,6 +93,11 @@ PlaceMeans {N} checked slots q s worth =
     (m : Moment N) → Shows checked slots m
     → (outcome_of (λ a. a) (machine.address m.levels (cells_in m) q) ≡ (worth m >>= (λ p. gives (address m.typing p)))) × GivesPlace m.typing s (worth m)
 
+-- the cells at a place of lowered code are those of what is evaluated, a value of a type
+abbrev pub ValueAt : {N : Type 0} → Typed N → (N → Slot) → lowered.Place → Shape → Evaluated N Value → Type 0
+ValueAt {N} checked slots q s value =
+    (place : Evaluated N Place) × PlaceMeans checked slots q s place × ((m : Moment N) → Shows checked slots m → value m ≡ (place m >>= (λ p. or_stuck (read_place m.store p))))
+
 -- the values of the parts of an expression, and the place of a designator
 abbrev pub worth : {N : Type 0} → Tree N expression → Evaluated N Value
 worth e m = evaluate m.active m.store e

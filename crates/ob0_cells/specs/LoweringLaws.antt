@@ -14,7 +14,7 @@ use Rattle.ob0_values.specs.Values.{FieldShapes, Place, Shape, Value, array_shap
 use Rattle.ob0_machine.specs.Evaluation as machine
 use Rattle.ob0_machine.specs.Lowered as lowered
 use Rattle.ob0_cells.specs.Cells.{field_offset, size}
-use Rattle.ob0_cells.specs.Lowering.{Evaluated, NumberLeads, NumberMeans, PlaceLeads, PlaceMeans, Slot, TruthLeads, TruthMeans, addends_left, multipliers_left, place_of_designator, relation_of, slot_place, worth, worth_of_factor, worth_of_simple, worth_of_term}
+use Rattle.ob0_cells.specs.Lowering.{Evaluated, NumberLeads, NumberMeans, PlaceLeads, PlaceMeans, Slot, TruthLeads, TruthMeans, ValueAt, addends_left, multipliers_left, place_of_designator, relation_of, slot_place, worth, worth_of_factor, worth_of_simple, worth_of_term}
 
 -- a variable is at its slot
 abbrev pub VariablesLower : Type 0
@@ -135,3 +135,11 @@ RelationsLower =
     × ((t u : lowered.Truth) → TruthMeans checked slots t (worth_of_simple d) → TruthMeans checked slots u (worth_of_simple e)
     → TruthMeans checked slots (lowered.same t u) (worth (compares d (one (relates relation.Equal e))))
     × TruthMeans checked slots (lowered.different t u) (worth (compares d (one (relates relation.NotEqual e)))))
+
+-- an array or a record is a designator, in parentheses or not
+abbrev pub BlocksLower : Type 0
+BlocksLower =
+    (checked : Typed Label) (slots : Label → Slot) (q : lowered.Place) (s : Shape)
+    → ((x : Label) (v : Shape) (path : Tree Label (items selector)) → checked.stands_for x ≡ Some (a_variable v) → PlaceMeans checked slots q s (place_of_designator x path) → ValueAt checked slots q s (worth_of_factor (designator x path)))
+    × ((e : Tree Label expression) → ValueAt checked slots q s (worth e) → ValueAt checked slots q s (worth_of_factor (parenthesised e)))
+    × ((f : Tree Label factor) → ValueAt checked slots q s (worth_of_factor f) → ValueAt checked slots q s (worth (compares (sum None (product f end) end) none)))

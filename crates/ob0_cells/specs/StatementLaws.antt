@@ -9,7 +9,7 @@ use Rattle.ob0_values.specs.Values.{Shape, boolean_shape, integer_shape}
 use Rattle.ob0_machine.specs.Lowered as lowered
 use Rattle.ob0_cells.specs.Cells.{size}
 use Rattle.ob0_cells.specs.LoweredStatements.{ArgumentsMean, ElseMeans, ElsifsMean, FurtherMean, IsAt, SequenceMeans, StatementMeans, Target}
-use Rattle.ob0_cells.specs.Lowering.{NumberMeans, PlaceMeans, Slot, TruthMeans, place_of_designator, worth}
+use Rattle.ob0_cells.specs.Lowering.{NumberMeans, PlaceMeans, Slot, TruthMeans, ValueAt, place_of_designator, worth}
 
 -- an assignment stores a number, a truth, or the cells of an array or a record
 abbrev pub AssignmentsLower : Type 0
@@ -17,7 +17,7 @@ AssignmentsLower =
     (checked : Typed Label) (slots : Label → Slot) (targets : Label → Target) (x : Label) (path : Tree Label (items selector)) (e : Tree Label expression) (q : lowered.Place)
     → ((n : lowered.Number) → PlaceMeans checked slots q integer_shape (place_of_designator x path) → NumberMeans checked slots n (worth e) → StatementMeans checked slots targets (lowered.stores_number q n) (assigns x path e))
     × ((t : lowered.Truth) → PlaceMeans checked slots q boolean_shape (place_of_designator x path) → TruthMeans checked slots t (worth e) → StatementMeans checked slots targets (lowered.stores_truth q t) (assigns x path e))
-    × ((r : lowered.Place) (s : Shape) → PlaceMeans checked slots q s (place_of_designator x path) → IsAt checked slots r s e → StatementMeans checked slots targets (lowered.copies q r (size s)) (assigns x path e))
+    × ((r : lowered.Place) (s : Shape) → PlaceMeans checked slots q s (place_of_designator x path) → ValueAt checked slots r s (worth e) → StatementMeans checked slots targets (lowered.copies q r (size s)) (assigns x path e))
 
 -- the standard procedures
 abbrev pub StandardCallsLower : Type 0

@@ -1,6 +1,6 @@
 //! Laws of lowering, one for each production of designators and expressions. Each function does nothing: its contract is the law.
 
-ghost use Rattle.ob0_cells.specs.LoweringLaws.{AddendsLower, CellsLower, ConjunctionsLower, ConstantsLower, DisjunctionsLower, ExpressionsLower, FieldsLower, IndexesLower, IntegersLower, NegationsLower, OperatorsEnd, ParenthesesLower, ProductsLower, RelationsLower, SelectorsEnd, SumsLower, TermsLower, VariablesLower};
+ghost use Rattle.ob0_cells.specs.LoweringLaws.{AddendsLower, BlocksLower, CellsLower, ConjunctionsLower, ConstantsLower, DisjunctionsLower, ExpressionsLower, FieldsLower, IndexesLower, IntegersLower, NegationsLower, OperatorsEnd, ParenthesesLower, ProductsLower, RelationsLower, SelectorsEnd, SumsLower, TermsLower, VariablesLower};
 
 /// A variable is at its slot.
 pub fn variables_lower()
@@ -90,4 +90,9 @@ pub fn expressions_lower()
 /// A relation compares two numbers, `=` and `#` also two truths.
 pub fn relations_lower()
     ensures { RelationsLower }
+{}
+
+/// An array or a record is a designator, in parentheses or not.
+pub fn blocks_lower()
+    ensures { BlocksLower }
 {}
