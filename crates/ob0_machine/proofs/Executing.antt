@@ -16,8 +16,8 @@ use Rattle.ob0_machine.specs.declared.ending.Stop.{Stop}
 use Rattle.ob0_machine.specs.declared.ending.Stop.TheVariants as stop
 use Rattle.ob0_machine.specs.declared.machine.Machine.{Machine}
 use Rattle.ob0_machine.specs.Answers.{end_of}
-use Rattle.ob0_machine.specs.Evaluation.{End, Levels, Outcome, TurnBound, ends, gives, truth}
-use Rattle.ob0_machine.specs.Execution.{Calls, Passed, Progress, State, choose, entered, execute, execute_all, execute_branches, go_on, pass_all, running, stopped, turns, turns_until, use_in}
+use Rattle.ob0_machine.specs.Evaluation.{Levels, Outcome, TurnBound, ends, gives, truth}
+use Rattle.ob0_machine.specs.Execution.{Calls, Progress, State, choose, entered, execute, execute_all, execute_branches, go_on, pass_all, running, stopped, turns, turns_until, use_in}
 use Rattle.ob0_machine.specs.Lowered as lowered
 use Rattle.ob0_machine.specs.Machines.{Does, Doing, Passes, Performs, Post, Steps, executed, executed_all, items_out, moved, passed_in, state_of}
 use Rattle.ob0_machine.specs.View.{all_branches, argument_of, branches_in, call_of, repeat_of, sequence_of, statement_of, truth_of, while_of}

@@ -1,5 +1,5 @@
 -- Calls: the body of a procedure runs, and its cells are given up.
-use Rattle.std.proofs.Common.{◌≡◌, ◌≢◌, ℕ, zero, suc, arith, ◌-◌, ℤ, refl, sym, ap, ◌∙◌, subst, Ok, Err, List, ◌++◌, take, Option, None, Some, Result}
+use Rattle.std.proofs.Common.{◌≡◌, ◌≢◌, ℕ, zero, suc, arith, ◌-◌, ℤ, refl, sym, ap, ◌∙◌, subst, Ok, Err, List, [], ◌++◌, take, Option, None, Some, Result}
 use Rattle.ob0_machine.specs.declared.code.Program.{Program}
 use Rattle.ob0_machine.specs.declared.ending.Ending.TheVariants as ending
 use Rattle.ob0_machine.specs.declared.ending.Stop.{Stop}
@@ -7,11 +7,15 @@ use Rattle.ob0_machine.specs.declared.ending.Stop.TheVariants as stop
 use Rattle.ob0_machine.specs.declared.level.Level as level
 use Rattle.ob0_machine.specs.declared.machine.Machine.{Machine}
 use Rattle.ob0_machine.specs.Evaluation.{CallBound, Levels, innermost}
-use Rattle.ob0_machine.specs.Execution.{Progress, State, activate, call, execute_all, give_up, outermost, running, stopped, zeros}
+use Rattle.ob0_machine.specs.Execution.{Progress, State, Written, activate, call, execute_all, finished, give_up, outermost, run, running, stopped, zeros}
 use Rattle.ob0_machine.specs.Levels.{levels_of}
 use Rattle.ob0_machine.specs.Lowered.{Procedure}
-use Rattle.ob0_machine.specs.Machines.{Does, Enters, Performs, Post, Steps, activated, executed_all, state_of}
-use Rattle.ob0_machine.specs.View.{procedure_of, program_of, sequence_of}
+use Rattle.ob0_machine.specs.Machines.{Does, Enters, Performs, Post, Steps, activated, executed_all, items_out, state_of}
+use Rattle.ob0_machine.specs.declared.machine.Item.{Item}
+use Rattle.ob0_machine.specs.Lowered as lowered
+use Rattle.ob0_machine.specs.Answers.{end_of}
+use Rattle.ob0_machine.specs.declared.ending.Ending.{Ending}
+use Rattle.ob0_machine.specs.View.{program_of, sequence_of}
 use Rattle.ob0_machine.specs.declared.code.Statement.{Statement}
 use Rattle.ob0_machine.specs.Outcomes.{block_run}
 use Rattle.std.specs.Prelude.{slice_get}
@@ -69,3 +73,17 @@ pub block_runs : (m m' : Machine) (program : Program) (c t : ℕ) (r : Result (U
 block_runs m m' program c t r post inner xs performs seen same d =
     subst (λ xs. Steps r m' (executed_all t outermost (sequence_of xs) (call (program_of program).procedures c t) (state_of m))) same
     (subst (λ inner. Steps r m' (executed_all t inner (sequence_of xs) (call (program_of program).procedures c t) (state_of m))) seen (d.as_defined _ performs))
+
+-- whole runs
+abbrev pub state_with : List ℤ → List ℤ → List Written → State
+state_with cells input output = record { cells = cells; input = input; output = output }
+
+pub ended_by : (m : Machine) (p : Progress) (y : Stop) (x : Ending) → y ≡ stop.Ended x → Steps (Err y) m p → p ≡ stopped (end_of x) (items_out m.output.items)
+ended_by m p y x e h = let P : Stop → Type 0 = λ y. Steps (Err y) m p in subst P e h
+
+pub finishes : (program : lowered.Program) (input : List ℤ) (c t : ℕ) (s : State) (p : Progress) → s ≡ record { cells = zeros program.cells; input = input; output = [] } → block_run program c t s ≡ p → finished p ≡ run program input c t
+unfolding run
+finishes program input c t s p begun h = sym (ap finished h) ∙ ap (λ s. finished (block_run program c t s)) begun
+
+pub begins_with : (cells before zs input : List ℤ) (out : List Item) → cells ≡ before ++ zs → before ≡ [] → out ≡ [] → state_with cells input (items_out out) ≡ state_with zs input []
+begins_with cells before zs input out a b d = ap (λ cells. state_with cells input (items_out out)) (a ∙ ap (λ xs. xs ++ zs) b) ∙ ap (λ out. state_with zs input (items_out out)) d

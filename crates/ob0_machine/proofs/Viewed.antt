@@ -2,9 +2,8 @@
 use Rattle.std.proofs.Common.{◌≡◌, refl, sym, ◌∙◌, ap}
 use Rattle.ob0_machine.specs.declared.code.Statement.{If, While, Repeat, Row_of-Statement, end_of-Statement, more_of-Statement, items-the_row-Statement, items_hidden-the_row-Statement-0}
 use Rattle.ob0_machine.specs.declared.code.Statement.TheBlock.{hidden-the_row-Statement-0, items_shown-the_row-Statement-0, hidden-the_row-Branch-1}
-use Rattle.ob0_machine.specs.declared.code.If as if_statement
 use Rattle.ob0_machine.specs.declared.code.If.{out-If, roll-If, roll-out-If, rolls-If', Row_of-Branch, end_of-Branch, more_of-Branch, items-the_row-Branch, items_hidden-the_row-Branch-1}
-use Rattle.ob0_machine.specs.Lowered.{before, branch, chooses, repeat_loop, while_loop}
+use Rattle.ob0_machine.specs.Lowered.{before, chooses, repeat_loop, while_loop}
 use Rattle.ob0_machine.specs.View.{all_branches, branches_in, branches_of, if_of, repeat_of, sequence_of, statement_of, statements_of, truth_of, while_of}
 
 statements_listed : (n : _) (row : Row_of-Statement n) → statements_of row ≡ sequence_of (items-the_row-Statement n row)
