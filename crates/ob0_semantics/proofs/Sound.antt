@@ -14,7 +14,8 @@ use Rattle.ob0_typing.specs.Expressions.{Meanings, Object, a_constant, a_procedu
 use Rattle.ob0_typing.specs.Typing.{add_type, complement_type, element_type, field_type, multiply_type, object_type, relation_type, shape_of_field, sign_type, type_at, type_of, type_of_addends, type_of_factor, type_of_multipliers, type_of_simple, type_of_term, value_type}
 use Rattle.ob0_values.specs.Values.{FieldShapes, Index, Members, Outcome, Overflow, Place, Shape, Step, Store, Value, Values, add, add_is_settled, array_shape, at_field, at_index, at_path, boolean_shape, count_values, divided_by, elements, ends, fits, gives, in_range, integer_shape, members, multiply, multiply_is_settled, named_member, negated, next_field_shape, next_member, next_value, no_field_shape, no_member, no_value, nth_value, number, or_stuck, part, quotient, read_place, record_shape, relate, remainder, signed, truth, ◌>>=◌}
 use Rattle.ob0_typing.specs.WellTyped.{Mode, Signature, Typed}
-use Rattle.ob0_semantics.proofs.Soundness.{EachHasShape, ExpressionsFit, HasShape, HaveShapes, MeaningsFit, ObjectFits, OutcomeFits, PlaceFits, StoreFits, StoreTyping, part_shape, shape_at_path}
+use Rattle.ob0_semantics.specs.Fitting.{EachHasShape, HasShape, HaveShapes, MeaningsFit, ObjectFits, PlaceFits, StoreFits, StoreTyping, part_shape, shape_at_path}
+use Rattle.ob0_semantics.proofs.Soundness.{ExpressionsFit, OutcomeFits}
 
 pub fits-then : {A B : Type 0} (P : A → Type 0) (Q : B → Type 0) (o : Outcome A) (next : A → Outcome B) → OutcomeFits P o → ((a : A) → P a → OutcomeFits Q (next a)) → OutcomeFits Q (o >>= next)
 fits-then P Q (gives a) next h each = each a h

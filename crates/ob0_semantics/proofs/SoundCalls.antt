@@ -17,7 +17,8 @@ use Rattle.ob0_semantics.specs.Runs.{Activation, Argument, Calls, Code, Frame, P
 use Rattle.ob0_semantics.proofs.ByOrdinal.{with_mode}
 use Rattle.ob0_semantics.proofs.Sound.{some-gives}
 use Rattle.ob0_semantics.proofs.SoundStatements.{ObjectFits-grows, PlaceFits-grows, ProgressFits-grown, both_true, execute_all-keeps, keeps-here, same_store-fits}
-use Rattle.ob0_semantics.proofs.Soundness.{ArgumentsFit, CallsFit, EachHasShape, HasShape, HaveShapes, ObjectFits, ProgressFits, StoreFits, StoreTyping, modes_in, shape_at_path}
+use Rattle.ob0_semantics.specs.Fitting.{ArgumentsFit, BindingFits, EnvironmentsFit, EachHasShape, HasShape, HaveShapes, ObjectFits, StoreFits, StoreTyping, modes_in, shape_at_path}
+use Rattle.ob0_semantics.proofs.Soundness.{CallsFit, ProgressFits}
 
 -- environments that fit
 
@@ -37,18 +38,6 @@ modes-typed naming env k (more (then_section f) fs) ps e =
     let (rest, er, e₂) = some-gives (typed_parameters naming (bind_names (section_names f) (a_variable s) env) (k + constructors (section_type f)) fs) (λ rest. Some (map (typed_parameter record { mode = (section_mode f); shape = s }) (section_names f) ++ rest)) ps e₁ in
     ap (λ ms. map (λ x. (section_mode f)) (section_names f) ++ ms) (modes-typed naming (bind_names (section_names f) (a_variable s) env) (k + constructors (section_type f)) fs rest er)
     ∙ (sym (modes-of_parameters record { mode = (section_mode f); shape = s } (section_names f) rest) ∙ ap (λ ps. modes_in (map (λ p. p.formal) ps)) (some-inverse e₂))
-
--- one binding of a checked environment and one of an activation, over the bindings below them
-abbrev pub BindingFits : {N : Type 0} → Naming N → StoreTyping → TypeEnvironment N → N → Object Shape Signature → Object Place (Code N) → Type 0
-BindingFits {N} naming typing checked x (a_procedure signature) (a_procedure code) =
-    (ps : List (TypedParameter N)) × (typed_parameters naming checked code.first_constructor (procedure_formals code.text) ≡ Some ps) × (signature ≡ map (λ p. p.formal) ps)
-    × (procedure_fits naming (bind_typed ps (heading x ps checked)) code.first_constructor code.text ≡ true)
-BindingFits naming typing checked x o r = ObjectFits typing (Some o) (passing (Some r))
-
-abbrev pub EnvironmentsFit : {N : Type 0} → Naming N → StoreTyping → TypeEnvironment N → Activation N → Type 0
-EnvironmentsFit naming typing [] [] = Unit {0}
-EnvironmentsFit naming typing (b ∷ checked) (d ∷ active) = (b.0 ≡ d.0) × BindingFits naming typing checked b.0 b.1 d.1 × EnvironmentsFit naming typing checked active
-EnvironmentsFit naming typing _ _ = ⊥
 
 pub binding-object : {N : Type 0} (naming : Naming N) (typing : StoreTyping) (checked : TypeEnvironment N) (x : N) (o : Object Shape Signature) (r : Object Place (Code N)) → BindingFits naming typing checked x o r → ObjectFits typing (Some o) (passing (Some r))
 binding-object naming typing checked x (a_procedure signature) (a_procedure code) h =

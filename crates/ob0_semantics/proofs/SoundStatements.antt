@@ -9,7 +9,8 @@ use Rattle.ob0_values.specs.Values.{FieldShapes, Members, Outcome, Place, Shape,
 use Rattle.ob0_typing.specs.WellTyped.{Formal, Mode, Signature, Typed, agree, argument_fits, arguments_fit, by_place, by_value, call_fits, condition_fits, else_fits, elsifs_fit, same_fields, same_shape, sequence_fits, signature_of, statement_fits, statements_fit, variable_type}
 use Rattle.ob0_semantics.specs.Runs.{Argument, Calls, Progress, State, choose, evaluate_argument, evaluate_arguments, execute, execute_all, execute_else, execute_elsifs, execute_further, go_on, line_out, modes_of, number_out, perform, place_argument, put_out, read_number, running, stopped, store_at, turns, turns_until, use_in, value_argument}
 use Rattle.ob0_semantics.proofs.Sound.{Fitting, evaluate-sound, fits-then, follow-sound, is_number, of_some, or_stuck-fits, part-fits, place-fits, some-gives, variable-fits}
-use Rattle.ob0_semantics.proofs.Soundness.{ArgumentsFit, CallsFit, EachHasShape, HasShape, HaveShapes, MeaningsFit, ObjectFits, OutcomeFits, PlaceFits, ProgressFits, StatementsFit, StoreFits, StoreTyping, modes_in, part_shape, shape_at_path}
+use Rattle.ob0_semantics.specs.Fitting.{ArgumentsFit, EachHasShape, HasShape, HaveShapes, MeaningsFit, ObjectFits, PlaceFits, StoreFits, StoreTyping, modes_in, part_shape, shape_at_path}
+use Rattle.ob0_semantics.proofs.Soundness.{CallsFit, OutcomeFits, ProgressFits, StatementsFit}
 use Rattle.std.proofs.lemmas.Bool.{eqb-true}
 
 -- the test of types is equality

@@ -1,3 +1,4 @@
 pub mod Runs
+pub mod Fitting
 pub mod Laws
 pub mod EditLaws
