@@ -6,7 +6,7 @@ use Rattle.ob0_scan.specs.declared.fault.Code.TheVariants as code
 use Rattle.ob0_symbols.specs.declared.known.Formal as formal
 use Rattle.ob0_symbols.specs.declared.types.TypeId.{TypeId}
 use Rattle.ob0_tree.specs.Tree.{Tree, arguments, assigns, branches, calls, elsif_branch, elsif_part, else_branch, else_part, empty, end, expression, items, maybe, more, none, one, repeat_loop, selector, sequence, while_loop}
-use Rattle.ob0_tree.specs.View.{arguments_of, elsif_of, expression_of, further_argument_of, further_statement_of, items_of, sequence_listed, statement_of}
+use Rattle.ob0_tree.specs.View.{elsif_of, expression_of, further_argument_of, further_statement_of, items_of, sequence_listed, statement_of}
 use Rattle.ob0_tree.specs.View as view
 use Rattle.ob0_tree.specs.declared.tree.Expression.{Expression}
 use Rattle.ob0_tree.specs.declared.tree.Statement.{Statement}
