@@ -1,2 +1,5 @@
 pub mod Chains
+pub mod Continued
+pub mod Listed
 pub mod ToldParts
+pub mod ToldStatements

@@ -6,6 +6,7 @@ use Rattle.ob0_tree.specs.Tree.{Tree, addend, adds, compares, designator, end, e
 use Rattle.ob0_reports.specs.Known.{Facts, Operand, Told}
 use Rattle.ob0_reports.specs.ExpressionFaults.{told_addends, told_expression, told_factor, told_multipliers, told_selector, told_selectors, told_simple, told_term}
 use Rattle.ob0_reports.specs.Operations.{a_number, added, complemented, element_selected, enclosed, field_selected, multiplied, named, related, right, signed, ◌>>=◌}
+use Rattle.ob0_reports.specs.TypeFaults.{evaluated, told_constant}
 use Rattle.ob0_reports.proofs.Chains.{IsChain, then_assoc}
 
 -- one more operand
@@ -89,3 +90,7 @@ module _ {T : Type 0} (facts : Facts T) where
 
   pub selected_chain : IsChain (told_selectors facts) (told_selector facts)
   selected_chain = record { ended = selected_ended; stepped = selected_stepped }
+
+  pub constant_told : (e : Tree ℕ expression) → told_constant facts e ≡ (told_expression facts e >>= evaluated facts)
+  unfolding told_constant
+  constant_told e = refl

@@ -3,6 +3,7 @@ use Rattle.std.specs.Prelude.{ℕ, Bool, List, Option}
 use Rattle.ob0_scan.specs.declared.fault.Fault.{Fault}
 use Rattle.ob0_scan.specs.Scanned.{Scanned}
 use Rattle.ob0_scope.specs.Names.{Name}
+use Rattle.ob0_values.specs.Values.{Value}
 
 -- what a type is made of, as far as that is known
 pub data Form (T : Type 0) : Type 0 where
@@ -24,10 +25,11 @@ pub record Formal (T : Type 0) : Type 0 where
   pub by_place : Bool
   pub of : T
 
--- what a name stands for: of a type, a constant and a variable its type, which is unknown where its declaration has a fault
+-- What a name stands for: of a type and a variable its type, of a constant its value. Where the declaration has a fault, the
+-- type is unknown, or there is no value.
 pub data Meaning (T : Type 0) : Type 0 where
   a_type : T → Meaning T
-  a_constant : T → Meaning T
+  a_constant : Option Value → Meaning T
   a_variable : T → Meaning T
   a_procedure : List (Formal T) → Meaning T
 
@@ -38,10 +40,11 @@ pub record Facts (T : Type 0) : Type 0 where
   pub stands_for : ℕ → Option (Meaning T)
   pub only_constants : Bool
 
--- An expression as an operand: its type, whether it may be a variable with its selectors, alone, and the tokens where it
--- begins and ends.
+-- An expression as an operand: its type, its value where that is known before any run and there is no fault in it, whether it
+-- may be a variable with its selectors, alone, and the tokens where it begins and ends.
 pub record Operand (T : Type 0) : Type 0 where
   pub of : T
+  pub value : Option Value
   pub is_place : Bool
   pub first : ℕ
   pub last : ℕ

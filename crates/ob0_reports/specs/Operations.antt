@@ -1,5 +1,5 @@
 -- What operations, names and selectors ask for: the faults that are told of them, and what is known of what they give.
-use Rattle.std.specs.Prelude.{◌≡◌, ℕ, ◌+◌, ◌-◌, nat_lt, Bool, true, false, ◌||◌, List, [], ◌∷◌, ◌++◌, length, if◌then◌else◌, Option, Some, None}
+use Rattle.std.specs.Prelude.{◌≡◌, ℕ, ◌+◌, ◌-◌, nat_lt, Bool, true, false, ◌||◌, List, [], ◌∷◌, ◌++◌, length, if◌then◌else◌, Option, Some, None, option_and_then, pos}
 use Rattle.ob0_scan.specs.declared.fault.Code.{Code}
 use Rattle.ob0_scan.specs.declared.fault.Code.TheVariants as code
 use Rattle.ob0_scan.specs.declared.fault.Fault.{Fault}
@@ -11,8 +11,13 @@ use Rattle.ob0_tree.specs.declared.tree.MultiplyOperator.TheVariants as multiply
 use Rattle.ob0_tree.specs.declared.tree.Relation.{Relation}
 use Rattle.ob0_tree.specs.declared.tree.Relation.TheVariants as relation
 use Rattle.ob0_tree.specs.declared.tree.Sign.{Sign}
-use Rattle.ob0_tree.specs.Places.{text_at}
+use Rattle.ob0_tree.specs.Places.{text_at, value_at}
 use Rattle.ob0_scope.specs.Resolution.{span_at}
+use Rattle.ob0_symbols.specs.Operators.{product_value, sum_value}
+use Rattle.ob0_typing.specs.Selected.{both}
+use Rattle.ob0_typing.specs.Typing.{given_value}
+use Rattle.ob0_values.specs.Values.{Value, elements, members, negated, number, relate, truth}
+use Rattle.ob0_values.specs.Values.{signed as with_sign}
 use Rattle.ob0_reports.specs.Known.{Facts, Form, Meaning, Operand, Told, Types, a_constant, a_procedure, a_record, a_scalar, a_type, a_variable, an_array, unknown_form}
 
 -- the same behind faults that were told before
@@ -102,68 +107,78 @@ wanted_by_relation types relation.GreaterEqual left = types.integer
 abbrev pub truth_of : {T : Type 0} → Types T → T → T
 truth_of types t = if types.same t types.unknown then types.unknown else types.boolean
 
--- an operation on two operands, of this type, and one whose sign stands before its operand
-abbrev pub joined : {T : Type 0} → T → Operand T → Operand T → Operand T
-joined of a b = record { of = of; is_place = false; first = a.first; last = b.last }
+-- an operation on two operands, of this type and value, and one whose sign stands before its operand
+abbrev pub joined : {T : Type 0} → T → Option Value → Operand T → Operand T → Operand T
+joined of value a b = record { of = of; value = value; is_place = false; first = a.first; last = b.last }
 
-abbrev pub behind_sign : {T : Type 0} → T → Operand T → Operand T
-behind_sign of o = record { of = of; is_place = false; first = token_before o.first; last = o.last }
+abbrev pub behind_sign : {T : Type 0} → T → Option Value → Operand T → Operand T
+behind_sign of value o = record { of = of; value = value; is_place = false; first = token_before o.first; last = o.last }
 
 abbrev pub added : {T : Type 0} → Facts T → AddOperator → Operand T → Operand T → Told (Operand T)
 added facts o a b = do
   t ← asked_both facts (wanted_by_add facts.types o) a b
-  right (joined t a b)
+  right (joined t (option_and_then (sum_value o b.value) a.value) a b)
 
 abbrev pub multiplied : {T : Type 0} → Facts T → MultiplyOperator → Operand T → Operand T → Told (Operand T)
 multiplied facts o a b = do
   t ← asked_both facts (wanted_by_multiply facts.types o) a b
-  right (joined t a b)
+  right (joined t (option_and_then (product_value o b.value) a.value) a b)
 
 abbrev pub related : {T : Type 0} → Facts T → Relation → Operand T → Operand T → Told (Operand T)
 related facts r a b = do
   t ← asked_both facts (wanted_by_relation facts.types r a.of) a b
-  right (joined (truth_of facts.types t) a b)
+  right (joined (truth_of facts.types t) (both (λ x y. given_value (relate r x y)) a.value b.value) a b)
 
 -- a sign asks for INTEGER, `~` for BOOLEAN
 abbrev pub signed : {T : Type 0} → Facts T → Option Sign → Operand T → Told (Operand T)
 signed facts None o = right o
 signed facts (Some s) o = do
   t ← asked facts facts.types.integer o
-  right (behind_sign t o)
+  right (behind_sign t (option_and_then (λ x. given_value (with_sign (Some s) x)) o.value) o)
 
 abbrev pub complemented : {T : Type 0} → Facts T → Operand T → Told (Operand T)
 complemented facts o = do
   t ← asked facts facts.types.boolean o
-  right (behind_sign t o)
+  right (behind_sign t (option_and_then (λ x. given_value (negated x)) o.value) o)
 
 -- a number, and an expression in parentheses
 abbrev pub a_number : {T : Type 0} → Facts T → ℕ → Operand T
-a_number facts token = record { of = facts.types.integer; is_place = false; first = token; last = token }
+a_number facts token = record { of = facts.types.integer; value = Some (number (pos (value_at facts.source token))); is_place = false; first = token; last = token }
 
 abbrev pub enclosed : {T : Type 0} → Facts T → Operand T → Operand T
-enclosed facts o = record { of = o.of; is_place = false; first = token_before o.first; last = token_behind facts.source o.last }
+enclosed facts o = record { of = o.of; value = o.value; is_place = false; first = token_before o.first; last = token_behind facts.source o.last }
 
--- a name alone, of this type, and whether it may be a variable
-abbrev pub a_name : {T : Type 0} → T → Bool → ℕ → Operand T
-a_name of is_place token = record { of = of; is_place = is_place; first = token; last = token }
+-- a name alone, of this type: a variable's, or one of which nothing is known, and a constant's
+abbrev pub a_name : {T : Type 0} → T → ℕ → Operand T
+a_name of token = record { of = of; value = None; is_place = true; first = token; last = token }
+
+abbrev pub worth_type : {T : Type 0} → Types T → Option Value → T
+worth_type types None = types.unknown
+worth_type types (Some (number n)) = types.integer
+worth_type types (Some (truth b)) = types.boolean
+worth_type types (Some (elements vs)) = types.unknown
+worth_type types (Some (members k ms)) = types.unknown
+
+abbrev pub a_constant_name : {T : Type 0} → Types T → Option Value → ℕ → Operand T
+a_constant_name types v token = record { of = worth_type types v; value = v; is_place = false; first = token; last = token }
 
 -- A name where a value is asked for: no type and no procedure, and in a constant expression no variable. Names that nothing
 -- binds are told by themselves.
 abbrev pub named_value : {T : Type 0} → Facts T → ℕ → Option (Meaning T) → Told (Operand T)
-named_value facts token None = right (a_name facts.types.unknown true token)
-named_value facts token (Some (a_constant t)) = right (a_name t false token)
+named_value facts token None = right (a_name facts.types.unknown token)
+named_value facts token (Some (a_constant v)) = right (a_constant_name facts.types v token)
 named_value facts token (Some (a_variable t)) =
-    if facts.only_constants then record { known = a_name facts.types.unknown true token; faults = at_token facts code.NotConstant token }
-    else right (a_name t true token)
-named_value facts token (Some (a_type t)) = record { known = a_name facts.types.unknown true token; faults = at_token facts code.WrongKind token }
-named_value facts token (Some (a_procedure fs)) = record { known = a_name facts.types.unknown true token; faults = at_token facts code.WrongKind token }
+    if facts.only_constants then record { known = a_name facts.types.unknown token; faults = at_token facts code.NotConstant token }
+    else right (a_name t token)
+named_value facts token (Some (a_type t)) = record { known = a_name facts.types.unknown token; faults = at_token facts code.WrongKind token }
+named_value facts token (Some (a_procedure fs)) = record { known = a_name facts.types.unknown token; faults = at_token facts code.WrongKind token }
 
 abbrev pub named : {T : Type 0} → Facts T → ℕ → Told (Operand T)
 named facts token = named_value facts token (facts.stands_for token)
 
--- the part of a designator up to this token, of this type
+-- the part of a designator up to this token, of this type; a constant has no parts
 abbrev pub part_of : {T : Type 0} → Operand T → T → ℕ → Operand T
-part_of o of last = record { of = of; is_place = o.is_place; first = o.first; last = last }
+part_of o of last = record { of = of; value = None; is_place = o.is_place; first = o.first; last = last }
 
 -- a field that a record has; where there is no record, the `.` is told
 abbrev pub found_field : {T : Type 0} → Facts T → ℕ → Option T → Told T

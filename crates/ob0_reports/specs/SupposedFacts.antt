@@ -1,5 +1,5 @@
 -- What the telling supposes of types and declarations, as facts.
-use Rattle.std.specs.Prelude.{ℕ, ◌==◌, Bool, true, false, List, map, take, drop, slice_get, slice_index_or, Option, Some, None, option_and_then, option_map}
+use Rattle.std.specs.Prelude.{ℕ, ◌==◌, Bool, true, false, List, map, slice_get, slice_index_or, Option, Some, None, option_and_then, option_map}
 use Rattle.std.specs.BTreeMap.{get_by}
 use Rattle.std.specs.Cmp.Lexicographic.{slice_cmp}
 use Rattle.std.specs.Ordering.{nat_cmp}
@@ -8,8 +8,7 @@ use Rattle.ob0_scope.specs.Resolution.{ordinal_in}
 use Rattle.ob0_symbols.specs.declared.known.Formal as formal
 use Rattle.ob0_symbols.specs.declared.types.TypeId.{TypeId}
 use Rattle.ob0_symbols.specs.declared.types.TypeId.TheVariants as type
-use Rattle.ob0_values.specs.declared.scalar.Scalar.{Scalar}
-use Rattle.ob0_values.specs.declared.scalar.Scalar.TheVariants as scalar
+use Rattle.ob0_values.specs.Scalars.{scalar_value}
 use Rattle.ob0_reports.specs.declared.telling.expressions.Operand as operand
 use Rattle.ob0_reports.specs.declared.telling.supposed.Composite.{Composite}
 use Rattle.ob0_reports.specs.declared.telling.supposed.Meaning as meaning
@@ -45,20 +44,14 @@ form_in composites type.Unknown = unknown_form
 abbrev pub types_in : List Composite → Types TypeId
 types_in composites = record { integer = type.Integer; boolean = type.Boolean; unknown = type.Unknown; same = same_type; form = form_in composites }
 
--- the type of a constant, which is unknown where its right side has a fault
-abbrev pub constant_type : Option Scalar → TypeId
-constant_type None = type.Unknown
-constant_type (Some (scalar.Number n)) = type.Integer
-constant_type (Some (scalar.Truth b)) = type.Boolean
-
 abbrev pub formal_of : formal.Formal → Formal TypeId
 formal_of f = record { by_place = f.by_place; of = f.of }
 
-abbrev pub meaning_of : List formal.Formal → meaning.Meaning → Meaning TypeId
-meaning_of formals (declared.Named t) = a_type t
-meaning_of formals (declared.Constant v) = a_constant (constant_type v)
-meaning_of formals (declared.Variable t) = a_variable t
-meaning_of formals (declared.Procedure fs) = a_procedure (map formal_of (take fs.count (drop fs.first formals)))
+abbrev pub meaning_of : meaning.Meaning → Meaning TypeId
+meaning_of (declared.Named t) = a_type t
+meaning_of (declared.Constant v) = a_constant (option_map scalar_value v)
+meaning_of (declared.Variable t) = a_variable t
+meaning_of (declared.Procedure fs) = a_procedure (map formal_of fs.items)
 
 -- what the name at a token stands for
 abbrev pub declared_at : Supposed → ℕ → Option meaning.Meaning
@@ -68,9 +61,9 @@ abbrev pub facts_in : Supposed → Bool → Facts TypeId
 facts_in s only_constants = record {
   source = s.resolved.now.module_read.source;
   types = types_in s.composites.items;
-  stands_for = λ token. option_map (meaning_of s.formals.items) (declared_at s token);
+  stands_for = λ token. option_map meaning_of (declared_at s token);
   only_constants = only_constants;
 }
 
 abbrev pub operand_of : operand.Operand → Operand TypeId
-operand_of o = record { of = o.of; is_place = o.is_place; first = o.first; last = o.last }
+operand_of o = record { of = o.of; value = option_map scalar_value o.value; is_place = o.is_place; first = o.first; last = o.last }

@@ -10,14 +10,21 @@ mod statements;
 mod supposed;
 mod written_types;
 
-use crate::telling::supposed::{Meaning, PREDECLARED_MEANINGS, STANDARD_FORMALS, Supposed};
+ghost use Rattle.std.specs.Prelude.{◌≡◌, ◌++◌, [], IfOk, OnOk};
+ghost use Rattle.std.specs.List.{filter};
+ghost use Rattle.ob0_scope.specs.Resolution.{is_of_occurrences};
+ghost use Rattle.ob0_reports.specs.InOrder.{BeginsWithUnbound};
+
+use crate::telling::supposed::{Meaning, Supposed, predeclared};
 use ob0_scan::{Code, Fault};
 use ob0_scope::Resolved;
 use std::alloc::{AllocError, Global};
 
-/// The faults of a module's types, and its names that nothing binds, in no order. Its second declarations and closing names
+/// The names of a module that nothing binds, in text order, and then the faults of its types. Its second declarations and closing names
 /// aren't looked at.
-pub fn tell<'t>(alloc: Global, resolved: &'t Resolved<'t>) -> Result<Vec<Fault>, AllocError> {
+pub fn tell<'t>(alloc: Global, resolved: &'t Resolved<'t>) -> Result<Vec<Fault>, AllocError>
+    ensures { IfOk result (λ faults. BeginsWithUnbound resolved.now faults.items) }
+{
     let mut teller = Teller::new(alloc, resolved)?;
     teller.tell_undeclared()?;
     teller.block(resolved.module().block())?;
@@ -33,18 +40,16 @@ struct Teller<'t> {
 }
 
 impl<'t> Teller<'t> {
-    fn new(alloc: Global, resolved: &'t Resolved<'t>) -> Result<Teller<'t>, AllocError> {
-        let mut meanings = Vec::new(alloc);
-        for meaning in &PREDECLARED_MEANINGS {
-            meanings.push(Some(*meaning))?;
-        }
+    fn new(alloc: Global, resolved: &'t Resolved<'t>) -> Result<Teller<'t>, AllocError>
+        ensures { IfOk result (λ t. (t.supposed.resolved.now ≡ resolved.now) × (t.faults.items ≡ [])) }
+    {
+        let mut meanings = predeclared(alloc)?;
         for _declaration in resolved.declarations() {
             meanings.push(None)?;
         }
         let supposed = Supposed {
             resolved,
             meanings,
-            formals: Vec::from_slice(alloc, &STANDARD_FORMALS)?,
             composites: Vec::new(alloc),
         };
         Ok(Teller {
@@ -54,7 +59,9 @@ impl<'t> Teller<'t> {
         })
     }
 
-    fn into_faults(self) -> Vec<Fault> {
+    fn into_faults(self) -> Vec<Fault>
+        ensures { result.items ≡ self.entry.faults.items }
+    {
         let Teller {
             alloc: _,
             supposed: _,
@@ -64,7 +71,9 @@ impl<'t> Teller<'t> {
     }
 
     /// Tells the names that nothing binds.
-    fn tell_undeclared(&mut self) -> Result<(), AllocError> {
+    fn tell_undeclared(&mut self) -> Result<(), AllocError>
+        ensures { OnOk result (self.new.faults.items ≡ self.old.faults.items ++ filter is_of_occurrences self.old.supposed.resolved.now.faults) }
+    {
         for fault in self.supposed.resolved.faults() {
             if fault.code == Code::Undeclared {
                 self.faults.push(*fault)?;
@@ -73,18 +82,10 @@ impl<'t> Teller<'t> {
         Ok(())
     }
 
-    /// What a name stands for. None where nothing binds it.
-    fn meaning(&self, token: usize) -> Option<Meaning> {
-        self.supposed.meaning(token)
-    }
-
     /// Says what the declaration at a token is.
-    fn define(&mut self, token: usize, meaning: Meaning) {
+    fn define(&mut self, token: usize, meaning: Meaning)
+        ensures { self.new.faults.items ≡ self.old.faults.items }
+    {
         self.supposed.define(token, meaning);
-    }
-
-    /// Tells a fault at one token.
-    fn tell_at(&mut self, code: Code, token: usize) -> Result<(), AllocError> {
-        self.supposed.tell_at(&mut self.faults, code, token)
     }
 }

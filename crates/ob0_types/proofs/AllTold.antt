@@ -1,5 +1,5 @@
 -- What is told of a module: nothing exactly where it is well-typed.
-use Rattle.std.proofs.Common.{◌≤◌, ◌≡◌, ◌+◌, ◌&&◌, ◌||◌, if◌then◌else◌, Bool, true, false, not, List, [], ◌∷◌, ◌++◌, IfSome, is_some, Option, Some, None, length, refl, sym, ap, ◌∙◌, true≢false, arith, length-append}
+use Rattle.std.proofs.Common.{◌≤◌, ◌≡◌, ◌+◌, ◌&&◌, ◌||◌, if◌then◌else◌, Bool, true, false, not, List, [], ◌∷◌, ◌++◌, IfSome, is_some, Option, Some, None, length, refl, sym, ap, ◌∙◌, subst, true≢false, arith, length-append}
 use Rattle.std.proofs.lemmas.List.{nil_from_length}
 use Rattle.std.specs.List.{filter, list_any}
 use Rattle.ob0_scan.specs.declared.fault.Fault.{Fault}
@@ -76,7 +76,7 @@ if_some (Some a) f h = f a h
 -- where nothing is told exactly of a module that fits and declares each name once, it is told exactly of a well-typed one
 pub checked_told : (r : Resolution) (fits : Bool) (faults : List Fault) → FitsByOrdinal → IsResolution r → fits ≡ fits_over as_labels (in_labels r (tree_of r.module_read))
     → IsTold (fits && not (list_any is_of_declarations r.faults)) faults
-    → (known : Option Tables) → fits ≡ is_some known → IfSome known (Keeps (module_bindings as_labels (in_labels r (tree_of r.module_read)))) → length faults ≤ 100 → AreFirstFaults r.faults faults → IsChecked (record { names = r; faults = faults; known = known })
+    → (known : Option Tables) → fits ≡ is_some known → IfSome known (Keeps (module_bindings as_labels (in_labels r (tree_of r.module_read)))) → length faults ≤ 100 → AreFirstFaults fits r.faults faults → IsChecked (record { names = r; faults = faults; known = known })
 unfolding WellTyped
 checked_told r fits faults law h e told known some keeps few first =
     let m = named_tree_of r.module_read in
@@ -93,5 +93,5 @@ checked_told r fits faults law h e told known some keeps few first =
       holds = if_some known (λ t kept d. sym (kept d) ∙ ap (λ z. object_bound (module_bindings as_labels z) d) (sym h.numbering)) keeps;
       kept = λ none. sym some ∙ first_right fits any (told.0 none);
       few = few;
-      first = first;
+      first = subst (λ b. AreFirstFaults b r.faults faults) by_names first;
     }

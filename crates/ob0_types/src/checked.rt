@@ -1,10 +1,11 @@
 //! Checking a module, and what is known of a well-typed one.
 
+ghost use Rattle.ob0_reports.specs.InOrder.{BeginsWithUnbound};
 ghost use Rattle.ob0_scope.specs.Resolution.{is_of_declarations};
 ghost use Rattle.ob0_types.specs.CheckedModules.{IsChecked, IsTold};
 ghost use Rattle.ob0_types.specs.FaultOrder.{AreFirstFaults};
 ghost use Rattle.std.specs.List.{filter, list_any};
-ghost use Rattle.std.specs.Prelude.{◌≡◌, ◌≤◌, ◌&&◌, ◌++◌, [], length, not, IfOk, OnOk, MatchOption};
+ghost use Rattle.std.specs.Prelude.{◌≡◌, ◌≤◌, ◌&&◌, ◌++◌, [], false, length, not, IfOk, OnOk, MatchOption};
 
 use ob0_checker::decide;
 use ob0_reports::tell;
@@ -98,7 +99,7 @@ fn faults_of<'t>(
 ) -> Result<Vec<Fault>, AllocError>
     ensures told { IfOk result (λ faults. IsTold (fits && not (list_any is_of_declarations resolved.now.faults)) faults.items) }
     ensures few { IfOk result (λ faults. length faults.items ≤ 100) }
-    ensures first { IfOk result (λ faults. AreFirstFaults resolved.now.faults faults.items) }
+    ensures first { IfOk result (λ faults. AreFirstFaults fits resolved.now.faults faults.items) }
 {
     let mut faults = of_types(alloc, resolved, fits)?;
     add_declarations(&mut faults, resolved.faults())?;
@@ -107,13 +108,14 @@ fn faults_of<'t>(
     Ok(faults)
 }
 
-/// The faults of types. A module that doesn't fit has one.
+/// The faults of types, behind the names that nothing binds. A module that doesn't fit has one.
 fn of_types<'t>(
     alloc: Global,
     resolved: &'t Resolved<'t>,
     fits: bool,
 ) -> Result<Vec<Fault>, AllocError>
-    ensures { IfOk result (λ faults. IsTold fits faults.items) }
+    ensures told { IfOk result (λ faults. IsTold fits faults.items) }
+    ensures unbound { IfOk result (λ faults. fits ≡ false → BeginsWithUnbound resolved.now faults.items) }
 {
     let mut faults = Vec::new(alloc);
     if fits {

@@ -1,13 +1,15 @@
 //! Tells the faults of expressions, and finds their types and the values of constant ones on the same way.
 
-ghost use Rattle.std.specs.Prelude.{◌≡◌, ◌++◌, ◌∷◌, [], false, true, if◌then◌else◌, IfOk, OnOk, List};
+ghost use Rattle.std.specs.Prelude.{◌≡◌, ◌++◌, ◌∷◌, [], false, true, if◌then◌else◌, IfOk, OnOk, List, option_map};
+ghost use Rattle.ob0_values.specs.Scalars.{scalar_value};
 ghost use Rattle.ob0_symbols.specs.declared.types.TypeId.TheVariants as type;
 ghost use Rattle.ob0_tree.specs.View.{expression_of, factor_of, selector_of, simple_of, term_of};
 ghost use Rattle.ob0_typing.specs.Selected.{selectors_in};
 ghost use Rattle.ob0_reports.specs.ExpressionFaults.{told_expression, told_factor, told_selector, told_selectors, told_simple, told_term};
 ghost use Rattle.ob0_reports.specs.Known.{Types};
-ghost use Rattle.ob0_reports.specs.Operations.{Tells, a_name, a_number, added, asked, asked_both, at_operand, behind_sign, complemented, element_in, element_selected, enclosed, field_in, field_selected, fits, joined, multiplied, named, part_of, related, signed, truth_of, wanted_by_add, wanted_by_equality, wanted_by_multiply, wanted_by_relation};
-ghost use Rattle.ob0_reports.specs.SupposedFacts.{constant_type, facts_in, form_in, operand_of, same_type, types_in};
+ghost use Rattle.ob0_reports.specs.Operations.{Tells, a_constant_name, a_number, added, asked, asked_both, at_operand, behind_sign, complemented, element_in, element_selected, enclosed, field_in, field_selected, fits, joined, multiplied, named, part_of, related, signed, truth_of, wanted_by_add, wanted_by_equality, wanted_by_multiply, wanted_by_relation, worth_type};
+ghost use Rattle.ob0_reports.specs.TypeFaults.{evaluated, told_constant};
+ghost use Rattle.ob0_reports.specs.SupposedFacts.{facts_in, form_in, operand_of, same_type, types_in};
 
 use crate::telling::supposed::{Meaning, Supposed};
 use ob0_scan::{Code, Fault};
@@ -92,7 +94,7 @@ fn truth_of(operands: TypeId) -> TypeId
     }
 }
 
-fn same_type(a: TypeId, b: TypeId) -> bool
+pub(crate) fn same_type(a: TypeId, b: TypeId) -> bool
     ensures { result ≡ same_type a b }
 {
     a == b
@@ -119,7 +121,7 @@ fn given(of: TypeId, wanted: TypeId) -> TypeId
 impl Operand {
     /// The operation on this whose sign stands before it.
     fn behind_sign(self, of: TypeId, value: Option<Scalar>) -> Operand
-        ensures { operand_of result ≡ behind_sign of (operand_of self) }
+        ensures { operand_of result ≡ behind_sign of (option_map scalar_value value) (operand_of self) }
     {
         Operand {
             of,
@@ -132,7 +134,7 @@ impl Operand {
 
     /// The operation on this and what stands to the right.
     fn with(self, right: Operand, of: TypeId, value: Option<Scalar>) -> Operand
-        ensures { operand_of result ≡ joined of (operand_of self) (operand_of right) }
+        ensures { operand_of result ≡ joined of (option_map scalar_value value) (operand_of self) (operand_of right) }
     {
         Operand {
             of,
@@ -286,9 +288,10 @@ impl<'t> Supposed<'t> {
     {
         match sign {
             None => Ok(operand),
-            Some(_) => {
+            Some(sign) => {
                 let of = self.ask(faults, TypeId::Integer, operand)?;
-                Ok(operand.behind_sign(of, operators::with_sign(sign, operand.value)))
+                let value = operators::with_sign(Some(sign), operand.value);
+                Ok(operand.behind_sign(of, value))
             }
         }
     }
@@ -401,13 +404,13 @@ impl<'t> Supposed<'t> {
         match self.meaning(token) {
             None => Ok(unknown),
             Some(meaning) => match meaning {
-                Meaning::Constant(value) => Ok(constant(value, token)),
+                Meaning::Constant(value) => Ok(constant(*value, token)),
                 Meaning::Variable(of) => {
                     if only_constants {
                         self.tell_at(faults, Code::NotConstant, token)?;
                         return Ok(unknown);
                     }
-                    Ok(unknown.part(of, token))
+                    Ok(unknown.part(*of, token))
                 }
                 Meaning::Named(_) => {
                     self.tell_at(faults, Code::WrongKind, token)?;
@@ -545,14 +548,27 @@ impl<'t> Supposed<'t> {
         Ok(TypeId::Unknown)
     }
 
-    /// Tells the faults of a constant expression that may be of either type, and gives its value where it has none.
+    /// Tells the faults of the right side of a constant's declaration, and gives its value where it has none.
     pub(crate) fn constant_value(
         &self,
         faults: &mut Vec<Fault>,
         e: &Expression,
-    ) -> Result<Option<Scalar>, AllocError> {
+    ) -> Result<Option<Scalar>, AllocError>
+        ensures { IfOk result (λ v. Tells faults.old.items faults.new.items (option_map scalar_value v) (told_constant (facts_in self.now true) (expression_of e.now))) }
+    {
         let constant = self.expression(faults, e, true)?;
-        if constant.of == TypeId::Unknown {
+        self.evaluated(faults, constant)
+    }
+
+    /// The value of an operand of a constant expression. In one with a fault nothing is evaluated.
+    fn evaluated(
+        &self,
+        faults: &mut Vec<Fault>,
+        constant: Operand,
+    ) -> Result<Option<Scalar>, AllocError>
+        ensures { IfOk result (λ v. Tells faults.old.items faults.new.items (option_map scalar_value v) (evaluated (facts_in self.now false) (operand_of constant))) }
+    {
+        if same_type(constant.of, TypeId::Unknown) {
             return Ok(None);
         }
         if constant.value.is_none() {
@@ -564,7 +580,7 @@ impl<'t> Supposed<'t> {
 
 /// A constant's name.
 fn constant(value: Option<Scalar>, token: usize) -> Operand
-    ensures { operand_of result ≡ a_name (constant_type value) false token }
+    ensures { operand_of result ≡ a_constant_name (types_in []) (option_map scalar_value value) token }
 {
     Operand {
         of: constant_type(value),
@@ -576,7 +592,7 @@ fn constant(value: Option<Scalar>, token: usize) -> Operand
 }
 
 fn constant_type(value: Option<Scalar>) -> TypeId
-    ensures { result ≡ constant_type value }
+    ensures { result ≡ worth_type (types_in []) (option_map scalar_value value) }
 {
     match value {
         None => TypeId::Unknown,

@@ -1,8 +1,9 @@
 //! What is supposed of types and declarations while faults are told; each may be unknown, as a whole or in parts.
 
-ghost use Rattle.std.specs.Prelude.{◌≡◌, ◌∷◌, [], ◌++◌, OnOk, slice_get, slice_index_or, None};
+ghost use Rattle.std.specs.Prelude.{◌≡◌, ◌∷◌, [], ◌++◌, OnOk, option_map, slice_get, slice_index_or, None};
 ghost use Rattle.ob0_scope.specs.Resolution.{span_at};
 ghost use Rattle.ob0_tree.specs.Places.{text_at};
+ghost use Rattle.ob0_reports.specs.InOrder.{Continues};
 ghost use Rattle.ob0_reports.specs.Operations.{fault_between, token_behind};
 ghost use Rattle.ob0_reports.specs.SupposedFacts.{declared_at, elements_of, field_of};
 
@@ -10,49 +11,42 @@ use ob0_scan::{Code, Fault, Span};
 use ob0_scope::{Resolved, token_span};
 use ob0_symbols::{Formal, MOST_DEPTH, MOST_SCALARS, TypeId, text_at};
 use ob0_values::Scalar;
-use std::alloc::AllocError;
+use std::alloc::{AllocError, Global};
 use std::collections::BTreeMap;
 
-/// The formal parameters of a procedure: so many in the list of all, from the first on.
-#[derive(Clone, Copy)]
-pub(crate) struct Formals {
-    pub(crate) first: usize,
-    pub(crate) count: usize,
-}
-
 /// What a declaration is.
-#[derive(Clone, Copy)]
+#[derive(Drop)]
 pub(crate) enum Meaning {
     /// A type, by its name.
     Named(TypeId),
     /// A constant; without a value where its right side has a fault.
     Constant(Option<Scalar>),
     Variable(TypeId),
-    Procedure(Formals),
+    Procedure(Vec<Formal>),
 }
 
-/// The parameters of `Read` and of `Write`.
-pub(crate) static STANDARD_FORMALS: [Formal; 2] = [
-    Formal {
-        by_place: true,
-        of: TypeId::Integer,
-    },
-    Formal {
-        by_place: false,
-        of: TypeId::Integer,
-    },
-];
-
 /// The predeclared names, in the order of their ordinals.
-pub(crate) static PREDECLARED_MEANINGS: [Meaning; 7] = [
-    Meaning::Named(TypeId::Integer),
-    Meaning::Named(TypeId::Boolean),
-    Meaning::Constant(Some(Scalar::Truth(true))),
-    Meaning::Constant(Some(Scalar::Truth(false))),
-    Meaning::Procedure(Formals { first: 0, count: 1 }),
-    Meaning::Procedure(Formals { first: 1, count: 1 }),
-    Meaning::Procedure(Formals { first: 2, count: 0 }),
-];
+pub(crate) fn predeclared(alloc: Global) -> Result<Vec<Option<Meaning>>, AllocError> {
+    let mut meanings = Vec::new(alloc);
+    meanings.push(Some(Meaning::Named(TypeId::Integer)))?;
+    meanings.push(Some(Meaning::Named(TypeId::Boolean)))?;
+    meanings.push(Some(Meaning::Constant(Some(Scalar::Truth(true)))))?;
+    meanings.push(Some(Meaning::Constant(Some(Scalar::Truth(false)))))?;
+    meanings.push(Some(one_parameter(alloc, true)?))?;
+    meanings.push(Some(one_parameter(alloc, false)?))?;
+    meanings.push(Some(Meaning::Procedure(Vec::new(alloc))))?;
+    Ok(meanings)
+}
+
+/// A procedure with one parameter, a number.
+fn one_parameter(alloc: Global, by_place: bool) -> Result<Meaning, AllocError> {
+    let mut formals = Vec::new(alloc);
+    formals.push(Formal {
+        by_place,
+        of: TypeId::Integer,
+    })?;
+    Ok(Meaning::Procedure(formals))
+}
 
 /// How many scalars a type has, and how deep it is.
 #[derive(Clone, Copy)]
@@ -131,8 +125,6 @@ pub(crate) struct Supposed<'t> {
     pub(crate) resolved: &'t Resolved<'t>,
     /// What the declarations so far are, by their ordinals. A name is bound only to what is declared before it.
     pub(crate) meanings: Vec<Option<Meaning>>,
-    /// The formal parameters of all procedures so far, those of each together.
-    pub(crate) formals: Vec<Formal>,
     /// The arrays and records so far, by their places in a `TypeId`.
     pub(crate) composites: Vec<Composite<'t>>,
 }
@@ -188,8 +180,8 @@ impl<'t> Supposed<'t> {
     }
 
     /// What a name stands for. None where nothing binds it.
-    pub(crate) fn meaning(&self, token: usize) -> Option<Meaning>
-        ensures { result ≡ declared_at self.now token }
+    pub(crate) fn meaning(&self, token: usize) -> Option<&Meaning>
+        ensures { option_map (λ m. m.now) result ≡ declared_at self.now token }
     {
         match self.resolved.ordinal_at(token) {
             None => None,
@@ -198,12 +190,15 @@ impl<'t> Supposed<'t> {
     }
 
     /// What the declaration of an ordinal is.
-    fn declared(&self, ordinal: usize) -> Option<Meaning>
-        ensures { result ≡ slice_index_or self.now.meanings.items ordinal None }
+    fn declared(&self, ordinal: usize) -> Option<&Meaning>
+        ensures { option_map (λ m. m.now) result ≡ slice_index_or self.now.meanings.items ordinal None }
     {
         match self.meanings.get(ordinal) {
-            Some(meaning) => *meaning,
             None => None,
+            Some(meaning) => match meaning {
+                None => None,
+                Some(meaning) => Some(meaning),
+            },
         }
     }
 
@@ -273,7 +268,9 @@ impl<'t> Supposed<'t> {
         token: usize,
         parts: Parts<'t>,
         size: Size,
-    ) -> Result<TypeId, AllocError> {
+    ) -> Result<TypeId, AllocError>
+        ensures { OnOk result (Continues faults.old.items faults.new.items) }
+    {
         if !size.is_within() {
             self.tell_at(faults, Code::TypeTooLarge, token)?;
             return Ok(TypeId::Unknown);

@@ -17,7 +17,7 @@ returns-clause-told c =
     let sorted = c.sort_by_key.new.self in
     let kept = c.truncate.new.self in
     let all = c.in_ok-add_declarations.ensures ∙ ap (λ fs. first ++ filter is_of_declarations fs) c.faults.ensures in
-    let told = subst (IsTold right) (sym all) (told_with c.args.fits first c.args.resolved.now.faults c.in_ok-faults.ensures) in
+    let told = subst (IsTold right) (sym all) (told_with c.args.fits first c.args.resolved.now.faults c.in_ok-faults.ensures.told) in
     let a = added.ok.0 in
     let s = sorted.ok.0 in
     let k = kept.ok.0 in
@@ -39,6 +39,8 @@ returns-clause-first c =
     record {
       types = first;
       all = c.sort_by_key.new.self.items;
+      told = c.in_ok-faults.ensures.told;
+      unbound = c.in_ok-faults.ensures.unbound;
       joined = subst (λ fs. IsPermutation fs c.sort_by_key.new.self.items) all c.in_ok-sort_by_key.ensures.permutation;
       in_order = sorted_by_key ((tie.ghosts-7-0-1-2 c.sort_by_key.lifetimes).cmp) c.sort_by_key.new.self.items (λ s e x s₂ e₂ y. refl)
           (c.in_ok-sort_by_key.ensures.sorted (λ x. (x.span.start, x.span.end, x.code)) (answers_always _ _ _ (λ f a r f2 q. search rules)));
