@@ -3,7 +3,7 @@ use Rattle.ob0_tree.specs.Parsed.{Parsed}
 use Rattle.ob0_tree.specs.View.{block_of}
 use Rattle.ob0_scope.specs.Resolution.{Resolution}
 use Rattle.ob0_fields.specs.Owned.{marked_block, token_objects}
-use Rattle.ob0_fields.proofs.owners.found_fields.Goals as goal
+use Rattle.ob0_fields.proofs.listing.found_fields.Goals as goal
 
 pub returns : goal.returns
 returns c =
