@@ -38,7 +38,7 @@ impl Model for FieldList {
 impl FieldList {
     /// No fields.
     pub fn none(alloc: Global) -> FieldList
-        ensures { result.now.all ≡ [] }
+        ensures { result.all ≡ [] }
     {
         FieldList {
             declared: Vec::new(alloc),

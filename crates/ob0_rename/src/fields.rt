@@ -69,12 +69,7 @@ pub(crate) fn rename_field<T: TextStore>(
 }
 
 /// The token that declares another field of the record that has the new name.
-fn other_field(
-    well_typed: &WellTyped<'_, '_>,
-    owner: usize,
-    old: &str,
-    new: &str,
-) -> Option<usize>
+fn other_field(well_typed: &WellTyped<'_, '_>, owner: usize, old: &str, new: &str) -> Option<usize>
     ensures { result ≡ (if same_name new.now old.now then None else declaring_field well_typed.now.module_read owner new.now) }
 {
     if new == old {
