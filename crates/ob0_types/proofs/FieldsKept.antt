@@ -1,5 +1,5 @@
 -- The fields that are kept with a module that has no fault are its fields.
-use Rattle.std.proofs.Common.{◌≡◌, List, [], Bool, true, false, IfSome, is_some, Option, Some, None, sym, subst, true≢false}
+use Rattle.std.proofs.Common.{◌≡◌, [], true, IfSome, is_some, Option, Some, None, sym, subst, true≢false}
 use Rattle.ob0_fields.specs.Listed.{AreFields, Listed, listed_by}
 use Rattle.ob0_fields.proofs.ListedFields.{listed_fields}
 use Rattle.ob0_symbols.specs.KnownTables.{Tables}

@@ -106,9 +106,10 @@ fn known_fields<'t>(
 ) -> Result<FieldList, AllocError>
     ensures { IfOk result (λ fields. IfSome known.now (λ t. fields ≡ listed_by t resolved.now)) }
 {
+    let names = resolved;
     match known {
         None => Ok(FieldList::none(alloc)),
-        Some(known) => FieldList::of(alloc, known, resolved),
+        Some(known) => FieldList::of(alloc, known, names),
     }
 }
 

@@ -1,6 +1,6 @@
-use Rattle.std.proofs.Common.{List, ℕ, ◌∙◌, ap, sym, subst, map}
+use Rattle.std.proofs.Common.{◌∙◌, ap, sym, subst}
 use Rattle.std.specs.Prelude.{IfSome}
-use Rattle.ob0_tree.specs.Order.{AreIdentifiers, IsIdentifier}
+use Rattle.ob0_tree.specs.Order.{IsIdentifier}
 use Rattle.ob0_scope.specs.Resolution.{Resolution}
 use Rattle.ob0_fields.specs.Identifiers.{field_identifiers, field_on}
 use Rattle.ob0_fields.proofs.FieldTokens.{field_stands, fields_stand}
