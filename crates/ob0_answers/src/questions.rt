@@ -65,10 +65,10 @@ impl Question for DefinitionAt {
 
     fn answer(
         &self,
-        alloc: Global,
+        _alloc: Global,
         module: &WellTyped<'_, '_>,
     ) -> Result<Option<Span>, AllocError> {
-        definition(alloc, module, self.offset)
+        Ok(definition(module, self.offset))
     }
 }
 
@@ -102,10 +102,10 @@ impl Question for RenamableAt {
 
     fn answer(
         &self,
-        alloc: Global,
+        _alloc: Global,
         module: &WellTyped<'_, '_>,
     ) -> Result<Option<Span>, AllocError> {
-        match at(alloc, module, self.offset)? {
+        match at(module, self.offset) {
             Some(name) => Ok(renamable(name.of, name.span)),
             None => Ok(None),
         }

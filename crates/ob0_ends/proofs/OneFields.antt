@@ -61,7 +61,7 @@ module _ (r : Resolution) (well : IsWellTyped r) where
       has_owners (owned_tokens r) (replicate n nothing) 0 n ascend (subst (λ z. n ≤ z) (sym (length-replicate n nothing)) (le_refl n)) (λ i l u. get_or-replicate n i nothing None u)
 
   table_owns : AreOwners r.module_read (table_of r)
-  table_owns = owners_by_declaration-holds r (table_of r) well table_has
+  table_owns = owners_by_declaration-holds r (table_of r) well.resolved well.well_typed table_has
 
 -- ---- two tables of one module
 

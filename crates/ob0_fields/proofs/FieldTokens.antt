@@ -140,17 +140,17 @@ module _ (source : Scanned) (k : ℕ) (f : Name) (i : ℕ) where
       one false at false is later = later
 
 pub renamed_at_tokens-holds : RenamedAtTokens
-renamed_at_tokens-holds r k f new well =
+renamed_at_tokens-holds r k f new named fits =
     let m = r.module_read in
     let n : ℕ = length m.source.tokens in
     let nothing : Option ℕ = None in
     let empty_table : List (Option ℕ) = replicate n nothing in
-    let ascend = fields_ascend r well.resolved.parsed in
+    let ascend = fields_ascend r named.parsed in
     let within = subst (AllBelow (field_identifiers r)) (sym (length-replicate n nothing)) (below (field_identifiers r) 0 n ascend) in
     let table : List (Option ℕ) = with_fields_at empty_table (field_identifiers r) in
     let at = λ (i : ℕ). looked (field_identifiers r) empty_table i within ∙ ap (owner_in i (field_identifiers r)) (vacant n i) in
     let among : (i : ℕ) → is_of_field m.source table k f i ≡ list_any (λ token. i == token) (field_tokens r k f) = λ i. ap (owned_here m.source k f i) (at i) ∙ here_among m.source k f i (field_identifiers r) 0 n ascend in
-    renamed_by_token-holds m table k f new (owners_of_fields-holds r well)
+    renamed_by_token-holds m table k f new (owners_of_fields-holds r named fits)
     ∙ (λ j. mapped (λ i. if among i j then new else text_at m.source i) (value_at m.source) (tree_of m))
 
 -- so is the one that a place is on

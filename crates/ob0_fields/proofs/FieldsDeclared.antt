@@ -16,10 +16,9 @@ use Rattle.ob0_tree.proofs.Leaves.{leaves_spelled, lexeme_names}
 use Rattle.ob0_tree.proofs.Mapped.{spell_mapped}
 use Rattle.ob0_scope.specs.Names as written
 use Rattle.ob0_scope.specs.Names.{same_name}
-use Rattle.ob0_scope.specs.Resolution.{Resolution}
+use Rattle.ob0_scope.specs.Resolution.{IsResolution, Resolution}
 use Rattle.ob0_checker.specs.Bindings.{declared_object}
 use Rattle.ob0_typing.specs.WellTyped.{WellTyped}
-use Rattle.ob0_types.specs.CheckedModules.{IsWellTyped}
 use Rattle.ob0_field_laws.specs.Renaming.{RecordFields, is_duplicate_field, names_another_field, one_renamed, records}
 use Rattle.ob0_field_laws.proofs.AgreeingFields.{NamesAgree, RecordsAgree}
 use Rattle.ob0_field_laws.proofs.AgreeingModules.{module-alike}
@@ -163,7 +162,7 @@ and_false : (b : Bool) → (b && false) ≡ false
 and_false true = refl
 and_false false = refl
 
-module _ (r : Resolution) (well : IsWellTyped r) (x : ℕ × ℕ) (listed : list_any (same x) (field_identifiers r) ≡ true) where
+module _ (r : Resolution) (named : IsResolution r) (fits : WellTyped (named_tree_of r.module_read)) (x : ℕ × ℕ) (listed : list_any (same x) (field_identifiers r) ≡ true) where
   abbrev m : Parsed
   m = r.module_read
 
@@ -183,8 +182,8 @@ module _ (r : Resolution) (well : IsWellTyped r) (x : ℕ × ℕ) (listed : list
       let free : is_duplicate_field (named_tree_of m) x.1 (another f) f ≡ false =
       duplicate_by_token-holds m x.1 (another f) f ∙ (ap (λ b. not (same_name f (another f)) && b) none ∙ and_false (not (same_name f (another f)))) in
       sym (refielded-bare (named_tree_of m))
-      ∙ (sym (module-alike (one_renamed x.1 f (another f)) bare (named_tree_of m) (records_kept x.1 f (records (named_tree_of m)) free) well.well_typed.1)
-      ∙ renamed_at_tokens-holds r x.1 f (another f) well)
+      ∙ (sym (module-alike (one_renamed x.1 f (another f)) bare (named_tree_of m) (records_kept x.1 f (records (named_tree_of m)) free) fits.1)
+      ∙ renamed_at_tokens-holds r x.1 f (another f) named fits)
 
   is_declared : is_some (declaring_field m x.1 f) ≡ true
   is_declared = one (is_some (declaring_field m x.1 f)) refl
@@ -199,4 +198,4 @@ module _ (r : Resolution) (well : IsWellTyped r) (x : ℕ × ℕ) (listed : list
           absurd (longer f (here ∙ there))
 
 pub fields_declared-holds : FieldsDeclared
-fields_declared-holds r well = each (λ x. is_some (declaring_field r.module_read x.1 (text_at r.module_read.source x.0)) ≡ true) (field_identifiers r) (is_declared r well)
+fields_declared-holds r named fits = each (λ x. is_some (declaring_field r.module_read x.1 (text_at r.module_read.source x.0)) ≡ true) (field_identifiers r) (is_declared r named fits)

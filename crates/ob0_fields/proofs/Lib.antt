@@ -9,7 +9,7 @@ pub mod MarkPaths
 pub mod MarkedFields
 pub mod GroupWalks
 pub mod DeclaredWalks
-pub mod TableMade
+pub mod ListedFields
 pub mod DeclaringWalks
 pub mod FieldTokens
 pub mod DuplicateFields

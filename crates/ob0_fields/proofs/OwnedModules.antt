@@ -31,7 +31,6 @@ use Rattle.ob0_typing.proofs.Proved.{fits_by_ordinal-holds}
 use Rattle.ob0_typing.proofs.TypesByOrdinal.{TypeNoted, TypedBelow, TypedBelow-weaken, TypedWithin, bind_typed-by_name, bind_typed-by_ordinal, body_fits-agrees, declarations_typed, label_typed, label_typed-formals, noted_parameters, noted_parameters-within, parameters_typed, typed_by_name, typed_by_ordinal, typed_names, typed_outermost, typed_scope}
 use Rattle.ob0_field_laws.specs.Fields.{behind_heading, behind_procedures, behind_variables, parameters_of, refield, refield_block, refield_procedures, refield_variable_section}
 use Rattle.ob0_field_laws.specs.Owners.{of_records}
-use Rattle.ob0_types.specs.CheckedModules.{IsWellTyped}
 use Rattle.ob0_fields.specs.Owned.{HasOwners, OwnersByDeclaration, owned, owned_block, owned_formals, owned_procedure, owned_procedures, owned_type_section, owned_variable_section, token_objects, unowned}
 use Rattle.ob0_fields.proofs.OwnedStatements.{Alike, SameTypes, owned-alike, owners_split, recorded, recorded-alike, recorded-mapped, unowned-all}
 use Rattle.ob0_fields.proofs.OwnedTypes.{counted_formals_section, counted_procedure, counted_type_section, counted_variable_section, formals-owned, type_section-owned, variable_section-owned}
@@ -425,18 +424,18 @@ outermost-below : TypedBelow 7 (typed_outermost as_names)
 outermost-below = (lit< tt, (lit< tt, (lit< tt, (lit< tt, (lit< tt, (lit< tt, (lit< tt, tt)))))))
 
 -- what each declaration of a well-typed module binds is what its ordinal stands for
-pub bindings_right : (r : Resolution) → IsWellTyped r → Right (declared_object (named_tree_of r.module_read)) (module_bindings as_labels (numbered (named_tree_of r.module_read)))
+pub bindings_right : (r : Resolution) → WellTyped (named_tree_of r.module_read) → Right (declared_object (named_tree_of r.module_read)) (module_bindings as_labels (numbered (named_tree_of r.module_read)))
 unfolding WellTyped fits_over
-bindings_right r well =
+bindings_right r fits =
     let p : Parsed = r.module_read in
     let b : Tree ℕ block = module_block (tree_of p) in
     let all : TypeEnvironment Label = block_bindings as_labels (outermost as_labels) 0 (relabel_block as_names (as_label as_names) (typed_scope (typed_outermost as_names)) 7 (mapped (text_at p.source) (value_at p.source) b)) in
-    let held = block-held (λ k x. x) (ordinal_in []) (text_at p.source) (value_at p.source) (ordinal_in r.ordinals) (declared_object (named_tree_of p)) (typed_outermost as_names) 0 7 outermost-below b (sym (fits_by_ordinal-holds (named_tree_of p)) ∙ well.well_typed.1) in
+    let held = block-held (λ k x. x) (ordinal_in []) (text_at p.source) (value_at p.source) (ordinal_in r.ordinals) (declared_object (named_tree_of p)) (typed_outermost as_names) 0 7 outermost-below b (sym (fits_by_ordinal-holds (named_tree_of p)) ∙ fits.1) in
     bound_right (after_block 7 (mapped (text_at p.source) (value_at p.source) b)) (all ++ outermost as_labels) (descends_join (after_block 7 (mapped (text_at p.source) (value_at p.source) b)) 7 0 all (outermost as_labels) held.descends outermost-descends)
 
 pub owners_by_declaration-holds : OwnersByDeclaration
 unfolding WellTyped fits_over
-owners_by_declaration-holds r owners well has = λ l.
+owners_by_declaration-holds r owners named fits has = λ l.
     let p : Parsed = r.module_read in
     let text : ℕ → Name = text_at p.source in
     let value : ℕ → ℕ = value_at p.source in
@@ -444,10 +443,10 @@ owners_by_declaration-holds r owners well has = λ l.
     let objects : ℕ → Option (Object Shape Signature) = declared_object (named_tree_of p) in
     let noted : TypeNoted Name = typed_outermost as_names in
     let all : TypeEnvironment Label = block_bindings as_labels (outermost as_labels) 0 (relabel_block as_names (as_label as_names) (typed_scope noted) 7 (mapped text value b)) in
-    let held = block-held l (ordinal_in owners) text value (ordinal_in r.ordinals) objects noted 0 7 outermost-below b (sym (fits_by_ordinal-holds (named_tree_of p)) ∙ well.well_typed.1) in
+    let held = block-held l (ordinal_in owners) text value (ordinal_in r.ordinals) objects noted 0 7 outermost-below b (sym (fits_by_ordinal-holds (named_tree_of p)) ∙ fits.1) in
     let n : ℕ = after_block 7 (mapped text value b) in
     let right : Right objects (all ++ outermost as_labels) = bound_right n (all ++ outermost as_labels) (descends_join n 7 0 all (outermost as_labels) held.descends outermost-descends) in
     let two = right_split objects all (outermost as_labels) right in
     let s = owners_split (ordinal_in owners) (owned_block (token_objects objects r) 0 b) ((p.closing, None) ∷ []) has.1 in
-    let block-written = held.written two.1 two.0 (ap module_block well.resolved.numbering) s.0 in
+    let block-written = held.written two.1 two.0 (ap module_block named.numbering) s.0 in
     λ i. is_module (of_records l (sym has.0 i) (text p.name)) (block-written i) (of_records l (sym s.1.0 i) (text p.closing))

@@ -205,10 +205,10 @@ fields_stand ((x, Some k) ∷ xs) table low high ascend within vacant =
     )
 
 pub owners_of_fields-holds : OwnersOfFields
-owners_of_fields-holds r well =
+owners_of_fields-holds r named fits =
     let n : ℕ = length r.module_read.source.tokens in
     let nothing : Option ℕ = None in
     let vacant : List (Option ℕ) = replicate n nothing in
-    let ascend = subst (λ ts. Ascending 0 ts n) (sym (module-tokens _ (tree_of r.module_read))) (leaves_ascend r.module_read well.resolved.parsed) in
-    owners_by_declaration-holds r (with_fields_at vacant (fields_among (owned_tokens r))) well
+    let ascend = subst (λ ts. Ascending 0 ts n) (sym (module-tokens _ (tree_of r.module_read))) (leaves_ascend r.module_read named.parsed) in
+    owners_by_declaration-holds r (with_fields_at vacant (fields_among (owned_tokens r))) named fits
     (fields_stand (owned_tokens r) vacant 0 n ascend (subst (λ z. n ≤ z) (sym (length-replicate n nothing)) (le_refl n)) (λ i l u. get_or-replicate n i nothing None u))

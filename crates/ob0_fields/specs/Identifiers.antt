@@ -7,10 +7,10 @@ use Rattle.ob0_tree.specs.Parsed.{Parsed, named_tree_of, tree_of}
 use Rattle.ob0_tree.specs.Places.{text_at, value_at}
 use Rattle.ob0_scope.specs.Names.{Name, same_name}
 use Rattle.ob0_scope.specs.Parts.{formal_sections, module_block, section_types, section_variables}
-use Rattle.ob0_scope.specs.Resolution.{Resolution, span_at}
+use Rattle.ob0_scope.specs.Resolution.{IsResolution, Resolution, span_at}
 use Rattle.ob0_scope.specs.Standing.{is_on}
-use Rattle.ob0_types.specs.CheckedModules.{IsWellTyped}
 use Rattle.ob0_typing.specs.Declarations.{after_formals, after_types, after_variables, procedure_constructors}
+use Rattle.ob0_typing.specs.WellTyped.{WellTyped}
 use Rattle.ob0_fields.specs.Owned.{fields_among, marked_sections, marked_types, marked_variables, owned_tokens}
 use Rattle.ob0_field_laws.specs.Renaming.{field_renamed, is_duplicate_field}
 
@@ -84,7 +84,7 @@ field_place m k x = position_from (λ token. same_name (text_at m.source token) 
 -- In a well-typed module the field f of the record k is called `new` where the new name stands at the tokens of that field.
 abbrev pub RenamedAtTokens : Type 0
 RenamedAtTokens =
-    (r : Resolution) (k : ℕ) (f new : Name) → IsWellTyped r
+    (r : Resolution) (k : ℕ) (f new : Name) → IsResolution r → WellTyped (named_tree_of r.module_read)
     → field_renamed (named_tree_of r.module_read) k f new
     ≡ mapped (λ i. if list_any (λ token. i == token) (field_tokens r k f) then new else text_at r.module_read.source i) (value_at r.module_read.source) (tree_of r.module_read)
 
@@ -96,4 +96,5 @@ DuplicateByToken =
 -- In a well-typed module each identifier that declares or selects a field is of a field that its record declares.
 abbrev pub FieldsDeclared : Type 0
 FieldsDeclared =
-    (r : Resolution) → IsWellTyped r → All (λ x. is_some (declaring_field r.module_read x.1 (text_at r.module_read.source x.0)) ≡ true) (field_identifiers r)
+    (r : Resolution) → IsResolution r → WellTyped (named_tree_of r.module_read)
+    → All (λ x. is_some (declaring_field r.module_read x.1 (text_at r.module_read.source x.0)) ≡ true) (field_identifiers r)

@@ -1,3 +1,4 @@
 pub mod Owned
 pub mod Identifiers
+pub mod Listed
 pub mod Walk

@@ -7,14 +7,13 @@ use Rattle.ob0_tree.specs.Parsed.{named_tree_of, tree_of}
 use Rattle.ob0_tree.specs.Places.{text_at}
 use Rattle.ob0_scope.specs.Names.{Name}
 use Rattle.ob0_scope.specs.Parts.{formal_sections, names_listed, section_type, section_types, section_variables}
-use Rattle.ob0_scope.specs.Resolution.{Resolution, ordinal_in}
+use Rattle.ob0_scope.specs.Resolution.{IsResolution, Resolution, ordinal_in}
 use Rattle.ob0_checker.specs.Bindings.{declared_object}
-use Rattle.ob0_types.specs.CheckedModules.{IsWellTyped}
 use Rattle.ob0_typing.specs.Declarations.{after_formals, after_types, after_variables, procedure_constructors}
 use Rattle.ob0_typing.specs.Expressions.{Meanings, Object}
 use Rattle.ob0_symbols.specs.FieldPlaces.{field_selected}
 use Rattle.ob0_typing.specs.Typing.{constructors, element_type, field_type, group_constructors, object_type}
-use Rattle.ob0_typing.specs.WellTyped.{Signature}
+use Rattle.ob0_typing.specs.WellTyped.{Signature, WellTyped}
 use Rattle.ob0_values.specs.Values.{Shape, integer_shape}
 use Rattle.ob0_field_laws.specs.Owners.{AreOwners}
 
@@ -149,7 +148,7 @@ HasOwners table (x ∷ xs) = (table x.0 ≡ x.1) × HasOwners table xs
 -- In a well-typed module a table that has the listed owners at its tokens is a table of owners: what names stand for in the
 -- environment at each place is what their declarations are.
 abbrev pub OwnersByDeclaration : Type 0
-OwnersByDeclaration = (r : Resolution) (owners : List (Option ℕ)) → IsWellTyped r → HasOwners (ordinal_in owners) (owned_tokens r) → AreOwners r.module_read owners
+OwnersByDeclaration = (r : Resolution) (owners : List (Option ℕ)) → IsResolution r → WellTyped (named_tree_of r.module_read) → HasOwners (ordinal_in owners) (owned_tokens r) → AreOwners r.module_read owners
 
 -- those that are fields, each with the ordinal of its record
 abbrev pub fields_among : List (ℕ × Option ℕ) → List (ℕ × ℕ)
@@ -164,7 +163,7 @@ with_fields_at table (f ∷ fs) = with_fields_at (set table f.0 (Some f.1)) fs
 
 -- In a well-typed module the empty table, one entry a token, with its fields written into it is a table of owners.
 abbrev pub OwnersOfFields : Type 0
-OwnersOfFields = (r : Resolution) → IsWellTyped r → AreOwners r.module_read (with_fields_at (replicate (length r.module_read.source.tokens) None) (fields_among (owned_tokens r)))
+OwnersOfFields = (r : Resolution) → IsResolution r → WellTyped (named_tree_of r.module_read) → AreOwners r.module_read (with_fields_at (replicate (length r.module_read.source.tokens) None) (fields_among (owned_tokens r)))
 
 -- ---- the fields alone, as a walk finds them
 

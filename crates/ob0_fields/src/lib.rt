@@ -3,10 +3,9 @@
 
 mod declared;
 mod declaring;
-mod identifiers;
 pub mod laws;
-mod owners;
+mod listing;
 mod owning;
+mod reading;
 
-pub use identifiers::{declaring_field, field_at, field_identifiers, field_place, field_tokens};
-pub use owners::field_owners;
+pub use listing::FieldList;

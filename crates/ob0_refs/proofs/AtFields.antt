@@ -101,7 +101,7 @@ fields_are_defined-holds r offset k index span well h =
     let name : List ℕ = text_at m.source at.token in
     (λ i. is_some (declared m (at.no_name i) (at.field i)))
     ∙ (some_mapped (span_at m.source) (declaring_field m k name)
-    ∙ found_holds m.source offset (at.token, k) (λ x. is_some (declaring_field m x.1 (text_at m.source x.0)) ≡ true) (field_identifiers r) (fields_declared-holds r well) at.field)
+    ∙ found_holds m.source offset (at.token, k) (λ x. is_some (declaring_field m x.1 (text_at m.source x.0)) ≡ true) (field_identifiers r) (fields_declared-holds r well.resolved well.well_typed) at.field)
 
 -- ---- references
 

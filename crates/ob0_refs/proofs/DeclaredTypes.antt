@@ -262,5 +262,5 @@ module _ (r : Resolution) where
       let m = named_tree_of r.module_read in
       let t : Tree Label module_text = in_labels r (tree_of r.module_read) in
       let fits : fits_over as_labels t ≡ true = ap (fits_over as_labels) (sym well.resolved.numbering) ∙ (sym (fits_by_ordinal-holds m) ∙ well.well_typed.1) in
-      let right : Right objects (module_bindings as_labels t) = subst (λ z. Right objects (module_bindings as_labels z)) well.resolved.numbering (bindings_right r well) in
+      let right : Right objects (module_bindings as_labels t) = subst (λ z. Right objects (module_bindings as_labels z)) well.resolved.numbering (bindings_right r well.well_typed) in
       block-stands (outermost as_labels) 0 (module_block (tree_of r.module_read)) fits (right_split objects (block_bindings as_labels (outermost as_labels) 0 (module_block t)) (outermost as_labels) right).0

@@ -5,86 +5,74 @@ ghost use Rattle.ob0_refs.specs.Questions.{AreReferencesAt, at_field, definition
 
 use crate::answers::{At, Of};
 use crate::names::{at_name, declared_at, references_to, spans_of};
-use ob0_fields::{declaring_field, field_at, field_place, field_tokens};
 use ob0_scan::Span;
-use ob0_scope::{Resolved, name_at, token_span};
+use ob0_scope::{name_at, token_span};
 use ob0_symbols::text_at;
-use ob0_types::WellTyped;
+use ob0_types::{WellTyped, declaring_field, field_at, field_place, field_tokens};
 use std::alloc::{AllocError, Global};
 
 /// What a place is on, where it lies in an identifier or at its end: a name, or a field, at the identifier that declares it
 /// and at each that selects it. A closing name of a procedure is the procedure's. None at the module's name.
-pub fn at(
-    alloc: Global,
-    well_typed: &WellTyped<'_, '_>,
-    offset: usize,
-) -> Result<Option<At>, AllocError>
-    ensures { IfOk result (λ found. found ≡ stands_at well_typed.now offset) }
+pub fn at(well_typed: &WellTyped<'_, '_>, offset: usize) -> Option<At>
+    ensures { result ≡ stands_at well_typed.now offset }
 {
     let names = well_typed.resolved();
     match name_at(names, offset) {
-        Some(name) => Ok(Some(at_name(names, name))),
-        None => match field_at(alloc, well_typed, offset)? {
-            None => Ok(None),
-            Some(field) => Ok(Some(at_field(alloc, names, field)?)),
+        Some(name) => Some(at_name(names, name)),
+        None => match field_at(well_typed, offset) {
+            None => None,
+            Some(field) => Some(at_field(well_typed, field)),
         },
     }
 }
 
-fn at_field(alloc: Global, names: &Resolved<'_>, field: (usize, usize)) -> Result<At, AllocError>
-    ensures { IfOk result (λ at. at ≡ at_field names.now.module_read field) }
+fn at_field(well_typed: &WellTyped<'_, '_>, field: (usize, usize)) -> At
+    ensures { result ≡ at_field well_typed.now.module_read field }
 {
-    let index = index_of(alloc, names, field)?;
-    Ok(At {
-        span: token_span(names.tokens(), field.0),
+    At {
+        span: token_span(well_typed.resolved().tokens(), field.0),
         of: Of::Field {
             ordinal: field.1,
-            index,
+            index: index_of(well_typed, field),
         },
-    })
+    }
 }
 
 /// The place of a field in its record.
-fn index_of(alloc: Global, names: &Resolved<'_>, field: (usize, usize)) -> Result<usize, AllocError>
-    ensures { IfOk result (λ index. index ≡ index_of names.now.module_read field) }
+fn index_of(well_typed: &WellTyped<'_, '_>, field: (usize, usize)) -> usize
+    ensures { result ≡ index_of well_typed.now.module_read field }
 {
+    let names = well_typed.resolved();
     let name = text_at(names.tokens(), field.0);
-    match field_place(alloc, names, field.1, name)? {
-        Some(index) => Ok(index),
-        None => Ok(0),
+    match field_place(well_typed, field.1, name) {
+        Some(index) => index,
+        None => 0,
     }
 }
 
 /// Where it is declared what a place is on. A field is declared in its RECORD. None where there is no name, and for a
 /// predeclared one.
-pub fn definition(
-    alloc: Global,
-    well_typed: &WellTyped<'_, '_>,
-    offset: usize,
-) -> Result<Option<Span>, AllocError>
-    ensures { IfOk result (λ found. found ≡ definition_at well_typed.now offset) }
+pub fn definition(well_typed: &WellTyped<'_, '_>, offset: usize) -> Option<Span>
+    ensures { result ≡ definition_at well_typed.now offset }
 {
     let names = well_typed.resolved();
     match name_at(names, offset) {
-        Some(name) => Ok(declared_at(names, name.ordinal)),
-        None => match field_at(alloc, well_typed, offset)? {
-            None => Ok(None),
-            Some(field) => Ok(field_declared(alloc, names, field)?),
+        Some(name) => declared_at(names, name.ordinal),
+        None => match field_at(well_typed, offset) {
+            None => None,
+            Some(field) => field_declared(well_typed, field),
         },
     }
 }
 
-fn field_declared(
-    alloc: Global,
-    names: &Resolved<'_>,
-    field: (usize, usize),
-) -> Result<Option<Span>, AllocError>
-    ensures { IfOk result (λ span. span ≡ field_declared names.now.module_read field) }
+fn field_declared(well_typed: &WellTyped<'_, '_>, field: (usize, usize)) -> Option<Span>
+    ensures { result ≡ field_declared well_typed.now.module_read field }
 {
+    let names = well_typed.resolved();
     let name = text_at(names.tokens(), field.0);
-    match declaring_field(alloc, names, field.1, name)? {
-        None => Ok(None),
-        Some(token) => Ok(Some(token_span(names.tokens(), token))),
+    match declaring_field(well_typed, field.1, name) {
+        None => None,
+        Some(token) => Some(token_span(names.tokens(), token)),
     }
 }
 
@@ -102,7 +90,7 @@ pub fn references(
     match name_at(names, offset) {
         Some(name) => Ok(references_to(alloc, names, name.ordinal, include)?),
         None => {
-            let field = field_at(alloc, well_typed, offset)?;
+            let field = field_at(well_typed, offset);
             Ok(field_named_at(alloc, well_typed, include, field)?)
         }
     }
@@ -141,7 +129,7 @@ fn field_references(
     if include {
         return Ok(tokens);
     }
-    let declaring = declaring_field(alloc, names, field.1, name)?;
+    let declaring = declaring_field(well_typed, field.1, name);
     let uses = without(alloc, declaring, tokens)?;
     Ok(uses)
 }

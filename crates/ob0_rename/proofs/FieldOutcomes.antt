@@ -65,10 +65,10 @@ field_there r k f new well by_tokens = one (same_name new f) refl
         → mapped (renamed_at (words_of s) (if b then [] else field_tokens r k f) new) (number_at (words_of s)) (tree_of r.module_read) ≡ field_renamed (named_tree_of r.module_read) k f new
     one true own =
         (λ j. mapped (λ i. (text_same s i ∙ kept i ((bytes_eq-Decides new f).0 own) (list_any (λ token. i == token) (field_tokens r k f)) refl) j) (λ i. number_same s i j) (tree_of r.module_read))
-        ∙ sym (by_tokens r k f new well)
+        ∙ sym (by_tokens r k f new well.resolved well.well_typed)
     one false other =
         (λ j. mapped (λ i. if among-any i (field_tokens r k f) j then new else text_same s i j) (λ i. number_same s i j) (tree_of r.module_read))
-        ∙ sym (by_tokens r k f new well)
+        ∙ sym (by_tokens r k f new well.resolved well.well_typed)
 
 -- ---- another field of the name
 

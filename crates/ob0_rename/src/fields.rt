@@ -16,26 +16,22 @@ use ob0_edits::edits_for;
 use ob0_edits::laws::{names_stand_for_names, renamed_words_spell};
 use ob0_field_laws::laws::free_field_keeps_modules;
 use ob0_fields::laws::{duplicate_by_token, renamed_at_tokens};
-use ob0_fields::{declaring_field, field_at, field_tokens};
 use ob0_scan::is_identifier;
-use ob0_scope::Resolved;
 use ob0_symbols::text_at;
 use ob0_text::{Edit, EditRefusal, TextStore};
-use ob0_types::WellTyped;
+use ob0_types::{WellTyped, declaring_field, field_at, field_tokens};
 use std::alloc::{AllocError, Global};
 
 /// The field that a place is on: the identifier's token, and the ordinal of the field's record.
 pub(crate) fn field_named_at(
-    alloc: Global,
     well_typed: &WellTyped<'_, '_>,
     offset: usize,
-) -> Result<Option<(usize, usize)>, AllocError>
-    ensures found { IfOk result (λ found. found ≡ field_at well_typed.now offset) }
-    ensures spelled { IfOk result (λ found. IfSome found (λ x. IsIdentifier (text_at well_typed.now.module_read.source x.0))) }
+) -> Option<(usize, usize)>
+    ensures found { result ≡ field_at well_typed.now offset }
+    ensures spelled { IfSome result (λ x. IsIdentifier (text_at well_typed.now.module_read.source x.0)) }
 {
     let _text = well_typed.resolved().tokens().text();
-    let found = field_at(alloc, well_typed, offset)?;
-    Ok(found)
+    field_at(well_typed, offset)
 }
 
 /// The edits for the field that is named at a token, of the record with an ordinal.
@@ -61,7 +57,7 @@ pub(crate) fn rename_field<T: TextStore>(
         return Err(EditRefusal::BadName);
     }
     let old = text_at(names.tokens(), field.0);
-    match other_field(alloc, names, field.1, old, new)? {
+    match other_field(well_typed, field.1, old, new) {
         Some(token) => Err(EditRefusal::Duplicate {
             range: token_range(store, names.tokens(), Some(token)),
         }),
@@ -73,19 +69,13 @@ pub(crate) fn rename_field<T: TextStore>(
 }
 
 /// The token that declares another field of the record that has the new name.
-fn other_field(
-    alloc: Global,
-    names: &Resolved<'_>,
-    owner: usize,
-    old: &str,
-    new: &str,
-) -> Result<Option<usize>, AllocError>
-    ensures { IfOk result (λ token. token ≡ (if same_name new.now old.now then None else declaring_field names.now.module_read owner new.now)) }
+fn other_field(well_typed: &WellTyped<'_, '_>, owner: usize, old: &str, new: &str) -> Option<usize>
+    ensures { result ≡ (if same_name new.now old.now then None else declaring_field well_typed.now.module_read owner new.now) }
 {
     if new == old {
-        return Ok(None);
+        return None;
     }
-    declaring_field(alloc, names, owner, new)
+    declaring_field(well_typed, owner, new)
 }
 
 /// The tokens of a field, in text order; none where it has the new name.

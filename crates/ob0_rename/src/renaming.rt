@@ -50,7 +50,7 @@ pub fn rename<T: TextStore>(
                 rename_declaration(alloc, store, well_typed, name.ordinal, new)
             }
         }
-        None => match field_named_at(alloc, well_typed, offset)? {
+        None => match field_named_at(well_typed, offset) {
             Some(field) => rename_field(alloc, store, well_typed, field, new),
             None => Err(EditRefusal::NoName),
         },

@@ -25,7 +25,7 @@ impl Question for NameAt {
     /// What it is a name of, where that is declared, where it is named, and what is shown of it.
     fn answer(&self, alloc: Global, module: &WellTyped<'_, '_>) -> Result<String, AllocError> {
         let mut out = String::new(alloc);
-        if let Some(found) = at(alloc, module, self.offset)? {
+        if let Some(found) = at(module, self.offset) {
             push_of(alloc, &mut out, found.of)?;
             push_places(alloc, &mut out, module, self.offset)?;
             push_shown(alloc, &mut out, module, self.offset)?;
@@ -50,7 +50,7 @@ fn push_places(
     module: &WellTyped<'_, '_>,
     offset: usize,
 ) -> Result<(), AllocError> {
-    if let Some(declared) = definition(alloc, module, offset)? {
+    if let Some(declared) = definition(module, offset) {
         push_spans(alloc, out, " from", &[declared])?;
     }
     let named = references(alloc, module, offset, false)?;

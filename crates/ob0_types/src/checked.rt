@@ -5,9 +5,11 @@ ghost use Rattle.ob0_scope.specs.Resolution.{is_of_declarations};
 ghost use Rattle.ob0_types.specs.CheckedModules.{IsChecked, IsTold};
 ghost use Rattle.ob0_types.specs.FaultOrder.{AreFirstFaults};
 ghost use Rattle.std.specs.List.{filter, list_any};
-ghost use Rattle.std.specs.Prelude.{◌≡◌, ◌≤◌, ◌&&◌, ◌++◌, [], false, length, not, IfOk, OnOk, MatchOption};
+ghost use Rattle.std.specs.Prelude.{◌≡◌, ◌≤◌, ◌&&◌, ◌++◌, [], false, length, not, IfOk, IfSome, OnOk, MatchOption};
+ghost use Rattle.ob0_fields.specs.Listed.{listed_by};
 
 use ob0_checker::decide;
+use ob0_fields::FieldList;
 use ob0_reports::tell;
 use ob0_scan::{Code, Fault, Span};
 use ob0_scope::{PREDECLARED, Resolved};
@@ -22,6 +24,7 @@ use std::marker::Model;
 pub struct Checked<'t> {
     resolved: &'t Resolved<'t>,
     known: Option<Known<'t>>,
+    fields: FieldList,
     faults: Vec<Fault>,
 }
 
@@ -30,6 +33,8 @@ impl<'t> Model for Checked<'t> {
 
     ghost Value = { CheckedModule };
 
+    ghost use Rattle.std.specs.Prelude.{◌≡◌, []};
+    ghost use Rattle.ob0_fields.specs.Listed.{AreFields};
     ghost use Rattle.std.specs.Coded.{codes};
     ghost use Rattle.ob0_tree.specs.contracts.tree.Block as block_contract;
 
@@ -37,7 +42,7 @@ impl<'t> Model for Checked<'t> {
 
     ghost view = { λ c. record { names = c.resolved.now; faults = c.faults.items; known = c.known } };
 
-    ghost invariant = { λ c. IsChecked (record { names = c.resolved.now; faults = c.faults.items; known = c.known }) };
+    ghost invariant = { λ c. IsChecked (record { names = c.resolved.now; faults = c.faults.items; known = c.known }) × (c.faults.items ≡ [] → AreFields c.resolved.now c.fields) };
 }
 
 /// A module without faults, and what is known of its declarations.
@@ -45,9 +50,11 @@ impl<'t> Model for Checked<'t> {
 pub struct WellTyped<'c, 't> {
     checked: &'c Checked<'t>,
     known: &'c Known<'t>,
+    fields: &'c FieldList,
 }
 
 impl<'c, 't> Model for WellTyped<'c, 't> {
+    ghost use Rattle.ob0_fields.specs.Listed.{AreFields};
     ghost use Rattle.ob0_types.specs.CheckedModules.{HoldsDeclarations, IsWellTyped};
     ghost use Rattle.ob0_tree.specs.Parsed.{named_tree_of};
     ghost use Rattle.ob0_scope.specs.Resolution.{Resolution};
@@ -61,7 +68,7 @@ impl<'c, 't> Model for WellTyped<'c, 't> {
 
     ghost view = { λ w. w.checked.now.names };
 
-    ghost invariant = { λ w. IsWellTyped w.checked.now.names × HoldsDeclarations (named_tree_of w.checked.now.names.module_read) w.known.now };
+    ghost invariant = { λ w. IsWellTyped w.checked.now.names × (HoldsDeclarations (named_tree_of w.checked.now.names.module_read) w.known.now × AreFields w.checked.now.names w.fields.now) };
 }
 
 /// A type of a module, with the table that knows its parts.
@@ -82,12 +89,29 @@ pub fn check<'t>(alloc: Global, resolved: &'t Resolved<'t>) -> Result<Checked<'t
     fits_by_ordinal();
     let _module = resolved.module();
     let known = decide(alloc, resolved)?;
+    let fields = known_fields(alloc, resolved, &known)?;
     let faults = faults_of(alloc, resolved, known.is_some())?;
     Ok(Checked {
         resolved,
         known,
+        fields,
         faults,
     })
+}
+
+/// The fields of a module that fits.
+fn known_fields<'t>(
+    alloc: Global,
+    resolved: &'t Resolved<'t>,
+    known: &Option<Known<'t>>,
+) -> Result<FieldList, AllocError>
+    ensures { IfOk result (λ fields. IfSome known.now (λ t. fields ≡ listed_by t resolved.now)) }
+{
+    let names = resolved;
+    match known {
+        None => Ok(FieldList::none(alloc)),
+        Some(known) => FieldList::of(alloc, known, names),
+    }
 }
 
 /// The faults of scopes and types, sorted by start, end and number, the first 100. Names that nothing binds are told with
@@ -189,6 +213,7 @@ impl<'t> Checked<'t> {
                     Some(WellTyped {
                         checked: self,
                         known,
+                        fields: &self.fields,
                     })
                 } else {
                     None
@@ -202,6 +227,7 @@ impl<'c, 't> WellTyped<'c, 't> {
     ghost use Rattle.std.specs.Prelude.{option_map};
     ghost use Rattle.ob0_tree.specs.Parsed.{named_tree_of};
     ghost use Rattle.ob0_types.specs.CheckedModules.{HoldsDeclarations, IsWellTyped};
+    ghost use Rattle.ob0_fields.specs.Listed.{AreFields};
     ghost use Rattle.ob0_typing.specs.ConstantValues.{value_of_constant};
     ghost use Rattle.ob0_checker.specs.Bindings.{declared_object};
     ghost use Rattle.ob0_types.specs.DeclaredShapes.{shape_of};
@@ -221,6 +247,13 @@ impl<'c, 't> WellTyped<'c, 't> {
         ensures { HoldsDeclarations (named_tree_of self.now.module_read) result.now }
     {
         self.known
+    }
+
+    /// The fields of the module.
+    pub fn fields(&self) -> &'c FieldList
+        ensures { AreFields self.now result.now }
+    {
+        self.fields
     }
 
     /// The value of a constant that a CONST section declares, by its ordinal. None for every other declaration, TRUE and

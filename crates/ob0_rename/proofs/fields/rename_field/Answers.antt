@@ -31,7 +31,7 @@ returns-in-Some-clause-answers g c = λ place.
     let id = c.is_identifier.ensures.0 c.if-not-is_identifier.false in
     let old = c.text_at-old.ensures ∙ ap (λ (s : Scanned). text_at s c.args.field.0) c.tokens-2.ensures in
     let other : (if same_name new f then None else declaring_field names.module_read c.args.field.1 new) ≡ Some c.in-Some.token =
-    ap (λ (f : Name). if same_name new f then None else declaring_field names.module_read c.args.field.1 new) (sym old) ∙ (sym c.in_ok-token.ensures ∙ c.in-Some.is) in
+    (λ i. if same_name new (sym old i) then None else declaring_field (c.resolved-names.ensures.value i).module_read c.args.field.1 new) ∙ (sym c.other_field.ensures ∙ c.in-Some.is) in
     let range = c.token_range.ensures c.in-Some.token refl ∙ ap (λ (s : Scanned). range_of (width_of unit) text (span_at s c.in-Some.token)) c.tokens-in-Some.ensures in
     let refused = duplicated unit text place new c.args.field.1 f names id c.duplicate_by_token.ensures c.in-Some.token (refusal.Duplicate c.token_range.result) other (ap (λ r. refusal.Duplicate r) range) in
     inr (subst (λ (x : Resolution). IsRefusedToField (asked_field unit text place new c.args.field.1 (text_at x.module_read.source c.args.field.0) x) c.args.field.1 (text_at x.module_read.source c.args.field.0) (refusal.Duplicate c.token_range.result)) c.resolved-names.ensures.value refused)
@@ -48,7 +48,7 @@ returns-in_ok-tokens-in-None-clause-answers g c = λ place.
     let id = c.is_identifier.ensures.0 c.if-not-is_identifier.false in
     let old = c.text_at-old.ensures ∙ ap (λ (s : Scanned). text_at s c.args.field.0) c.tokens-2.ensures in
     let other : (if same_name new f then None else declaring_field names.module_read k new) ≡ None =
-    ap (λ (f : Name). if same_name new f then None else declaring_field names.module_read k new) (sym old) ∙ (sym c.in_ok-token.ensures ∙ c.in-None.is) in
+    (λ i. if same_name new (sym old i) then None else declaring_field (c.resolved-names.ensures.value i).module_read k new) ∙ (sym c.other_field.ensures ∙ c.in-None.is) in
     let free : FieldFree (named_tree_of names.module_read) k f new = c.duplicate_by_token.ensures names.module_read k f new ∙ other_none (same_name new f) (declaring_field names.module_read k new) other in
     let value = c.in_ok-tokens-in-None.ensures.value ∙ (λ i. field_tokens_renamed (sym c.resolved-names.ensures.value i) k (old i) new) in
     let places = c.deref.ensures.value ∙ value in

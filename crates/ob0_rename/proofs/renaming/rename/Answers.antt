@@ -25,6 +25,6 @@ returns-in-Some-2-clause-answers g c =
     let r = c.args.well_typed.now in
     let k : ℕ = c.in-Some-2.field.1 in
     let here = ap (λ (x : Resolution). name_on x.module_read c.offset-offset.result) (sym c.resolved.ensures.value) ∙ (sym c.name_at.ensures ∙ c.in-None.is) in
-    let there = sym c.in_ok-field-in-None.ensures.found ∙ c.in-Some-2.is in
+    let there = sym c.field_named_at.ensures.found ∙ c.in-Some-2.is in
     let means = ap (meant_at r) (sym c.offset-offset.ensures) ∙ meant_unnamed r c.offset-offset.result (Some c.in-Some-2.field) here there in
     field_answered_there (asked unit text c.args.place c.args.new.now k r) k (text_at r.module_read.source c.in-Some-2.field.0) means c.rename_field.result (c.rename_field.ensures.answers c.args.place)

@@ -2,7 +2,7 @@ use Rattle.std.proofs.Common.{◌++◌, length, ap, ◌∙◌}
 use Rattle.ob0_tree.specs.Parsed.{Parsed}
 use Rattle.ob0_tree.specs.View.{block_of}
 use Rattle.ob0_fields.specs.Identifiers.{declared_in}
-use Rattle.ob0_fields.proofs.identifiers.declared_fields.Goals as goal
+use Rattle.ob0_fields.proofs.listing.declared_fields.Goals as goal
 
 pub returns : goal.returns
 returns c =

@@ -3,18 +3,18 @@ use Rattle.ob0_tree.specs.Order.{AreIdentifiers, Ascending}
 use Rattle.ob0_scope.specs.Resolution.{Resolution}
 use Rattle.ob0_fields.specs.Identifiers.{field_identifiers, tokens_among}
 use Rattle.ob0_fields.proofs.FieldTokens.{fields_ascend, fields_stand, kept_ascend, kept_stand}
-use Rattle.ob0_fields.proofs.identifiers.field_tokens.Goals as goal
+use Rattle.ob0_types.proofs.fields.field_tokens.Goals as goal
 
 pub returns-clause-value : goal.returns-clause-value
 returns-clause-value c =
     let source = c.tokens.ensures ∙ ap (λ (r : Resolution). r.module_read.source) c.resolved-names.ensures.value in
-    c.in_ok-tokens.ensures ∙ (λ i. tokens_among (source i) c.args.owner c.args.name.now ((c.deref.ensures.value ∙ c.in_ok-found.ensures.value) i))
+    c.in_ok-tokens.ensures ∙ (λ i. tokens_among (source i) c.args.owner c.args.name.now (c.fields.ensures.1 i))
 
 pub returns-clause-ascend : goal.returns-clause-ascend
 returns-clause-ascend c =
     let r = c.args.well_typed.now in
     let source = c.tokens.ensures ∙ ap (λ (r : Resolution). r.module_read.source) c.resolved-names.ensures.value in
-    let value = c.in_ok-tokens.ensures ∙ (λ i. tokens_among (source i) c.args.owner c.args.name.now ((c.deref.ensures.value ∙ c.in_ok-found.ensures.value) i)) in
+    let value = c.in_ok-tokens.ensures ∙ (λ i. tokens_among (source i) c.args.owner c.args.name.now (c.fields.ensures.1 i)) in
     let n : ℕ = length r.module_read.source.tokens in
     subst (λ (xs : List ℕ). Ascending 0 xs n) (sym value) (kept_ascend r.module_read.source c.args.owner c.args.name.now (field_identifiers r) 0 n (fields_ascend r c.resolved-names.ensures.well_typed.resolved.parsed))
 
@@ -22,6 +22,6 @@ pub returns-clause-stand : goal.returns-clause-stand
 returns-clause-stand c =
     let r = c.args.well_typed.now in
     let source = c.tokens.ensures ∙ ap (λ (r : Resolution). r.module_read.source) c.resolved-names.ensures.value in
-    let value = c.in_ok-tokens.ensures ∙ (λ i. tokens_among (source i) c.args.owner c.args.name.now ((c.deref.ensures.value ∙ c.in_ok-found.ensures.value) i)) in
+    let value = c.in_ok-tokens.ensures ∙ (λ i. tokens_among (source i) c.args.owner c.args.name.now (c.fields.ensures.1 i)) in
     let ts = r.module_read.source.tokens in
     subst (λ (xs : List ℕ). AreIdentifiers ts xs) (sym value) (kept_stand r.module_read.source c.args.owner c.args.name.now ts (field_identifiers r) (fields_stand r c.resolved-names.ensures.well_typed.resolved.parsed))

@@ -1,0 +1,12 @@
+use Rattle.std.proofs.Common.{◌∙◌, ap}
+use Rattle.std.specs.List.{position_from}
+use Rattle.ob0_tree.specs.Places.{text_at}
+use Rattle.ob0_scope.specs.Names.{same_name}
+use Rattle.ob0_scope.specs.Resolution.{Resolution}
+use Rattle.ob0_fields.specs.Identifiers.{record_tokens}
+use Rattle.ob0_types.proofs.fields.field_place.Goals as goal
+
+pub returns : goal.returns
+returns c =
+    let source = c.tokens.ensures ∙ ap (λ (r : Resolution). r.module_read.source) c.resolved-names.ensures.value in
+    c.place.ensures ∙ (λ i. position_from (λ token. same_name (text_at (source i) token) c.args.name.now) 0 (record_tokens c.args.owner (c.fields.ensures.0 i)))

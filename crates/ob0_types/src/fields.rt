@@ -1,0 +1,53 @@
+//! The fields of a well-typed module: which one a place is on, its identifiers, and where its record declares it.
+
+ghost use Rattle.std.specs.Prelude.{◌≡◌, IfOk, IfSome, length};
+ghost use Rattle.ob0_tree.specs.Order.{AreIdentifiers, Ascending, IsIdentifier};
+ghost use Rattle.ob0_fields.specs.Identifiers.{declaring_field, field_at, field_place, field_tokens};
+
+use crate::checked::WellTyped;
+use std::alloc::{AllocError, Global};
+
+/// The field that a place is on, where it lies in an identifier of the field or at its end: the identifier's token, and the
+/// ordinal of the field's record.
+pub fn field_at(well_typed: &WellTyped<'_, '_>, offset: usize) -> Option<(usize, usize)>
+    ensures value { result ≡ field_at well_typed.now offset }
+    ensures stand { IfSome result (λ x. IsIdentifier well_typed.now.module_read.source.tokens x.0) }
+{
+    let names = well_typed.resolved();
+    well_typed.fields().at(names.tokens(), offset)
+}
+
+/// The tokens of the field of this name of a record: the one that declares it and all that select it, in text order.
+pub fn field_tokens(
+    alloc: Global,
+    well_typed: &WellTyped<'_, '_>,
+    owner: usize,
+    name: &str,
+) -> Result<Vec<usize>, AllocError>
+    ensures value { IfOk result (λ tokens. tokens.items ≡ field_tokens well_typed.now owner name.now) }
+    ensures ascend { IfOk result (λ tokens. Ascending 0 tokens.items (length well_typed.now.module_read.source.tokens)) }
+    ensures stand { IfOk result (λ tokens. AreIdentifiers well_typed.now.module_read.source.tokens tokens.items) }
+{
+    let names = well_typed.resolved();
+    let tokens = well_typed
+        .fields()
+        .tokens(alloc, names.tokens(), owner, name)?;
+    Ok(tokens)
+}
+
+/// The token that declares the field of this name of a record.
+pub fn declaring_field(well_typed: &WellTyped<'_, '_>, owner: usize, name: &str) -> Option<usize>
+    ensures { result ≡ declaring_field well_typed.now.module_read owner name.now }
+{
+    let names = well_typed.resolved();
+    well_typed.fields().declaring(names.tokens(), owner, name)
+}
+
+/// The place of the field of this name among the fields of a record, counted from 0. None where the record has no such
+/// field.
+pub fn field_place(well_typed: &WellTyped<'_, '_>, owner: usize, name: &str) -> Option<usize>
+    ensures { result ≡ field_place well_typed.now.module_read owner name.now }
+{
+    let names = well_typed.resolved();
+    well_typed.fields().place(names.tokens(), owner, name)
+}
