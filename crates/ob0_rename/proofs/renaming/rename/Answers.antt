@@ -18,13 +18,13 @@ returns-else-name-lt-PREDECLARED-clause-answers g c =
     let means = ap (meant_at r) (sym c.offset-offset.ensures) ∙ (meant_named r c.offset-offset.result c.in-Some.name here ∙ is_declaration d high) in
     answered_there (asked unit text c.args.place c.args.new.now d r) d means c.rename_declaration.result (c.rename_declaration.ensures.answers c.args.place)
 
-pub returns-in-Some-2-clause-answers : goal.returns-in-Some-2-clause-answers
-returns-in-Some-2-clause-answers g c =
+pub returns-in-Some-field_named_at-clause-answers : goal.returns-in-Some-field_named_at-clause-answers
+returns-in-Some-field_named_at-clause-answers g c =
     let unit = g.T.TextStore.unit_of c.args.store.now in
     let text = g.T.TextStore.content c.args.store.now in
     let r = c.args.well_typed.now in
-    let k : ℕ = c.in-Some-2.field.1 in
+    let k : ℕ = c.in-Some-field_named_at.field.1 in
     let here = ap (λ (x : Resolution). name_on x.module_read c.offset-offset.result) (sym c.resolved.ensures.value) ∙ (sym c.name_at.ensures ∙ c.in-None.is) in
-    let there = sym c.field_named_at.ensures.found ∙ c.in-Some-2.is in
-    let means = ap (meant_at r) (sym c.offset-offset.ensures) ∙ meant_unnamed r c.offset-offset.result (Some c.in-Some-2.field) here there in
-    field_answered_there (asked unit text c.args.place c.args.new.now k r) k (text_at r.module_read.source c.in-Some-2.field.0) means c.rename_field.result (c.rename_field.ensures.answers c.args.place)
+    let there = sym c.field_named_at.ensures.found ∙ c.in-Some-field_named_at.is in
+    let means = ap (meant_at r) (sym c.offset-offset.ensures) ∙ meant_unnamed r c.offset-offset.result (Some c.in-Some-field_named_at.field) here there in
+    field_answered_there (asked unit text c.args.place c.args.new.now k r) k (text_at r.module_read.source c.in-Some-field_named_at.field.0) means c.rename_field.result (c.rename_field.ensures.answers c.args.place)
