@@ -1,7 +1,7 @@
 -- Giving up a call's variables at its return leaves every run as it is.
 use Rattle.std.proofs.Common.{◌≡◌, ℕ, zero, suc, ◌+◌, true, false, List, [], ◌∷◌, ◌++◌, length, ℤ, Some, None, Option, option_map, option_and_then, sym, refl, ap, ◌∙◌, subst, append_assoc, append-nil}
-use Rattle.ob0_tree.specs.Tree.{Tree, begins, block, body, constant, declares_constant, declares_type, declares_variable, end, expression, item, items, maybe, module_text, more, none, one, procedure, type_name, variable, written_type}
-use Rattle.ob0_scope.specs.Names.{Naming, as_labels, as_names}
+use Rattle.ob0_tree.specs.Tree.{Tree, begins, block, body, constant, declares_constant, declares_type, declares_variable, end, expression, items, maybe, module_text, more, none, one, procedure, type_name, variable, written_type}
+use Rattle.ob0_scope.specs.Names.{Naming}
 use Rattle.ob0_scope.specs.Parts.{block_constants, block_procedures, block_statements, block_types, block_variables, module_block, names_listed, procedure_block, procedure_formals, procedure_name}
 use Rattle.ob0_scope.proofs.SameNames.{with_names-id}
 use Rattle.ob0_typing.specs.Declarations.{after_formals, after_types, after_variables, declare_constants, declare_first, declare_types, procedure_constructors}
@@ -13,7 +13,7 @@ use Rattle.ob0_typing.proofs.TypeNaturality.{constant_value-map, denoted-map}
 use Rattle.ob0_values.specs.Values.{Place, Value, initial}
 use Rattle.ob0_semantics.specs.GivenUp.{call_giving_up, give_up, run_giving_up}
 use Rattle.ob0_semantics.specs.Laws.{GivingUpKeepsRuns}
-use Rattle.ob0_semantics.specs.Runs.{Activation, Argument, Calls, Code, Frame, Parameter, Progress, State, activate, allocate, bind_parameter, bind_parameters, call, declare_block, declare_procedures, declare_variables, execute_all, execute_body, finished, formal_modes, in_frame, parameters, passing, place_argument, run, run_numbered, run_over, running, statement_meanings, stopped, value_argument, with_procedures}
+use Rattle.ob0_semantics.specs.Runs.{Activation, Argument, Calls, Code, Frame, Parameter, Progress, State, activate, allocate, bind_parameter, bind_parameters, call, declare_block, declare_procedures, declare_variables, execute_body, finished, formal_modes, in_frame, parameters, passing, place_argument, run_over, running, statement_meanings, stopped, value_argument, with_procedures}
 use Rattle.ob0_semantics.proofs.OtherPlaces.{Alike, ArgumentIs, ArgumentsAre, EntersAlike, MeaningIs, ObjectIs, PlaceIs, ProgressIs, StateIs, StoreIs, execute_all-alike, get-grows, variable-added, variable-last, variables-cut}
 
 -- options
@@ -316,5 +316,4 @@ module _ {N : Type 0} (naming : Naming N) where
       finished-same new (in_frame start o (λ f. execute_body naming f.env (call_giving_up naming c t f.env) t (block_statements (module_block m)))) (in_frame start o (λ f. execute_body naming f.env (call naming c t f.env) t (block_statements (module_block m)))) same
 
 pub giving_up_keeps_runs-holds : GivingUpKeepsRuns
-unfolding run run_numbered
-giving_up_keeps_runs-holds = (giving_up-keeps as_names, giving_up-keeps as_labels)
+giving_up_keeps_runs-holds = (λ naming. giving_up-keeps naming, λ naming. giving_up-keeps naming)

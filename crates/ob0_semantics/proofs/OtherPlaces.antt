@@ -5,7 +5,7 @@ use Rattle.ob0_typing.specs.Arguments.{arguments_listed}
 use Rattle.ob0_typing.specs.Expressions.{Meanings, Object, Standard, a_constant, a_procedure, a_standard, a_type, a_variable, designate, element_step, evaluate, evaluate_addends, evaluate_factor, evaluate_multipliers, evaluate_simple, evaluate_term, follow, place_of, reads, value_of, writes, writes_line}
 use Rattle.ob0_typing.specs.Typing.{designated}
 use Rattle.ob0_typing.specs.WellTyped.{Mode, by_place, by_value}
-use Rattle.ob0_values.specs.Values.{End, Outcome, Place, Step, Store, Stuck, TurnBound, Value, add, add_is_settled, at_field, at_path, elements, ends, gives, members, multiply, multiply_is_settled, negated, number, or_stuck, part, read_place, relate, signed, truth, with_at_path, write_place, ◌>>=◌}
+use Rattle.ob0_values.specs.Values.{Outcome, Place, Store, TurnBound, Value, add, add_is_settled, at_field, at_path, elements, ends, gives, members, multiply, multiply_is_settled, negated, number, or_stuck, part, read_place, relate, signed, truth, with_at_path, ◌>>=◌}
 use Rattle.ob0_semantics.specs.Runs.{Argument, Calls, Progress, State, Written, choose, evaluate_argument, evaluate_arguments, execute, execute_all, execute_else, execute_elsifs, execute_further, go_on, line_out, modes_of, number_out, perform, place_argument, put_out, read_number, running, stopped, store_at, turns, turns_until, use_in, value_argument}
 
 -- lists
