@@ -1,6 +1,5 @@
 -- Two runs of a module are alike: one with tagged fields, the other with fields written anew.
-use Rattle.std.proofs.Common.{◌≡◌, ℕ, zero, suc, ◌+◌, ◌≢◌, true, false, List, [], ◌∷◌, map, length, take, ℤ, ◌⊎◌, inl, inr, Some, None, Option, option_map, option_and_then, sym, refl, ap, ◌∙◌, subst, subst₂}
-use Rattle.std.proofs.lemmas.List.{length-map, take-map}
+use Rattle.std.proofs.Common.{◌≡◌, ℕ, zero, suc, ◌+◌, ◌≢◌, true, false, List, [], ◌∷◌, map, ℤ, ◌⊎◌, inl, inr, Some, None, Option, option_map, option_and_then, sym, refl, ap, ◌∙◌, subst, subst₂}
 use Rattle.ob0_tree.specs.Tree.{Tree, begins, block, body, declares, declares_procedure, formals, has_body, is_module, item, maybe, module_text, none, one, procedure}
 use Rattle.ob0_scope.specs.Names.{Name, as_names}
 use Rattle.ob0_scope.specs.Parts.{block_procedures, block_statements, formal_sections}
@@ -17,7 +16,7 @@ use Rattle.ob0_field_laws.proofs.RefieldedActivations.{FramesBoth, Scene, Stage,
 use Rattle.ob0_field_laws.proofs.RefieldedExecution.{Alike, CallsAlike, Given, Goes, argument_by, execute_all-alike, state_by}
 use Rattle.ob0_field_laws.proofs.RefieldedExpressions.{constant_thing, logical, procedure_thing, standard_thing, type_thing, variable_thing}
 use Rattle.ob0_field_laws.proofs.RefieldedModules.{formal_sections-refield, formals_count-refield, refielding_keeps_fitting-holds}
-use Rattle.ob0_field_laws.proofs.Values.{store_by, tagged, tagged-apart, value_by}
+use Rattle.ob0_field_laws.proofs.Values.{store_by, tagged, tagged-apart}
 
 -- what names stand for to a block's statements, when they are checked
 abbrev pub body_meaning : TypeEnvironment Name → ℕ → Tree Name block → Typed Name
