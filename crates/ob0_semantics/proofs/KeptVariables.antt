@@ -14,7 +14,8 @@ use Rattle.ob0_values.specs.Values.{Place, Value, initial}
 use Rattle.ob0_semantics.specs.GivenUp.{call_giving_up, give_up, run_giving_up}
 use Rattle.ob0_semantics.specs.Laws.{GivingUpKeepsRuns}
 use Rattle.ob0_semantics.specs.Runs.{Activation, Argument, Calls, Code, Frame, Parameter, Progress, State, activate, allocate, bind_parameter, bind_parameters, call, declare_block, declare_procedures, declare_variables, execute_body, finished, formal_modes, in_frame, parameters, passing, place_argument, run_over, running, statement_meanings, stopped, value_argument, with_procedures}
-use Rattle.ob0_semantics.proofs.OtherPlaces.{Alike, ArgumentIs, ArgumentsAre, EntersAlike, MeaningIs, ObjectIs, PlaceIs, ProgressIs, StateIs, StoreIs, execute_all-alike, get-grows, variable-added, variable-last, variables-cut}
+use Rattle.ob0_semantics.proofs.OtherPlaces.{Alike, ArgumentIs, ArgumentsAre, EntersAlike, MeaningIs, ObjectIs, PlaceIs, ProgressIs, StateIs, StoreIs, execute_all-alike, variable-added, variable-last, variables-cut}
+use Rattle.ob0_semantics.proofs.SoundStatements.{slice_get-grows}
 
 -- options
 
@@ -44,7 +45,7 @@ EnvironmentIs at (b ∷ env) (d ∷ other) = (b.0 ≡ d.0) × ObjectIs at b.1 d.
 EnvironmentIs at _ _ = ⊥
 
 place-grows : (at others : List ℕ) (p q : Place) → PlaceIs at p q → PlaceIs (at ++ others) p q
-place-grows at others p q h = record { variable_is = get-grows at others p.variable q.variable h.variable_is; same_path = h.same_path }
+place-grows at others p q h = record { variable_is = slice_get-grows at others p.variable q.variable h.variable_is; same_path = h.same_path }
 
 object-grows : {P : Type 0} (at others : List ℕ) (a b : Object Place P) → ObjectIs at a b → ObjectIs (at ++ others) a b
 object-grows at others (a_type s) (a_type t) h = h

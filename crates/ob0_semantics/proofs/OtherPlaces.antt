@@ -1,5 +1,5 @@
 -- A store whose variables stand elsewhere in a larger store: what reads and writes them does the same in both.
-use Rattle.std.proofs.Common.{◌≡◌, ℕ, zero, suc, ◌-◌, true, false, ◌≢◌, List, [], ◌∷◌, ◌++◌, length, take, ℤ, slice_get, slice_set, Some, None, Option, option_map, option_and_then, unwrap_or, sym, refl, ap, ◌∙◌, subst}
+use Rattle.std.proofs.Common.{◌≡◌, ℕ, zero, suc, ◌-◌, true, false, ◌≢◌, List, [], ◌∷◌, ◌++◌, length, take, ℤ, slice_get, slice_set, Some, None, Option, option_map, option_and_then, sym, refl, ap, ◌∙◌, subst}
 use Rattle.ob0_tree.specs.Tree.{Tree, addend, adds, assigns, branches, calls, compares, designator, else_branch, else_part, elsif_branch, elsif_part, empty, end, expression, factor, field, further_statement, index, integer, items, maybe, more, multiplier, multiplies, negation, none, one, parenthesised, product, relates, repeat_loop, runs, selector, sequence, simple, statement, sum, term, then_statement, while_loop}
 use Rattle.ob0_typing.specs.Arguments.{arguments_listed}
 use Rattle.ob0_typing.specs.Expressions.{Meanings, Object, Standard, a_constant, a_procedure, a_standard, a_type, a_variable, designate, element_step, evaluate, evaluate_addends, evaluate_factor, evaluate_multipliers, evaluate_simple, evaluate_term, follow, place_of, reads, value_of, writes, writes_line}
@@ -7,16 +7,10 @@ use Rattle.ob0_typing.specs.Typing.{designated}
 use Rattle.ob0_typing.specs.WellTyped.{Mode, by_place, by_value}
 use Rattle.ob0_values.specs.Values.{Outcome, Place, Store, TurnBound, Value, add, add_is_settled, at_field, at_path, elements, ends, gives, members, multiply, multiply_is_settled, negated, number, or_stuck, part, read_place, relate, signed, truth, with_at_path, ◌>>=◌}
 use Rattle.ob0_semantics.specs.Runs.{Argument, Calls, Progress, State, Written, choose, evaluate_argument, evaluate_arguments, execute, execute_all, execute_else, execute_elsifs, execute_further, go_on, line_out, modes_of, number_out, perform, place_argument, put_out, read_number, running, stopped, store_at, turns, turns_until, use_in, value_argument}
+use Rattle.ob0_semantics.proofs.SoundCalls.{some-inverse}
+use Rattle.ob0_semantics.proofs.SoundStatements.{slice_get-grows}
 
 -- lists
-
-some-same : {A : Type 0} {a b : A} → Some a ≡ Some b → a ≡ b
-some-same {A} {a} {b} e = ap (λ o. unwrap_or o a) e
-
-pub get-grows : {A : Type 0} (xs others : List A) (n : ℕ) (x : A) → slice_get xs n ≡ Some x → slice_get (xs ++ others) n ≡ Some x
-get-grows [] others n x e = absurd (cc)
-get-grows (y ∷ xs) others zero x e = e
-get-grows (y ∷ xs) others (suc n) x e = get-grows xs others n x e
 
 get-last : {A : Type 0} (xs : List A) (x : A) → slice_get (xs ++ x ∷ []) (length xs) ≡ Some x
 get-last [] x = refl
@@ -51,13 +45,13 @@ StoreIs _ _ large = ⊥
 
 apart-at : (r : ℕ) (at : List ℕ) (n k : ℕ) → NotAmong r at → slice_get at n ≡ Some k → r ≢ k
 apart-at r [] n k h e = absurd (cc)
-apart-at r (j ∷ at) zero k h e = λ q. h.0 (q ∙ sym (some-same e))
+apart-at r (j ∷ at) zero k h e = λ q. h.0 (q ∙ sym (some-inverse e))
 apart-at r (j ∷ at) (suc n) k h e = apart-at r at n k h.1 e
 
 variable-found : (at : List ℕ) (small large : Store) (n k : ℕ) → StoreIs at small large → slice_get at n ≡ Some k → slice_get small n ≡ slice_get large k
 variable-found [] small large n k h e = absurd (cc)
 variable-found (r ∷ at) [] large n k h e = absurd h
-variable-found (r ∷ at) (v ∷ small) large zero k h e = sym h.0 ∙ ap (slice_get large) (some-same e)
+variable-found (r ∷ at) (v ∷ small) large zero k h e = sym h.0 ∙ ap (slice_get large) (some-inverse e)
 variable-found (r ∷ at) (v ∷ small) large (suc n) k h e = variable-found at small large n k h.2 e
 
 written-elsewhere : (at : List ℕ) (small large : Store) (k : ℕ) (new : Value) → NotAmong k at → StoreIs at small large → StoreIs at small (slice_set large k new)
@@ -71,7 +65,7 @@ variable-written : (at : List ℕ) (small large : Store) (n k : ℕ) (old new : 
 variable-written [] small large n k old new h e g = absurd (cc)
 variable-written (r ∷ at) [] large n k old new h e g = absurd h
 variable-written (r ∷ at) (v ∷ small) large zero k old new h e g =
-    let same : r ≡ k = some-same e in (
+    let same : r ≡ k = some-inverse e in (
       ap (slice_get (slice_set large k new)) same ∙ get-set large k old new g,
       h.1,
       written-elsewhere at small large k new (subst (λ r. NotAmong r at) same h.1) h.2,
@@ -94,7 +88,7 @@ variable-added [] (w ∷ small) large v h = absurd h
 variable-added (r ∷ at) [] large v h = absurd h
 variable-added (r ∷ at) (w ∷ small) large v h =
     let below : r ≢ length large = λ e. let e₁ : None ≡ Some w = sym (get-past large) ∙ (ap (slice_get large) (sym e) ∙ h.0) in cc in
-    (get-grows large (v ∷ []) r w h.0, not-among-grows r (length large) at below h.1, variable-added at small large v h.2)
+    (slice_get-grows large (v ∷ []) r w h.0, not-among-grows r (length large) at below h.1, variable-added at small large v h.2)
 
 pub variable-last : (at : List ℕ) (small large : Store) (k : ℕ) → StoreIs at small large → slice_get (at ++ k ∷ []) (length small) ≡ Some k
 variable-last [] [] large k h = refl
