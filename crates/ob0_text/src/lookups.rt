@@ -7,7 +7,7 @@ ghost use Rattle.ob0_text.specs.Texts.{lines, offset_of, position_of};
 ghost use Rattle.ob0_text.specs.Units.{width_of};
 ghost use Rattle.ob0_text.specs.LineStarts.{line_starts, with_ending};
 
-use crate::places::{onward_to_offset, onward_to_position, past_plain, position_at};
+use crate::places::{onward_to_offset, onward_to_position, past_stretches, position_at};
 use crate::positions::{Position, Unit};
 use crate::tables::{line_place, starts_before, starts_from_change};
 use std::alloc::{AllocError, Global};
@@ -18,7 +18,7 @@ pub fn offset_in(text: &str, starts: &[usize], unit: Unit, position: Position) -
     ensures { result ≡ offset_of (width_of unit) (chars text.now) position }
 {
     let start = line_place(starts, position.line);
-    let place = past_plain(text, unit, start, position);
+    let place = past_stretches(text, unit, start, position);
     onward_to_position(text, unit, place, position).offset
 }
 

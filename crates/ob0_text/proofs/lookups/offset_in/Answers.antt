@@ -8,7 +8,7 @@ pub line_place-start-requires : goal.line_place-start-requires
 line_place-start-requires c =
     subst (λ t. 0 < length t) (sym c.requires) (some_start (chars c.args.text.now))
 
-pub past_plain-place-requires : goal.past_plain-place-requires
-past_plain-place-requires c =
+pub past_stretches-place-requires : goal.past_stretches-place-requires
+past_stretches-place-requires c =
     let start = c.line_place-start in
     record { place = seeks (width_of c.args.unit) c.args.text.now c.args.starts.now c.args.position start.result c.utf8.text c.requires start.ensures.offset start.ensures.line start.ensures.character }
