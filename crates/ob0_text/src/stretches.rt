@@ -50,15 +50,18 @@ fn units_of(piece: &str, unit: Unit) -> Option<u64>
     }
 }
 
-/// Whether one of these bytes ends a line.
+/// Whether one of these bytes ends a line. (They are counted: the compiler counts many at once.)
 fn has_line_break(bytes: &[u8]) -> bool
+    requires { length bytes.now ≤ 64 }
     ensures no { result ≡ false → All EndsNoLine bytes.now }
 {
-    let mut found = false;
+    let mut breaks: u8 = 0;
     for byte in bytes {
-        found |= is_line_break(*byte);
+        if is_line_break(*byte) {
+            breaks += 1;
+        }
     }
-    found
+    0 < breaks
 }
 
 fn is_line_break(byte: u8) -> bool
