@@ -91,7 +91,7 @@ pub fn position_at(place: Place) -> Position
 }
 
 /// Whether a position is another or comes behind it.
-fn is_from(from: Position, position: Position) -> bool
+pub fn is_from(from: Position, position: Position) -> bool
     ensures yes { result ≡ true → IsFrom from position }
 {
     from.line < position.line
@@ -230,6 +230,7 @@ pub fn onward_to_position(text: &str, unit: Unit, from: Place, position: Positio
     ensures place { IsPlaceBefore (width_of unit) text.now position result }
     ensures offset { result.offset ≡ offset_of (width_of unit) (chars text.now) position }
 {
+    let from = past_stretches(text, unit, from, position);
     let (mut line, mut character, mut reached) = (from.line, from.character, from.offset);
     let mut chars = text[from.offset..].chars();
     while let Some(c) = chars.next() {
@@ -253,7 +254,7 @@ pub fn onward_to_position(text: &str, unit: Unit, from: Place, position: Positio
 }
 
 /// A place nearer to a position, in the position's line, past stretches of it.
-pub fn past_stretches(text: &str, unit: Unit, from: Place, position: Position) -> Place
+fn past_stretches(text: &str, unit: Unit, from: Place, position: Position) -> Place
     requires place { IsPlaceBefore (width_of unit) text.now position from }
     ensures place { IsPlaceBefore (width_of unit) text.now position result }
 {
