@@ -1,9 +1,9 @@
 -- Passes over a text, past the characters of a stretch.
-use Rattle.std.proofs.Common.{◌≡◌, ℕ, ◌+◌, ◌-◌, ◌<◌, ◌≤◌, ◌||◌, false, List, [], ◌∷◌, ◌++◌, length, take, drop, refl, sym, ap, ◌∙◌, subst, append_assoc, arith, length-append, length-drop}
-use Rattle.std.specs.Prelude.{◌==◌, encode_utf8, encode_utf8_all, sum_by}
+use Rattle.std.proofs.Common.{◌≡◌, ℕ, ◌+◌, ◌-◌, ◌≤◌, List, [], ◌∷◌, ◌++◌, length, take, drop, sym, ap, ◌∙◌, subst, append_assoc, arith, length-drop}
+use Rattle.std.specs.Prelude.{encode_utf8, encode_utf8_all, sum_by}
 use Rattle.std.specs.List.{All}
 use Rattle.std.specs.Char.{len_utf8}
-use Rattle.std.specs.Str.{IsUtf8, chars}
+use Rattle.std.specs.Str.{chars}
 use Rattle.std.proofs.lemmas.Bool.Decides.{nat_tests}
 use Rattle.std.proofs.lemmas.List.{length-take-le, take-append-drop, drop-drop}
 use Rattle.std.proofs.lemmas.List.Sums.{sum_by-cons}
@@ -12,12 +12,12 @@ use Rattle.std.proofs.lemmas.Str.{encodes-chars}
 use Rattle.ob0_text.specs.declared.positions.Position.{Position}
 use Rattle.ob0_text.specs.declared.places.Place.{Place}
 use Rattle.ob0_text.specs.declared.stretches.Stretch.{Stretch}
-use Rattle.ob0_text.specs.Texts.{LF, CR, byte_len}
+use Rattle.ob0_text.specs.Texts.{CR, byte_len}
 use Rattle.ob0_text.specs.Stretches.{EndsNoLine, IsStretch}
 use Rattle.ob0_text.specs.Places.{IsSought, IsPlaceBefore, IsCounted, IsPlace}
 use Rattle.ob0_text.proofs.LineLaws.{no_line_end}
-use Rattle.ob0_text.proofs.PositionSteps.{counted_past_char, counted_here_dropped}
-use Rattle.ob0_text.proofs.PlaceSteps.{byte_len-cons, sought_past_char, sought_dropped}
+use Rattle.ob0_text.proofs.PositionSteps.{counted_past_char}
+use Rattle.ob0_text.proofs.PlaceSteps.{byte_len-cons, sought_past_char}
 
 no_cr : (c : ℕ) → EndsNoLine c → c ≡ CR → ⊥
 no_cr c h e = grind (arith, nat_tests)

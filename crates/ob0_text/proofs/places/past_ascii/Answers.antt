@@ -1,5 +1,4 @@
-use Rattle.std.proofs.Common.{◌≡◌, ◌<◌, get_or, ap, ◌∙◌, sym, subst, length, arith}
-use Rattle.ob0_text.specs.Units.{width_of}
+use Rattle.std.proofs.Common.{get_or, ap, ◌∙◌, sym, arith}
 use Rattle.ob0_text.proofs.AsciiSteps.{counted_past_lf, counted_past_ascii}
 use Rattle.ob0_text.proofs.places.past_ascii.Goals as goal
 

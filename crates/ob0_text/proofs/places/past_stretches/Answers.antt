@@ -1,4 +1,4 @@
-use Rattle.std.proofs.Common.{◌+◌, ◌-◌, ◌≤◌, arith}
+use Rattle.std.proofs.Common.{arith}
 use Rattle.ob0_text.specs.Units.{width_of}
 use Rattle.ob0_text.proofs.Widths.{narrow}
 use Rattle.ob0_text.proofs.PositionSteps.{rest_border}

@@ -1,8 +1,8 @@
-use Rattle.std.proofs.Common.{◌-◌, ◌≤◌, arith}
+use Rattle.std.proofs.Common.{arith}
 use Rattle.ob0_text.specs.Units.{width_of}
 use Rattle.ob0_text.proofs.Widths.{narrow}
 use Rattle.ob0_text.proofs.PositionSteps.{rest_border}
-use Rattle.ob0_text.proofs.StretchSteps.{counted_past_stretch, units_fit}
+use Rattle.ob0_text.proofs.StretchSteps.{counted_past_stretch}
 use Rattle.ob0_text.proofs.places.past_stretches_to.Goals as goal
 
 pub stretch_behind-requires : goal.stretch_behind-requires

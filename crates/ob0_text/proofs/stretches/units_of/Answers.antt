@@ -1,4 +1,4 @@
-use Rattle.std.proofs.Common.{◌≡◌, ap, ◌∙◌, sym, subst, sum_by}
+use Rattle.std.proofs.Common.{ap, ◌∙◌, sym, subst, sum_by}
 use Rattle.std.specs.List.{All}
 use Rattle.std.specs.Str.{chars}
 use Rattle.ob0_text.specs.Texts.{utf16_width}
