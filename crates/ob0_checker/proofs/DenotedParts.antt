@@ -1,5 +1,5 @@
 -- What the text of a type denotes, by its parts.
-use Rattle.std.proofs.Common.{◌≡◌, ℕ, suc, ◌+◌, ◌<◌, ◌≤◌, ◌&&◌, nat_le, List, length, get_or, IfSome, Option, Some, None, option_and_then, option_map, refl, sym, ap, ◌∙◌, subst, arith, add-zero}
+use Rattle.std.proofs.Common.{◌≡◌, ℕ, suc, ◌+◌, ◌<◌, ◌≤◌, ◌&&◌, nat_le, List, ◌∷◌, length, get_or, IfSome, Option, Some, None, option_and_then, option_map, refl, sym, ap, ◌∙◌, subst, arith, add-zero}
 use Rattle.std.proofs.lemmas.Bool.{and_parts, leb-true}
 use Rattle.std.proofs.lemmas.Option.{cond_some, none-some}
 use Rattle.ob0_tree.specs.declared.tree.ArrayType.{ArrayType}
@@ -12,14 +12,14 @@ use Rattle.ob0_scope.specs.Names.{Label}
 use Rattle.ob0_scope.specs.Resolution.{Resolution}
 use Rattle.ob0_symbols.specs.declared.known.Field.{Field}
 use Rattle.ob0_symbols.specs.declared.types.TypeId.{TypeId}
-use Rattle.ob0_checker.specs.DenotedTables.{Denotes, Grown, IsFound, array_in}
+use Rattle.ob0_checker.specs.DenotedTables.{AreAdded, Denotes, Grown, IsFound, array_in}
 use Rattle.ob0_checker.specs.InLabels.{in_labels, label_in}
 use Rattle.ob0_symbols.specs.KnownTables.{Tables, known_meaning, label_object, shapes_of}
 use Rattle.ob0_symbols.specs.Tables.{IsMade, fields_shape, type_shape}
 use Rattle.ob0_typing.specs.Typing.{array_length, constant_value, constructors, denoted, denoted_group, denoted_groups, depth, group_constructors, scalars, type_of_name, within_limits}
 use Rattle.ob0_typing.specs.WellTyped.{Typed}
 use Rattle.ob0_typing.proofs.TypedElsewhere.{then_some}
-use Rattle.ob0_checker.proofs.Gathered.{Gathered, constructors-mapped, counted_ends, gathered_deep, gathered_ends, grown-refl, grown-trans, record-counted, record-denoted}
+use Rattle.ob0_checker.proofs.Gathered.{Gathered, constructors-mapped, counted_ends, gathered_deep, gathered_ends, gathered_listed, grown-refl, grown-trans, record-counted, record-denoted}
 use Rattle.ob0_checker.proofs.Judged.{then-assoc}
 use Rattle.ob0_values.specs.Values.{Shape, array_shape, record_shape}
 
@@ -143,6 +143,17 @@ array_denotes {r} {s} {t} {u} {around} {k} {n} {element} a found h number d grow
       counted = counted_as (length u.shapes) (suc (length t.shapes)) (length s.shapes + constructors (array_in a)) found (omega (arith, d.counted)) counted;
     }
 
+pub record_past_the_depth : (r : Resolution) (t : Tables) (around : ℕ) (gs : List group.Fields) → 100 ≤ around → Denotes r t t around (record_listed gs) None
+record_past_the_depth r t around gs high = past_the_depth r t around (record_listed gs) (omega (arith, record-counted gs)) high
+
+-- one more group was found
+pub gathered_denotes : {r : Resolution} {before now later : Tables} {inside done : ℕ} {gs : List group.Fields} {found more_found : List Field} {of : TypeId} (g : group.Fields) (list : FieldList) → g ≡ group.Listed list
+    → Gathered r before now (length before.shapes + inside) gs done (length now.shapes + inside) found → done < length gs → g ≡ get_or gs done g
+    → Denotes r now later inside (type_of list.written) (Some of) → AreAdded r (list.names.first ∷ list.names.more.items) of found more_found
+    → Gathered r before later (length before.shapes + inside) gs (done + 1) (length later.shapes + inside) more_found
+gathered_denotes {later = later} {inside = inside} {more_found = more_found} {of = of} g list is_listed h less here d added =
+    gathered_listed g list is_listed later (length later.shapes + inside) of more_found h less here d.grown d.made (sym d.value) (omega (arith, d.counted)) added
+
 -- a group's type is missed, and so is the record, which is deeper by one
 pub record_has_no_field : {r : Resolution} {s t u : Tables} {around done : ℕ} {fields : List Field} (gs : List group.Fields) (g : group.Fields) (list : FieldList) → g ≡ group.Listed list
     → Gathered r s t (length s.shapes + (around + 1)) gs done (length t.shapes + (around + 1)) fields → done < length gs → g ≡ get_or gs done g
@@ -200,7 +211,7 @@ denotes_alone {r} {t} {u} {text} {found} d = go found d.value ∙ ap (λ k. deno
 pub denotes_as : {r : Resolution} {t u : Tables} {around : ℕ} {text same : Tree ℕ written_type} {found kept : Option TypeId} → text ≡ same → found ≡ kept → Denotes r t u around text found → Denotes r t u around same kept
 denotes_as {r} {t} {u} {around} {text} {same} {found} {kept} e f d = subst (λ z. Denotes r t u around z kept) e (subst (Denotes r t u around text) f d)
 
-pub gathered_as : {r : Resolution} {t u later : Tables} {k : ℕ} {gs : List group.Fields} {done behind next : ℕ} {found : List Field} {fields : List Field} → later ≡ u → next ≡ behind → fields ≡ found
-    → Gathered r t u k gs done behind found → Gathered r t later k gs done next fields
-gathered_as {r} {t} {u} {later} {k} {gs} {done} {behind} {next} {found} {fields} e f h g =
-    subst (λ z. Gathered r t z k gs done next fields) (sym e) (subst (λ n. Gathered r t u k gs done n fields) (sym f) (subst (Gathered r t u k gs done behind) (sym h) g))
+pub gathered_as : {r : Resolution} {t u later : Tables} {k : ℕ} (inside : ℕ) {gs : List group.Fields} {done : ℕ} {found fields : List Field} → later ≡ u → fields ≡ found
+    → Gathered r t u k gs done (length u.shapes + inside) found → Gathered r t later k gs done (length later.shapes + inside) fields
+gathered_as {r} {t} {u} {later} {k} inside {gs} {done} {found} {fields} e h g =
+    subst (λ z. Gathered r t z k gs done (length z.shapes + inside) fields) (sym e) (subst (Gathered r t u k gs done (length u.shapes + inside)) (sym h) g)

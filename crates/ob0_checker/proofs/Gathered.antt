@@ -1,7 +1,6 @@
 -- The fields of a record, gathered from its first group on, are those that its text denotes.
-use Rattle.std.proofs.Common.{◌≡◌, ℕ, suc, ◌+◌, ◌<◌, ◌≤◌, List, [], ◌∷◌, ◌++◌, All, map, length, get_or, drop, Option, Some, None, option_and_then, option_map, refl, sym, ap, ◌∙◌, subst, arith, append_assoc, append-nil, add-zero, zero-add, add_assoc}
+use Rattle.std.proofs.Common.{◌≡◌, ℕ, suc, ◌+◌, ◌<◌, ◌≤◌, List, [], ◌∷◌, ◌++◌, All, map, length, get_or, drop, Option, Some, None, option_and_then, option_map, unwrap_or, refl, sym, ap, ◌∙◌, subst, arith, append_assoc, append-nil, add-zero, zero-add, add_assoc}
 use Rattle.std.proofs.lemmas.List.{drop_all, drop_more}
-use Rattle.std.proofs.Math.Option.{some-injective}
 use Rattle.ob0_tree.specs.declared.tree.FieldList.{FieldList}
 use Rattle.ob0_tree.specs.declared.tree.Fields as group
 use Rattle.ob0_tree.specs.declared.tree.Names as tree_names
@@ -74,9 +73,12 @@ behind-fields : (xs : List _) (s : Shape) (d : Option Shape) (o : Option FieldSh
 behind-fields xs s d None h = refl
 behind-fields xs s d (Some later) h = ap (option_and_then (λ s. Some (with_fields xs s later))) h ∙ ap Some (with_fields-joined xs s later)
 
+some-is : {A : Type 0} (a b : A) → Some a ≡ Some b → a ≡ b
+some-is a b e = ap (λ o. unwrap_or o a) e
+
 mapped-some : {A B : Type 0} (f : A → B) (o : Option A) (y : B) → option_map f o ≡ Some y → (x : A) × (o ≡ Some x) × (f x ≡ y)
 mapped-some f None y h = absurd (cc)
-mapped-some f (Some x) y h = (x, refl, some-injective (f x) y h)
+mapped-some f (Some x) y h = (x, refl, some-is (f x) y h)
 
 joined-deep : (a b : FieldShapes) → field_depth b ≤ field_depth (joined a b)
 joined-deep no_field_shape b = omega arith
@@ -95,7 +97,7 @@ module _ (m : Typed Label) where
       let names = map m.written (names_listed (listed x xs)) in
       let (later, is_later, h₁) = then_some (denoted_groups m (k + constructors t) rest) (λ later. option_and_then (λ s. Some (with_fields names s later)) (denoted m k t)) fs h in
       let (s, is_s, h₂) = then_some (denoted m k t) (λ s. Some (with_fields names s later)) fs h₁ in
-      (s, is_s, subst (λ z. depth s ≤ field_depth z) (some-injective (with_fields names s later) fs h₂) (omega arith))
+      (s, is_s, subst (λ z. depth s ≤ field_depth z) (some-is (with_fields names s later) fs h₂) (omega arith))
 
   nothing-left : (k : ℕ) → denoted_groups m k end ≡ Some no_field_shape
   unfolding denoted
