@@ -1,0 +1,2 @@
+pub mod CodesMean
+pub mod TreesMean

@@ -1,0 +1,1 @@
+use Rattle.ob0_lowering.proofs.TreesMean.{expression-means}
