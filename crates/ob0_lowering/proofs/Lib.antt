@@ -1,2 +1,3 @@
 pub mod CodesMean
 pub mod TreesMean
+pub mod LaidOut

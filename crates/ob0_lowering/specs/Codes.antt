@@ -58,18 +58,24 @@ abbrev pub named_code : Option Value → Option Found → Code
 named_code (Some v) found = constant_code v
 named_code None found = standing_there found
 
+abbrev pub operated : lowered.Operator → Code → Code → Code
+operated o (a_number m) (a_number n) = a_number (lowered.operation o m n)
+operated _ _ _ = no_code
+
+abbrev pub combined : (lowered.Truth → lowered.Truth → lowered.Truth) → Code → Code → Code
+combined operation (a_truth t) (a_truth u) = a_truth (operation t u)
+combined _ _ _ = no_code
+
 abbrev pub added : AddOperator → Code → Code → Code
-added add_operator.Add (a_number m) (a_number n) = a_number (lowered.operation lowered.sum m n)
-added add_operator.Subtract (a_number m) (a_number n) = a_number (lowered.operation lowered.difference m n)
-added add_operator.Or (a_truth t) (a_truth u) = a_truth (lowered.either t u)
-added _ _ _ = no_code
+added add_operator.Add = operated lowered.sum
+added add_operator.Subtract = operated lowered.difference
+added add_operator.Or = combined lowered.either
 
 abbrev pub multiplied : MultiplyOperator → Code → Code → Code
-multiplied multiply_operator.Multiply (a_number m) (a_number n) = a_number (lowered.operation lowered.product m n)
-multiplied multiply_operator.Divide (a_number m) (a_number n) = a_number (lowered.operation lowered.quotient m n)
-multiplied multiply_operator.Modulo (a_number m) (a_number n) = a_number (lowered.operation lowered.remainder m n)
-multiplied multiply_operator.And (a_truth t) (a_truth u) = a_truth (lowered.both t u)
-multiplied _ _ _ = no_code
+multiplied multiply_operator.Multiply = operated lowered.product
+multiplied multiply_operator.Divide = operated lowered.quotient
+multiplied multiply_operator.Modulo = operated lowered.remainder
+multiplied multiply_operator.And = combined lowered.both
 
 abbrev pub signed : Option Sign → Code → Code
 signed None c = c

@@ -70,3 +70,8 @@ abbrev mutual
   selected_place scene found end = found
   selected_place scene found (more (field x) rest) = selected_place scene (option_and_then (field_found (label_text x)) found) rest
   selected_place scene found (more (index e) rest) = selected_place scene (element_of (expression_code scene e) found) rest
+
+-- one selector more
+abbrev pub selected_once : Scene → Option Found → Tree Label (item selector) → Option Found
+selected_once scene found (field x) = option_and_then (field_found (label_text x)) found
+selected_once scene found (index e) = element_of (expression_code scene e) found

@@ -101,9 +101,3 @@ fn held(up: usize, offset: usize) -> Place
         Place::Outside(up, offset)
     }
 }
-
-fn probe() -> usize
-    ensures { result ≡ 3 }
-{
-    3
-}

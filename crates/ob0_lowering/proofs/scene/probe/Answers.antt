@@ -1,1 +1,0 @@
-use Rattle.ob0_lowering.proofs.TreesMean.{expression-means}
