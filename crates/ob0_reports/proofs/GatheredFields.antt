@@ -1,5 +1,5 @@
 -- The fields of a record as they are gathered, name by name and group by group.
-use Rattle.std.proofs.Common.{◌≡◌, ℕ, ◌+◌, ◌-◌, ◌<◌, ◌≤◌, Option, Some, None, List, [], ◌∷◌, ◌++◌, length, get_or, drop, refl, sym, ap, ◌∙◌, subst, arith, Bool, false, if◌then◌else◌, is_some, Bor}
+use Rattle.std.proofs.Common.{◌≡◌, ℕ, ◌+◌, ◌-◌, ◌^◌, ◌<◌, ◌≤◌, min, max, Some, None, List, ◌∷◌, length, get_or, drop, refl, sym, ap, ◌∙◌, subst, arith, false, if◌then◌else◌, is_some, Bor}
 use Rattle.std.proofs.lemmas.List.{drop_all, drop_more}
 use Rattle.ob0_scan.specs.declared.fault.Fault.{Fault}
 use Rattle.std.proofs.lemmas.Map.Text.{btree_map_updates_str}
@@ -9,19 +9,16 @@ use Rattle.std.specs.Ordering.{nat_cmp}
 use Rattle.ob0_scope.specs.Names.{Name, same_name}
 use Rattle.ob0_symbols.specs.declared.types.TypeId.{TypeId}
 use Rattle.ob0_tree.specs.Places.{text_at}
-use Rattle.ob0_tree.specs.Tree.{no_fields, some_fields}
-use Rattle.ob0_tree.specs.View.{fields_of, further_fields_of_group, items_of, names_of, type_of}
-use Rattle.ob0_tree.specs.declared.tree.FieldList.{FieldList}
+use Rattle.ob0_tree.specs.View.{fields_of, further_fields_of_group}
 use Rattle.ob0_tree.specs.declared.tree.Fields.{Fields}
 use Rattle.ob0_reports.specs.declared.telling.supposed.Supposed.{Supposed}
 use Rattle.ob0_reports.specs.declared.telling.written_types.Gathered as gathering
 use Rattle.ob0_reports.specs.Known.{Told}
 use Rattle.ob0_reports.specs.Operations.{Tells}
-use Rattle.ob0_reports.specs.SoFar.{Size, SoFar, make, no_scalar, of_fields, size_at}
+use Rattle.ob0_reports.specs.SoFar.{Size, no_scalar, size_at}
 use Rattle.ob0_reports.specs.SupposedFacts.{Gathers, IsGathered, counted, fields_in, size_of, so_far_in}
-use Rattle.ob0_reports.specs.WrittenTypeFaults.{Gathered, beside, nothing_gathered, record_made, record_size, record_word, told_fields, told_groups, with_field, with_name, with_names}
+use Rattle.ob0_reports.specs.WrittenTypeFaults.{Gathered, beside, nothing_gathered, told_fields, told_groups, with_field, with_name, with_names}
 use Rattle.ob0_reports.proofs.Chains.{Chained, chain_goes_on}
-use Rattle.ob0_reports.proofs.Sizes.{beside_counted, make_counted, record_counted}
 use Rattle.ob0_reports.proofs.ToldTypes.{group_told, groups_chain}
 
 -- a field is put into the map where its name isn't there yet
@@ -30,6 +27,13 @@ pub field_added : (m n : BTreeMap (Bor Name) TypeId) (x : Name) (t : TypeId) →
 field_added m n x t none updates y =
     btree_map_updates_str x m n (Some t) updates y
     ∙ sym (ap (λ b. (if b then fields_in m else (λ z. if same_name x z then Some t else fields_in m z)) y) none)
+
+-- sizes beside one another, counted to the end of `usize`
+beside_counted : (z w : Size) → counted (beside (counted z) w) ≡ counted (beside z w)
+beside_counted z w =
+    let s : min (min z.scalars (2 ^ 64 - 1) + w.scalars) (2 ^ 64 - 1) ≡ min (z.scalars + w.scalars) (2 ^ 64 - 1) = omega arith in
+    let d : min (max (min z.depth (2 ^ 64 - 1)) w.depth) (2 ^ 64 - 1) ≡ min (max z.depth w.depth) (2 ^ 64 - 1) = omega arith in
+    λ i. record { scalars = s i; depth = d i }
 
 -- one name more
 pub one_more : (g : Gathered) (s : Supposed) (old new : gathering.Gathered) (token : ℕ) (t : TypeId) (w : Size) → IsGathered g s old
@@ -81,16 +85,3 @@ groups_go_on {now = now} {next = next} x n less here step =
     let h = step n.out n.is in
     let tells : Tells now next told.known told = record { known = refl; told = h.told } in
     record { out = told.known; is = h.now; told = chain_goes_on x groups_chain n.told less here (subst (Tells now next told.known) (sym (group_told n.out (fields_of x))) tells) }
-
--- what is made of the fields that are gathered
-pub record_of_gathered : (g : Gathered) (s : Supposed) (now : gathering.Gathered) (word : ℕ) (z : Size) → IsGathered g s now → z ≡ counted (record_size (size_of now.size))
-    → make (so_far_in s) word (of_fields (fields_in now.fields)) z ≡ record_made word g
-record_of_gathered g s now word z h e =
-    (λ j. make (h.behind j) word (of_fields (h.fields j)) ((e ∙ ap (λ w. counted (record_size w)) h.size ∙ record_counted g.size) j))
-    ∙ make_counted g.behind word (of_fields g.fields) (record_size g.size)
-
--- the word before the groups so far
-pub word_behind : (gs : List Fields) (done : ℕ) (g : Fields) → record_word (items_of further_fields_of_group gs) ≡ record_word (items_of further_fields_of_group (drop done gs)) - done → done < length gs → g ≡ get_or gs done g
-    → record_word (items_of further_fields_of_group gs) ≡ record_word (items_of further_fields_of_group (g ∷ drop (done + 1) gs)) - done
-word_behind gs done g h less here =
-    h ∙ ap (λ xs. record_word (items_of further_fields_of_group xs) - done) (drop_more gs done g less ∙ ap (λ y. y ∷ drop (done + 1) gs) (sym here))

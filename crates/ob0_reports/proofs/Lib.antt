@@ -2,7 +2,6 @@ pub mod Chains
 pub mod GatheredFields
 pub mod Listed
 pub mod SameFacts
-pub mod Sizes
 pub mod ToldDeclarations
 pub mod ToldParts
 pub mod ToldStatements

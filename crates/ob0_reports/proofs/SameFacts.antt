@@ -1,5 +1,5 @@
 -- What is supposed is what is known so far.
-use Rattle.std.proofs.Common.{◌≡◌, ℕ, ◌<◌, ◌≤◌, Bool, List, Option, Some, None, map, length, option_map, option_and_then, slice_get, slice_index_or, set, refl, sym, ap, ◌∙◌, arith}
+use Rattle.std.proofs.Common.{◌≡◌, ℕ, ◌≤◌, Bool, List, Option, Some, None, map, length, option_map, option_and_then, slice_get, slice_index_or, set, refl, sym, ap, ◌∙◌, arith}
 use Rattle.std.proofs.lemmas.List.{length-map, map-set, set_past}
 use Rattle.std.proofs.lemmas.Option.{slice_get-map}
 use Rattle.std.proofs.Math.ListN.{get_or-map}
@@ -13,8 +13,8 @@ use Rattle.ob0_reports.specs.declared.telling.supposed.Parts.{Parts}
 use Rattle.ob0_reports.specs.declared.telling.supposed.Parts.TheVariants as parts
 use Rattle.ob0_reports.specs.declared.telling.supposed.Supposed.{Supposed}
 use Rattle.ob0_reports.specs.Known.{a_record, an_array}
-use Rattle.ob0_reports.specs.SoFar.{elements_at, elements_in, facts_at, field_at, field_in, form_at, same_type, stands_at}
-use Rattle.ob0_reports.specs.SupposedFacts.{declared_at, elements_among, elements_of, facts_in, field_among, field_of, form_in, made_of, meaning_of, parts_of, so_far_in}
+use Rattle.ob0_reports.specs.SoFar.{elements_at, elements_in, facts_at, field_at, field_in, form_at, same_type}
+use Rattle.ob0_reports.specs.SupposedFacts.{elements_among, elements_of, facts_in, field_among, field_of, form_in, made_of, meaning_of, parts_of, so_far_in}
 
 elements_alike : (p : Parts) → elements_among p ≡ elements_in (parts_of p)
 elements_alike (parts.Elements t) = refl

@@ -1,5 +1,5 @@
 -- What is told of types as they are written, part by part.
-use Rattle.std.proofs.Common.{◌≡◌, ℕ, false, true, List, [], ◌∷◌, refl, sym, ap, ◌∙◌}
+use Rattle.std.proofs.Common.{◌≡◌, ℕ, false, true, List, [], ◌∷◌, refl}
 use Rattle.ob0_tree.specs.Tree.{Tree, array_type, end, expression, fields, further_fields, item, items, more, named_type, names, no_fields, some_fields, then_fields, written_type}
 use Rattle.ob0_tree.specs.View.{fields_of, further_fields_of_group, items_of, record_listed}
 use Rattle.ob0_tree.specs.declared.tree.Fields.{Fields}

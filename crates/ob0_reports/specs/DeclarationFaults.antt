@@ -1,13 +1,13 @@
 -- The faults of a module's declarations and bodies in the order in which they are told: in text order, each declaration known
 -- behind its text.
-use Rattle.std.specs.Prelude.{ℕ, Bool, true, false, List, ◌∷◌, [], ◌++◌, map}
+use Rattle.std.specs.Prelude.{ℕ, Bool, true, false, List, [], ◌++◌, map}
 use Rattle.std.specs.List.{filter}
 use Rattle.ob0_scan.specs.declared.fault.Fault.{Fault}
 use Rattle.ob0_scope.specs.Parts.{formal_sections, module_block, names_listed, section_constants, section_types, section_variables}
 use Rattle.ob0_scope.specs.Resolution.{Resolution, is_of_occurrences}
 use Rattle.ob0_symbols.specs.declared.types.TypeId.{TypeId}
 use Rattle.ob0_tree.specs.Parsed.{tree_of}
-use Rattle.ob0_tree.specs.Tree.{Tree, begins, block, body, constant, declares, declares_constant, declares_procedure, declares_type, declares_variable, end, further_section, has_body, item, items, maybe, more, names, none, one, procedure, section, then_section, type_name, value_section, variable, variable_section, written_type}
+use Rattle.ob0_tree.specs.Tree.{Tree, begins, block, body, constant, declares, declares_constant, declares_procedure, declares_type, declares_variable, end, further_section, has_body, item, items, maybe, more, names, none, one, procedure, then_section, type_name, value_section, variable, variable_section, written_type}
 use Rattle.ob0_reports.specs.Known.{Formal, Told, a_constant, a_procedure, a_type, a_variable}
 use Rattle.ob0_reports.specs.Operations.{right, ◌>>=◌}
 use Rattle.ob0_reports.specs.SoFar.{SoFar, Typed, at_first, define, define_all, facts_at}

@@ -7,4 +7,3 @@ pub mod SoFar
 pub mod WrittenTypeFaults
 pub mod DeclarationFaults
 pub mod SupposedFacts
-pub mod InOrder

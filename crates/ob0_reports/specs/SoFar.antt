@@ -1,6 +1,6 @@
 -- What is known at a place of a module while its faults are told: of the declarations before it, and of the arrays and records
 -- before it.
-use Rattle.std.specs.Prelude.{ℕ, ◌+◌, nat_le, Bool, true, false, ◌==◌, ◌&&◌, List, [], ◌∷◌, ◌++◌, length, map, slice_get, slice_index_or, slice_set, if◌then◌else◌, Option, Some, None, option_and_then}
+use Rattle.std.specs.Prelude.{ℕ, nat_le, Bool, true, false, ◌==◌, ◌&&◌, List, [], ◌∷◌, ◌++◌, length, map, slice_get, slice_index_or, slice_set, if◌then◌else◌, Option, Some, None, option_and_then}
 use Rattle.ob0_scan.specs.declared.fault.Code.TheVariants as code
 use Rattle.ob0_scan.specs.Scanned.{Scanned}
 use Rattle.ob0_scope.specs.Names.{Name}
@@ -8,7 +8,7 @@ use Rattle.ob0_scope.specs.Resolution.{Resolution, ordinal_in}
 use Rattle.ob0_symbols.specs.declared.types.TypeId.{TypeId}
 use Rattle.ob0_symbols.specs.declared.types.TypeId.TheVariants as type
 use Rattle.ob0_values.specs.Values.{truth}
-use Rattle.ob0_reports.specs.Known.{Facts, Form, Formal, Meaning, Told, Types, a_constant, a_procedure, a_record, a_scalar, a_type, a_variable, an_array, unknown_form}
+use Rattle.ob0_reports.specs.Known.{Facts, Form, Meaning, Told, Types, a_constant, a_procedure, a_record, a_scalar, a_type, an_array, unknown_form}
 use Rattle.ob0_reports.specs.Operations.{at_token, right}
 
 -- how many scalars a type has, and how many arrays and records stand inside one another

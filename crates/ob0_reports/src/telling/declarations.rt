@@ -12,9 +12,7 @@ ghost use Rattle.ob0_reports.specs.SupposedFacts.{heading_in, meaning_of, so_far
 use crate::telling::Teller;
 use crate::telling::supposed::{Meaning, Supposed};
 use ob0_symbols::{Formal, TypeId};
-use ob0_tree::{
-    Block, Constant, Names, Procedure, Section, Statement, TypeDeclaration, Variables,
-};
+use ob0_tree::{Block, Constant, Names, Procedure, Section, Statement, TypeDeclaration, Variables};
 use std::alloc::AllocError;
 
 /// Puts as many parameters behind others as these names are.

@@ -82,7 +82,10 @@ fn record_word(groups: &[Fields]) -> usize
     for (before, group) in groups.iter().enumerate() {
         match group {
             Fields::Empty => {}
-            Fields::Listed(list) => return list.names.first.saturating_sub(1).saturating_sub(before),
+            Fields::Listed(list) => {
+                let first = list.names.first;
+                return first.saturating_sub(1).saturating_sub(before);
+            }
         }
     }
     0
@@ -190,8 +193,7 @@ impl<'t> Teller<'t> {
         ensures { (g : spec.Gathered) → IsGathered g self.old.supposed gathered.entry → IfOk result (λ of. Tells self.old.faults.items self.new.faults.items (record { of = of; behind = so_far_in self.new.supposed }) (record_made word g)) }
     {
         let Gathered { fields, size } = gathered;
-        self.supposed
-            .make(&mut self.faults, word, Parts::Fields(fields), size.record())
+        self.supposed.make(&mut self.faults, word, Parts::Fields(fields), size.record())
     }
 
     #[cycle(types)]
@@ -230,12 +232,7 @@ impl<'t> Supposed<'t> {
     }
 
     /// One field more.
-    fn gather(
-        &self,
-        name: usize,
-        of: TypeId,
-        gathered: &mut Gathered<'t>,
-    ) -> Result<(), AllocError>
+    fn gather(&self, name: usize, of: TypeId, gathered: &mut Gathered<'t>) -> Result<(), AllocError>
         ensures { OnOk result ((g : spec.Gathered) → IsGathered g self.now gathered.old → IsGathered (with_name of g name) self.now gathered.new) }
     {
         gathered.add(self.text(name), of)?;

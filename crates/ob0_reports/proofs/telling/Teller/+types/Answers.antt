@@ -1,15 +1,15 @@
-use Rattle.std.proofs.Common.{IfOk, ◌∷◌, false, true, refl, sym, ap, ◌∙◌, subst, append-nil}
+use Rattle.std.proofs.Common.{IfOk, ◌∷◌, false, true, refl, sym, ap, ◌∙◌, subst}
 use Rattle.std.proofs.lemmas.Result.{IfOk-weaker, on_ok_weaker}
 use Rattle.ob0_tree.proofs.Viewed.{record_made}
 use Rattle.ob0_tree.specs.View.{expression_of, fields_of, further_fields_of_group, items_of, names_of, type_of}
 use Rattle.ob0_reports.specs.ExpressionFaults.{told_expression}
 use Rattle.ob0_reports.specs.Operations.{Tells, right, ◌>>=◌}
 use Rattle.ob0_reports.specs.SoFar.{Typed, facts_at}
-use Rattle.ob0_reports.specs.SupposedFacts.{Gathers, operand_of, so_far_in}
+use Rattle.ob0_reports.specs.SupposedFacts.{operand_of, so_far_in}
 use Rattle.ob0_reports.specs.TypeFaults.{length_of, type_named}
 use Rattle.ob0_reports.specs.WrittenTypeFaults.{Gathered, array_made, gathered_behind, nothing_gathered, record_word, told_fields, told_groups, told_type}
 use Rattle.ob0_reports.specs.WrittenTypeFaults as spec
-use Rattle.ob0_reports.proofs.Chains.{chain_ends, steps, tells_known, tells_nothing, tells_same}
+use Rattle.ob0_reports.proofs.Chains.{chain_ends, steps, tells_nothing, tells_same}
 use Rattle.ob0_reports.proofs.GatheredFields.{gathers, groups_begin, groups_go_on}
 use Rattle.ob0_reports.proofs.SameFacts.{facts_same}
 use Rattle.ob0_reports.proofs.ToldDeclarations.{names_are}

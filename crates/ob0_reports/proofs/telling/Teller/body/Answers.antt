@@ -1,4 +1,4 @@
-use Rattle.std.proofs.Common.{◌≡◌, ◌++◌, false, refl, sym, ap, ◌∙◌}
+use Rattle.std.proofs.Common.{◌++◌, false, refl, sym, ap, ◌∙◌}
 use Rattle.std.proofs.lemmas.Result.{on_ok_weaker}
 use Rattle.ob0_tree.specs.View.{body_of, sequence_listed}
 use Rattle.ob0_reports.specs.DeclarationFaults.{told_body}

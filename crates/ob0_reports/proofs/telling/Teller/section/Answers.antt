@@ -17,7 +17,7 @@ returns c =
     let of = c.in_ok-of.of in
     let formal : formal.Formal = record { by_place = s.by_reference; of = of } in
     let behind : heading_in c.define_all.new.self c.add_formals.new.formals.items ≡ with_parameters h s.by_reference xs (record { of = of; behind = so_far_in c.written_type.new.self.supposed }) =
-        λ i. record { formals = (ap (map formal_of) c.in_ok-add_formals.ensures ∙ parameters_added old formal xs) i; behind = c.define_all.ensures i } in
+    λ i. record { formals = (ap (map formal_of) c.in_ok-add_formals.ensures ∙ parameters_added old formal xs) i; behind = c.define_all.ensures i } in
     tells_same
     (steps (λ u. right (with_parameters h s.by_reference xs u)) c.in_ok-of.ensures (tells_known c.written_type.new.self.faults.items behind))
     (sym (section_told h s.by_reference s.names (type_of s.written)))
