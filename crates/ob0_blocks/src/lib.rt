@@ -1,0 +1,4 @@
+//! Lowering of declarations, blocks and procedures.
+#![tactic(auto)]
+
+mod laws;
