@@ -320,6 +320,13 @@ impl<'t> Known<'t> {
         self.entries.len()
     }
 
+    /// The types that were made, in order: each is made of those before it.
+    pub fn shapes(&self) -> &[Shape<'t>]
+        ensures { result.now ≡ self.now.shapes }
+    {
+        self.shapes.as_slice()
+    }
+
     /// What a declaration is, where it is in sight.
     pub fn seen(&self, ordinal: usize) -> Option<&Object>
         ensures value { option_and_then (λ o. object_in (shapes_of self.now) o.now) result ≡ seen_in self.now ordinal }

@@ -1,0 +1,3 @@
+pub mod Layouts
+pub mod Scenes
+pub mod Means

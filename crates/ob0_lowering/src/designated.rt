@@ -1,0 +1,1 @@
+//! Expressions that are a designator alone.

@@ -1,0 +1,12 @@
+//! Lowering of designators, expressions and arguments.
+#![tactic(auto)]
+
+mod designated;
+mod lowered;
+mod lowering;
+mod scene;
+mod types;
+
+pub use lowered::{Located, Lowered};
+pub use scene::{Scene, Site};
+pub use types::Types;
