@@ -1,1 +1,3 @@
 pub mod Declared
+pub mod Placed
+pub mod Blocks
