@@ -21,7 +21,7 @@ use Rattle.ob0_checker.proofs.KeptProcedures.{bind_typed-append}
 use Rattle.ob0_typing.proofs.Literals.{some_inverse}
 use Rattle.ob0_typing.proofs.Proved.{fits_by_ordinal-holds}
 use Rattle.ob0_typing.proofs.TypesByOrdinal.{TypeNoted, TypedBelow, TypedBelow-weaken, typed_by_ordinal, typed_outermost, typed_scope}
-use Rattle.ob0_blocks.specs.Declared.{AreDeclared, BlockDeclared, ProceduresDeclared}
+use Rattle.ob0_blocks.specs.KnownBlocks.{AreDeclared, BlockDeclared, ProceduresDeclared}
 
 -- what an environment has, a list of bindings has too
 abbrev Stands : TypeEnvironment Label → TypeEnvironment Label → Type 0

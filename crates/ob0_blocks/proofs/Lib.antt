@@ -1,1 +1,3 @@
 pub mod DeclaredBlocks
+pub mod Placings
+pub mod Sights

@@ -9,7 +9,7 @@ use Rattle.ob0_machine.specs.View.{procedure_of, sequence_of}
 use Rattle.ob0_machine.specs.declared.code.Procedure.{Procedure}
 use Rattle.ob0_cells.specs.Activations.{BlockMeans, Placed, Placing, ProceduresMean}
 use Rattle.ob0_lowering.specs.declared.scene.Site.{Site}
-use Rattle.ob0_blocks.specs.Declared.{AreDeclared, BlockDeclared, ProceduresDeclared}
+use Rattle.ob0_blocks.specs.KnownBlocks.{AreDeclared, BlockDeclared, ProceduresDeclared}
 use Rattle.ob0_blocks.specs.Placed.{Follows, Holds, IsFrame, Matches, most, slots_at}
 use Rattle.ob0_blocks.specs.declared.lowering.Lowering.{Lowering}
 use Rattle.ob0_blocks.specs.declared.sight.Frame.{Frame}

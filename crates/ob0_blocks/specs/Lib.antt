@@ -1,3 +1,3 @@
-pub mod Declared
+pub mod KnownBlocks
 pub mod Placed
 pub mod Blocks

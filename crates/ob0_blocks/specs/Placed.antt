@@ -1,5 +1,5 @@
 -- Where the code's table has what is placed, and how the names of a block and of a heading are placed one by one.
-use Rattle.std.specs.Prelude.{◌≡◌, ℕ, zero, suc, ◌+◌, ◌≤◌, List, [], ◌∷◌, ◌++◌, length, if◌then◌else◌, ◌==◌, Some, None, Option, slice_get}
+use Rattle.std.specs.Prelude.{◌≡◌, ℕ, zero, suc, ◌+◌, ◌≤◌, Bool, true, false, List, [], ◌∷◌, ◌++◌, length, if◌then◌else◌, ◌==◌, Some, None, Option, slice_get}
 use Rattle.ob0_tree.specs.Tree.{Tree, declares_variable, end, further_section, items, more, then_section, variable}
 use Rattle.ob0_scope.specs.Names.{Label, as_labels, as_written, declared}
 use Rattle.ob0_scope.specs.Parts.{names_listed, section_names}
@@ -71,6 +71,14 @@ abbrev pub slots_at : ℕ → ℕ → Slot
 slots_at zero = of_module
 slots_at (suc depth) = held 0
 
+-- where the next variable of an activation is
+abbrev pub IsNextSite : Frame → Site → Type 0
+IsNextSite f s = (site_depth s ≤ f.depth) × (seen_from f.depth s ≡ in_slot (slots_at f.depth f.cells))
+
+abbrev pub mode_of : Bool → Mode
+mode_of true = by_place
+mode_of false = by_value
+
 -- names placed one by one, by their sizes
 abbrev pub place_one : (ℕ → Slot) → (Label → ℕ) → Mode → Label → Placed Label → Placed Label
 place_one at size_of by_value x p = record p { placing = (x, in_slot (at p.cells)) ∷ p.placing; cells = p.cells + size_of x }
@@ -113,6 +121,10 @@ pub record Follows (w v : Sight) : Type 0 where
   pub within : AllWithin (length v.sites.items) more
   pub longer : length w.sites.items ≤ length v.sites.items
   pub goes_back : (k : ℕ) → before_all more (site_at v.sites.items) k ≡ site_at w.sites.items k
+
+-- what was in sight is in sight again, and nothing more is hidden than was then
+abbrev pub GoesBack : Sight → Sight → Sight → Type 0
+GoesBack w u v = (v.hidden.items ≡ w.hidden.items) × ((k : ℕ) → site_at v.sites.items k ≡ site_at w.sites.items k) × (length v.sites.items ≡ length u.sites.items)
 
 -- an activation that is laid out so far, as it is placed
 pub record IsFrame (sites : List Site) (f : Frame) (p : Placed Label) : Type 0 where

@@ -29,6 +29,9 @@ pub(crate) struct Lowering {
 }
 
 impl Lowering {
+    ghost use Rattle.ob0_tree.specs.Tree.{Tree, items, procedure};
+    ghost use Rattle.ob0_scope.specs.Names.{Label};
+
     /// Keeps the code of a procedure at its index.
     fn keep(&mut self, index: usize, entry: code::Procedure)
         ensures procedures { self.new.procedures.items ≡ slice_set self.old.procedures.items index entry }

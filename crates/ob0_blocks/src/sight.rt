@@ -1,7 +1,8 @@
 //! Where declarations in sight are, and how the names of a block or of a heading are placed.
 
-ghost use Rattle.std.specs.Prelude.{◌≡◌, ◌≤◌, ℕ, IfOk, OnOk, length, slice_set};
+ghost use Rattle.std.specs.Prelude.{◌≡◌, ◌≤◌, ◌+◌, ℕ, suc, IfOk, OnOk, MatchOption, length, slice_set};
 ghost use Rattle.ob0_lowering.specs.Scenes.{site_at};
+ghost use Rattle.ob0_blocks.specs.Placed.{IsNextSite, most};
 
 use crate::ground::Ground;
 use ob0_lowering::Site;
@@ -66,12 +67,11 @@ impl Frame {
 }
 
 impl Sight {
-    ghost use Rattle.std.specs.Prelude.{Some, None};
+    ghost use Rattle.std.specs.Prelude.{Some};
     ghost use Rattle.ob0_tree.specs.View.{formals_of, items_of, further_section_of, names_of, variable_of, variables_of};
     ghost use Rattle.ob0_scope.specs.Parts.{formal_sections, names_listed, section_variables};
     ghost use Rattle.ob0_checker.specs.InLabels.{in_labels, label_in};
-    ghost use Rattle.ob0_scope.specs.Resolution.{ordinal_in};
-    ghost use Rattle.ob0_blocks.specs.Placed.{Follows, Places, declared_size, place_each, place_groups, place_one, place_sections, put_at, slots_at};
+    ghost use Rattle.ob0_blocks.specs.Placed.{Follows, GoesBack, Places, declared_size, mode_of, place_each, place_one, put_at, slots_at};
     ghost use Rattle.ob0_blocks.specs.Placed as placed;
 
     /// Nothing is in sight.
