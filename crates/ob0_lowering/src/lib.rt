@@ -4,6 +4,7 @@
 mod designated;
 mod lowered;
 mod lowering;
+mod operators;
 mod scene;
 mod types;
 
