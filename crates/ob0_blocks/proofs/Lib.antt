@@ -1,3 +1,4 @@
 pub mod DeclaredBlocks
 pub mod Placings
 pub mod Sights
+pub mod LoweredBlocks

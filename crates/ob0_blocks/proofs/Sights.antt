@@ -5,14 +5,22 @@ use Rattle.std.proofs.lemmas.Bool.{ne_eqb}
 use Rattle.std.proofs.lemmas.List.{append-nil, drop_all, drop_more, get_or-set_other, get_or-set_same, length-set}
 use Rattle.ob0_symbols.proofs.Sighted.{last_of}
 use Rattle.ob0_cells.specs.Activations.{Placed, Whereabouts, in_slot}
-use Rattle.ob0_cells.specs.Lowering.{held, lent, of_module}
+use Rattle.ob0_cells.specs.Lowering.{Slot, held, lent, of_module}
 use Rattle.ob0_lowering.specs.Scenes.{seen_from, site_at}
 use Rattle.ob0_lowering.specs.declared.scene.Site.{Site}
 use Rattle.ob0_lowering.specs.declared.scene.Site.TheVariants as site
+use Rattle.ob0_tree.specs.Tree.{Tree, further_section, items, more, then_section}
+use Rattle.ob0_tree.specs.View.{names_of, section_of}
+use Rattle.ob0_tree.specs.declared.tree.Section.{Section}
+use Rattle.ob0_checker.specs.InLabels.{in_labels}
+use Rattle.ob0_checker.proofs.Sections.{section-mode, section-names}
+use Rattle.ob0_scope.specs.Parts.{names_listed}
+use Rattle.ob0_scope.specs.Resolution.{Resolution}
+use Rattle.ob0_symbols.specs.Tables.{mode_of}
 use Rattle.ob0_scope.specs.Names.{Label, Name, as_names}
 use Rattle.ob0_scope.specs.Scopes.{as_label}
 use Rattle.ob0_typing.specs.WellTyped.{Mode, by_place, by_value}
-use Rattle.ob0_blocks.specs.Placed.{AllWithin, Follows, GoesBack, Holds, IsFrame, IsNextSite, Places, Tells, before_all, mode_of, most, place_one, put_at, put_site, slots_at}
+use Rattle.ob0_blocks.specs.Placed.{AllWithin, Follows, GoesBack, Holds, IsFrame, IsNextSite, Places, Tells, before_all, most, place_each, place_one, place_sections, put_at, put_site, slots_at}
 use Rattle.ob0_blocks.specs.declared.sight.Frame.{Frame}
 use Rattle.ob0_blocks.specs.declared.sight.Hidden.{Hidden}
 use Rattle.ob0_blocks.specs.declared.sight.Sight.{Sight}
@@ -207,10 +215,10 @@ pub record InPlaces {A : Type 0} (fold : List A → Placed Label → Placed Labe
 pub in_begins : {A : Type 0} (fold : List A → Placed Label → Placed Label) (xs : List A) (w : Sight) (f : Frame) → InPlaces fold xs w w f f 0
 in_begins fold xs w f = record { on = λ p h. (p, h, refl); follows = follows_itself w; depth = refl; more_cells = le_refl f.cells; few_cells = λ h. h }
 
-pub in_on : {A : Type 0} {fold : List A → Placed Label → Placed Label} {xs : List A} {w v : Sight} {f g : Frame} {done : ℕ} (step : A → Placed Label → Placed Label) (u : Sight) (h : Frame) (x : A)
-    → ((x : A) (xs : List A) (p : Placed Label) → fold (x ∷ xs) p ≡ fold xs (step x p)) → InPlaces fold xs w v f g done → done < length xs → x ≡ get_or xs done x → Places v u g (step x) h → InPlaces fold xs w u f h (done + 1)
-in_on {fold = fold} {xs = xs} {w = w} {v = v} {f = f} {g = g} {done = done} step u h x folds a less here b =
-    let cut : drop done xs ≡ x ∷ drop (done + 1) xs = drop_more xs done x less ∙ ap (λ y. y ∷ drop (done + 1) xs) (sym here) in
+pub in_on : {A : Type 0} {fold : List A → Placed Label → Placed Label} {xs : List A} {w v : Sight} {f g : Frame} {done : ℕ} (step : A → Placed Label → Placed Label) (u : Sight) (h : Frame) (x d : A)
+    → ((x : A) (xs : List A) (p : Placed Label) → fold (x ∷ xs) p ≡ fold xs (step x p)) → InPlaces fold xs w v f g done → done < length xs → x ≡ get_or xs done d → Places v u g (step x) h → InPlaces fold xs w u f h (done + 1)
+in_on {fold = fold} {xs = xs} {w = w} {v = v} {f = f} {g = g} {done = done} step u h x d folds a less here b =
+    let cut : drop done xs ≡ x ∷ drop (done + 1) xs = drop_more xs done d less ∙ ap (λ y. y ∷ drop (done + 1) xs) (sym here) in
     record {
       on = λ p is.
           let at = a.on p is in (step x at.0, b.placed at.0 at.1, sym (folds x (drop (done + 1) xs) at.0) ∙ ap (λ ys. fold ys at.0) (sym cut) ∙ at.2);
@@ -230,3 +238,12 @@ in_ends {fold = fold} {xs = xs} {v = v} {g = g} {done = done} ended a all = reco
   more_cells = a.more_cells;
   few_cells = a.few_cells;
 }
+
+-- a step of an activation as deep
+pub as_deep : (w v : Sight) (f g : Frame) (m n : ℕ) (step : ℕ → Placed Label → Placed Label) → m ≡ n → Places w v f (step m) g → Places w v f (step n) g
+as_deep w v f g m n step same a = subst (λ k. Places w v f (step k) g) same a
+
+-- the names of a section, by how it is written
+pub section_step : (r : Resolution) (at : ℕ → Slot) (size_of : Label → ℕ) (s : Section) (fs : Tree Label (items further_section)) (p : Placed Label)
+    → place_sections at size_of (more (then_section (in_labels r (section_of s))) fs) p ≡ place_sections at size_of fs (place_each at size_of (mode_of s.by_reference) (names_listed (in_labels r (names_of s.names))) p)
+section_step r at size_of s fs p = λ i. place_sections at size_of fs (place_each at size_of (section-mode r s i) (section-names r s i) p)

@@ -1,5 +1,5 @@
 -- Where the code's table has what is placed, and how the names of a block and of a heading are placed one by one.
-use Rattle.std.specs.Prelude.{◌≡◌, ℕ, zero, suc, ◌+◌, ◌≤◌, Bool, true, false, List, [], ◌∷◌, ◌++◌, length, if◌then◌else◌, ◌==◌, Some, None, Option, slice_get}
+use Rattle.std.specs.Prelude.{◌≡◌, ℕ, zero, suc, ◌+◌, ◌≤◌, List, [], ◌∷◌, ◌++◌, length, if◌then◌else◌, ◌==◌, Some, None, Option, slice_get}
 use Rattle.ob0_tree.specs.Tree.{Tree, declares_variable, end, further_section, items, more, then_section, variable}
 use Rattle.ob0_scope.specs.Names.{Label, as_labels, as_written, declared}
 use Rattle.ob0_scope.specs.Parts.{names_listed, section_names}
@@ -74,10 +74,6 @@ slots_at (suc depth) = held 0
 -- where the next variable of an activation is
 abbrev pub IsNextSite : Frame → Site → Type 0
 IsNextSite f s = (site_depth s ≤ f.depth) × (seen_from f.depth s ≡ in_slot (slots_at f.depth f.cells))
-
-abbrev pub mode_of : Bool → Mode
-mode_of true = by_place
-mode_of false = by_value
 
 -- names placed one by one, by their sizes
 abbrev pub place_one : (ℕ → Slot) → (Label → ℕ) → Mode → Label → Placed Label → Placed Label

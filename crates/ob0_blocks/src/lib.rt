@@ -6,4 +6,4 @@ mod laws;
 mod lowering;
 mod sight;
 
-pub use lowering::lower;
+pub use lowering::program;

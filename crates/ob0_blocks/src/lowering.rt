@@ -1,11 +1,15 @@
 //! Procedures, blocks, and the program of a module.
 
-ghost use Rattle.std.specs.Prelude.{◌≡◌, IfOk, OnOk, Some, slice_set};
+ghost use Rattle.std.specs.Prelude.{◌≡◌, ℕ, IfOk, OnOk, slice_set};
 ghost use Rattle.ob0_tree.specs.Tree.{more};
 ghost use Rattle.ob0_tree.specs.View.{block_of, procedure_of};
 ghost use Rattle.ob0_tree.specs.Parsed.{named_tree_of};
 ghost use Rattle.ob0_scope.specs.Names.{as_labels};
 ghost use Rattle.ob0_scope.specs.Scopes.{numbered};
+ghost use Rattle.ob0_scope.specs.Resolution.{IsResolution};
+ghost use Rattle.ob0_symbols.specs.KnownTables.{declared_in};
+ghost use Rattle.ob0_checker.specs.Bindings.{declared_object};
+ghost use Rattle.ob0_typing.specs.WellTyped.{WellTyped};
 ghost use Rattle.ob0_checker.specs.InLabels.{in_labels};
 ghost use Rattle.ob0_machine.specs.View.{program_of};
 ghost use Rattle.ob0_cells.specs.Activations.{ProgramMeans};
@@ -17,8 +21,9 @@ use crate::sight::{Frame, Sight};
 use ob0_bodies::body;
 use ob0_lowering::{Scene, Site, Types};
 use ob0_machine::code;
+use ob0_scope::Resolved;
+use ob0_symbols::Known;
 use ob0_tree::{Block, Procedure};
-use ob0_types::WellTyped;
 use std::alloc::{AllocError, Global};
 
 /// A module on its way to a program: where what is in sight is, and the procedures so far.
@@ -29,8 +34,14 @@ pub(crate) struct Lowering {
 }
 
 impl Lowering {
+    ghost use Rattle.std.specs.Prelude.{◌++◌, ◌∷◌, [], length};
     ghost use Rattle.ob0_tree.specs.Tree.{Tree, items, procedure};
     ghost use Rattle.ob0_scope.specs.Names.{Label};
+    ghost use Rattle.ob0_scope.specs.Resolution.{ordinal_in};
+    ghost use Rattle.ob0_lowering.specs.Scenes.{site_at};
+    ghost use Rattle.ob0_lowering.specs.declared.scene.Site.TheVariants.{Procedure};
+    ghost use Rattle.ob0_machine.specs.declared.code.Procedure as code;
+    ghost use Rattle.ob0_blocks.specs.Placed.{Follows, put_at};
 
     /// Keeps the code of a procedure at its index.
     fn keep(&mut self, index: usize, entry: code::Procedure)
@@ -43,10 +54,20 @@ impl Lowering {
     }
 
     /// A procedure's place in the program, which its name has from its heading on. Its code comes later.
-    fn announce(&mut self, ground: &Ground<'_, '_, '_>, depth: usize, p: &Procedure) -> Result<usize, AllocError>
+    fn announce(
+        &mut self,
+        ground: &Ground<'_, '_, '_>,
+        depth: usize,
+        name: usize,
+    ) -> Result<usize, AllocError>
+        ensures index { IfOk result (λ i. i ≡ length self.old.procedures.items) }
+        ensures sites { IfOk result (λ i. (k : ℕ) → site_at self.new.sight.sites.items k ≡ put_at (ordinal_in ground.now.resolved.now.ordinals name) (Procedure depth i) (site_at self.old.sight.sites.items) k) }
+        ensures follows { IfOk result (λ i. Follows self.old.sight self.new.sight) }
+        ensures pushed { IfOk result (λ i. (e : code.Procedure) × (self.new.procedures.items ≡ self.old.procedures.items ++ e ∷ [])) }
     {
         let index = self.procedures.len();
-        self.sight.bind(ground.resolved.ordinal_at(p.name), Site::Procedure(depth, index))?;
+        let ordinal = ground.resolved.ordinal_at(name);
+        self.sight.bind(ordinal, Site::Procedure(depth, index))?;
         self.procedures.push(code::Procedure {
             cells: 0,
             body: Vec::new(ground.alloc),
@@ -68,7 +89,7 @@ impl Lowering {
         let Some(inside) = depth.checked_add(1) else {
             return Err(AllocError);
         };
-        let index = self.announce(ground, depth, p)?;
+        let index = self.announce(ground, depth, p.name)?;
         let outside = self.sight.mark();
         let frame = Frame {
             depth: inside,
@@ -110,16 +131,20 @@ impl Lowering {
     }
 }
 
-/// The program of a well-typed module. A module one of whose activations would have 2^32 cells or more is out of memory.
+/// The program of a module, by what is known of its declarations. A module one of whose activations would have 2^32 cells or more
+/// is out of memory.
 ///
 /// # Errors
 ///
 /// Out of memory.
-pub fn lower(alloc: Global, checked: &WellTyped<'_, '_>) -> Result<code::Program, AllocError>
-    ensures { IfOk result (λ program. ProgramMeans most as_labels (numbered (named_tree_of checked.now.module_read)) (program_of program)) }
+pub fn program<'t>(
+    alloc: Global,
+    resolved: &Resolved<'t>,
+    known: &Known<'t>,
+) -> Result<code::Program, AllocError>
+    ensures { IfOk result (λ made. IsResolution resolved.now → WellTyped (named_tree_of resolved.now.module_read) → ((k : ℕ) → declared_in known.now k ≡ declared_object (named_tree_of resolved.now.module_read) k) → ProgramMeans most as_labels (numbered (named_tree_of resolved.now.module_read)) (program_of made)) }
 {
-    let resolved = checked.resolved();
-    let types = Types::new(alloc, checked.known())?;
+    let types = Types::new(alloc, known)?;
     let ground = Ground {
         alloc,
         resolved,

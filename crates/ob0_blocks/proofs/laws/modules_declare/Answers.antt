@@ -1,5 +1,3 @@
-use Rattle.ob0_blocks.proofs.Placings.{sees}
-use Rattle.ob0_blocks.proofs.Sights.{in_ends}
 use Rattle.ob0_blocks.proofs.DeclaredBlocks.{module-declared}
 use Rattle.ob0_blocks.proofs.laws.modules_declare.Goals as goal
 
