@@ -44,7 +44,7 @@ use Rattle.ob0_blocks.specs.declared.lowering.Lowering.{Lowering}
 use Rattle.ob0_blocks.specs.declared.sight.Frame.{Frame}
 use Rattle.ob0_blocks.specs.declared.sight.Sight.{Sight}
 use Rattle.ob0_blocks.proofs.DeclaredBlocks.{module-declared}
-use Rattle.ob0_blocks.proofs.Placings.{first_match, groups_match, groups_placed, holds_bound, holds_hidden, holds_inward, holds_same, holds_nowhere, matches_inward, parameters_match, sections_placed, sees, typed_before}
+use Rattle.ob0_blocks.proofs.Placings.{first_match, groups_match, groups_placed, holds_bound, holds_hidden, holds_inward, holds_same, matches_inward, parameters_match, sections_placed, sees, typed_before}
 use Rattle.ob0_blocks.proofs.Sights.{follows_back, follows_itself, follows_then}
 
 -- one after the other
@@ -193,7 +193,7 @@ procedure_goes t w v u after depth index o name fs b closing rest first f entry 
 
 body-fits : (env : TypeEnvironment Label) (k : ℕ) (statements : Tree Label (maybe body)) → procedures_fit as_labels env k statements end ≡ true → IsTrue (body_fits as_labels env statements)
 unfolding block_fits
-body-fits env k statements h = subst IsTrue (sym h) tt
+body-fits env k statements h = h
 
 pub block_lowers : (t : Tables) (w v : Lowering) (inside : Sight) (cs : Tree Label (maybe constants)) (ts : Tree Label (maybe type_names)) (vs : Tree Label (maybe variables)) (ps : Tree Label (items procedure)) (statements : Tree Label (maybe body)) (f own : Frame) (scene : Scene) (entry : Procedure)
     → Places w.sight inside f (place_groups (slots_at f.depth) (declared_size t) (section_variables vs)) own → Goes t (record { sight = inside; procedures = w.procedures }) v own.depth ps end

@@ -39,7 +39,7 @@ impl Lowering {
     ghost use Rattle.ob0_scope.specs.Names.{Label};
     ghost use Rattle.ob0_scope.specs.Resolution.{ordinal_in};
     ghost use Rattle.ob0_lowering.specs.Scenes.{site_at};
-    ghost use Rattle.ob0_lowering.specs.declared.scene.Site.TheVariants.{Procedure};
+    ghost use Rattle.ob0_lowering.specs.declared.scene.Site.TheVariants as site;
     ghost use Rattle.ob0_machine.specs.declared.code.Procedure as code;
     ghost use Rattle.ob0_blocks.specs.Placed.{Follows, put_at};
 
@@ -61,7 +61,7 @@ impl Lowering {
         name: usize,
     ) -> Result<usize, AllocError>
         ensures index { IfOk result (λ i. i ≡ length self.old.procedures.items) }
-        ensures sites { IfOk result (λ i. (k : ℕ) → site_at self.new.sight.sites.items k ≡ put_at (ordinal_in ground.now.resolved.now.ordinals name) (Procedure depth i) (site_at self.old.sight.sites.items) k) }
+        ensures sites { IfOk result (λ i. (k : ℕ) → site_at self.new.sight.sites.items k ≡ put_at (ordinal_in ground.now.resolved.now.ordinals name) (site.Procedure depth i) (site_at self.old.sight.sites.items) k) }
         ensures follows { IfOk result (λ i. Follows self.old.sight self.new.sight) }
         ensures pushed { IfOk result (λ i. (e : code.Procedure) × (self.new.procedures.items ≡ self.old.procedures.items ++ e ∷ [])) }
     {
