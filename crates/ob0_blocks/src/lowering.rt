@@ -6,7 +6,6 @@ ghost use Rattle.ob0_tree.specs.View.{block_of, procedure_of};
 ghost use Rattle.ob0_tree.specs.Parsed.{named_tree_of};
 ghost use Rattle.ob0_scope.specs.Names.{as_labels};
 ghost use Rattle.ob0_scope.specs.Scopes.{numbered};
-ghost use Rattle.ob0_scope.specs.Resolution.{IsResolution};
 ghost use Rattle.ob0_symbols.specs.KnownTables.{declared_in};
 ghost use Rattle.ob0_checker.specs.Bindings.{declared_object};
 ghost use Rattle.ob0_typing.specs.WellTyped.{WellTyped};
@@ -142,7 +141,7 @@ pub fn program<'t>(
     resolved: &Resolved<'t>,
     known: &Known<'t>,
 ) -> Result<code::Program, AllocError>
-    ensures { IfOk result (λ made. IsResolution resolved.now → WellTyped (named_tree_of resolved.now.module_read) → ((k : ℕ) → declared_in known.now k ≡ declared_object (named_tree_of resolved.now.module_read) k) → ProgramMeans most as_labels (numbered (named_tree_of resolved.now.module_read)) (program_of made)) }
+    ensures { IfOk result (λ made. WellTyped (named_tree_of resolved.now.module_read) → ((k : ℕ) → declared_in known.now k ≡ declared_object (named_tree_of resolved.now.module_read) k) → ProgramMeans most as_labels (numbered (named_tree_of resolved.now.module_read)) (program_of made)) }
 {
     let types = Types::new(alloc, known)?;
     let ground = Ground {
