@@ -1,30 +1,30 @@
 -- Code that is made in a loop, from the front: with the code of what is left, what was made so far is the code of the whole.
 use Rattle.std.proofs.Common.{◌≡◌, ℕ, ◌+◌, ◌<◌, ◌≤◌, List, [], ◌∷◌, ◌++◌, length, get_or, drop, Some, None, Option, option_map, option_to_list, refl, sym, ap, ◌∙◌, subst}
 use Rattle.std.proofs.lemmas.List.{drop_all, drop_more}
-use Rattle.ob0_tree.specs.Tree.{Tree, branches, else_part, expression, maybe, more, sequence, statement, then_statement}
+use Rattle.std.specs.declared.alloc.Global.{Global}
+use Rattle.std.specs.declared.vec.Vec.{Vec}
+use Rattle.ob0_tree.specs.Tree.{Tree, branches, else_part, expression, maybe, more, none, sequence, statement, then_statement}
 use Rattle.ob0_tree.specs.View as view
-use Rattle.ob0_tree.specs.View.{elsif_of, expression_of, further_statement_of, items_of, sequence_listed}
+use Rattle.ob0_tree.specs.View.{else_in, elsif_of, expression_of, further_statement_of, items_of, sequence_listed}
 use Rattle.ob0_tree.specs.declared.tree.Elsif.{Elsif}
 use Rattle.ob0_tree.specs.declared.tree.Statement.{Statement}
 use Rattle.ob0_scope.specs.Names.{Label}
 use Rattle.ob0_scope.specs.Resolution.{Resolution}
 use Rattle.ob0_checker.specs.InLabels.{in_labels}
 use Rattle.ob0_machine.specs.declared.code.Branch as branch
+use Rattle.ob0_machine.specs.declared.code.If.{out-roll-If, roll-If}
 use Rattle.ob0_machine.specs.declared.code.Statement as code
 use Rattle.ob0_machine.specs.Lowered as lowered
-use Rattle.ob0_machine.specs.View.{all_branches, sequence_of, statement_of, truth_of}
+use Rattle.ob0_machine.specs.View.{all_branches, branches_in, if_of, sequence_of, statement_of, truth_of}
+use Rattle.ob0_machine.proofs.Viewed.{if_made}
 use Rattle.ob0_lowering.specs.declared.scene.Scene.{Scene}
 use Rattle.ob0_bodies.specs.LoweredBodies.{CodeLowers, ConditionLowers, ElseLowers, ElsifsLower, FurtherLower, SequenceLowers, StatementLowers}
-use Rattle.ob0_bodies.proofs.InScene.{branches-lower, elsif-lowers, empty-alone, empty-more, from-first, no-elsif, none-left, one-more}
+use Rattle.ob0_bodies.proofs.InScene.{branches-lower, else-lowers, elsif-lowers, empty-alone, empty-more, from-first, no-else, no-elsif, none-left, one-more}
 
 -- statements, with code behind them
 abbrev pub joined : List code.Statement → lowered.Statements → lowered.Statements
 joined [] cs = cs
 joined (s ∷ ss) cs = lowered.before (statement_of s) (joined ss cs)
-
-joined-last : (ss : List code.Statement) (s : code.Statement) (cs : lowered.Statements) → joined (ss ++ s ∷ []) cs ≡ joined ss (lowered.before (statement_of s) cs)
-joined-last [] s cs = refl
-joined-last (x ∷ ss) s cs = ap (lowered.before (statement_of x)) (joined-last ss s cs)
 
 joined-alone : (ss : List code.Statement) → joined ss lowered.no_statement ≡ sequence_of ss
 joined-alone [] = refl
@@ -111,3 +111,22 @@ branches_end {scene = scene} {r = r} {e = e} {a = a} {parts = parts} {n = n} {ma
     let P : List Elsif → Type 0 = λ left. ElsifsLower scene lowered.no_branch otherwise (in_labels r (items_of elsif_of left)) last in
     let Q : lowered.Branches → Type 0 = λ code. StatementLowers scene (lowered.chooses code otherwise) (branches e a (in_labels r (items_of elsif_of parts)) last) in
     subst Q (all_joined-alone made) (f.so_far lowered.no_branch otherwise last (subst P (sym (drop_all n parts all)) (no-elsif scene last otherwise h)))
+
+-- ELSE, where there is one
+pub none_otherwise : (scene : Scene) (r : Resolution) (o : Option (Vec Statement Global)) (made : List code.Statement) → o ≡ None → made ≡ [] → ElseLowers scene (sequence_of made) (in_labels r (else_in o))
+none_otherwise scene r o made none_there none_made =
+    let P : Option (Vec Statement Global) → Type 0 = λ o. ElseLowers scene (sequence_of made) (in_labels r (else_in o)) in
+    let Q : List code.Statement → Type 0 = λ made. ElseLowers scene (sequence_of made) none in
+    subst P (sym none_there) (subst Q (sym none_made) (no-else scene))
+
+pub some_otherwise : (scene : Scene) (r : Resolution) (o : Option (Vec Statement Global)) (ss : Vec Statement Global) (made : List code.Statement) → o ≡ Some ss → SequenceLowers scene (sequence_of made) (in_labels r (sequence_listed ss.items)) → ElseLowers scene (sequence_of made) (in_labels r (else_in o))
+some_otherwise scene r o ss made there h =
+    let P : Option (Vec Statement Global) → Type 0 = λ o. ElseLowers scene (sequence_of made) (in_labels r (else_in o)) in
+    subst P (sym there) (else-lowers scene (in_labels r (sequence_listed ss.items)) (sequence_of made) h)
+
+-- IF, made of its branches
+pub if_rolled : (x : _) → if_of (roll-If x) ≡ lowered.chooses (all_branches x.branches.items) (sequence_of x.otherwise.items)
+if_rolled x =
+    let e = out-roll-If x in
+    let parts : branches_in (roll-If x) ≡ lowered.chooses (all_branches x.branches.items) (sequence_of x.otherwise.items) = λ k. lowered.chooses (all_branches (e k).branches.items) (sequence_of (e k).otherwise.items) in
+    if_made (roll-If x) ∙ parts
