@@ -16,19 +16,16 @@ use Rattle.ob0_machine.specs.declared.code.Truth.{Truth}
 use Rattle.ob0_cells.specs.Cells.{size}
 use Rattle.ob0_cells.specs.LoweredStatements.{ArgumentMeans, IsAt, Target}
 use Rattle.ob0_cells.specs.Lowering.{Evaluated, NumberMeans, PlaceMeans, Slot, TruthMeans, ValueAt, place_of_designator, worth}
+use Rattle.ob0_lowering.specs.Codes.{CodeMeans}
 use Rattle.ob0_lowering.specs.Scenes.{Sees}
+use Rattle.ob0_lowering.specs.Trees.{code_of}
 use Rattle.ob0_lowering.specs.declared.lowered.Located.{Located}
 use Rattle.ob0_lowering.specs.declared.lowered.Lowered.{Lowered}
-use Rattle.ob0_lowering.specs.declared.lowered.Lowered.TheVariants as code
 use Rattle.ob0_lowering.specs.declared.scene.Scene.{Scene}
 
--- the code of an expression of a type: a number, a truth, or the cells of an array or a record
+-- the code of an expression of a type
 abbrev pub Means : Typed Label → (Label → Slot) → Lowered → Shape → Evaluated Label Value → Type 0
-Means checked slots (code.Number n) integer_shape value = NumberMeans checked slots (number_of n) value
-Means checked slots (code.Truth t) boolean_shape value = TruthMeans checked slots (truth_of t) value
-Means checked slots (code.Block q n) (array_shape k m s) value = (n ≡ size (array_shape k m s)) × ValueAt checked slots (place_of q) (array_shape k m s) value
-Means checked slots (code.Block q n) (record_shape k fs) value = (n ≡ size (record_shape k fs)) × ValueAt checked slots (place_of q) (record_shape k fs) value
-Means checked slots _ _ value = ⊥
+Means checked slots l s value = CodeMeans checked slots (code_of l) s value
 
 -- whatever a scene is right for
 abbrev pub WhereSeen : Scene → (Typed Label → (Label → Slot) → Type 0) → Type 0

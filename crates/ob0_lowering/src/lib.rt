@@ -1,9 +1,10 @@
 //! Lowering of designators, expressions and arguments.
 #![tactic(auto)]
 
-mod designated;
+mod expressions;
 mod lowered;
 mod lowering;
+mod operators;
 mod scene;
 mod types;
 
