@@ -6,7 +6,7 @@ use Rattle.ob0_tree.specs.declared.tree.Expression.{Expression}
 use Rattle.ob0_scope.specs.Names.{Label}
 use Rattle.ob0_checker.specs.InLabels.{in_labels, label_in}
 use Rattle.ob0_typing.specs.Typing.{type_of}
-use Rattle.ob0_typing.specs.WellTyped.{Typed, agree, statement_fits, variable_type}
+use Rattle.ob0_typing.specs.WellTyped.{Typed, statement_fits, variable_type}
 use Rattle.ob0_values.specs.Values.{Shape, array_shape, boolean_shape, integer_shape, record_shape}
 use Rattle.ob0_semantics.proofs.SoundStatements.{agree-true}
 use Rattle.ob0_machine.specs.declared.code.Number.{Number}
@@ -20,7 +20,6 @@ use Rattle.ob0_cells.specs.Lowering.{PlaceMeans, Slot, ValueAt, place_of_designa
 use Rattle.ob0_cells.proofs.StatementsLowered.{assignments_lower-holds}
 use Rattle.ob0_lowering.specs.Means.{Locates, Lowers, Means}
 use Rattle.ob0_lowering.specs.declared.lowered.Located.{Located}
-use Rattle.ob0_lowering.specs.declared.lowered.Lowered.{Lowered}
 use Rattle.ob0_lowering.specs.declared.lowered.Lowered.TheVariants as code
 use Rattle.ob0_lowering.specs.declared.scene.Scene.{Scene}
 use Rattle.ob0_bodies.specs.LoweredBodies.{StatementLowers}

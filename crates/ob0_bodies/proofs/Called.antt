@@ -1,5 +1,5 @@
 -- Calls, by what their names stand for, and their arguments.
-use Rattle.std.proofs.Common.{◌≡◌, ℕ, ◌+◌, ◌<◌, min, true, false, ◌&&◌, List, [], ◌∷◌, ◌++◌, length, get_or, drop, map, slice_get, Some, None, Option, option_map, option_and_then, refl, sym, ap, ◌∙◌, subst, append-nil, length-drop, arith}
+use Rattle.std.proofs.Common.{◌≡◌, ℕ, ◌+◌, ◌<◌, min, true, false, List, [], ◌∷◌, ◌++◌, length, get_or, drop, map, slice_get, Some, None, Option, refl, sym, ap, ◌∙◌, subst, append-nil, length-drop, arith}
 use Rattle.std.proofs.lemmas.List.{drop_more}
 use Rattle.std.specs.declared.alloc.Global.{Global}
 use Rattle.std.specs.declared.vec.Vec.{Vec}
@@ -17,7 +17,7 @@ use Rattle.ob0_checker.proofs.FittingStatements.{all_listed}
 use Rattle.ob0_typing.specs.Arguments.{arguments_listed}
 use Rattle.ob0_typing.specs.Expressions.{Object, a_procedure, a_standard, reads, writes, writes_line}
 use Rattle.ob0_typing.specs.Typing.{designated, type_of}
-use Rattle.ob0_typing.specs.WellTyped.{Formal, Signature, Typed, agree, argument_fits, arguments_fit, by_place, by_value, call_fits, signature_of, statement_fits, variable_type}
+use Rattle.ob0_typing.specs.WellTyped.{Formal, Signature, Typed, argument_fits, arguments_fit, by_place, by_value, call_fits, signature_of, statement_fits, variable_type}
 use Rattle.ob0_values.specs.Values.{Shape, integer_shape}
 use Rattle.ob0_semantics.proofs.SoundStatements.{agree-true, both_true}
 use Rattle.ob0_machine.specs.declared.code.Argument as argument

@@ -1,5 +1,5 @@
 -- What statements mean in a scene, production by production.
-use Rattle.std.proofs.Common.{◌≡◌, ◌&&◌, true, List, [], ◌∷◌, ◌++◌, Some, None, Option, refl, sym, ap, ◌∙◌, subst}
+use Rattle.std.proofs.Common.{◌≡◌, ◌&&◌, true, Some, sym, ap, ◌∙◌}
 use Rattle.ob0_tree.specs.Tree.{Tree, begins, branches, else_branch, else_part, elsif_branch, elsif_part, empty, end, expression, further_statement, items, maybe, more, none, one, repeat_loop, runs, sequence, statement, then_statement, while_loop}
 use Rattle.ob0_tree.specs.View.{expression_of}
 use Rattle.ob0_tree.specs.declared.tree.Expression.{Expression}
@@ -18,7 +18,7 @@ use Rattle.ob0_cells.specs.Activations.{slots_in, targets_in}
 use Rattle.ob0_cells.proofs.StatementsLowered.{branches_lower-holds, elses_lower-holds, loops_lower-holds, sequences_end-holds, sequences_lower-holds}
 use Rattle.ob0_lowering.specs.Means.{LowersTruth}
 use Rattle.ob0_lowering.specs.declared.scene.Scene.{Scene}
-use Rattle.ob0_bodies.specs.LoweredBodies.{BodyLowers, CodeLowers, ConditionLowers, ElseLowers, ElsifsLower, FurtherLower, SequenceLowers, StatementLowers}
+use Rattle.ob0_bodies.specs.LoweredBodies.{BodyLowers, ConditionLowers, ElseLowers, ElsifsLower, FurtherLower, SequenceLowers, StatementLowers}
 
 module _ (scene : Scene) where
   -- sequences, from the front

@@ -63,10 +63,7 @@ fn statement(
         Statement::Repeat(r) => {
             let body = sequence(alloc, scene, &r.body)?;
             let condition = scene.truth(alloc, &r.condition)?;
-            Ok(Some(code::Statement::Repeat(code::Repeat {
-                body,
-                condition,
-            })))
+            Ok(Some(code::Statement::Repeat(code::Repeat { body, condition })))
         }
     }
 }
@@ -90,11 +87,7 @@ fn sequence(
 
 /// The code of IF with its ELSIF and ELSE parts.
 #[cycle(statements)]
-fn branches(
-    alloc: Global,
-    scene: &Scene<'_, '_, '_>,
-    i: &If,
-) -> Result<code::Statement, AllocError>
+fn branches(alloc: Global, scene: &Scene<'_, '_, '_>, i: &If) -> Result<code::Statement, AllocError>
     ensures { IfOk result (λ made. StatementLowers scene.now (statement_of made) (in_labels scene.now.resolved.now (if_of i.now))) }
 {
     let mut branches = Vec::new(alloc);

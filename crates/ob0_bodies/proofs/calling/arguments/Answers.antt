@@ -1,4 +1,4 @@
-use Rattle.std.proofs.Common.{List, None, Some, Option, map, sym, subst}
+use Rattle.std.proofs.Common.{List, None, Option, map, sym, subst}
 use Rattle.std.proofs.lemmas.Result.{MatchResult-weaker}
 use Rattle.std.specs.declared.alloc.Global.{Global}
 use Rattle.std.specs.declared.vec.Vec.{Vec}

@@ -1,4 +1,4 @@
-use Rattle.std.proofs.Common.{Some, Option, sym, ap, subst}
+use Rattle.std.proofs.Common.{Option, sym, ap, subst}
 use Rattle.std.proofs.lemmas.Result.{MatchResult-weaker}
 use Rattle.std.specs.declared.alloc.Global.{Global}
 use Rattle.std.specs.declared.vec.Vec.{Vec}
