@@ -1,7 +1,7 @@
 //! Lowering of designators, expressions and arguments.
 #![tactic(auto)]
 
-mod designated;
+mod expressions;
 mod lowered;
 mod lowering;
 mod operators;

@@ -1,1 +1,0 @@
-//! Expressions that are a designator alone.
