@@ -66,7 +66,7 @@ noted-declared all n (b ∷ noted) below st = (
     b.ordinal,
     refl,
     st b.ordinal b.object
-    (newest-if (b.ordinal == b.ordinal) (declared b.ordinal) b.object (typed_by_ordinal noted) (from_binding as_labels (typed_by_ordinal noted) (declared b.ordinal)) ∙ ap (λ t. cond t (Some b.object) (object_bound (typed_by_ordinal noted) b.ordinal)) (eq-eqb b.ordinal b.ordinal refl)),
+        (newest-if (b.ordinal == b.ordinal) (declared b.ordinal) b.object (typed_by_ordinal noted) (from_binding as_labels (typed_by_ordinal noted) (declared b.ordinal)) ∙ ap (λ t. cond t (Some b.object) (object_bound (typed_by_ordinal noted) b.ordinal)) (eq-eqb b.ordinal b.ordinal refl)),
   ),
   noted-declared all b.ordinal noted below.1 (tail-stands all b.ordinal b.object noted below.1 st),
 )
@@ -103,9 +103,9 @@ mutual
       let same : parts.0 ≡ inner' = some_inverse (sym parts.1 ∙ given) in (
         subst (AreDeclared (object_bound all)) (sym o.reads ∙ same) (noted-declared all kp o.last o.below inner),
         subst (λ e. ProceduresDeclared (object_bound all) e jv (block_procedures b')) same
-        (subst (λ e. e) (λ i. ProceduresDeclared (object_bound all) (sym o.reads i) jv (relabel_procedures as_names (as_label as_names) (o.scoped i) kp ps))
-        (procedures-declared known' o.last jv kp (o.others.knows o.constants.known_after o.constants.knows) o.below all inner (block_statements b') ps fits
-        (λ d l m. each d (omega (arith, l, first)) m ∙ bound-first k kp d P own own_binds (λ a z. omega (arith, l, z))))),
+            (subst (λ e. e) (λ i. ProceduresDeclared (object_bound all) (sym o.reads i) jv (relabel_procedures as_names (as_label as_names) (o.scoped i) kp ps))
+            (procedures-declared known' o.last jv kp (o.others.knows o.constants.known_after o.constants.knows) o.below all inner (block_statements b') ps fits
+            (λ d l m. each d (omega (arith, l, first)) m ∙ bound-first k kp d P own own_binds (λ a z. omega (arith, l, z))))),
       )
 
   procedures-declared : (known : Known) (noted : TypeNoted Name) (j k : ℕ) → Knows known noted → TypedBelow k noted → (all : TypeEnvironment Label) → Stands all (typed_by_ordinal noted) → (statements : Tree Label (maybe body)) (ps : Tree Name (items procedure))
@@ -154,15 +154,14 @@ mutual
       let behind : Stands all (typed_by_ordinal e.own) = subst (Stands all) (sym e.headed)
       (stands-grown all env top k (suc k) (omega arith) st (noted-binds k noted below) ((k, refl, le_refl k, le_refl (suc k)), tt) each_top) in
       let same : qs ≡ qs' = some_inverse (sym f.typed ∙ typed) in
-      subst (λ ps. AreDeclared (object_bound all) (bind_typed ps (heading (declared k) ps env)) × BlockDeclared (object_bound all) (bind_typed ps (heading (declared k) ps env)) jb b' × ProceduresDeclared (object_bound all) (heading (declared k) ps env) jr rest') same
-      (
+      subst (λ ps. AreDeclared (object_bound all) (bind_typed ps (heading (declared k) ps env)) × BlockDeclared (object_bound all) (bind_typed ps (heading (declared k) ps env)) jb b' × ProceduresDeclared (object_bound all) (heading (declared k) ps env) jr rest') same (
         subst (AreDeclared (object_bound all)) e.opened (noted-declared all m e.inner e.below inner),
         subst (λ z. z) (λ i. BlockDeclared (object_bound all) (e.opened i) jb (relabel_block as_names (as_label as_names) (e.scoped i) m b))
-        (block-declared (bind_names xs no_constant ((x, no_constant) ∷ known)) e.inner jb m e.knows e.below all inner b inside_fits
-        (λ d l u. each d (omega (arith, l, above)) (omega (arith, u, last)) ∙ bound-elsewhere q n d R (B ++ H) later.binds (λ a z. omega (arith, a, u)) ∙ bound-first k m d B H e.binds (λ a z. omega (arith, l, z)))),
+            (block-declared (bind_names xs no_constant ((x, no_constant) ∷ known)) e.inner jb m e.knows e.below all inner b inside_fits
+            (λ d l u. each d (omega (arith, l, above)) (omega (arith, u, last)) ∙ bound-elsewhere q n d R (B ++ H) later.binds (λ a z. omega (arith, a, u)) ∙ bound-first k m d B H e.binds (λ a z. omega (arith, l, z)))),
         subst (λ z. z) (λ i. ProceduresDeclared (object_bound all) (e.headed i) jr (relabel_procedures as_names (as_label as_names) (e.own_scope i) q rest))
-        (procedures-declared ((x, no_constant) ∷ known) e.own jr q e.own_knows later_below all behind statements rest later_fits
-        (λ d l u. each d (omega (arith, l, inside, above)) u ∙ bound-first k q d R (B ++ H) one_binds (λ a z. omega (arith, l, z)))),
+            (procedures-declared ((x, no_constant) ∷ known) e.own jr q e.own_knows later_below all behind statements rest later_fits
+            (λ d l u. each d (omega (arith, l, inside, above)) u ∙ bound-first k q d R (B ++ H) one_binds (λ a z. omega (arith, l, z)))),
       )
 
 -- all that a well-typed module binds

@@ -179,8 +179,8 @@ procedure_goes t w v u after depth index o name fs b closing rest first f entry 
               parts.typed,
               later index entry (omega (arith, is.index_is)) (kept-entry w.procedures.items v.procedures.items u.procedures.items after.procedures.items index entry kept),
               subst (λ at. BlockMeans table most as_labels at (bind_typed ps headed) (entered_placing ps outer) (s.next + formals_constructors (formal_sections fs)) entry.cells (sequence_of entry.body.items) b) slots
-              (block_is.means (bind_typed ps headed) (entered_placing ps outer) (s.next + formals_constructors (formal_sections fs)) inner_matches entered (places.few_cells (subst (λ n. n ≤ most) (sym (ap (λ (z : Frame). z.cells) is.first_is)) few)) parts.block_right known.1
-              table (kept-later table w.procedures.items v.procedures.items u.procedures.items after.procedures.items index entry kept later)),
+                  (block_is.means (bind_typed ps headed) (entered_placing ps outer) (s.next + formals_constructors (formal_sections fs)) inner_matches entered (places.few_cells (subst (λ n. n ≤ most) (sym (ap (λ (z : Frame). z.cells) is.first_is)) few)) parts.block_right known.1
+                  table (kept-later table w.procedures.items v.procedures.items u.procedures.items after.procedures.items index entry kept later)),
               means,
             ),
           );

@@ -107,8 +107,7 @@ same_declared (as_written n) k h = absurd (true≢false (sym h))
 declared_found : (objects : Objects) (env : TypeEnvironment Label) → AreDeclared objects env → (x : Label) (o : Object Shape Signature) → newest (from_binding as_labels env x) ≡ Some o → (k : ℕ) × (x ≡ declared k) × (objects k ≡ Some o)
 declared_found objects [] a x o h = absurd (cc)
 declared_found objects (b ∷ env) a x o h =
-    (elim (same_label x b.0) as (λ t. same_label x b.0 ≡ t → newest (elim t [ true ↦ b ∷ env | false ↦ from_binding as_labels env x ]) ≡ Some o → (k : ℕ) × (x ≡ declared k) × (objects k ≡ Some o))
-    [
+    (elim (same_label x b.0) as (λ t. same_label x b.0 ≡ t → newest (elim t [ true ↦ b ∷ env | false ↦ from_binding as_labels env x ]) ≡ Some o → (k : ℕ) × (x ≡ declared k) × (objects k ≡ Some o)) [
       | true ↦ λ is e. (a.0.0, same_declared x a.0.0 (sym (ap (same_label x) a.0.1) ∙ is), a.0.2 ∙ e)
       | false ↦ λ is e. declared_found objects env a.1 x o e
     ]) refl h
