@@ -1,9 +1,10 @@
 //! Code actions on request: a constant is inlined, here or everywhere.
 
-ghost use Rattle.std.specs.Prelude.{◌≡◌, [], ◌∷◌, IfOk, OnOk, map, string_bytes};
+ghost use Rattle.std.specs.Prelude.{◌≡◌, [], ◌∷◌, ◌++◌, ◌&&◌, false, is_some, IfOk, OnOk, map, string_bytes};
 ghost use Rattle.std.specs.List.{list_any};
 ghost use Rattle.std.specs.Str.{chars};
 ghost use Rattle.serde_json.specs.Data.{Data, array, no_items};
+ghost use Rattle.serde_json.specs.Written.{comma_if};
 ghost use Rattle.ob0_rpc.specs.Appending.{AppendsEach};
 ghost use Rattle.ob0_rpc.specs.Seen.{id_data, kinds_seen};
 ghost use Rattle.ob0_rpc.specs.Shapes.{result_message};
@@ -194,10 +195,7 @@ impl<'a> Written for Actions<'a> {
     fn write(&self, out: &mut Vec<u8>) -> Result<(), AllocError> {
         write_piece(out, b"[")?;
         write_offered(out, self.request, Inlining::Here, &self.found.here)?;
-        write_comma(
-            out,
-            self.found.here.is_some() && self.found.everywhere.is_some(),
-        )?;
+        write_between(out, self.found)?;
         write_offered(
             out,
             self.request,
@@ -206,6 +204,14 @@ impl<'a> Written for Actions<'a> {
         )?;
         write_piece(out, b"]")
     }
+}
+
+/// Writes a comma where both are offered.
+fn write_between(out: &mut Vec<u8>, found: &Inlinings) -> Result<(), AllocError>
+    ensures { OnOk result (out.new.items ≡ out.old.items ++ comma_if (is_some found.now.here && is_some found.now.everywhere)) }
+{
+    let both = found.here.is_some() && found.everywhere.is_some();
+    write_comma(out, both)
 }
 
 /// The actions, inlining here before inlining everywhere.

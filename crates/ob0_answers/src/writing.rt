@@ -1,6 +1,6 @@
 //! Places and edits, written as text one after another.
 
-ghost use Rattle.std.specs.Prelude.{◌≡◌, OnOk, codes, map};
+ghost use Rattle.std.specs.Prelude.{◌≡◌, false, OnOk, codes, map};
 ghost use Rattle.serde_json.specs.Data.{array, item, member, no_items, no_members, object};
 ghost use Rattle.serde_json.specs.View.{items_of};
 ghost use Rattle.ob0_rpc.specs.Appending.{Appends, AppendsEach};
