@@ -260,8 +260,10 @@ def keystroke():
 
 @measure("serve: 10,000 changes in one note, on 100 KB")
 def changed_often():
-    for name, on_line in (("on many lines", False), ("on one line", True)):
-        text = corpus.module(100_000, on_line=on_line)
+    comment = "(* " + "то же самое, " * 3_000 + "*) "
+    texts = {"on many lines": corpus.module(100_000), "on one line": corpus.module(100_000, on_line=True)}
+    texts["on one line, most of it Cyrillic"] = comment + corpus.module(30_000, on_line=True)
+    for name, text in texts.items():
         for count in (1_000, 10_000):
             with Talk(text) as talk:
                 said(f"{name}, {count:,} changes: seconds to the diagnostics", f"{talk.after(letters_at(text, count))[0]:.3f}")

@@ -6,7 +6,7 @@ import sys
 import failing
 import harness
 import hostile
-from harness import EXIT, SHUTDOWN, TOP, did_change, did_open, frames, holds, initialize, same, serve, test
+from harness import EXIT, SHUTDOWN, TOP, did_change, did_open, frame, frames, holds, initialize, same, serve, test
 from test_stream import BORDERS, INPUT, OUT, OUTPUT
 
 sys.path.insert(0, os.path.join(TOP, "bench"))
@@ -93,6 +93,13 @@ def failing_calls():
 def short_calls():
     counts = [failing.shortened(name, *it[:3]) for name, it in {**hostile.SHORT, **hostile.LONG}.items()]
     holds(any(counts), "nothing of several bytes was read or written")
+
+
+@test("devices: pieces of 8,192 bytes are read")
+def pieces():
+    given = frame(b"[" + b" " * 99998 + b"]")
+    # (a piece a call, the call that finds the end, and the one that writes the answer)
+    same(failing.undisturbed(SERVE, given).calls["calls"], -(-len(given) // 8192) + 2, "the reads and writes of a message of 100,000 bytes")
 
 
 @test("devices: an input that fails at each byte of what a run reads")

@@ -9,7 +9,8 @@ use Rattle.ob0_typing.specs.Expressions.{Object, a_constant, a_procedure, a_stan
 use Rattle.ob0_typing.specs.WellTyped.{Signature, TypeEnvironment, TypedParameter, bind_typed, block_fits, heading, procedure_fits, signature_of, typed_parameters}
 use Rattle.ob0_values.specs.Values.{Place, Shape, Store}
 use Rattle.ob0_semantics.specs.Fitting.{ArgumentsFit, BindingFits, EnvironmentsFit, StoreFits, StoreTyping}
-use Rattle.ob0_semantics.specs.Runs.{Activation, Argument, Code, Frame, Progress, State, activate, bind_parameters, call, declare_block, execute_body, give_up, in_frame, running, statement_meanings, stopped}
+use Rattle.ob0_semantics.specs.GivenUp.{call_giving_up, give_up}
+use Rattle.ob0_semantics.specs.Runs.{Activation, Argument, Code, Frame, Progress, State, activate, bind_parameters, declare_block, execute_body, in_frame, running, statement_meanings, stopped}
 use Rattle.ob0_semantics.proofs.SoundCalls.{from-fit, names-fit, parameters-of_typed, some-inverse}
 use Rattle.ob0_machine.specs.Evaluation.{Level, Levels}
 use Rattle.ob0_machine.specs.Execution as execution
@@ -48,7 +49,7 @@ give_up-represents typing now others old base (execution.stopped x out) (running
 
 module _ {N : Type 0} (table : List lowered.Procedure) (most : ℕ) (naming : Naming N) where
   abbrev pub body_of : ℕ → ℕ → StoreTyping → Levels → Activation N → Body N
-  body_of c t typing ls active = record { typing = typing; active = statement_meanings naming active; levels = ls; enters = call naming c t active; lowered_enters = execution.call table c t }
+  body_of c t typing ls active = record { typing = typing; active = statement_meanings naming active; levels = ls; enters = call_giving_up naming c t active; lowered_enters = execution.call table c t }
 
   -- what is known of calls of which c more may be open
   abbrev pub CallsKnown : ℕ → ℕ → Type 0
@@ -58,7 +59,7 @@ module _ {N : Type 0} (table : List lowered.Procedure) (most : ℕ) (naming : Na
 
   pub body-represents : (c t : ℕ) → CallsKnown c t → (typing : StoreTyping) (ls : Levels) (checked : TypeEnvironment N) (placing : Placing N) (active : Activation N) → EnvironmentsFit naming typing checked active → PlacingFits table most naming typing ls checked placing active → sizes typing + c * most < 2 ^ 64
       → (code : lowered.Statements) (statements : Tree N (maybe body)) → BodyMeans naming checked placing code statements → (low : execution.State) (s : State) → Represents typing low s
-      → ProgressRepresents typing (execution.execute_all (execution.call table c t) t ls code low) (execute_body naming active (call naming c t active) t statements s)
+      → ProgressRepresents typing (execution.execute_all (execution.call table c t) t ls code low) (execute_body naming active (call_giving_up naming c t active) t statements s)
   unfolding execution.execute execute_body
   body-represents c t known typing ls checked placing active env placed few code none means low s h = subst (λ code. ProgressRepresents typing (execution.execute_all (execution.call table c t) t ls code low) (running s)) (sym means) h
   body-represents c t known typing ls checked placing active env placed few code (one (begins statements)) means low s h =
@@ -72,7 +73,7 @@ module _ {N : Type 0} (table : List lowered.Procedure) (most : ℕ) (naming : Na
   pub activate-represents : (c t : ℕ) → CallsKnown c t → (typing : StoreTyping) (ls : Levels) (checked : TypeEnvironment N) (placing : Placing N) (active : Activation N) (signature : Signature) (args : List Argument) (low : execution.State) (s : State) (p : execution.Passed)
       → EnvironmentsFit naming typing checked active → PlacingFits table most naming typing ls checked placing active → sizes typing + suc c * most < 2 ^ 64 → newest checked ≡ Some (a_procedure signature) → Represents typing low s → ArgumentsFit typing signature args
       → p.cells ≡ low.cells ++ argument_cells args → p.addresses ≡ argument_addresses typing args → HaveNumbers p.cells
-      → ProgressRepresents typing (execution.call table (suc c) t (first_target placing).procedure (execution.entered ls (length low.cells) (first_target placing).up p) record low { cells = p.cells }) (activate naming (call naming c t) t active args s)
+      → ProgressRepresents typing (execution.call table (suc c) t (first_target placing).procedure (execution.entered ls (length low.cells) (first_target placing).up p) record low { cells = p.cells }) (give_up (length s.store) (activate naming (call_giving_up naming c t) t active args s))
   unfolding execution.call activate block_fits
   activate-represents c t known typing ls [] placing active signature args low s p env placed few e h fit cells there numbers = absurd (cc)
   activate-represents c t known typing ls (b ∷ checked) [] [] signature args low s p env placed few e h fit cells there numbers = absurd env
@@ -83,7 +84,7 @@ module _ {N : Type 0} (table : List lowered.Procedure) (most : ℕ) (naming : Na
       of_text : (tg : Target) (outer : Placing N) (entry : lowered.Procedure) (j : ℕ) (text : Tree N (item procedure)) (ps : List (TypedParameter N)) → PlacingFits table most naming typing (drop tg.up ls) checked outer active → typed_parameters naming checked j (procedure_formals text) ≡ Some ps
           → slice_get table tg.procedure ≡ Some entry → signature ≡ map (λ p. p.formal) ps → procedure_fits naming (bind_typed ps (heading x ps checked)) j text ≡ true
           → ProcedureMeans table most naming (bind_typed ps (heading x ps checked)) (entered_placing ps ((x, own_target tg.procedure) ∷ outer)) j entry text
-          → ProgressRepresents typing (execution.call table (suc c) t tg.procedure (execution.entered ls (length low.cells) tg.up p) record low { cells = p.cells }) (activate naming (call naming c t) t ((y, a_procedure record { first_constructor = j; text = text }) ∷ active) args s)
+          → ProgressRepresents typing (execution.call table (suc c) t tg.procedure (execution.entered ls (length low.cells) tg.up p) record low { cells = p.cells }) (give_up (length s.store) (activate naming (call_giving_up naming c t) t ((y, a_procedure record { first_constructor = j; text = text }) ∷ active) args s))
       of_text tg outer entry j (declares_procedure q fs b closing) ps inside eps et sig fits means =
           let text : Tree N (item procedure) = declares_procedure q fs b closing in
           let l : Level = record { base = length low.cells; addresses = p.addresses } in
@@ -113,13 +114,13 @@ module _ {N : Type 0} (table : List lowered.Procedure) (most : ℕ) (naming : Na
           } in
           let does = body-represents c t known rest.typing_now (l ∷ seen) after q₂.placing k.env rest.frame.environment_fits rest.frame.placing_fits room entry.body (block_statements b) body_means low₂ s₂ represents in
           let grown : rest.typing_now ≡ typing ++ (part.others ++ rest.others) = rest.is_grown ∙ (ap (λ l. l ++ rest.others) part.is_grown ∙ append_assoc typing part.others rest.others) in
-          let gives_up = give_up-represents typing rest.typing_now (part.others ++ rest.others) s.store l.base (execution.execute_all (execution.call table c t) t (l ∷ seen) entry.body low₂) (execute_body naming k.env (call naming c t k.env) t (block_statements b) s₂) grown h.store_fits (ap length h.same_cells) does in
+          let gives_up = give_up-represents typing rest.typing_now (part.others ++ rest.others) s.store l.base (execution.execute_all (execution.call table c t) t (l ∷ seen) entry.body low₂) (execute_body naming k.env (call_giving_up naming c t k.env) t (block_statements b) s₂) grown h.store_fits (ap length h.same_cells) does in
           let frames = ap (λ l. option_and_then (declare_block naming (j + formals_constructors (formal_sections fs)) b) (bind_parameters l args f)) (parameters-of_typed naming checked j (formal_sections fs) ps eps) ∙ (ap (option_and_then (declare_block naming (j + formals_constructors (formal_sections fs)) b)) eg ∙ ek) in
-          subst (λ o. ProgressRepresents typing (execution.give_up l.base (execution.activate (execution.call table c t) t (l ∷ seen) o record low { cells = p.cells })) (activate naming (call naming c t) t ((y, a_procedure record { first_constructor = j; text = text }) ∷ active) args s)) (sym et)
-          (subst (λ frame. ProgressRepresents typing (execution.give_up l.base (execution.execute_all (execution.call table c t) t (l ∷ seen) entry.body low₂)) (give_up (length s.store) (in_frame s frame (λ f. execute_body naming f.env (call naming c t f.env) t (block_statements b))))) (sym frames) gives_up)
+          subst (λ o. ProgressRepresents typing (execution.give_up l.base (execution.activate (execution.call table c t) t (l ∷ seen) o record low { cells = p.cells })) (give_up (length s.store) (activate naming (call_giving_up naming c t) t ((y, a_procedure record { first_constructor = j; text = text }) ∷ active) args s))) (sym et)
+          (subst (λ frame. ProgressRepresents typing (execution.give_up l.base (execution.execute_all (execution.call table c t) t (l ∷ seen) entry.body low₂)) (give_up (length s.store) (in_frame s frame (λ f. execute_body naming f.env (call_giving_up naming c t f.env) t (block_statements b))))) (sym frames) gives_up)
 
       of_objects : (o : Object Shape Signature) (w : Whereabouts) (r : Object Place (Code N)) → BindingFits naming typing checked x o r → IsPlaced table most naming typing ls checked (λ ls placing. PlacingFits table most naming typing ls checked placing active) x o w r → o ≡ a_procedure signature
-          → ProgressRepresents typing (execution.call table (suc c) t (target_of w).procedure (execution.entered ls (length low.cells) (target_of w).up p) record low { cells = p.cells }) (activate naming (call naming c t) t ((y, r) ∷ active) args s)
+          → ProgressRepresents typing (execution.call table (suc c) t (target_of w).procedure (execution.entered ls (length low.cells) (target_of w).up p) record low { cells = p.cells }) (give_up (length s.store) (activate naming (call_giving_up naming c t) t ((y, r) ∷ active) args s))
       of_objects (a_procedure sg) (at_target tg) (a_procedure code) bound at e =
           let (ps, eps, sig, fits) = bound in
           let (outer, inside, qs, entry, eqs, et, means) = at in
@@ -133,7 +134,7 @@ module _ {N : Type 0} (table : List lowered.Procedure) (most : ℕ) (naming : Na
       of_objects (a_procedure q) _ _ bound at e = absurd at
 
   pub calls-known : (c t : ℕ) → CallsKnown c t
-  unfolding call execution.call
+  unfolding call_giving_up execution.call
   calls-known zero t typing ls checked placing active env placed few x signature e args low s p h fit cells there numbers = (refl, h.same_output)
   calls-known (suc c) t typing ls checked placing active env placed few x signature e args low s p h fit cells there numbers =
       activate-represents c t (calls-known c t) typing ls (from_binding naming checked x) (from_name naming placing x) (from_binding naming active x) signature args low s p (from-fit naming typing checked active x env) (from-placed table most naming typing ls checked placing active x placed) few e h fit cells there numbers

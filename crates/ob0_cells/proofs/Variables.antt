@@ -3,7 +3,7 @@ use Rattle.std.proofs.Common.{◌≡◌, ℕ, zero, suc, ◌+◌, ◌*◌, List,
 use Rattle.std.proofs.lemmas.List.{replicate-append-replicate, take_at}
 use Rattle.ob0_values.specs.Values.{FieldShapes, Shape, Store, Value, array_shape, boolean_shape, copies, initial, initial_members, integer_shape, next_field_shape, no_field_shape, record_shape}
 use Rattle.ob0_semantics.specs.Fitting.{StoreFits, StoreTyping, shape_at_path}
-use Rattle.ob0_semantics.proofs.SoundCalls.{cut-fits, initial-fits, last-shape, store-appends}
+use Rattle.ob0_semantics.proofs.SoundCalls.{initial-fits, last-shape, store-appends}
 use Rattle.ob0_cells.specs.CellLaws.{InitialCellsAreZero, VariablesAreAdded, VariablesAreGivenUp}
 use Rattle.ob0_cells.specs.Cells.{all_cells, cells_of, element_cells, field_sizes, member_cells, offset, size, sizes}
 use Rattle.ob0_cells.proofs.Places.{store-size}
@@ -52,6 +52,13 @@ variables_are_added-holds typing store s v h hv =
       ap (option_and_then (shape_at_path [])) e,
       omega (arith, b, o),
     )
+
+pub cut-fits : (typing others : StoreTyping) (old new : Store) → StoreFits typing old → StoreFits (typing ++ others) new → StoreFits typing (take (length old) new)
+cut-fits [] others [] new h k = tt
+cut-fits [] others (v ∷ old) new h k = absurd h
+cut-fits (t ∷ typing) others [] new h k = absurd h
+cut-fits (t ∷ typing) others (v ∷ old) [] h k = absurd k
+cut-fits (t ∷ typing) others (v ∷ old) (w ∷ new) h k = (k.0, cut-fits typing others old new h.1 k.1)
 
 pub cut-split : (typing others : StoreTyping) (old new : Store) → StoreFits typing old → StoreFits (typing ++ others) new → (rest : Store) × (new ≡ take (length old) new ++ rest)
 cut-split [] others [] new h k = (new, refl)

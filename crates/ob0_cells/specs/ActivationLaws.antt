@@ -1,4 +1,4 @@
--- Calls of lowered procedures do what calls of the module's do.
+-- Calls of lowered procedures do what calls of the module's do that give up their variables; runs are the same runs.
 use Rattle.std.specs.Prelude.{◌≡◌, ℕ, suc, ◌+◌, ◌*◌, ◌<◌, ◌^◌, List, map, ℤ}
 use Rattle.ob0_tree.specs.Tree.{Tree, module_text}
 use Rattle.ob0_scope.specs.Names.{Label, Name, as_labels}
@@ -6,7 +6,8 @@ use Rattle.ob0_scope.specs.Scopes.{numbered}
 use Rattle.ob0_typing.specs.Environments.{meanings}
 use Rattle.ob0_typing.specs.WellTyped.{TypeEnvironment, WellTyped}
 use Rattle.ob0_semantics.specs.Fitting.{EnvironmentsFit, StoreTyping}
-use Rattle.ob0_semantics.specs.Runs.{Activation, Run, call, run, statement_meanings}
+use Rattle.ob0_semantics.specs.GivenUp.{call_giving_up}
+use Rattle.ob0_semantics.specs.Runs.{Activation, Run, run, statement_meanings}
 use Rattle.ob0_machine.specs.Evaluation.{Levels}
 use Rattle.ob0_machine.specs.Execution as execution
 use Rattle.ob0_machine.specs.Lowered as lowered
@@ -15,12 +16,13 @@ use Rattle.ob0_cells.specs.Cells.{sizes}
 use Rattle.ob0_cells.specs.LoweredStatements.{CallsRepresent, HaveNumbers, written_of}
 use Rattle.ob0_cells.specs.Lowering.{end_of}
 
--- with so many calls left to open, each of at most so many cells, as many as have addresses
+-- with so many calls left to open, each of at most so many cells, as many as have addresses; a call that returns gives its cells up,
+-- as one of the module's that gives up its variables
 abbrev pub CallsLowered : Type 0
 CallsLowered =
     (table : List lowered.Procedure) (most c t : ℕ) (typing : StoreTyping) (ls : Levels) (checked : TypeEnvironment Label) (placing : Placing Label) (active : Activation Label)
     → EnvironmentsFit as_labels typing checked active → PlacingFits table most as_labels typing ls checked placing active → sizes typing + c * most < 2 ^ 64
-    → CallsRepresent (meanings as_labels checked) (targets_in as_labels placing) record { typing = typing; active = statement_meanings as_labels active; levels = ls; enters = call as_labels c t active; lowered_enters = execution.call table c t }
+    → CallsRepresent (meanings as_labels checked) (targets_in as_labels placing) record { typing = typing; active = statement_meanings as_labels active; levels = ls; enters = call_giving_up as_labels c t active; lowered_enters = execution.call table c t }
 
 -- a run of lowered code as one of the module
 abbrev pub run_of : execution.Run → Run

@@ -1,10 +1,10 @@
 -- The fields of a record, gathered from its first group on, are those that its text denotes.
-use Rattle.std.proofs.Common.{◌≡◌, ℕ, suc, ◌+◌, ◌<◌, ◌≤◌, List, [], ◌∷◌, ◌++◌, All, map, length, get_or, drop, Option, Some, None, option_and_then, option_map, refl, sym, ap, ◌∙◌, subst, arith, append_assoc, append-nil, add-zero, zero-add, add_assoc}
+use Rattle.std.proofs.Common.{◌≡◌, ℕ, suc, ◌+◌, ◌<◌, ◌≤◌, List, [], ◌∷◌, ◌++◌, All, map, length, get_or, drop, Option, Some, None, option_and_then, option_map, unwrap_or, refl, sym, ap, ◌∙◌, subst, arith, append_assoc, append-nil, add-zero, zero-add, add_assoc}
 use Rattle.std.proofs.lemmas.List.{drop_all, drop_more}
 use Rattle.ob0_tree.specs.declared.tree.FieldList.{FieldList}
 use Rattle.ob0_tree.specs.declared.tree.Fields as group
 use Rattle.ob0_tree.specs.declared.tree.Names as tree_names
-use Rattle.ob0_tree.specs.Tree.{Tree, array_type, end, fields, further_fields, further_name, items, mapped, more, named_type, names, no_fields, record_type, some_fields, then_fields, then_name, written_type}
+use Rattle.ob0_tree.specs.Tree.{Tree, array_type, end, fields, further_fields, further_name, items, listed, mapped, more, named_type, names, no_fields, record_type, some_fields, then_fields, then_name, written_type}
 use Rattle.ob0_tree.specs.View.{fields_of, further_fields_of_group, items_of, names_of, record_listed, type_of}
 use Rattle.ob0_tree.specs.Places.{value_at}
 use Rattle.ob0_scope.specs.Names.{Label, label_text}
@@ -16,8 +16,9 @@ use Rattle.ob0_checker.specs.DenotedTables.{AreAdded, Grown, fields_named, joine
 use Rattle.ob0_checker.specs.InLabels.{in_labels, label_in}
 use Rattle.ob0_symbols.specs.KnownTables.{Tables, known_meaning, shapes_of}
 use Rattle.ob0_symbols.specs.Tables.{IsMade, fields_shape, type_shape}
-use Rattle.ob0_typing.specs.Typing.{constructors, denoted, denoted_group, denoted_groups, group_constructors, groups_constructors, with_fields, within_limits}
+use Rattle.ob0_typing.specs.Typing.{constructors, denoted, denoted_group, denoted_groups, depth, field_depth, group_constructors, groups_constructors, with_fields, within_limits}
 use Rattle.ob0_typing.specs.WellTyped.{Typed}
+use Rattle.ob0_typing.proofs.TypedElsewhere.{then_some}
 use Rattle.ob0_checker.proofs.Added.{joined-assoc, joined-nothing}
 use Rattle.ob0_checker.proofs.Judged.{then-assoc}
 use Rattle.ob0_symbols.proofs.Tables.{IsMade-more, fields_shape-more, length-table}
@@ -53,7 +54,7 @@ names-labels r ns = ap (λ xs. label_in r ns.first ∷ xs) (further_names-labels
 
 -- labels are as many as tokens
 mutual
-  constructors-mapped : (f : ℕ → Label) (g : ℕ → ℕ) (t : Tree ℕ written_type) → constructors (mapped f g t) ≡ constructors t
+  pub constructors-mapped : (f : ℕ → Label) (g : ℕ → ℕ) (t : Tree ℕ written_type) → constructors (mapped f g t) ≡ constructors t
   constructors-mapped f g (named_type x) = refl
   constructors-mapped f g (array_type e t) = ap suc (constructors-mapped f g t)
   constructors-mapped f g (record_type fs rest) = λ i. suc (group_constructors-mapped f g fs i + groups_constructors-mapped f g rest i)
@@ -72,9 +73,16 @@ behind-fields : (xs : List _) (s : Shape) (d : Option Shape) (o : Option FieldSh
 behind-fields xs s d None h = refl
 behind-fields xs s d (Some later) h = ap (option_and_then (λ s. Some (with_fields xs s later))) h ∙ ap Some (with_fields-joined xs s later)
 
-behind-nothing : (xs : List _) (d : Option Shape) (o : Option FieldShapes) → d ≡ None → option_and_then (λ later. option_and_then (λ s. Some (with_fields xs s later)) d) o ≡ None
-behind-nothing xs d None h = refl
-behind-nothing xs d (Some later) h = ap (option_and_then (λ s. Some (with_fields xs s later))) h
+some-is : {A : Type 0} (a b : A) → Some a ≡ Some b → a ≡ b
+some-is a b e = ap (λ o. unwrap_or o a) e
+
+mapped-some : {A B : Type 0} (f : A → B) (o : Option A) (y : B) → option_map f o ≡ Some y → (x : A) × (o ≡ Some x) × (f x ≡ y)
+mapped-some f None y h = absurd (cc)
+mapped-some f (Some x) y h = (x, refl, some-is (f x) y h)
+
+joined-deep : (a b : FieldShapes) → field_depth b ≤ field_depth (joined a b)
+joined-deep no_field_shape b = omega arith
+joined-deep (next_field_shape x s a) b = let later = joined-deep a b in omega arith
 
 module _ (m : Typed Label) where
   group-denoted : (k : ℕ) (ns : Tree Label names) (t : Tree Label written_type) (rest : Tree Label (items further_fields)) (s : Shape) → denoted m k t ≡ Some s
@@ -82,10 +90,14 @@ module _ (m : Typed Label) where
   unfolding denoted
   group-denoted k ns t rest s h = behind-fields (map m.written (names_listed ns)) s (denoted m k t) (denoted_groups m (k + constructors t) rest) h
 
-  group-undenoted : (k : ℕ) (ns : Tree Label names) (t : Tree Label written_type) (rest : Tree Label (items further_fields)) → denoted m k t ≡ None
-      → denoted_groups m k (more (then_fields (some_fields ns t)) rest) ≡ None
+  group-deep : (k : ℕ) (x : Label) (xs : Tree Label (items further_name)) (t : Tree Label written_type) (rest : Tree Label (items further_fields)) (fs : FieldShapes)
+      → denoted_groups m k (more (then_fields (some_fields (listed x xs) t)) rest) ≡ Some fs → (s : Shape) × (denoted m k t ≡ Some s) × (depth s ≤ field_depth fs)
   unfolding denoted
-  group-undenoted k ns t rest h = behind-nothing (map m.written (names_listed ns)) (denoted m k t) (denoted_groups m (k + constructors t) rest) h
+  group-deep k x xs t rest fs h =
+      let names = map m.written (names_listed (listed x xs)) in
+      let (later, is_later, h₁) = then_some (denoted_groups m (k + constructors t) rest) (λ later. option_and_then (λ s. Some (with_fields names s later)) (denoted m k t)) fs h in
+      let (s, is_s, h₂) = then_some (denoted m k t) (λ s. Some (with_fields names s later)) fs h₁ in
+      (s, is_s, subst (λ z. depth s ≤ field_depth z) (some-is (with_fields names s later) fs h₂) (omega arith))
 
   nothing-left : (k : ℕ) → denoted_groups m k end ≡ Some no_field_shape
   unfolding denoted
@@ -191,20 +203,22 @@ module _ {r : Resolution} {before now : Tables} {k : ℕ} {gs : List group.Field
             ∙ h.counted;
       }
 
-  -- a group that denotes nothing leaves the record without a type
-  pub gathered_fails : Gathered r before now k gs done behind found → done < length gs → g ≡ get_or gs done g
-      → None ≡ denoted (known_meaning now) behind (in_labels r (type_of list.written)) → denoted_groups (known_meaning before) k (in_labels r (items_of further_fields_of_group gs)) ≡ None
-  gathered_fails h less here none =
+  -- where all the fields denote something, so does the type of a group, and it is no deeper than they are
+  pub gathered_deep : Gathered r before now k gs done behind found → done < length gs → g ≡ get_or gs done g → (all : FieldShapes) → denoted_groups (known_meaning before) k (in_labels r (items_of further_fields_of_group gs)) ≡ Some all
+      → (s : Shape) × (denoted (known_meaning now) behind (in_labels r (type_of list.written)) ≡ Some s) × (depth s ≤ field_depth all)
+  gathered_deep h less here all is_all =
       let split : drop done gs ≡ group.Listed list ∷ drop (done + 1) gs = left_at gs done g less here ∙ ap (λ y. y ∷ drop (done + 1) gs) is in
       let m = known_meaning before in
       let left = in_labels r (items_of further_fields_of_group (drop (done + 1) gs)) in
-      let ns = in_labels r (names_of list.names) in
       let text = in_labels r (type_of list.written) in
       let so_far = fields_shape (shapes_of now) found in
-      let denotes : denoted m behind text ≡ None = sym (none ∙ ap (λ z. denoted z behind text) h.grown.meaning) in
-      sym h.value
-      ∙ ap (λ xs. option_map (joined so_far) (denoted_groups m behind (in_labels r (items_of further_fields_of_group xs)))) split
-      ∙ ap (option_map (joined so_far)) (group-undenoted m behind ns text left denotes)
+      let x = label_in r list.names.first in
+      let xs = in_labels r (items_of then_name list.names.more.items) in
+      let whole : option_map (joined so_far) (denoted_groups m behind (more (then_fields (some_fields (listed x xs) text)) left)) ≡ Some all =
+      sym (ap (λ ys. option_map (joined so_far) (denoted_groups m behind (in_labels r (items_of further_fields_of_group ys)))) split) ∙ h.value ∙ is_all in
+      let rest = mapped-some (joined so_far) (denoted_groups m behind (more (then_fields (some_fields (listed x xs) text)) left)) all whole in
+      let one = group-deep m behind x xs text left rest.0 rest.1 in
+      (one.0, ap (λ z. denoted z behind text) h.grown.meaning ∙ one.1, subst (λ z. depth one.0 ≤ field_depth z) rest.2 (omega (arith, one.2, joined-deep so_far rest.0)))
 
 pub gathered_ends : {r : Resolution} {before now : Tables} {k : ℕ} {gs : List group.Fields} {done behind : ℕ} {found : List Field}
     → Gathered r before now k gs done behind found → length gs ≤ done → Some (fields_shape (shapes_of now) found) ≡ denoted_groups (known_meaning before) k (in_labels r (items_of further_fields_of_group gs))

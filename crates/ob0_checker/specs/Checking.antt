@@ -25,7 +25,7 @@ abbrev pub Keeps : TypeEnvironment Label → Tables → Type 0
 Keeps all t = (k : ℕ) → newest (from_binding as_labels all (declared k)) ≡ declared_in t k
 
 -- A module on its way through the checker: what is known, the bindings by which it came in sight, and the ordinal of the
--- next ARRAY or RECORD.
+-- next ARRAY or RECORD, which is how many have made a type.
 pub record Walking : Type 0 where
   pub resolved : Resolution
   pub known : Tables

@@ -1,17 +1,16 @@
 -- What the checker makes of a type's text: a type in its table, which has grown by shapes alone.
-use Rattle.std.specs.Prelude.{◌≡◌, ℕ, ◌+◌, ◌≤◌, List, ◌++◌, map, length, All, IfSome, Option, option_map}
+use Rattle.std.specs.Prelude.{◌≡◌, ℕ, ◌+◌, ◌<◌, ◌≤◌, List, ◌++◌, map, length, All, IfSome, Option, Some, None}
 use Rattle.ob0_tree.specs.declared.tree.ArrayType.{ArrayType}
 use Rattle.ob0_tree.specs.Tree.{Tree, array_type, written_type}
 use Rattle.ob0_tree.specs.View.{expression_of, type_of}
 use Rattle.ob0_scope.specs.Names.{label_text}
 use Rattle.ob0_scope.specs.Resolution.{Resolution}
-use Rattle.ob0_checker.specs.declared.denoting.Denoted.{Denoted}
 use Rattle.ob0_symbols.specs.declared.known.Field.{Field}
 use Rattle.ob0_symbols.specs.declared.types.TypeId.{TypeId}
 use Rattle.ob0_checker.specs.InLabels.{in_labels, label_in}
 use Rattle.ob0_symbols.specs.KnownTables.{Tables, known_meaning, shapes_of}
 use Rattle.ob0_symbols.specs.Tables.{IsMade, fields_shape, type_shape}
-use Rattle.ob0_typing.specs.Typing.{constructors, denoted, with_fields}
+use Rattle.ob0_typing.specs.Typing.{constructors, denoted, depth, with_fields}
 use Rattle.ob0_values.specs.Values.{FieldShapes, Shape, next_field_shape, no_field_shape}
 
 -- a table with more shapes, and as before but for them: names stand for what they stood for
@@ -21,12 +20,19 @@ pub record Grown (before after : Tables) : Type 0 where
   pub longer : length before.shapes ≤ length after.shapes
   pub meaning : known_meaning after ≡ known_meaning before
 
--- the type that a text denotes by the table before stands in the table after, and the text's ARRAY and RECORD are counted
-pub record Denotes (r : Resolution) (before after : Tables) (k : ℕ) (t : Tree ℕ written_type) (found : Option Denoted) : Type 0 where
+-- What was found for a text with n ARRAY and RECORD that stands in others: the type that it denotes. None where it denotes
+-- none, or where its own are past the greatest depth together with those around them.
+abbrev pub IsFound : List Shape → ℕ → ℕ → Option Shape → Option TypeId → Type 0
+IsFound shapes around n denotes (Some of) = denotes ≡ Some (type_shape shapes of)
+IsFound shapes around n denotes None = (s : Shape) → denotes ≡ Some s → (0 < n) × (100 < depth s + around)
+
+-- The type that a text denotes by the table before stands in the table after, and each ARRAY and RECORD of the text made one.
+-- Those before the text have made theirs, but for those around it: so many is the ordinal of the text's first.
+pub record Denotes (r : Resolution) (before after : Tables) (around : ℕ) (t : Tree ℕ written_type) (found : Option TypeId) : Type 0 where
   pub grown : Grown before after
-  pub value : option_map (λ d. type_shape (shapes_of after) d.of) found ≡ denoted (known_meaning before) k (in_labels r t)
-  pub made : IfSome found (λ d. IsMade (length after.shapes) d.of)
-  pub next : IfSome found (λ d. d.next ≡ k + constructors t)
+  pub value : IsFound (shapes_of after) around (constructors t) (denoted (known_meaning before) (length before.shapes + around) (in_labels r t)) found
+  pub made : IfSome found (λ of. IsMade (length after.shapes) of)
+  pub counted : IfSome found (λ of. length after.shapes ≡ length before.shapes + constructors t)
 
 abbrev pub array_in : ArrayType → Tree ℕ written_type
 array_in a = array_type (expression_of a.size) (type_of a.element.value)

@@ -1,7 +1,7 @@
 //! The types that texts of types denote. Each ARRAY and RECORD makes a type of its own, told from the others by its
-//! ordinal in the text of the module.
+//! ordinal in the text of the module: those before it have made theirs, but for those around it.
 
-ghost use Rattle.std.specs.Prelude.{◌≡◌, ◌+◌, ◌≤◌, ◌++◌, ◌∷◌, List, IfOk, IfSome, OnOk, length, option_and_then, option_map};
+ghost use Rattle.std.specs.Prelude.{◌≡◌, ℕ, ◌+◌, ◌<◌, ◌≤◌, ◌++◌, ◌∷◌, List, IfOk, IfSome, MatchOption, OnOk, length, option_and_then, option_map};
 ghost use Rattle.ob0_tree.specs.Tree.{named_type};
 ghost use Rattle.ob0_tree.specs.View.{expression_of, record_in, type_of};
 ghost use Rattle.ob0_checker.specs.DenotedTables.{AreAdded, Denotes, array_in};
@@ -14,17 +14,10 @@ ghost use Rattle.ob0_values.specs.Values.{Shape};
 
 use crate::names::Names;
 use ob0_scope::Resolved;
-use ob0_symbols::{Field, Known, MOST_SCALARS, TypeId};
+use ob0_symbols::{Field, Known, MOST_DEPTH, MOST_SCALARS, TypeId};
 use ob0_tree::{ArrayType, FieldList, Fields, RecordType, WrittenType};
 use ob0_values::Scalar;
 use std::alloc::{AllocError, Global};
-
-/// A type, and the ordinal of the next ARRAY or RECORD behind its text.
-#[derive(Clone, Copy)]
-pub struct Denoted {
-    pub of: TypeId,
-    pub next: usize,
-}
 
 /// The length of an array, from 1 to 65,536.
 pub fn array_length(value: Scalar) -> Option<usize>
@@ -46,61 +39,63 @@ pub fn array_length(value: Scalar) -> Option<usize>
     }
 }
 
-/// The type that a text denotes, where all in it fits; `next` is the ordinal of its first ARRAY or RECORD. After an
-/// error the table isn't to be used.
+/// The type that a text denotes, where all in it fits. After an error the table isn't to be used.
 pub(crate) fn denote<'t>(
     alloc: Global,
     known: &mut Known<'t>,
     resolved: &Resolved<'t>,
-    next: usize,
     t: &WrittenType,
-) -> Result<Option<Denoted>, AllocError>
-    ensures value { IfOk result (λ r. option_map (λ d. type_shape (shapes_of known.new) d.of) r ≡ denoted (known_meaning known.old) next (in_labels resolved.now (type_of t.now))) }
-    ensures made { IfOk result (λ r. IfSome r (λ d. IsMade (length known.new.shapes) d.of)) }
-    ensures next { IfOk result (λ r. IfSome r (λ d. d.next ≡ next + constructors (type_of t.now))) }
+) -> Result<Option<TypeId>, AllocError>
+    ensures value { IfOk result (λ r. option_map (type_shape (shapes_of known.new)) r ≡ denoted (known_meaning known.old) (length known.old.shapes) (in_labels resolved.now (type_of t.now))) }
+    ensures made { IfOk result (λ r. IfSome r (IsMade (length known.new.shapes))) }
+    ensures counted { IfOk result (λ r. IfSome r (λ of. length known.new.shapes ≡ length known.old.shapes + constructors (type_of t.now))) }
     ensures entries { OnOk result (known.new.entries ≡ known.old.entries) }
     ensures shapes { OnOk result ((later : List Shape) × (shapes_of known.new ≡ shapes_of known.old ++ later)) }
     ensures longer { OnOk result (length known.old.shapes ≤ length known.new.shapes) }
     ensures meaning { OnOk result (known_meaning known.new ≡ known_meaning known.old) }
 {
-    let found = denote_text(alloc, known, resolved, next, t)?;
+    let found = denote_text(alloc, known, resolved, 0, t)?;
     Ok(found)
 }
 
+/// The same for a text that stands in so many ARRAY and RECORD. None, too, where it is too deep in them.
 #[cycle(denoting)]
 fn denote_text<'t>(
     alloc: Global,
     known: &mut Known<'t>,
     resolved: &Resolved<'t>,
-    next: usize,
+    around: usize,
     t: &WrittenType,
-) -> Result<Option<Denoted>, AllocError>
-    ensures { IfOk result (λ r. Denotes resolved.now known.old known.new next (type_of t.now) r) }
+) -> Result<Option<TypeId>, AllocError>
+    ensures { IfOk result (λ r. Denotes resolved.now known.old known.new around (type_of t.now) r) }
 {
     match t {
-        WrittenType::Named(name) => Ok(denote_name(known, resolved, next, *name)),
-        WrittenType::Array(a) => denote_array(alloc, known, resolved, next, a),
-        WrittenType::Record(r) => denote_record(alloc, known, resolved, next, r),
+        WrittenType::Named(name) => Ok(denote_name(known, resolved, *name)),
+        WrittenType::Array(a) => denote_array(alloc, known, resolved, around, a),
+        WrittenType::Record(r) => denote_record(alloc, known, resolved, around, r),
     }
 }
 
-fn denote_name<'t>(
-    known: &Known<'t>,
-    resolved: &Resolved<'t>,
-    next: usize,
-    name: usize,
-) -> Option<Denoted>
-    ensures { Denotes resolved.now known.now known.now next (named_type name) result }
+/// The ordinal of an ARRAY or RECORD that stands in so many others, where it isn't too deep in them.
+fn ordinal_in(known: &Known, around: usize) -> Option<usize>
+    ensures { MatchOption result (100 ≤ around) (λ k. (k ≡ length known.now.shapes + around) × (around < 100)) }
+{
+    if around < MOST_DEPTH {
+        Some(known.types_made() + around)
+    } else {
+        None
+    }
+}
+
+fn denote_name<'t>(known: &Known<'t>, resolved: &Resolved<'t>, name: usize) -> Option<TypeId>
+    ensures { (around : ℕ) → Denotes resolved.now known.now known.now around (named_type name) result }
 {
     let names = Names {
         known,
         resolved,
         only_constants: false,
     };
-    match names.named_type(name) {
-        None => None,
-        Some(of) => Some(Denoted { of, next }),
-    }
+    names.named_type(name)
 }
 
 /// How many elements an array has, where its text says a length.
@@ -123,27 +118,22 @@ fn denote_array<'t>(
     alloc: Global,
     known: &mut Known<'t>,
     resolved: &Resolved<'t>,
-    next: usize,
+    around: usize,
     a: &ArrayType,
-) -> Result<Option<Denoted>, AllocError>
-    ensures { IfOk result (λ r. Denotes resolved.now known.old known.new next (array_in a.now) r) }
+) -> Result<Option<TypeId>, AllocError>
+    ensures { IfOk result (λ r. Denotes resolved.now known.old known.new around (array_in a.now) r) }
 {
     let Some(length) = length_of(known, resolved, a) else {
         return Ok(None);
     };
-    let Some(inner) = next.checked_add(1) else {
-        return Err(AllocError);
-    };
-    let Some(element) = denote_text(alloc, known, resolved, inner, &a.element)? else {
+    let Some(ordinal) = ordinal_in(known, around) else {
         return Ok(None);
     };
-    let Some(of) = known.make_array(next, length, element.of)? else {
+    let Some(element) = denote_text(alloc, known, resolved, around + 1, &a.element)? else {
         return Ok(None);
     };
-    Ok(Some(Denoted {
-        of,
-        next: element.next,
-    }))
+    let made = known.make_array(ordinal, length, element)?;
+    Ok(made)
 }
 
 #[cycle(denoting)]
@@ -151,31 +141,29 @@ fn denote_record<'t>(
     alloc: Global,
     known: &mut Known<'t>,
     resolved: &Resolved<'t>,
-    next: usize,
+    around: usize,
     r: &RecordType,
-) -> Result<Option<Denoted>, AllocError>
-    ensures { IfOk result (λ d. Denotes resolved.now known.old known.new next (record_in r.now) d) }
+) -> Result<Option<TypeId>, AllocError>
+    ensures { IfOk result (λ d. Denotes resolved.now known.old known.new around (record_in r.now) d) }
 {
-    let mut fields = Vec::new(alloc);
-    let Some(mut behind) = next.checked_add(1) else {
-        return Err(AllocError);
+    let Some(ordinal) = ordinal_in(known, around) else {
+        return Ok(None);
     };
+    let mut fields = Vec::new(alloc);
     for group in &r.groups {
         match group {
             Fields::Empty => {}
             Fields::Listed(list) => {
-                let Some(found) = denote_text(alloc, known, resolved, behind, &list.written)? else {
+                let Some(of) = denote_text(alloc, known, resolved, around + 1, &list.written)?
+                else {
                     return Ok(None);
                 };
-                add_fields(known, resolved, list, found.of, &mut fields)?;
-                behind = found.next;
+                add_fields(known, resolved, list, of, &mut fields)?;
             }
         }
     }
-    let Some(of) = known.make_record(next, fields)? else {
-        return Ok(None);
-    };
-    Ok(Some(Denoted { of, next: behind }))
+    let made = known.make_record(ordinal, fields)?;
+    Ok(made)
 }
 
 /// Puts the names of a list behind the fields so far, each of the same type.

@@ -4,7 +4,7 @@
 
 mod deciding;
 mod denoting;
-mod designated;
+pub mod designated;
 mod evaluating;
 mod fitting;
 mod judging;

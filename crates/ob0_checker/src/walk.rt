@@ -21,12 +21,10 @@ pub(crate) struct Walk<'t> {
     pub(crate) resolved: &'t Resolved<'t>,
     pub(crate) known: Known<'t>,
     pub(crate) bound: Vec<Shadowed>,
-    /// The ordinal of the next ARRAY or RECORD.
-    pub(crate) next: usize,
 }
 
 impl<'t> Model for Walk<'t> {
-    ghost use Rattle.std.specs.Prelude.{All};
+    ghost use Rattle.std.specs.Prelude.{All, length};
     ghost use Rattle.std.specs.Coded.{codes};
     ghost use Rattle.ob0_tree.specs.contracts.tree.Block as block_contract;
     ghost use Rattle.ob0_checker.specs.Checking.{Walking};
@@ -36,7 +34,7 @@ impl<'t> Model for Walk<'t> {
 
     ghost coded = { Prim.hlevel (codes, block_contract.the_row.coded) };
 
-    ghost view = { λ w. record { resolved = w.resolved.now; known = w.known; bound = w.bound.items; next = w.next } };
+    ghost view = { λ w. record { resolved = w.resolved.now; known = w.known; bound = w.bound.items; next = length w.known.shapes } };
 
     ghost invariant = { λ w. All (CanBePutBack w.known) w.bound.items };
 }
@@ -73,7 +71,6 @@ impl<'t> Walk<'t> {
             resolved,
             known: Known::new(alloc)?,
             bound: Vec::new(alloc),
-            next: 0,
         })
     }
 
@@ -96,7 +93,6 @@ impl<'t> Walk<'t> {
             resolved,
             mut known,
             mut bound,
-            next,
         } = self;
         let before = known.bind(ordinal, object)?;
         bound.push(Shadowed { ordinal, before })?;
@@ -105,7 +101,6 @@ impl<'t> Walk<'t> {
             resolved,
             known,
             bound,
-            next,
         })
     }
 
@@ -131,7 +126,6 @@ impl<'t> Walk<'t> {
             resolved,
             mut known,
             mut bound,
-            next,
         } = self;
         while bound.len() > mark {
             match bound.pop() {
@@ -144,7 +138,6 @@ impl<'t> Walk<'t> {
             resolved,
             known,
             bound,
-            next,
         }
     }
 
@@ -163,23 +156,18 @@ impl<'t> Walk<'t> {
             resolved,
             mut known,
             bound,
-            next,
         } = self;
         let _declared = known.count();
-        let denoted = match denote(alloc, &mut known, resolved, next, t)? {
+        let of = match denote(alloc, &mut known, resolved, t)? {
             None => return Ok(None),
-            Some(denoted) => denoted,
+            Some(of) => of,
         };
         let walk = Walk {
             alloc,
             resolved,
             known,
             bound,
-            next: denoted.next,
         };
-        Ok(Some(Typed {
-            walk,
-            of: denoted.of,
-        }))
+        Ok(Some(Typed { walk, of }))
     }
 }

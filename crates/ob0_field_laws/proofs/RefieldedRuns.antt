@@ -1,6 +1,5 @@
 -- Two runs of a module are alike: one with tagged fields, the other with fields written anew.
-use Rattle.std.proofs.Common.{◌≡◌, ℕ, zero, suc, ◌+◌, ◌≢◌, true, false, List, [], ◌∷◌, map, length, take, ℤ, ◌⊎◌, inl, inr, Some, None, Option, option_map, option_and_then, sym, refl, ap, ◌∙◌, subst, subst₂}
-use Rattle.std.proofs.lemmas.List.{length-map, take-map}
+use Rattle.std.proofs.Common.{◌≡◌, ℕ, zero, suc, ◌+◌, ◌≢◌, true, false, List, [], ◌∷◌, map, ℤ, ◌⊎◌, inl, inr, Some, None, Option, option_map, option_and_then, sym, refl, ap, ◌∙◌, subst, subst₂}
 use Rattle.ob0_tree.specs.Tree.{Tree, begins, block, body, declares, declares_procedure, formals, has_body, is_module, item, maybe, module_text, none, one, procedure}
 use Rattle.ob0_scope.specs.Names.{Name, as_names}
 use Rattle.ob0_scope.specs.Parts.{block_procedures, block_statements, formal_sections}
@@ -9,7 +8,7 @@ use Rattle.ob0_typing.specs.Environments.{meanings, outermost}
 use Rattle.ob0_typing.specs.Expressions.{reads, writes, writes_line}
 use Rattle.ob0_typing.specs.WellTyped.{TypeEnvironment, Typed, fits_over}
 use Rattle.ob0_values.specs.Values.{Stuck, boolean_shape, integer_shape}
-use Rattle.ob0_semantics.specs.Runs.{Activation, Calls, Frame, Progress, State, activate, bind_parameters, call, declare_block, execute_all, execute_body, finished, give_up, in_frame, parameters, run_over, running, stopped}
+use Rattle.ob0_semantics.specs.Runs.{Activation, Calls, Frame, Progress, State, activate, bind_parameters, call, declare_block, execute_all, execute_body, finished, in_frame, parameters, run_over, running, stopped}
 use Rattle.ob0_semantics.proofs.SoundCalls.{fitting-run}
 use Rattle.ob0_field_laws.specs.Fields.{FieldNames, behind_procedures, behind_variables, refield, refield_block, refielded}
 use Rattle.ob0_field_laws.specs.FieldLaws.{KeepsApart}
@@ -17,7 +16,7 @@ use Rattle.ob0_field_laws.proofs.RefieldedActivations.{FramesBoth, Scene, Stage,
 use Rattle.ob0_field_laws.proofs.RefieldedExecution.{Alike, CallsAlike, Given, Goes, argument_by, execute_all-alike, state_by}
 use Rattle.ob0_field_laws.proofs.RefieldedExpressions.{constant_thing, logical, procedure_thing, standard_thing, type_thing, variable_thing}
 use Rattle.ob0_field_laws.proofs.RefieldedModules.{formal_sections-refield, formals_count-refield, refielding_keeps_fitting-holds}
-use Rattle.ob0_field_laws.proofs.Values.{store_by, tagged, tagged-apart, value_by}
+use Rattle.ob0_field_laws.proofs.Values.{store_by, tagged, tagged-apart}
 
 -- what names stand for to a block's statements, when they are checked
 abbrev pub body_meaning : TypeEnvironment Name → ℕ → Tree Name block → Typed Name
@@ -42,22 +41,6 @@ in_frame-goes l s o₁ o₂ n₁ n₂ h each = subst₂ (λ p q. Goes l (in_fram
     go None = inl refl
     go (Some f) = each f record { store = f.store; input = s.input; output = s.output }
 
-abbrev cut : ℕ → State → State
-cut n s = record { store = take n s.store; input = s.input; output = s.output }
-
-give_up-goes : (l : FieldNames) (n : ℕ) (p₁ p₂ : Progress) → Goes l p₁ p₂ → Goes l (give_up n p₁) (give_up n p₂)
-give_up-goes l n (running s₁) (running s₂) h = (
-  cut n h.0,
-  ap (cut n) h.1 ∙ (λ i. record { store = take-map (value_by tagged) n h.0.store i; input = h.0.input; output = h.0.output }),
-  ap (cut n) h.2 ∙ (λ i. record { store = take-map (value_by l) n h.0.store i; input = h.0.input; output = h.0.output }),
-)
-give_up-goes l n (running s₁) (stopped e out) h = absurd h
-give_up-goes l n (stopped e out) p₂ h = go h
-  where
-    go : (e ≡ Stuck) ⊎ (p₂ ≡ stopped e out) → (e ≡ Stuck) ⊎ (give_up n p₂ ≡ stopped e out)
-    go (inl p) = inl p
-    go (inr q) = inr (ap (give_up n) q)
-
 -- the declarations and the statements of a block
 abbrev entered : FieldNames → ℕ → TypeEnvironment Name → Tree Name block → (Activation Name → Calls Name) → ℕ → Option (Frame Name) → State → Progress
 entered l k checked b enter t o s =
@@ -80,16 +63,14 @@ entered-goes l apart k checked b e₁ e₂ calls t o₁ o₂ h s =
 -- a call of a procedure
 abbrev activated : FieldNames → ℕ → TypeEnvironment Name → Tree Name (maybe formals) → Tree Name block → (Activation Name → Calls Name) → ℕ → List Given → Stage → State → Progress
 activated l j checked fs b enter t args f s =
-    give_up (length s.store) (entered l (j + formals_constructors (formal_sections fs)) checked b enter t (bind_parameters (parameters (formal_sections fs)) (map (argument_by l) args) (frame_by l f)) s)
+    entered l (j + formals_constructors (formal_sections fs)) checked b enter t (bind_parameters (parameters (formal_sections fs)) (map (argument_by l) args) (frame_by l f)) s
 
 activated-goes : (l : FieldNames) → KeepsApart l → (j : ℕ) (checked : TypeEnvironment Name) (fs : Tree Name (maybe formals)) (b : Tree Name block) (e₁ e₂ : Activation Name → Calls Name) → AllCallsAlike l e₁ e₂ → (t : ℕ) (args : List Given) (f : Stage) (s : State)
     → Goes l (activated tagged j checked fs b e₁ t args f (state_by tagged s)) (activated l j checked fs b e₂ t args f (state_by l s))
 activated-goes l apart j checked fs b e₁ e₂ calls t args f s =
     let k : ℕ = j + formals_constructors (formal_sections fs) in
     let ps = parameters (formal_sections fs) in
-    subst₂ (λ m n. Goes l (give_up m (entered tagged k checked b e₁ t (bind_parameters ps (map (argument_by tagged) args) (frame_by tagged f)) (state_by tagged s))) (give_up n (entered l k checked b e₂ t (bind_parameters ps (map (argument_by l) args) (frame_by l f)) (state_by l s))))
-    (sym (length-map s.store (value_by tagged))) (sym (length-map s.store (value_by l)))
-    (give_up-goes l (length s.store) _ _ (entered-goes l apart k checked b e₁ e₂ calls t (bind_parameters ps (map (argument_by tagged) args) (frame_by tagged f)) (bind_parameters ps (map (argument_by l) args) (frame_by l f)) (bind_parameters-both l ps args f) s))
+    entered-goes l apart k checked b e₁ e₂ calls t (bind_parameters ps (map (argument_by tagged) args) (frame_by tagged f)) (bind_parameters ps (map (argument_by l) args) (frame_by l f)) (bind_parameters-both l ps args f) s
 
 -- an activation by its parts
 activate-parts : (l : FieldNames) (j : ℕ) (checked : TypeEnvironment Name) (x y closing : Name) (fs : Tree Name (maybe formals)) (b : Tree Name block) (enter : Activation Name → Calls Name) (t : ℕ) (args : List Given) (scene : Scene) (s : State)
@@ -98,10 +79,9 @@ activate-parts : (l : FieldNames) (j : ℕ) (checked : TypeEnvironment Name) (x 
 unfolding activate
 activate-parts l j checked x y closing fs b enter t args scene s = λ i.
     let k : ℕ = j + formals_constructors (formal_sections fs) in
-    give_up (length (store_by l s.store))
-    (in_frame (state_by l s) (option_and_then (declare_block as_names (j + formals_count-refield l j fs i) (refield_block l checked k b))
+    in_frame (state_by l s) (option_and_then (declare_block as_names (j + formals_count-refield l j fs i) (refield_block l checked k b))
     (bind_parameters ((ap parameters (formal_sections-refield l j fs) ∙ parameters-refield l j (formal_sections fs)) i) (map (argument_by l) args) record { env = env_as l ((y, procedure_thing record { first = j; checked = checked; text = declares_procedure x fs b closing }) ∷ scene); store = store_by l s.store }))
-    (λ f. execute_body as_names f.env (enter f.env) t (block_statements (refield_block l checked k b))))
+    (λ f. execute_body as_names f.env (enter f.env) t (block_statements (refield_block l checked k b)))
 
 activate-goes : (l : FieldNames) → KeepsApart l → (e₁ e₂ : Activation Name → Calls Name) → AllCallsAlike l e₁ e₂ → (t : ℕ) (scene : Scene) (args : List Given) (s : State)
     → Goes l (activate as_names e₁ t (env_as tagged scene) (map (argument_by tagged) args) (state_by tagged s)) (activate as_names e₂ t (env_as l scene) (map (argument_by l) args) (state_by l s))

@@ -16,7 +16,7 @@ use Rattle.ob0_typing.specs.WellTyped.{Mode, by_place, by_value, section_mode}
 use Rattle.ob0_typing.proofs.Agreeing.{Agree, HoldsOf, agree-map, agree-then, agree-value}
 use Rattle.ob0_typing.proofs.Constructors.{formals_constructors-relabel, procedure_constructors-relabel, types_constructors-relabel, variables_constructors-relabel}
 use Rattle.ob0_typing.proofs.TypeNaturality.{constant_value-map, constructors-map, denoted-map}
-use Rattle.ob0_semantics.specs.Runs.{Activation, Argument, Calls, Code, Frame, Parameter, Progress, State, activate, allocate, bind_parameter, bind_parameters, call, declare_block, declare_procedures, declare_variables, execute_all, execute_body, finished, formal_modes, give_up, in_frame, parameters, passing, place_argument, run_over, statement_meanings, value_argument, with_procedures}
+use Rattle.ob0_semantics.specs.Runs.{Activation, Argument, Calls, Code, Frame, Parameter, Progress, State, activate, allocate, bind_parameter, bind_parameters, call, declare_block, declare_procedures, declare_variables, execute_all, execute_body, finished, formal_modes, in_frame, parameters, passing, place_argument, run_over, statement_meanings, value_argument, with_procedures}
 use Rattle.ob0_semantics.proofs.Noted.{Below, Below-from, Noted, OwnName, by_name, by_name-from, by_ordinal, by_ordinal-from, noted_from, numbered_code, numbered_object, scope_of}
 use Rattle.ob0_semantics.proofs.RunNaturality.{execute_all-map}
 
@@ -423,9 +423,9 @@ activate-agrees {N} naming there here known t n (b ∷ noted) below args s = of_
         let k : ℕ = after_names (suc b.ordinal) (formal_names (formal_sections fs)) in
         let scope : Scope N = declare_names (suc b.ordinal) (formal_names (formal_sections fs)) ((x, b.ordinal) ∷ scope_of noted) in
         let f : NotedFrame N = record { noted = record { name = b.name; ordinal = b.ordinal; object = a_procedure record { first_constructor = j; text = declares_procedure x fs inner closing } } ∷ noted; store = s.store } in
-        ap (give_up (length s.store)) (in_frame-agrees naming (FrameWithin (after_block k inner) (body_scope k inner scope)) s _ _ _ _
+        in_frame-agrees naming (FrameWithin (after_block k inner) (body_scope k inner scope)) s _ _ _ _
         (activation_declared naming j b.ordinal f (le_refl (suc b.ordinal), e, below.2) x (scope_of noted) (λ i. (sym e i, b.ordinal) ∷ scope_of noted) fs inner args)
-        (λ g within. block-agrees naming there here known t k scope inner g within))
+        (λ g within. block-agrees naming there here known t k scope inner g within)
 
     of_object : (o : Object Place (Code N)) → OwnName b.name o → activate as_labels there t ((declared b.ordinal, numbered_object naming (scope_of noted) b.ordinal o) ∷ by_ordinal naming noted) args s ≡ activate naming here t ((b.name, o) ∷ by_name noted) args s
     of_object (a_type shape) own = refl

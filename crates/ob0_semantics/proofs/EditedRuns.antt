@@ -24,7 +24,7 @@ use Rattle.ob0_typing.proofs.Leaves.{AllStay, Here, Literal, denoted-leaf, edite
 use Rattle.ob0_typing.proofs.Literals.{IsSeen, literal-worth, some_inverse}
 use Rattle.ob0_typing.proofs.Marks.{IsRight, Mark, Marks, OfProcedure, Sound, Sound-from, Stays, found, is_left, knowns, marks_from, not-left, object_as, object_of, read, read-from, read_edited, read_edited-from, scope_marked}
 use Rattle.ob0_semantics.specs.EditLaws.{InliningKeepsModules, LeavingOutKeepsModules}
-use Rattle.ob0_semantics.specs.Runs.{Activation, Argument, Calls, Code, Frame, Parameter, Progress, State, activate, allocate, bind_parameter, bind_parameters, call, declare_block, declare_procedures, declare_variables, execute_all, execute_body, finished, formal_modes, give_up, in_frame, parameters, passing, place_argument, run, run_over, statement_meanings, stopped, value_argument, with_procedures}
+use Rattle.ob0_semantics.specs.Runs.{Activation, Argument, Calls, Code, Frame, Parameter, Progress, State, activate, allocate, bind_parameter, bind_parameters, call, declare_block, declare_procedures, declare_variables, execute_all, execute_body, finished, formal_modes, in_frame, parameters, passing, place_argument, run, run_over, statement_meanings, stopped, value_argument, with_procedures}
 use Rattle.ob0_semantics.proofs.ByOrdinal.{formal_names-parameters, parameter_names}
 use Rattle.ob0_semantics.proofs.InlinedStatements.{execute_all-written}
 use Rattle.ob0_semantics.proofs.RunNaturality.{execute_all-map}
@@ -451,13 +451,12 @@ activate-kept edit w lit there here known t n (b ∷ marks) sound head args s =
         let each : EachBlock (Here edit w) (j + length (occurrences fs)) scope m inner =
         subst (λ y. EachBlock (Here edit w) (j + length (occurrences fs)) (declare_names (suc k) (formal_names (formal_sections fs)) ((y, k) ∷ scope_marked marks)) m inner) text.named text.here.1 in
         let outside : Outside edit k (suc k) = own-outside edit w ((b.name, no_constant) ∷ knowns marks) k (declares_procedure x fs inner closing) text.worth in
-        ap (give_up (length s.store))
-        (ap (λ env. in_frame s (option_and_then (declare_block as_names (i + formals_constructors (formal_sections (leaf edit j fs))) (edited_block edit (j + length (occurrences fs)) m inner)) (bind_parameters (parameters (formal_sections (leaf edit j fs))) args record { env = env; store = s.store }))
+        ap (λ env. in_frame s (option_and_then (declare_block as_names (i + formals_constructors (formal_sections (leaf edit j fs))) (edited_block edit (j + length (occurrences fs)) m inner)) (bind_parameters (parameters (formal_sections (leaf edit j fs))) args record { env = env; store = s.store }))
         (λ f. execute_body as_names f.env (there f.env) t (block_statements (edited_block edit (j + length (occurrences fs)) m inner))))
         (sym (ap (λ v. if v then read_edited edit (after edit) marks else (b.name, a_procedure record { first_constructor = i; text = edited_procedure edit j (suc k) (declares_procedure x fs inner closing) }) ∷ read_edited edit (after edit) marks) (not-constant edit k outside)))
         ∙ in_frame-kept edit (RightFrame edit w (after_block m inner) (body_scope m inner scope)) s _ _ _ _
         (activation-kept edit w lit i j k f (le_refl (suc k), right, text, sound.3) text.from_seven x closing fs inner each text.worth args)
-        (λ g right. block-runs edit w lit there here known t (j + length (occurrences fs)) m scope inner each g right))
+        (λ g right. block-runs edit w lit there here known t (j + length (occurrences fs)) m scope inner each g right)
 
     of_object : (o : Object Place Text) → IsRight {V = Place} {P = Text} edit w record { name = b.name; ordinal = b.ordinal; object = o } → OfProcedure (IsText edit w marks b.name b.ordinal) o
         → activate as_names there t ((b.name, object_as (after edit b.ordinal) o) ∷ read_edited edit (after edit) marks) args s ≡ activate as_names here t ((b.name, object_as (before b.ordinal) o) ∷ read before marks) args s

@@ -1,5 +1,5 @@
 -- Calls and whole modules keep the store's typing: no run of a well-typed module gets stuck.
-use Rattle.std.proofs.Common.{◌≡◌, ℕ, zero, suc, ◌+◌, Bool, true, false, ◌&&◌, ◌≢◌, List, [], ◌∷◌, ◌++◌, map, length, take, ℤ, slice_get, Some, None, Option, option_map, option_and_then, unwrap_or, sym, refl, ap, ◌∙◌, subst, append_assoc, append-nil}
+use Rattle.std.proofs.Common.{◌≡◌, ℕ, zero, suc, ◌+◌, Bool, true, false, ◌&&◌, ◌≢◌, List, [], ◌∷◌, ◌++◌, map, length, ℤ, slice_get, Some, None, Option, option_map, option_and_then, unwrap_or, sym, refl, ap, ◌∙◌, subst, append_assoc, append-nil}
 use Rattle.ob0_tree.specs.Tree.{Tree, begins, block, body, constant, declares, declares_constant, declares_procedure, declares_type, declares_variable, end, expression, further_section, has_body, is_module, item, items, maybe, module_text, more, none, one, procedure, then_section, type_name, variable, written_type}
 use Rattle.ob0_scope.specs.Names.{Naming, as_names}
 use Rattle.ob0_scope.specs.Parts.{block_statements, formal_sections, names_listed, procedure_formals, procedure_name, section_constants, section_names, section_type, section_types, section_variables}
@@ -13,7 +13,7 @@ use Rattle.ob0_typing.specs.WellTyped.{Formal, Mode, Signature, TypeEnvironment,
 use Rattle.ob0_typing.proofs.TypeNaturality.{constant_value-map, denoted-map}
 use Rattle.ob0_typing.proofs.TypesByOrdinal.{typed_parameter}
 use Rattle.ob0_semantics.specs.Laws.{NeverStuck}
-use Rattle.ob0_semantics.specs.Runs.{Activation, Argument, Calls, Code, Frame, Parameter, Progress, State, activate, allocate, bind_parameter, bind_parameters, call, declare_block, declare_procedures, declare_variables, execute_all, execute_body, finished, formal_modes, give_up, in_frame, parameters, passing, place_argument, run, run_over, running, statement_meanings, stopped, value_argument, with_procedures}
+use Rattle.ob0_semantics.specs.Runs.{Activation, Argument, Calls, Code, Frame, Parameter, Progress, State, activate, allocate, bind_parameter, bind_parameters, call, declare_block, declare_procedures, declare_variables, execute_all, execute_body, finished, formal_modes, in_frame, parameters, passing, place_argument, run, run_over, running, statement_meanings, stopped, value_argument, with_procedures}
 use Rattle.ob0_semantics.proofs.ByOrdinal.{with_mode}
 use Rattle.ob0_semantics.proofs.Sound.{some-gives}
 use Rattle.ob0_semantics.proofs.SoundStatements.{ObjectFits-grows, PlaceFits-grows, ProgressFits-grown, both_true, execute_all-keeps, keeps-here, same_store-fits}
@@ -306,19 +306,6 @@ abbrev pub CallsRun : {N : Type 0} → Naming N → (Activation N → Calls N) �
 CallsRun {N} naming enter =
     (typing : StoreTyping) (checked : TypeEnvironment N) (active : Activation N) → EnvironmentsFit naming typing checked active → CallsFit typing (meanings naming checked) (enter active)
 
--- a call's own variables are given up
-pub cut-fits : (typing others : StoreTyping) (old new : Store) → StoreFits typing old → StoreFits (typing ++ others) new → StoreFits typing (take (length old) new)
-cut-fits [] others [] new h k = tt
-cut-fits [] others (v ∷ old) new h k = absurd h
-cut-fits (t ∷ typing) others [] new h k = absurd h
-cut-fits (t ∷ typing) others (v ∷ old) [] h k = absurd k
-cut-fits (t ∷ typing) others (v ∷ old) (w ∷ new) h k = (k.0, cut-fits typing others old new h.1 k.1)
-
-pub give_up-fits : (typing : StoreTyping) (store : Store) (p : Progress) → StoreFits typing store → ProgressFits typing p → ProgressFits typing (give_up (length store) p)
-give_up-fits typing store (running s) h k =
-    same_store-fits typing record s { store = take (length store) s.store } (cut-fits typing k.0 store s.store h k.1)
-give_up-fits typing store (stopped e out) h k = k
-
 pub activate-run : {N : Type 0} (naming : Naming N) (enter : Activation N → Calls N) → CallsRun naming enter → (t : ℕ) (typing : StoreTyping) (checked : TypeEnvironment N) (active : Activation N) (signature : Signature) (args : List Argument) (s : State)
     → EnvironmentsFit naming typing checked active → newest checked ≡ Some (a_procedure signature) → ArgumentsFit typing signature args → StoreFits typing s.store → ProgressFits typing (activate naming enter t active args s)
 unfolding activate block_fits
@@ -332,12 +319,11 @@ activate-run {N} naming enter known t typing ((x, o) ∷ checked) ((y, r) ∷ ac
         let f : Frame N = record { env = (y, a_procedure record { first_constructor = j; text = declares_procedure z fs b closing }) ∷ active; store = s.store } in
         let (g, eg, fit₁) = parameters-run naming typing (heading x ps checked) ps args f store (env.0, (ps, eps, refl, fits), env.2) (subst (λ fs. ArgumentsFit typing fs args) sig fit) in
         let (h, after, eh, fit₂, statements) = block-run naming (typing ++ fit₁.0) (bind_typed ps (heading x ps checked)) (j + formals_constructors (formal_sections fs)) b g fit₁.1 fit₁.2 fits in
-        give_up-fits typing s.store (in_frame s (option_and_then (declare_block naming (j + formals_constructors (formal_sections fs)) b) (bind_parameters (parameters (formal_sections fs)) args f)) (λ f. execute_body naming f.env (enter f.env) t (block_statements b))) store
-        (subst (λ frame. ProgressFits typing (in_frame s frame (λ f. execute_body naming f.env (enter f.env) t (block_statements b))))
+        subst (λ frame. ProgressFits typing (in_frame s frame (λ f. execute_body naming f.env (enter f.env) t (block_statements b))))
         (sym (ap (λ l. option_and_then (declare_block naming (j + formals_constructors (formal_sections fs)) b) (bind_parameters l args f)) (parameters-of_typed naming checked j (formal_sections fs) ps eps) ∙ (ap (option_and_then (declare_block naming (j + formals_constructors (formal_sections fs)) b)) eg ∙ eh)))
         (ProgressFits-grown typing fit₁.0 (execute_body naming h.env (enter h.env) t (block_statements b) record s { store = h.store })
         (ProgressFits-grown (typing ++ fit₁.0) fit₂.0 (execute_body naming h.env (enter h.env) t (block_statements b) record s { store = h.store })
-        (body-run naming ((typing ++ fit₁.0) ++ fit₂.0) after h.env (enter h.env) t (block_statements b) record s { store = h.store } fit₂.2 (known ((typing ++ fit₁.0) ++ fit₂.0) after h.env fit₂.2) fit₂.1 statements))))
+        (body-run naming ((typing ++ fit₁.0) ++ fit₂.0) after h.env (enter h.env) t (block_statements b) record s { store = h.store } fit₂.2 (known ((typing ++ fit₁.0) ++ fit₂.0) after h.env fit₂.2) fit₂.1 statements)))
 
     of_objects : (o : Object Shape Signature) (r : Object Place (Code N)) → BindingFits naming typing checked x o r → o ≡ a_procedure signature → ProgressFits typing (activate naming enter t ((y, r) ∷ active) args s)
     of_objects (a_procedure sig) (a_procedure code) h e = of_text code.first_constructor code.text h.0 h.1 (sym (ap (λ o. unwrap_or (signature_of (Some o)) []) e) ∙ h.2) h.3

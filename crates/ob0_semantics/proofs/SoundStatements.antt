@@ -54,10 +54,10 @@ agree-true (Some s) None e = absurd (cc)
 
 -- a typing may grow
 
-pub slice_get-grows : (typing others : StoreTyping) (n : ℕ) (s : Shape) → slice_get typing n ≡ Some s → slice_get (typing ++ others) n ≡ Some s
-slice_get-grows [] others n s e = absurd (cc)
-slice_get-grows (t ∷ typing) others zero s e = e
-slice_get-grows (t ∷ typing) others (suc n) s e = slice_get-grows typing others n s e
+pub slice_get-grows : {A : Type 0} (xs others : List A) (n : ℕ) (x : A) → slice_get xs n ≡ Some x → slice_get (xs ++ others) n ≡ Some x
+slice_get-grows [] others n x e = absurd (cc)
+slice_get-grows (y ∷ xs) others zero x e = e
+slice_get-grows (y ∷ xs) others (suc n) x e = slice_get-grows xs others n x e
 
 pub PlaceFits-grows : (typing others : StoreTyping) (p : Place) (s : Shape) → PlaceFits typing p s → PlaceFits (typing ++ others) p s
 PlaceFits-grows typing others p s h =

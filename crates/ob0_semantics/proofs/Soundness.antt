@@ -1,5 +1,5 @@
 -- That no run of a well-typed module gets stuck: the statement, and the invariant that its proof keeps.
-use Rattle.std.proofs.Common.{◌≡◌, ℕ, true, ◌≢◌, List, [], ◌∷◌, ◌++◌, Some, Fits}
+use Rattle.std.proofs.Common.{◌≡◌, ℕ, true, ◌≢◌, List, ◌++◌, Some, Fits}
 use Rattle.ob0_tree.specs.Tree.{Tree, expression, statement}
 use Rattle.ob0_typing.specs.Expressions.{Meanings, a_procedure, evaluate}
 use Rattle.ob0_typing.specs.Typing.{type_of}

@@ -1,5 +1,5 @@
 -- Values, places and what names stand for, by the types that a checked module gives them.
-use Rattle.std.specs.Prelude.{◌≡◌, ℕ, true, List, [], ◌∷◌, map, if◌then◌else◌, nat_lt, slice_get, Some, None, Option, option_and_then}
+use Rattle.std.specs.Prelude.{◌≡◌, true, List, [], ◌∷◌, map, if◌then◌else◌, nat_lt, slice_get, Some, None, Option, option_and_then}
 use Rattle.ob0_scope.specs.Names.{Naming}
 use Rattle.ob0_scope.specs.Parts.{procedure_formals}
 use Rattle.ob0_typing.specs.Expressions.{Meanings, Object, a_constant, a_procedure, a_standard, a_type, a_variable}

@@ -2,14 +2,15 @@
 use Rattle.std.specs.Prelude.{◌≡◌, ℕ, ◌≢◌, List, ℤ, Some}
 use Rattle.ob0_tree.specs.Tree.{Tree, factor, module_text, occurrences, statement}
 use Rattle.ob0_scope.specs.Inlining.{Uses, inline_in}
-use Rattle.ob0_scope.specs.Names.{Name}
+use Rattle.ob0_scope.specs.Names.{Label, Name, Naming}
 use Rattle.ob0_scope.specs.Occurrences.{Free}
 use Rattle.ob0_scope.specs.Scopes.{numbered, renamed}
 use Rattle.ob0_typing.specs.Expressions.{Meanings, a_constant, evaluate_factor}
 use Rattle.ob0_typing.specs.Laws.{UsesAre}
 use Rattle.ob0_values.specs.Values.{Place, Store, Stuck, Value, gives}
 use Rattle.ob0_typing.specs.WellTyped.{Mode, WellTyped}
-use Rattle.ob0_semantics.specs.Runs.{Calls, State, execute, run, run_numbered}
+use Rattle.ob0_semantics.specs.GivenUp.{run_giving_up}
+use Rattle.ob0_semantics.specs.Runs.{Calls, State, execute, run, run_numbered, run_over}
 
 -- the run of a module over its names is the run of its numbered tree
 abbrev pub RunsByOrdinal : Type 0
@@ -22,6 +23,12 @@ RunsByShape = (a b : Tree Name module_text) → numbered a ≡ numbered b → (i
 -- where a new name is free, the renamed module has every run that the module had
 abbrev pub FreeKeepsRuns : Type 0
 FreeKeepsRuns = (m : Tree Name module_text) (d : ℕ) (new : Name) → Free m d new → (input : List ℤ) (c t : ℕ) → run (renamed m d new) input c t ≡ run m input c t
+
+-- giving up a call's variables at its return leaves every run of every tree as it is, whatever tells its names or labels apart
+abbrev pub GivingUpKeepsRuns : Type 0
+GivingUpKeepsRuns =
+    ((naming : Naming Name) (m : Tree Name module_text) (input : List ℤ) (c t : ℕ) → run_giving_up naming m input c t ≡ run_over naming m input c t)
+    × ((naming : Naming Label) (m : Tree Label module_text) (input : List ℤ) (c t : ℕ) → run_giving_up naming m input c t ≡ run_over naming m input c t)
 
 -- no run of a well-typed module gets stuck
 abbrev pub NeverStuck : Type 0

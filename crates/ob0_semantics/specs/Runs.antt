@@ -1,5 +1,5 @@
 -- Runs, by big steps: statements, calls and whole modules, over names, an environment, a store, the rest of the input, and bounds c on open calls and t on the turns of a loop.
-use Rattle.std.specs.Prelude.{ℕ, zero, suc, ◌+◌, ◌-◌, true, false, List, [], ◌∷◌, ◌++◌, map, length, take, ℤ, Some, None, Option, option_map, option_and_then}
+use Rattle.std.specs.Prelude.{ℕ, zero, suc, ◌+◌, ◌-◌, true, false, List, [], ◌∷◌, ◌++◌, map, length, ℤ, Some, None, Option, option_map, option_and_then}
 use Rattle.ob0_tree.specs.Tree.{Tree, assigns, begins, block, body, branches, calls, declares_variable, else_branch, else_part, elsif_branch, elsif_part, empty, end, expression, further_section, further_statement, item, items, maybe, module_text, more, none, one, procedure, repeat_loop, runs, sequence, statement, then_section, then_statement, variable, while_loop}
 use Rattle.ob0_scope.specs.Names.{Label, Name, Naming, as_labels, as_names}
 use Rattle.ob0_scope.specs.Parts.{block_procedures, block_statements, block_variables, module_block, names_listed, procedure_block, procedure_formals, procedure_name, section_names}
@@ -234,22 +234,17 @@ abbrev pub in_frame : {N : Type 0} → State → Option (Frame N) → (Frame N �
 in_frame s None next = stopped Stuck s.output
 in_frame s (Some f) next = next f record s { store = f.store }
 
--- a call that returns gives up its own variables: the first n of the store stay
-abbrev pub give_up : ℕ → Progress → Progress
-give_up n (running s) = running record s { store = take n s.store }
-give_up n (stopped e out) = stopped e out
-
 -- the body of the procedure at the head of an environment runs with its own variables, in the bindings that were
 -- visible at its declaration, in the activation in which that stood
 unfoldable pub activate : {N : Type 0} → Naming N → (Activation N → Calls N) → ℕ → Activation N → List Argument → State → Progress
 unfolding declare_block execute_body
 activate naming enter t ((x, a_procedure code) ∷ rest) args s =
-    give_up (length s.store) (in_frame s (option_and_then (declare_block naming (after_formals code.first_constructor code.text) (procedure_block code.text))
+    in_frame s (option_and_then (declare_block naming (after_formals code.first_constructor code.text) (procedure_block code.text))
     (bind_parameters (parameters (procedure_formals code.text)) args record { env = (x, a_procedure code) ∷ rest; store = s.store }))
-    (λ f. execute_body naming f.env (enter f.env) t (block_statements (procedure_block code.text))))
+    (λ f. execute_body naming f.env (enter f.env) t (block_statements (procedure_block code.text)))
 activate naming enter t _ args s = stopped Stuck s.output
 
--- calls, of which c more may be open
+-- calls, of which c more may be open; what a call that returns had in the store stays there
 unfoldable pub call : {N : Type 0} → Naming N → ℕ → ℕ → Activation N → Calls N
 unfolding activate
 call naming zero t env x args s = stopped CallBound s.output
@@ -264,13 +259,18 @@ abbrev pub finished : Progress → Run
 finished (running s) = record { output = s.output; ending = Done }
 finished (stopped e out) = record { output = out; ending = e }
 
--- the run of a tree over any names that can be told apart
-unfoldable pub run_over : {N : Type 0} → Naming N → Tree N module_text → List ℤ → ℕ → ℕ → Run
-unfolding declare_block execute_body call
-run_over naming m input c t =
+-- the run of a tree, by what calls do
+unfoldable pub run_by : {N : Type 0} → Naming N → (Activation N → Calls N) → ℕ → Tree N module_text → List ℤ → Run
+unfolding declare_block execute_body
+run_by naming enter t m input =
     let start : State = record { store = []; input = input; output = [] } in
     finished (in_frame start (declare_block naming 0 (module_block m) record { env = outermost naming; store = [] })
-    (λ f. execute_body naming f.env (call naming c t f.env) t (block_statements (module_block m))))
+    (λ f. execute_body naming f.env (enter f.env) t (block_statements (module_block m))))
+
+-- the run of a tree over any names that can be told apart
+unfoldable pub run_over : {N : Type 0} → Naming N → Tree N module_text → List ℤ → ℕ → ℕ → Run
+unfolding run_by call
+run_over naming m input c t = run_by naming (call naming c t) t m input
 
 -- the run of a module as written
 unfoldable pub run : Tree Name module_text → List ℤ → ℕ → ℕ → Run

@@ -1,6 +1,6 @@
 //! The laws. Each function does nothing: its contract is the law.
 
-ghost use Rattle.ob0_semantics.specs.Laws.{RunsByOrdinal, RunsByShape, FreeKeepsRuns, NeverStuck, InliningKeepsExecution};
+ghost use Rattle.ob0_semantics.specs.Laws.{RunsByOrdinal, RunsByShape, FreeKeepsRuns, GivingUpKeepsRuns, NeverStuck, InliningKeepsExecution};
 ghost use Rattle.ob0_semantics.specs.EditLaws.{FreeKeepsModules, InliningKeepsModules, LeavingOutKeepsModules, InliningEverywhereKeepsModules};
 
 /// The run of a module over its names is the run of its numbered tree.
@@ -16,6 +16,11 @@ pub fn runs_by_shape()
 /// Where a new name is free, the renamed module has every run that the module had.
 pub fn free_keeps_runs()
     ensures { FreeKeepsRuns }
+{}
+
+/// A call's variables may be given up when it returns: every run stays as it is.
+pub fn giving_up_keeps_runs()
+    ensures { GivingUpKeepsRuns }
 {}
 
 /// No run of a well-typed module gets stuck.

@@ -46,8 +46,6 @@ fields_shape-more shapes later [] h = refl
 fields_shape-more shapes later (f ∷ fs) h = λ i. next_field_shape f.name.now (type_shape-more shapes later f.of (All-head (λ f. IsMade (length shapes) f.of) f fs h) i) (fields_shape-more shapes later fs (All-tail (λ f. IsMade (length shapes) f.of) f fs h) i)
 
 pub made_shape-more : (shapes later : List Shape) (m : code.Shape) → PartsAreMade (length shapes) m → made_shape (shapes ++ later) m ≡ made_shape shapes m
-made_shape-more shapes later made.Integer h = refl
-made_shape-more shapes later made.Boolean h = refl
 made_shape-more shapes later (made.Array a) h = ap (array_shape a.ordinal a.length) (type_shape-more shapes later a.element h)
 made_shape-more shapes later (made.Record r) h = ap (record_shape r.ordinal) (fields_shape-more shapes later r.fields h)
 

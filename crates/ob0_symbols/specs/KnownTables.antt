@@ -2,7 +2,6 @@
 use Rattle.std.specs.Prelude.{ℕ, ◌<◌, IfSome, true, false, ◌==◌, List, [], ◌∷◌, length, All, slice_get, if◌then◌else◌, Some, None, Option, option_and_then}
 use Rattle.ob0_values.specs.Values.{Shape}
 use Rattle.ob0_symbols.specs.declared.known.Shape as code
-use Rattle.ob0_symbols.specs.declared.known.Shape.TheVariants as made
 use Rattle.ob0_symbols.specs.declared.known.Entry.{Entry}
 use Rattle.ob0_symbols.specs.declared.known.Object as declaration
 use Rattle.ob0_symbols.specs.declared.known.Sight.{Sight}
@@ -88,7 +87,7 @@ in_sight o = record { object = o; sight = sight.Last }
 -- the tables of the predeclared names: INTEGER, BOOLEAN, TRUE, FALSE, Read, Write, WriteLn
 abbrev pub predeclared : Tables
 predeclared = record {
-  shapes = made.Integer ∷ made.Boolean ∷ [];
+  shapes = [];
   entries = in_sight (kind.Named type.Integer) ∷ in_sight (kind.Named type.Boolean) ∷ in_sight (kind.Constant (scalar.Truth true)) ∷ in_sight (kind.Constant (scalar.Truth false))
       ∷ in_sight (kind.Standard standards.Read) ∷ in_sight (kind.Standard standards.Write) ∷ in_sight (kind.Standard standards.WriteLn) ∷ [];
 }

@@ -43,8 +43,6 @@ fields_shape shapes (f ∷ fs) = next_field_shape f.name.now (type_shape shapes 
 
 -- an entry of the table of shapes, over the shapes made before it
 abbrev pub made_shape : List Shape → code.Shape → Shape
-made_shape shapes made.Integer = integer_shape
-made_shape shapes made.Boolean = boolean_shape
 made_shape shapes (made.Array a) = array_shape a.ordinal a.length (type_shape shapes a.element)
 made_shape shapes (made.Record r) = record_shape r.ordinal (fields_shape shapes r.fields)
 
@@ -61,15 +59,11 @@ IsMade n _ = Unit {0}
 
 -- the parts of a shape were made before it
 abbrev pub PartsAreMade : ℕ → code.Shape → Type 0
-PartsAreMade n made.Integer = Unit {0}
-PartsAreMade n made.Boolean = Unit {0}
 PartsAreMade n (made.Array a) = IsMade n a.element
 PartsAreMade n (made.Record r) = All (λ f. IsMade n f.of) r.fields
 
 -- an entry keeps how many scalars its shape has, and how deep it is
 abbrev pub IsCounted : code.Shape → Shape → Type 0
-IsCounted made.Integer s = Unit {0}
-IsCounted made.Boolean s = Unit {0}
 IsCounted (made.Array a) s = (a.scalars ≡ scalars s) × (a.depth ≡ depth s)
 IsCounted (made.Record r) s = (r.scalars ≡ scalars s) × (r.depth ≡ depth s)
 

@@ -51,11 +51,9 @@ pub struct RecordShape<'t> {
     pub depth: usize,
 }
 
-/// What a type is.
+/// What an ARRAY or RECORD of the text makes.
 #[derive(Drop)]
 pub enum Shape<'t> {
-    Integer,
-    Boolean,
     Array(ArrayShape),
     Record(RecordShape<'t>),
 }
@@ -152,7 +150,7 @@ impl<'t> Model for Known<'t> {
 }
 
 impl<'t> Known<'t> {
-    ghost use Rattle.std.specs.Prelude.{◌≡◌, ℕ, ◌<◌, ◌++◌, ◌∷◌, [], true, false, Some, length, option_map, option_and_then, slice_get, slice_set, slice_index_or, MatchOption, All, ◌^◌, IfOk, OnOk, IfSome, None};
+    ghost use Rattle.std.specs.Prelude.{◌≡◌, ℕ, suc, ◌<◌, ◌++◌, ◌∷◌, [], true, false, Some, length, option_map, option_and_then, slice_get, slice_set, slice_index_or, MatchOption, All, ◌^◌, IfOk, OnOk, IfSome, None};
     ghost use Rattle.ob0_symbols.specs.declared.known.Object.TheVariants as kind;
     ghost use Rattle.ob0_symbols.specs.declared.known.Sight.TheVariants as sight;
     ghost use Rattle.ob0_symbols.specs.KnownTables.{AreTables, declared_in, known_meaning, predeclared, put_at, seen_in, seen_object, shapes_of};
@@ -170,8 +168,6 @@ impl<'t> Known<'t> {
             shapes: Vec::new(alloc),
             entries: Vec::new(alloc),
         };
-        known.shapes.push(Shape::Integer)?;
-        known.shapes.push(Shape::Boolean)?;
         known.declare(Object::Named(TypeId::Integer))?;
         known.declare(Object::Named(TypeId::Boolean))?;
         known.declare(Object::Constant(Scalar::Truth(true)))?;
@@ -312,12 +308,27 @@ impl<'t> Known<'t> {
         }
     }
 
+    /// How many types were made: one by each ARRAY and RECORD.
+    pub fn types_made(&self) -> usize
+        ensures made { result ≡ length self.now.shapes }
+        ensures small { result < 2 ^ 63 }
+    {
+        self.shapes.len()
+    }
+
     /// How many declarations there are.
     pub fn count(&self) -> usize
         ensures count { result ≡ length self.now.entries }
         ensures tables { AreTables self.now }
     {
         self.entries.len()
+    }
+
+    /// The types that were made, in order: each is made of those before it.
+    pub fn shapes(&self) -> &[Shape<'t>]
+        ensures { result.now ≡ self.now.shapes }
+    {
+        self.shapes.as_slice()
     }
 
     /// What a declaration is, where it is in sight.
@@ -388,8 +399,6 @@ impl<'t> Known<'t> {
         match base {
             TypeId::Array(i) => match self.entry(i)? {
                 Shape::Array(array) => Some(array.element),
-                Shape::Integer => None,
-                Shape::Boolean => None,
                 Shape::Record(_) => None,
             },
             TypeId::Integer => None,
@@ -406,8 +415,6 @@ impl<'t> Known<'t> {
         match base {
             TypeId::Record(i) => match self.entry(i)? {
                 Shape::Record(record) => record.fields.find(name),
-                Shape::Integer => None,
-                Shape::Boolean => None,
                 Shape::Array(_) => None,
             },
             TypeId::Integer => None,
@@ -424,8 +431,6 @@ impl<'t> Known<'t> {
         match base {
             TypeId::Record(i) => match self.entry(i)? {
                 Shape::Record(record) => record.field_of(name),
-                Shape::Integer => None,
-                Shape::Boolean => None,
                 Shape::Array(_) => None,
             },
             TypeId::Integer => None,
@@ -444,8 +449,6 @@ impl<'t> Known<'t> {
                 None => 1,
                 Some(shape) => match shape {
                     Shape::Array(array) => array.scalars,
-                    Shape::Integer => 1,
-                    Shape::Boolean => 1,
                     Shape::Record(_) => 1,
                 },
             },
@@ -453,8 +456,6 @@ impl<'t> Known<'t> {
                 None => 1,
                 Some(shape) => match shape {
                     Shape::Record(record) => record.scalars,
-                    Shape::Integer => 1,
-                    Shape::Boolean => 1,
                     Shape::Array(_) => 1,
                 },
             },
@@ -473,8 +474,6 @@ impl<'t> Known<'t> {
                 None => 1,
                 Some(shape) => match shape {
                     Shape::Array(array) => array.depth,
-                    Shape::Integer => 1,
-                    Shape::Boolean => 1,
                     Shape::Record(_) => 1,
                 },
             },
@@ -482,8 +481,6 @@ impl<'t> Known<'t> {
                 None => 1,
                 Some(shape) => match shape {
                     Shape::Record(record) => record.depth,
-                    Shape::Integer => 1,
-                    Shape::Boolean => 1,
                     Shape::Array(_) => 1,
                 },
             },
@@ -518,6 +515,7 @@ impl<'t> Known<'t> {
         ensures value { IfOk result (λ r. option_map (type_shape (shapes_of self.new)) r ≡ within_limits (array_shape ordinal size (type_shape (shapes_of self.old) element))) }
         ensures entries { OnOk result (self.new.entries ≡ self.old.entries) }
         ensures shapes { OnOk result ((later : List shape.Shape) × (shapes_of self.new ≡ shapes_of self.old ++ later)) }
+        ensures counted { IfOk result (λ r. IfSome r (λ _. length self.new.shapes ≡ suc (length self.old.shapes))) }
         ensures longer { OnOk result (length self.old.shapes ≤ length self.new.shapes) }
         ensures meaning { OnOk result (known_meaning self.new ≡ known_meaning self.old) }
     {
@@ -577,6 +575,7 @@ impl<'t> Known<'t> {
         ensures value { IfOk result (λ r. option_map (type_shape (shapes_of self.new)) r ≡ within_limits (record_shape ordinal (fields_shape (shapes_of self.old) fields.entry.items))) }
         ensures entries { OnOk result (self.new.entries ≡ self.old.entries) }
         ensures shapes { OnOk result ((later : List shape.Shape) × (shapes_of self.new ≡ shapes_of self.old ++ later)) }
+        ensures counted { IfOk result (λ r. IfSome r (λ _. length self.new.shapes ≡ suc (length self.old.shapes))) }
         ensures longer { OnOk result (length self.old.shapes ≤ length self.new.shapes) }
         ensures meaning { OnOk result (known_meaning self.new ≡ known_meaning self.old) }
     {

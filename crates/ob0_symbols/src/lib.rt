@@ -9,7 +9,8 @@ mod types;
 mod written;
 
 pub use known::{
-    ArrayShape, Field, FieldOf, Formal, Known, MOST_DEPTH, MOST_SCALARS, Object, Shadowed, Standard,
+    ArrayShape, Field, FieldOf, Formal, Known, MOST_DEPTH, MOST_SCALARS, Object, RecordShape,
+    Shadowed, Shape, Standard,
 };
 pub use sameness::Parts;
 pub use types::{TypeId, added, complement, multiplied, related, scalar_type, with_sign};

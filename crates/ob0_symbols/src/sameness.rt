@@ -41,8 +41,6 @@ impl<'t> Known<'t> {
                 None => Parts::Faulty,
                 Some(shape) => match shape {
                     Shape::Array(array) => Parts::Array(*array),
-                    Shape::Integer => Parts::Faulty,
-                    Shape::Boolean => Parts::Faulty,
                     Shape::Record(_) => Parts::Faulty,
                 },
             },
@@ -50,8 +48,6 @@ impl<'t> Known<'t> {
                 None => Parts::Faulty,
                 Some(shape) => match shape {
                     Shape::Record(record) => Parts::Record(record),
-                    Shape::Integer => Parts::Faulty,
-                    Shape::Boolean => Parts::Faulty,
                     Shape::Array(_) => Parts::Faulty,
                 },
             },

@@ -6,6 +6,8 @@ mod frame;
 #[cfg(test)]
 mod lines;
 #[cfg(test)]
+mod refused;
+#[cfg(test)]
 mod rescan;
 #[cfg(test)]
 mod rpc;

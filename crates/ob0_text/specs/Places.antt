@@ -1,10 +1,9 @@
 -- Places in a text that a pass over it has reached, and what the pass knows of all that stands behind them.
-use Rattle.std.specs.Prelude.{◌≡◌, ℕ, ◌+◌, ◌-◌, ◌<◌, ◌≤◌, ◌⊎◌, false, ◌||◌, if◌then◌else◌, ◌==◌, List, ◌++◌, length, take, drop}
-use Rattle.std.specs.List.{All}
+use Rattle.std.specs.Prelude.{◌≡◌, ℕ, ◌+◌, ◌-◌, ◌<◌, ◌≤◌, ◌⊎◌, if◌then◌else◌, ◌==◌, List, ◌++◌, length, drop}
 use Rattle.std.specs.Str.{IsUtf8, chars}
 use Rattle.ob0_text.specs.declared.places.Place.{Place}
 use Rattle.ob0_text.specs.declared.positions.Position.{Position}
-use Rattle.ob0_text.specs.Texts.{LF, CR, before, byte_len, position_of}
+use Rattle.ob0_text.specs.Texts.{before, byte_len, position_of}
 
 abbrev pub at : ℕ → ℕ → Position
 at line character = record { line = line; character = character }
@@ -46,14 +45,3 @@ pub record IsSought (width : ℕ → ℕ) (text : List ℕ) (sought : Position) 
 
 abbrev pub IsPlaceBefore : (ℕ → ℕ) → List ℕ → Position → Place → Type 0
 IsPlaceBefore width text sought p = IsSought width text sought (drop p.offset text) p.offset p.line p.character
-
--- a byte that is a character of its own, and ends no line
-abbrev pub IsPlain : ℕ → Type 0
-IsPlain b = (b < 128) × ((b == LF || b == CR) ≡ false)
-
--- between a place and a position of its line lie so many plain bytes at least
-pub record HasPlainPiece (bytes : List ℕ) (place : Place) (position : Position) : Type 0 where
-  pub same_line : place.line ≡ position.line
-  pub room : place.character + 64 ≤ position.character
-  pub inside : place.offset + 64 ≤ length bytes
-  pub plain : All IsPlain (take 64 (drop place.offset bytes))

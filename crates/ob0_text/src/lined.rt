@@ -3,10 +3,11 @@
 ghost use Rattle.std.specs.Prelude.{◌≡◌, slice_get};
 ghost use Rattle.std.specs.Option.{option_map};
 ghost use Rattle.std.specs.Str.{chars};
-ghost use Rattle.ob0_text.specs.Texts.{lines};
+ghost use Rattle.ob0_text.specs.Texts.{lines, offset_of};
+ghost use Rattle.ob0_text.specs.Units.{width_of};
 ghost use Rattle.ob0_text.specs.LineStarts.{with_ending};
 
-use crate::lookups::{line_in, mend, offset_in, position_in};
+use crate::lookups::{bounds_in, line_in, mend, offset_in, position_in};
 use crate::places::{offsets_of, positions_of};
 use crate::positions::{Position, Range, Unit};
 use crate::stores::TextStore;
@@ -42,6 +43,14 @@ impl Lines {
         ensures { option_map (λ line. chars line.now) result ≡ option_map with_ending (slice_get (lines self.now.text) k) }
     {
         line_in(self.text.as_str(), &self.starts, k)
+    }
+
+    /// Where a range starts and ends, in bytes.
+    fn bounds(&self, range: Range) -> (usize, usize)
+        ensures start { result.0 ≡ offset_of (width_of self.now.unit) self.now.text range.start }
+        ensures end { result.1 ≡ offset_of (width_of self.now.unit) self.now.text range.end }
+    {
+        bounds_in(self.text.as_str(), &self.starts, self.unit, range)
     }
 }
 
@@ -81,8 +90,7 @@ impl TextStore for Lines {
     }
 
     fn replace(&mut self, range: Range, text: &str) -> Result<(), AllocError> {
-        let start = self.offset(range.start);
-        let end = self.offset(range.end);
+        let (start, end) = self.bounds(range);
         let (from, to) = (start.min(end), start.max(end));
         let alloc = *self.starts.allocator();
         let mended = mend(alloc, self.text.as_str(), &self.starts, from, to, text)?;

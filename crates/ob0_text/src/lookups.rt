@@ -5,21 +5,45 @@ ghost use Rattle.std.specs.Option.{option_map};
 ghost use Rattle.std.specs.Str.{IsUtf8, chars};
 ghost use Rattle.ob0_text.specs.Texts.{lines, offset_of, position_of};
 ghost use Rattle.ob0_text.specs.Units.{width_of};
+ghost use Rattle.ob0_text.specs.Places.{IsPlaceBefore};
 ghost use Rattle.ob0_text.specs.LineStarts.{line_starts, with_ending};
 
-use crate::places::{onward_to_offset, onward_to_position, past_plain, position_at};
-use crate::positions::{Position, Unit};
+use crate::places::{Place, is_from, onward_to_offset, onward_to_position, position_at};
+use crate::positions::{Position, Range, Unit};
 use crate::tables::{line_place, starts_before, starts_from_change};
 use std::alloc::{AllocError, Global};
 
-/// Where a position stands, in bytes: the line is looked up, and its characters are counted.
+/// Where a position stands, in bytes.
 pub fn offset_in(text: &str, starts: &[usize], unit: Unit, position: Position) -> usize
     requires { starts.now ≡ line_starts (chars text.now) }
     ensures { result ≡ offset_of (width_of unit) (chars text.now) position }
 {
+    place_in(text, starts, unit, position).offset
+}
+
+/// Where a range starts and ends, in bytes. Where it ends in the line in which it starts, the end is looked for from the start on.
+pub fn bounds_in(text: &str, starts: &[usize], unit: Unit, range: Range) -> (usize, usize)
+    requires { starts.now ≡ line_starts (chars text.now) }
+    ensures start { result.0 ≡ offset_of (width_of unit) (chars text.now) range.start }
+    ensures end { result.1 ≡ offset_of (width_of unit) (chars text.now) range.end }
+{
+    let start = place_in(text, starts, unit, range.start);
+    let end = if range.start.line == range.end.line && is_from(range.start, range.end) {
+        onward_to_position(text, unit, start, range.end)
+    } else {
+        place_in(text, starts, unit, range.end)
+    };
+    (start.offset, end.offset)
+}
+
+/// The place of a position: the line is looked up, and its characters are counted.
+fn place_in(text: &str, starts: &[usize], unit: Unit, position: Position) -> Place
+    requires { starts.now ≡ line_starts (chars text.now) }
+    ensures place { IsPlaceBefore (width_of unit) text.now position result }
+    ensures offset { result.offset ≡ offset_of (width_of unit) (chars text.now) position }
+{
     let start = line_place(starts, position.line);
-    let place = past_plain(text, unit, start, position);
-    onward_to_position(text, unit, place, position).offset
+    onward_to_position(text, unit, start, position)
 }
 
 /// The position of an offset in bytes: the line is found by halving.

@@ -1,13 +1,14 @@
 //! Passes over a text that find positions of offsets and offsets of positions.
 
-ghost use Rattle.std.specs.Prelude.{◌≡◌, ◌==◌, ◌||◌, ◌≤◌, true, IfOk, map};
-ghost use Rattle.std.specs.List.{All};
-ghost use Rattle.std.specs.Str.{chars};
+ghost use Rattle.std.specs.Prelude.{◌≡◌, ◌==◌, ◌||◌, ◌+◌, ◌-◌, ◌<◌, ◌≤◌, true, IfOk, IfSome, None, map};
+ghost use Rattle.std.specs.Str.{IsCharBoundary, chars};
 ghost use Rattle.ob0_text.specs.Texts.{LF, CR, ends_line, offset_of, position_of};
 ghost use Rattle.ob0_text.specs.Units.{width_of};
-ghost use Rattle.ob0_text.specs.Places.{at, IsFrom, IsPlace, IsPlaceBefore, IsPlain, HasPlainPiece};
+ghost use Rattle.ob0_text.specs.Stretches.{IsStretch};
+ghost use Rattle.ob0_text.specs.Places.{at, IsFrom, IsPlace, IsPlaceBefore};
 
 use crate::positions::{Position, Unit};
+use crate::stretches::{Stretch, stretch_behind};
 use std::alloc::{AllocError, Global};
 
 /// A place that a pass has reached: its offset, and the line and the units of that line that it counted.
@@ -17,9 +18,6 @@ pub struct Place {
     pub line: u64,
     pub character: u64,
 }
-
-/// How many bytes of a line are looked at together.
-const PIECE: usize = 64;
 
 const START: Place = Place {
     offset: 0,
@@ -93,7 +91,7 @@ pub fn position_at(place: Place) -> Position
 }
 
 /// Whether a position is another or comes behind it.
-fn is_from(from: Position, position: Position) -> bool
+pub fn is_from(from: Position, position: Position) -> bool
     ensures yes { result ≡ true → IsFrom from position }
 {
     from.line < position.line
@@ -130,18 +128,59 @@ pub fn onward_to_offset(text: &str, unit: Unit, from: Place, offset: usize) -> P
     ensures within { result.offset ≤ offset }
     ensures position { at result.line result.character ≡ position_of (width_of unit) (chars text.now) offset }
 {
+    let from = past_stretches_to(text, unit, from, offset);
+    let mut place = past_ascii(text, unit, from, offset);
+    while let Some(next) = past_char(text, unit, place, offset) {
+        place = past_ascii(text, unit, next, offset);
+    }
+    place
+}
+
+/// A place nearer to an offset, past stretches of a line.
+fn past_stretches_to(text: &str, unit: Unit, from: Place, offset: usize) -> Place
+    requires place { IsPlace (width_of unit) text.now from }
+    requires behind { from.offset ≤ offset }
+    ensures place { IsPlace (width_of unit) text.now result }
+    ensures within { result.offset ≤ offset }
+{
+    let mut place = from;
+    while let Some(stretch) = stretch_behind(
+        text,
+        unit,
+        place.offset,
+        (offset - place.offset) as u64,
+    ) {
+        place = Place {
+            offset: stretch.end,
+            line: place.line,
+            character: place.character + stretch.units,
+        };
+    }
+    place
+}
+
+/// A place nearer to an offset, past characters of ASCII other than CR, which are told by their bytes.
+fn past_ascii(text: &str, unit: Unit, from: Place, offset: usize) -> Place
+    requires place { IsPlace (width_of unit) text.now from }
+    requires behind { from.offset ≤ offset }
+    ensures place { IsPlace (width_of unit) text.now result }
+    ensures within { result.offset ≤ offset }
+    ensures onward { from.offset ≤ result.offset }
+{
+    let bytes = text.as_bytes();
+    let end = offset.min(bytes.len());
     let (mut line, mut character, mut reached) = (from.line, from.character, from.offset);
-    let mut chars = text[from.offset..].chars();
-    while let Some(c) = chars.next() {
-        if offset - reached < c.len_utf8() {
+    while reached < end {
+        let byte = bytes[reached];
+        if 128 <= byte || byte == b'\r' {
             break;
         }
-        reached += c.len_utf8();
-        if ends_line(c, chars.as_str()) {
+        reached += 1;
+        if byte == b'\n' {
             line += 1;
             character = 0;
-        } else if c != '\r' {
-            character += width(c, unit);
+        } else {
+            character += 1;
         }
     }
     Place {
@@ -151,12 +190,47 @@ pub fn onward_to_offset(text: &str, unit: Unit, from: Place, offset: usize) -> P
     }
 }
 
+/// The place behind the next character, where that ends at or before an offset.
+fn past_char(text: &str, unit: Unit, place: Place, offset: usize) -> Option<Place>
+    requires place { IsPlace (width_of unit) text.now place }
+    requires behind { place.offset ≤ offset }
+    ensures next { IfSome result (λ p. IsPlace (width_of unit) text.now p) }
+    ensures onward { IfSome result (λ p. (place.offset < p.offset) × (p.offset ≤ offset)) }
+    ensures last { result ≡ None → at place.line place.character ≡ position_of (width_of unit) (chars text.now) offset }
+{
+    if offset <= place.offset {
+        return None;
+    }
+    let mut chars = text[place.offset..].chars();
+    let Some(c) = chars.next() else {
+        return None;
+    };
+    if offset - place.offset < c.len_utf8() {
+        return None;
+    }
+    let reached = place.offset + c.len_utf8();
+    if ends_line(c, chars.as_str()) {
+        return Some(Place {
+            offset: reached,
+            line: place.line + 1,
+            character: 0,
+        });
+    }
+    let units = if c == '\r' { 0 } else { width(c, unit) };
+    Some(Place {
+        offset: reached,
+        line: place.line,
+        character: place.character + units,
+    })
+}
+
 /// The place of a position.
 pub fn onward_to_position(text: &str, unit: Unit, from: Place, position: Position) -> Place
     requires place { IsPlaceBefore (width_of unit) text.now position from }
     ensures place { IsPlaceBefore (width_of unit) text.now position result }
     ensures offset { result.offset ≡ offset_of (width_of unit) (chars text.now) position }
 {
+    let from = past_stretches(text, unit, from, position);
     let (mut line, mut character, mut reached) = (from.line, from.character, from.offset);
     let mut chars = text[from.offset..].chars();
     while let Some(c) = chars.next() {
@@ -179,52 +253,32 @@ pub fn onward_to_position(text: &str, unit: Unit, from: Place, position: Positio
     }
 }
 
-/// A place nearer to a position, in the position's line: plain bytes, which are characters of one byte and one unit each, are
-/// passed by pieces.
-pub fn past_plain(text: &str, unit: Unit, from: Place, position: Position) -> Place
+/// A place nearer to a position, in the position's line, past stretches of it.
+fn past_stretches(text: &str, unit: Unit, from: Place, position: Position) -> Place
     requires place { IsPlaceBefore (width_of unit) text.now position from }
     ensures place { IsPlaceBefore (width_of unit) text.now position result }
 {
     let mut place = from;
-    while has_plain_piece(text.as_bytes(), place, position) {
+    while let Some(stretch) = stretch_before(text, unit, place, position) {
         place = Place {
-            offset: place.offset + PIECE,
+            offset: stretch.end,
             line: place.line,
-            character: place.character + PIECE as u64,
+            character: place.character + stretch.units,
         };
     }
     place
 }
 
-/// Whether a plain piece lies between a place and a position of its line.
-fn has_plain_piece(bytes: &[u8], place: Place, position: Position) -> bool
-    ensures yes { result ≡ true → HasPlainPiece bytes.now place position }
+/// The stretch behind a place, where a position of its line lies behind it.
+fn stretch_before(text: &str, unit: Unit, place: Place, position: Position) -> Option<Stretch>
+    requires { IsCharBoundary text.now place.offset }
+    ensures is { IfSome result (λ s. IsStretch (width_of unit) text.now place.offset s) }
+    ensures line { IfSome result (λ s. place.line ≡ position.line) }
+    ensures fits { IfSome result (λ s. place.character + (s.end - place.offset) ≤ position.character) }
 {
-    if place.line != position.line
-        || position.character.saturating_sub(place.character) < PIECE as u64
-        || bytes.len().saturating_sub(place.offset) < PIECE
-    {
-        return false;
+    if place.line != position.line || position.character < place.character {
+        return None;
     }
-    are_plain(&bytes[place.offset..place.offset + PIECE])
-}
-
-/// Whether each byte is plain.
-fn are_plain(bytes: &[u8]) -> bool
-    ensures yes { result ≡ true → All IsPlain bytes.now }
-{
-    let mut plain = true;
-    for byte in bytes {
-        if !is_plain(*byte) {
-            plain = false;
-        }
-    }
-    plain
-}
-
-/// Whether a byte is a character of its own, and ends no line.
-fn is_plain(byte: u8) -> bool
-    ensures yes { result ≡ true → IsPlain byte }
-{
-    byte < 128 && byte != b'\n' && byte != b'\r'
+    let room = position.character - place.character;
+    stretch_behind(text, unit, place.offset, room)
 }

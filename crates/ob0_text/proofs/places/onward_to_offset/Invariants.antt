@@ -1,13 +1,13 @@
-use Rattle.std.proofs.Common.{◌≤◌}
-use Rattle.std.specs.Str.Iter.{chars_rest}
+use Rattle.std.proofs.Common.{◌-◌, ◌≤◌}
 use Rattle.ob0_text.specs.Units.{width_of}
-use Rattle.ob0_text.specs.Places.{IsCounted}
+use Rattle.ob0_text.specs.Places.{IsPlace}
 use Rattle.ob0_text.proofs.places.onward_to_offset.Given as goal
 
-abbrev pub invariant-loop-c : goal.invariant-loop-c
-invariant-loop-c l = record {
-  goes_on : (goal.iterator-loop-c).can_next l.chars;
-  ends : (goal.iterator-loop-c).is_finite l.chars;
-  within : l.reached ≤ l.fn.offset;
-  counted : IsCounted (width_of l.fn.unit) l.text (chars_rest l.chars) l.reached l.line l.character;
+abbrev pub invariant-loop-next : goal.invariant-loop-next
+invariant-loop-next l = record {
+  place : IsPlace (width_of l.fn.unit) l.fn.text l.place;
+  within : l.place.offset ≤ l.fn.offset;
 }
+
+abbrev pub decreases-loop-next : goal.decreases-loop-next
+decreases-loop-next l = l.fn.offset - l.place.offset

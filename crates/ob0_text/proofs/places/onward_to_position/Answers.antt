@@ -10,7 +10,7 @@ use Rattle.ob0_text.proofs.places.onward_to_position.Goals as goal
 use Rattle.ob0_text.proofs.places.onward_to_position.Goals.{then-line-position+then-ends_line, then-line-position+else-ends_line, else-line-position+else-position-character, then-is_line_break, else-is_line_break}
 
 pub range_from-requires : goal.range_from-requires
-range_from-requires c = λ _. rest_border c.args.text.now _ c.args.from.offset c.requires.place.rest_is
+range_from-requires c = λ _. rest_border c.args.text.now _ c.past_stretches-from.result.offset c.past_stretches-from.ensures.place.rest_is
 
 pub loop-c-preserved : goal.loop-c-preserved
 loop-c-preserved c =

@@ -45,7 +45,7 @@ returns-clause-keeps c = λ all o stands keeps.
 pub returns-clause-follows : goal.returns-clause-follows
 returns-clause-follows c =
     let last : Shadowed = record { ordinal = c.in-Some.ordinal; before = c.in_ok-before.before } in
-    let w : Walking = record { resolved = c.self.inside.resolved.now; known = c.bind.new.self; bound = c.push.new.self.items; next = c.self.inside.next } in
+    let w : Walking = record { resolved = c.self.inside.resolved.now; known = c.bind.new.self; bound = c.push.new.self.items; next = length c.bind.new.self.shapes } in
     follows_bound c.args.self w c.in-Some.ordinal c.args.object c.in_ok-before.before
     (ap (λ v. v.resolved) c.self.view_is)
     (c.in_ok-before.ensures.shapes ∙ ap (λ v. v.known.shapes) c.self.view_is)

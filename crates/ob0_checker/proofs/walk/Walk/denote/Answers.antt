@@ -1,6 +1,5 @@
 use Rattle.std.proofs.Common.{option_map, sym, ap, ◌∙◌, subst}
 use Rattle.ob0_tree.specs.View.{type_of}
-use Rattle.ob0_checker.specs.declared.denoting.Denoted.{Denoted}
 use Rattle.ob0_checker.specs.InLabels.{in_labels}
 use Rattle.ob0_symbols.specs.KnownTables.{known_meaning, shapes_of}
 use Rattle.ob0_symbols.specs.Tables.{type_shape}
@@ -14,14 +13,14 @@ returns-clause-agrees c = λ env agrees. agrees ∙ sym (ap (λ w. known_meaning
 
 pub returns-in-None-clause-value : goal.returns-in-None-clause-value
 returns-in-None-clause-value c = λ env agrees.
-    sym (ap (option_map (λ (d : Denoted). type_shape (shapes_of c.denote.new.known) d.of)) c.in-None.is)
+    sym (ap (option_map (type_shape (shapes_of c.denote.new.known))) c.in-None.is)
     ∙ c.in_ok-denote.ensures.value
     ∙ ap (λ w. denoted (known_meaning w.known) w.next (in_labels w.resolved (type_of c.args.t.now))) c.self.view_is
     ∙ ap (λ m. denoted m c.args.self.next (in_labels c.args.self.resolved (type_of c.args.t.now))) (sym agrees)
 
 pub returns-clause-value : goal.returns-clause-value
 returns-clause-value c = λ env agrees.
-    sym (ap (option_map (λ (d : Denoted). type_shape (shapes_of c.denote.new.known) d.of)) c.in-Some.is)
+    sym (ap (option_map (type_shape (shapes_of c.denote.new.known))) c.in-Some.is)
     ∙ c.in_ok-denote.ensures.value
     ∙ ap (λ w. denoted (known_meaning w.known) w.next (in_labels w.resolved (type_of c.args.t.now))) c.self.view_is
     ∙ ap (λ m. denoted m c.args.self.next (in_labels c.args.self.resolved (type_of c.args.t.now))) (sym agrees)

@@ -9,22 +9,22 @@ use Rattle.ob0_text.proofs.lined.LinesTextStore.replace.Goals as goal
 
 pub mend-requires-clause-within : goal.mend-requires-clause-within
 mend-requires-clause-within c =
-    let border = to_border (width_of c.args.self.now.unit) c.args.self.now.text (string_bytes c.self.inside.text) (IsUtf8-string_bytes c.self.inside.text) (ap (λ (v : TextInUnit). v.text) c.self.view_is) c.args.range c.offset-start.result c.offset-end.result c.min-from.result c.max-to.result c.offset-start.ensures c.offset-end.ensures c.min-from.ensures c.max-to.ensures in
+    let border = to_border (width_of c.args.self.now.unit) c.args.self.now.text (string_bytes c.self.inside.text) (IsUtf8-string_bytes c.self.inside.text) (ap (λ (v : TextInUnit). v.text) c.self.view_is) c.args.range c.bounds-start.result.0 c.bounds-start.result.1 c.min-from.result c.max-to.result c.bounds-start.ensures.start c.bounds-start.ensures.end c.min-from.ensures c.max-to.ensures in
     omega (arith, border.0, ap length c.as_str.ensures.value)
 
 pub replace_range-requires-clause-in_bounds : goal.replace_range-requires-clause-in_bounds
 replace_range-requires-clause-in_bounds c =
-    let border = to_border (width_of c.args.self.now.unit) c.args.self.now.text (string_bytes c.self.inside.text) (IsUtf8-string_bytes c.self.inside.text) (ap (λ (v : TextInUnit). v.text) c.self.view_is) c.args.range c.offset-start.result c.offset-end.result c.min-from.result c.max-to.result c.offset-start.ensures c.offset-end.ensures c.min-from.ensures c.max-to.ensures in
+    let border = to_border (width_of c.args.self.now.unit) c.args.self.now.text (string_bytes c.self.inside.text) (IsUtf8-string_bytes c.self.inside.text) (ap (λ (v : TextInUnit). v.text) c.self.view_is) c.args.range c.bounds-start.result.0 c.bounds-start.result.1 c.min-from.result c.max-to.result c.bounds-start.ensures.start c.bounds-start.ensures.end c.min-from.ensures c.max-to.ensures in
     omega (arith, border.0, c.self.inside.text.bytes.ok.0)
 
 pub replace_range-requires-clause-start_boundary : goal.replace_range-requires-clause-start_boundary
 replace_range-requires-clause-start_boundary c =
-    let border = from_border (width_of c.args.self.now.unit) c.args.self.now.text (string_bytes c.self.inside.text) (IsUtf8-string_bytes c.self.inside.text) (ap (λ (v : TextInUnit). v.text) c.self.view_is) c.args.range c.offset-start.result c.offset-end.result c.min-from.result c.max-to.result c.offset-start.ensures c.offset-end.ensures c.min-from.ensures c.max-to.ensures in
+    let border = from_border (width_of c.args.self.now.unit) c.args.self.now.text (string_bytes c.self.inside.text) (IsUtf8-string_bytes c.self.inside.text) (ap (λ (v : TextInUnit). v.text) c.self.view_is) c.args.range c.bounds-start.result.0 c.bounds-start.result.1 c.min-from.result c.max-to.result c.bounds-start.ensures.start c.bounds-start.ensures.end c.min-from.ensures c.max-to.ensures in
     (border.0, λ _. border.1)
 
 pub replace_range-requires-clause-end_boundary : goal.replace_range-requires-clause-end_boundary
 replace_range-requires-clause-end_boundary c =
-    let border = to_border (width_of c.args.self.now.unit) c.args.self.now.text (string_bytes c.self.inside.text) (IsUtf8-string_bytes c.self.inside.text) (ap (λ (v : TextInUnit). v.text) c.self.view_is) c.args.range c.offset-start.result c.offset-end.result c.min-from.result c.max-to.result c.offset-start.ensures c.offset-end.ensures c.min-from.ensures c.max-to.ensures in
+    let border = to_border (width_of c.args.self.now.unit) c.args.self.now.text (string_bytes c.self.inside.text) (IsUtf8-string_bytes c.self.inside.text) (ap (λ (v : TextInUnit). v.text) c.self.view_is) c.args.range c.bounds-start.result.0 c.bounds-start.result.1 c.min-from.result c.max-to.result c.bounds-start.ensures.start c.bounds-start.ensures.end c.min-from.ensures c.max-to.ensures in
     (border.0, λ _. border.1)
 
 pub invariant_of-self-2 : goal.invariant_of-self-2
@@ -41,4 +41,4 @@ invariant_of-self-2 c =
 pub returns-clause-ok : goal.returns-clause-ok
 returns-clause-ok c =
     on_ok_always c.extend_from_slice.result
-    (replaced_is (width_of c.args.self.now.unit) c.args.self.now.text (string_bytes c.self.inside.text) (IsUtf8-string_bytes c.self.inside.text) (ap (λ (v : TextInUnit). v.text) c.self.view_is) c.args.range c.offset-start.result c.offset-end.result c.min-from.result c.max-to.result c.offset-start.ensures c.offset-end.ensures c.min-from.ensures c.max-to.ensures c.args.text.now (string_bytes c.replace_range.new.self) c.utf8.text c.in_ok-replace_range.ensures.bytes)
+    (replaced_is (width_of c.args.self.now.unit) c.args.self.now.text (string_bytes c.self.inside.text) (IsUtf8-string_bytes c.self.inside.text) (ap (λ (v : TextInUnit). v.text) c.self.view_is) c.args.range c.bounds-start.result.0 c.bounds-start.result.1 c.min-from.result c.max-to.result c.bounds-start.ensures.start c.bounds-start.ensures.end c.min-from.ensures c.max-to.ensures c.args.text.now (string_bytes c.replace_range.new.self) c.utf8.text c.in_ok-replace_range.ensures.bytes)

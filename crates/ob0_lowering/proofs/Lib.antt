@@ -1,0 +1,3 @@
+pub mod CodesMean
+pub mod TreesMean
+pub mod LaidOut

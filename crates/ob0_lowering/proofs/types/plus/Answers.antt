@@ -1,0 +1,1 @@
+use Rattle.ob0_lowering.proofs.LaidOut.{one_more}

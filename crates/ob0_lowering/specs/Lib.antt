@@ -1,0 +1,5 @@
+pub mod Layouts
+pub mod Scenes
+pub mod Codes
+pub mod Trees
+pub mod Means

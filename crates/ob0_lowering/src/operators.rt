@@ -1,0 +1,258 @@
+//! The code of operations.
+
+ghost use Rattle.std.specs.Prelude.{◌≡◌, IfOk, Some};
+ghost use Rattle.ob0_tree.specs.declared.tree.Sign.TheVariants as signs;
+ghost use Rattle.ob0_machine.specs.Lowered as machine;
+ghost use Rattle.ob0_machine.specs.View.{number_of, operator_of, truth_of};
+ghost use Rattle.ob0_cells.specs.Lowering.{relation_of};
+ghost use Rattle.ob0_machine.specs.View as view;
+ghost use Rattle.ob0_lowering.specs.Codes as codes;
+ghost use Rattle.ob0_lowering.specs.Trees.{code_of};
+
+use crate::lowered::Lowered;
+use ob0_machine::code;
+use ob0_machine::code::{Number, Operands, Operator, Truth, Truths};
+use ob0_tree::{AddOperator, MultiplyOperator, Relation, Sign};
+use std::alloc::{AllocError, Global};
+
+/// An operation between two numbers.
+fn operation(
+    alloc: Global,
+    operator: Operator,
+    left: Number,
+    right: Number,
+) -> Result<Number, AllocError>
+    ensures { IfOk result (λ n. number_of n ≡ machine.operation (operator_of operator) (number_of left) (number_of right)) }
+{
+    let operands = Box::new(alloc, Operands { left, right })?;
+    Ok(Number::Operation(operator, operands))
+}
+
+fn both(alloc: Global, left: Truth, right: Truth) -> Result<Truth, AllocError>
+    ensures { IfOk result (λ t. truth_of t ≡ machine.both (truth_of left) (truth_of right)) }
+{
+    Ok(Truth::Both(Box::new(alloc, Truths { left, right })?))
+}
+
+fn either(alloc: Global, left: Truth, right: Truth) -> Result<Truth, AllocError>
+    ensures { IfOk result (λ t. truth_of t ≡ machine.either (truth_of left) (truth_of right)) }
+{
+    Ok(Truth::Either(Box::new(alloc, Truths { left, right })?))
+}
+
+fn operated(
+    alloc: Global,
+    operator: Operator,
+    left: Lowered,
+    right: Lowered,
+) -> Result<Lowered, AllocError>
+    ensures { IfOk result (λ l. code_of l ≡ codes.operated (operator_of operator) (code_of left) (code_of right)) }
+{
+    match left {
+        Lowered::Number(left) => match right {
+            Lowered::Number(right) => {
+                Ok(Lowered::Number(operation(alloc, operator, left, right)?))
+            }
+            Lowered::Truth(_) => Ok(Lowered::Nothing),
+            Lowered::Block(_, _) => Ok(Lowered::Nothing),
+            Lowered::Nothing => Ok(Lowered::Nothing),
+        },
+        Lowered::Truth(_) => Ok(Lowered::Nothing),
+        Lowered::Block(_, _) => Ok(Lowered::Nothing),
+        Lowered::Nothing => Ok(Lowered::Nothing),
+    }
+}
+
+fn conjunction(alloc: Global, left: Lowered, right: Lowered) -> Result<Lowered, AllocError>
+    ensures { IfOk result (λ l. code_of l ≡ codes.combined machine.both (code_of left) (code_of right)) }
+{
+    match left {
+        Lowered::Truth(left) => match right {
+            Lowered::Truth(right) => Ok(Lowered::Truth(both(alloc, left, right)?)),
+            Lowered::Number(_) => Ok(Lowered::Nothing),
+            Lowered::Block(_, _) => Ok(Lowered::Nothing),
+            Lowered::Nothing => Ok(Lowered::Nothing),
+        },
+        Lowered::Number(_) => Ok(Lowered::Nothing),
+        Lowered::Block(_, _) => Ok(Lowered::Nothing),
+        Lowered::Nothing => Ok(Lowered::Nothing),
+    }
+}
+
+fn disjunction(alloc: Global, left: Lowered, right: Lowered) -> Result<Lowered, AllocError>
+    ensures { IfOk result (λ l. code_of l ≡ codes.combined machine.either (code_of left) (code_of right)) }
+{
+    match left {
+        Lowered::Truth(left) => match right {
+            Lowered::Truth(right) => Ok(Lowered::Truth(either(alloc, left, right)?)),
+            Lowered::Number(_) => Ok(Lowered::Nothing),
+            Lowered::Block(_, _) => Ok(Lowered::Nothing),
+            Lowered::Nothing => Ok(Lowered::Nothing),
+        },
+        Lowered::Number(_) => Ok(Lowered::Nothing),
+        Lowered::Block(_, _) => Ok(Lowered::Nothing),
+        Lowered::Nothing => Ok(Lowered::Nothing),
+    }
+}
+
+pub(crate) fn added(
+    alloc: Global,
+    operator: AddOperator,
+    left: Lowered,
+    right: Lowered,
+) -> Result<Lowered, AllocError>
+    ensures { IfOk result (λ l. code_of l ≡ codes.added operator (code_of left) (code_of right)) }
+{
+    match operator {
+        AddOperator::Add => operated(alloc, Operator::Sum, left, right),
+        AddOperator::Subtract => operated(alloc, Operator::Difference, left, right),
+        AddOperator::Or => disjunction(alloc, left, right),
+    }
+}
+
+pub(crate) fn multiplied(
+    alloc: Global,
+    operator: MultiplyOperator,
+    left: Lowered,
+    right: Lowered,
+) -> Result<Lowered, AllocError>
+    ensures { IfOk result (λ l. code_of l ≡ codes.multiplied operator (code_of left) (code_of right)) }
+{
+    match operator {
+        MultiplyOperator::Multiply => operated(alloc, Operator::Product, left, right),
+        MultiplyOperator::Divide => operated(alloc, Operator::Quotient, left, right),
+        MultiplyOperator::Modulo => operated(alloc, Operator::Remainder, left, right),
+        MultiplyOperator::And => conjunction(alloc, left, right),
+    }
+}
+
+fn negative(alloc: Global, operand: Lowered) -> Result<Lowered, AllocError>
+    ensures { IfOk result (λ l. code_of l ≡ codes.signed (Some signs.Minus) (code_of operand)) }
+{
+    match operand {
+        Lowered::Number(number) => {
+            Ok(Lowered::Number(Number::Negative(Box::new(alloc, number)?)))
+        }
+        Lowered::Truth(_) => Ok(Lowered::Nothing),
+        Lowered::Block(_, _) => Ok(Lowered::Nothing),
+        Lowered::Nothing => Ok(Lowered::Nothing),
+    }
+}
+
+fn only_number(operand: Lowered) -> Lowered
+    ensures { code_of result ≡ codes.signed (Some signs.Plus) (code_of operand) }
+{
+    match operand {
+        Lowered::Number(number) => Lowered::Number(number),
+        Lowered::Truth(_) => Lowered::Nothing,
+        Lowered::Block(_, _) => Lowered::Nothing,
+        Lowered::Nothing => Lowered::Nothing,
+    }
+}
+
+/// A term with its sign. `+` leaves a number as it is.
+pub(crate) fn signed(
+    alloc: Global,
+    sign: Option<Sign>,
+    operand: Lowered,
+) -> Result<Lowered, AllocError>
+    ensures { IfOk result (λ l. code_of l ≡ codes.signed sign (code_of operand)) }
+{
+    match sign {
+        None => Ok(operand),
+        Some(sign) => match sign {
+            Sign::Plus => Ok(only_number(operand)),
+            Sign::Minus => negative(alloc, operand),
+        },
+    }
+}
+
+pub(crate) fn negated(alloc: Global, operand: Lowered) -> Result<Lowered, AllocError>
+    ensures { IfOk result (λ l. code_of l ≡ codes.negated (code_of operand)) }
+{
+    match operand {
+        Lowered::Truth(truth) => Ok(Lowered::Truth(Truth::Negation(Box::new(alloc, truth)?))),
+        Lowered::Number(_) => Ok(Lowered::Nothing),
+        Lowered::Block(_, _) => Ok(Lowered::Nothing),
+        Lowered::Nothing => Ok(Lowered::Nothing),
+    }
+}
+
+fn relation_in(relation: Relation) -> code::Relation
+    ensures { view.relation_of result ≡ relation_of relation }
+{
+    match relation {
+        Relation::Equal => code::Relation::Equal,
+        Relation::NotEqual => code::Relation::NotEqual,
+        Relation::Less => code::Relation::Less,
+        Relation::LessEqual => code::Relation::LessEqual,
+        Relation::Greater => code::Relation::Greater,
+        Relation::GreaterEqual => code::Relation::GreaterEqual,
+    }
+}
+
+/// A relation of two numbers.
+fn compared(
+    alloc: Global,
+    relation: Relation,
+    left: Number,
+    right: Number,
+) -> Result<Truth, AllocError>
+    ensures { IfOk result (λ t. truth_of t ≡ machine.related (relation_of relation) (number_of left) (number_of right)) }
+{
+    let operands = Box::new(alloc, Operands { left, right })?;
+    Ok(Truth::Related(relation_in(relation), operands))
+}
+
+/// `=` or `#` of two truths.
+fn alike(
+    alloc: Global,
+    relation: Relation,
+    left: Truth,
+    right: Truth,
+) -> Result<Lowered, AllocError>
+    ensures { IfOk result (λ l. code_of l ≡ codes.related relation (codes.a_truth (truth_of left)) (codes.a_truth (truth_of right))) }
+{
+    match relation {
+        Relation::Equal => {
+            let sides = Box::new(alloc, Truths { left, right })?;
+            Ok(Lowered::Truth(Truth::Same(sides)))
+        }
+        Relation::NotEqual => {
+            let sides = Box::new(alloc, Truths { left, right })?;
+            Ok(Lowered::Truth(Truth::Different(sides)))
+        }
+        Relation::Less => Ok(Lowered::Nothing),
+        Relation::LessEqual => Ok(Lowered::Nothing),
+        Relation::Greater => Ok(Lowered::Nothing),
+        Relation::GreaterEqual => Ok(Lowered::Nothing),
+    }
+}
+
+pub(crate) fn related(
+    alloc: Global,
+    relation: Relation,
+    left: Lowered,
+    right: Lowered,
+) -> Result<Lowered, AllocError>
+    ensures { IfOk result (λ l. code_of l ≡ codes.related relation (code_of left) (code_of right)) }
+{
+    match left {
+        Lowered::Number(left) => match right {
+            Lowered::Number(right) => {
+                Ok(Lowered::Truth(compared(alloc, relation, left, right)?))
+            }
+            Lowered::Truth(_) => Ok(Lowered::Nothing),
+            Lowered::Block(_, _) => Ok(Lowered::Nothing),
+            Lowered::Nothing => Ok(Lowered::Nothing),
+        },
+        Lowered::Truth(left) => match right {
+            Lowered::Truth(right) => alike(alloc, relation, left, right),
+            Lowered::Number(_) => Ok(Lowered::Nothing),
+            Lowered::Block(_, _) => Ok(Lowered::Nothing),
+            Lowered::Nothing => Ok(Lowered::Nothing),
+        },
+        Lowered::Block(_, _) => Ok(Lowered::Nothing),
+        Lowered::Nothing => Ok(Lowered::Nothing),
+    }
+}

@@ -1,0 +1,60 @@
+-- What the bytes of characters say of their ends and their units.
+use Rattle.std.proofs.Common.{◌≡◌, ℕ, ◌+◌, ◌<◌, Bool, true, false, ◌||◌, List, [], ◌∷◌, ◌++◌, length, refl, sym, ap, ◌∙◌, subst, arith, length-append}
+use Rattle.std.specs.Prelude.{◌==◌, encode_utf8_all, sum_by}
+use Rattle.std.specs.List.{All}
+use Rattle.std.specs.Str.{IsUtf8, chars}
+use Rattle.std.specs.Char.{encode_utf8, len_utf8}
+use Rattle.std.proofs.lemmas.Bool.Decides.{nat_tests}
+use Rattle.std.proofs.lemmas.List.Sums.{sum_by-append, sum_by-cons}
+use Rattle.std.proofs.lemmas.List.Elements.{All-nil, All-cons, All-head, All-drop}
+use Rattle.std.proofs.Math.Seq.{drop-append_seam}
+use Rattle.std.proofs.lemmas.Str.{encode_ascii, encodes-chars, length-encode}
+use Rattle.ob0_text.specs.Texts.{LF, CR, utf16_width, byte_len}
+use Rattle.ob0_text.specs.Stretches.{EndsNoLine, utf16_units_at, AreOfALine}
+
+-- a character of four bytes begins with 240 or more, and the bytes behind the first are from 128 to 191
+units_of_char : (c : ℕ) → sum_by utf16_units_at (encode_utf8 c) ≡ utf16_width c
+unfolding encode_utf8
+units_of_char c = grind (arith, nat_tests)
+
+pub units_of_chars : (cs : List ℕ) → sum_by utf16_units_at (encode_utf8_all cs) ≡ sum_by utf16_width cs
+units_of_chars [] = refl
+units_of_chars (c ∷ cs) =
+    sum_by-append utf16_units_at (encode_utf8 c) (encode_utf8_all cs) ∙ (λ i. units_of_char c i + units_of_chars cs i) ∙ sym (sum_by-cons utf16_width c cs)
+
+pub bytes_of_chars : (cs : List ℕ) → byte_len cs ≡ sum_by len_utf8 cs
+bytes_of_chars [] = refl
+bytes_of_chars (c ∷ cs) =
+    length-append (encode_utf8 c) (encode_utf8_all cs) ∙ (λ i. length-encode c i + bytes_of_chars cs i) ∙ sym (sum_by-cons len_utf8 c cs)
+
+-- a character that ends a line is a byte
+char_of_line : (c : ℕ) (bs : List ℕ) → All EndsNoLine (encode_utf8 c ++ bs) → EndsNoLine c
+char_of_line c bs h = by_end (c == LF || c == CR) refl
+  where
+    by_end : (b : Bool) → (c == LF || c == CR) ≡ b → EndsNoLine c
+    by_end true e =
+        let low : c < 128 = grind (arith, nat_tests) in
+        All-head EndsNoLine c bs (subst (λ t. All EndsNoLine (t ++ bs)) (encode_ascii c low) h)
+    by_end false e = e
+
+pub chars_of_line : (cs : List ℕ) → All EndsNoLine (encode_utf8_all cs) → All EndsNoLine cs
+chars_of_line [] h = All-nil EndsNoLine
+chars_of_line (c ∷ cs) h =
+    All-cons EndsNoLine c cs (char_of_line c (encode_utf8_all cs) h)
+    (chars_of_line cs (subst (All EndsNoLine) (drop-append_seam (encode_utf8 c) (encode_utf8_all cs)) (All-drop EndsNoLine (length (encode_utf8 c)) (encode_utf8 c ++ encode_utf8_all cs) h)))
+
+module _ (bs : List ℕ) (u : IsUtf8 bs) (h : All EndsNoLine bs) where
+  of_one : All EndsNoLine (chars bs)
+  of_one = chars_of_line (chars bs) (subst (All EndsNoLine) (sym (encodes-chars bs u)) h)
+
+  pub counted_in_utf16 : AreOfALine utf16_width (chars bs) (sum_by utf16_units_at bs)
+  counted_in_utf16 = record {
+    of_one = of_one;
+    counted = sym (units_of_chars (chars bs)) ∙ ap (sum_by utf16_units_at) (encodes-chars bs u);
+  }
+
+  pub counted_in_bytes : AreOfALine len_utf8 (chars bs) (length bs)
+  counted_in_bytes = record {
+    of_one = of_one;
+    counted = sym (bytes_of_chars (chars bs)) ∙ ap length (encodes-chars bs u);
+  }

@@ -1,0 +1,94 @@
+-- Passes over a text, past the characters of a stretch.
+use Rattle.std.proofs.Common.{◌≡◌, ℕ, ◌+◌, ◌-◌, ◌≤◌, List, [], ◌∷◌, ◌++◌, length, take, drop, sym, ap, ◌∙◌, subst, append_assoc, arith, length-drop}
+use Rattle.std.specs.Prelude.{encode_utf8, encode_utf8_all, sum_by}
+use Rattle.std.specs.List.{All}
+use Rattle.std.specs.Char.{len_utf8}
+use Rattle.std.specs.Str.{chars}
+use Rattle.std.proofs.lemmas.Bool.Decides.{nat_tests}
+use Rattle.std.proofs.lemmas.List.{length-take-le, take-append-drop, drop-drop}
+use Rattle.std.proofs.lemmas.List.Sums.{sum_by-cons}
+use Rattle.std.proofs.lemmas.List.Elements.{All-head, All-tail}
+use Rattle.std.proofs.lemmas.Str.{encodes-chars}
+use Rattle.ob0_text.specs.declared.positions.Position.{Position}
+use Rattle.ob0_text.specs.declared.places.Place.{Place}
+use Rattle.ob0_text.specs.declared.stretches.Stretch.{Stretch}
+use Rattle.ob0_text.specs.Texts.{CR, byte_len}
+use Rattle.ob0_text.specs.Stretches.{EndsNoLine, IsStretch}
+use Rattle.ob0_text.specs.Places.{IsSought, IsPlaceBefore, IsCounted, IsPlace}
+use Rattle.ob0_text.proofs.LineLaws.{no_line_end}
+use Rattle.ob0_text.proofs.PositionSteps.{counted_past_char}
+use Rattle.ob0_text.proofs.PlaceSteps.{byte_len-cons, sought_past_char}
+
+no_cr : (c : ℕ) → EndsNoLine c → c ≡ CR → ⊥
+no_cr c h e = grind (arith, nat_tests)
+
+module _ (width : ℕ → ℕ) (text : List ℕ) where
+  -- what is split at a stretch's end
+  module _ (from : ℕ) (s : Stretch) (is : IsStretch width text from s) where
+    piece : List ℕ
+    piece = take (s.end - from) (drop from text)
+
+    long : length piece ≡ s.end - from
+    unfolding piece
+    long = length-take-le (s.end - from) (drop from text) (omega (arith, length-drop from text, is.inside))
+
+    split : drop from text ≡ encode_utf8_all (chars piece) ++ drop s.end text
+    unfolding piece
+    split =
+        sym (take-append-drop (s.end - from) (drop from text)) ∙ (λ i. sym (encodes-chars piece is.whole) i ++ rest i)
+      where
+        rest : drop (s.end - from) (drop from text) ≡ drop s.end text
+        rest = drop-drop (s.end - from) from text ∙ ap (λ n. drop n text) (omega (arith, is.further))
+
+    bytes : byte_len (chars piece) ≡ s.end - from
+    unfolding piece
+    bytes = ap length (encodes-chars piece is.whole) ∙ long
+
+  -- the search for a position
+  module _ (p : Position) where
+    sought_past : (cs rest : List ℕ) (offset line character : ℕ) → All EndsNoLine cs → IsSought width text p (encode_utf8_all cs ++ rest) offset line character → line ≡ p.line → character + sum_by width cs ≤ p.character → IsSought width text p rest (offset + byte_len cs) line (character + sum_by width cs)
+    sought_past [] rest offset line character of_one h here room =
+        subst (λ n. IsSought width text p rest n line (character + 0)) (omega arith) (subst (λ n. IsSought width text p rest offset line n) (omega arith) h)
+    sought_past (c ∷ cs) rest offset line character of_one h here room =
+        let wide : sum_by width (c ∷ cs) ≡ width c + sum_by width cs = sum_by-cons width c cs in
+        let next = sought_past_char width text p (encode_utf8_all (c ∷ cs) ++ rest) offset line character h c (encode_utf8_all cs ++ rest) (append_assoc (encode_utf8 c) (encode_utf8_all cs) rest) (omega (arith, here)) (All-head EndsNoLine c cs of_one) (omega (arith, wide, room)) in
+        let last = sought_past cs rest (offset + len_utf8 c) line (character + width c) (All-tail EndsNoLine c cs of_one) next here (omega (arith, wide, room)) in
+        subst (λ n. IsSought width text p rest n line (character + sum_by width (c ∷ cs))) (omega (arith, byte_len-cons c cs))
+        (subst (λ n. IsSought width text p rest (offset + len_utf8 c + byte_len cs) line n) (omega (arith, wide)) last)
+
+    pub sought_past_stretch : (place : Place) (s : Stretch) → IsPlaceBefore width text p place → IsStretch width text place.offset s → place.line ≡ p.line → place.character + s.units ≤ p.character → IsSought width text p (drop s.end text) s.end place.line (place.character + s.units)
+    unfolding piece
+    sought_past_stretch place s h is here room =
+        let passed = sought_past (chars (piece place.offset s is)) (drop s.end text) place.offset place.line place.character is.of_a_line.of_one (subst (λ r. IsSought width text p r place.offset place.line place.character) (split place.offset s is) h) here (omega (arith, is.of_a_line.counted, room)) in
+        subst (λ n. IsSought width text p (drop s.end text) n place.line (place.character + s.units)) (omega (arith, bytes place.offset s is, is.further))
+        (subst (λ n. IsSought width text p (drop s.end text) (place.offset + byte_len (chars (piece place.offset s is))) place.line (place.character + n)) is.of_a_line.counted passed)
+
+  -- the pass that counts
+  module _ (narrow : (c : ℕ) → width c ≤ len_utf8 c) where
+    counted_past : (cs rest : List ℕ) (offset line character : ℕ) → All EndsNoLine cs → IsCounted width text (encode_utf8_all cs ++ rest) offset line character → IsCounted width text rest (offset + byte_len cs) line (character + sum_by width cs)
+    counted_past [] rest offset line character of_one h =
+        subst (λ n. IsCounted width text rest n line (character + 0)) (omega arith) (subst (λ n. IsCounted width text rest offset line n) (omega arith) h)
+    counted_past (c ∷ cs) rest offset line character of_one h =
+        let wide : sum_by width (c ∷ cs) ≡ width c + sum_by width cs = sum_by-cons width c cs in
+        let this = All-head EndsNoLine c cs of_one in
+        let next = counted_past_char width text (encode_utf8_all (c ∷ cs) ++ rest) offset line character h c (encode_utf8_all cs ++ rest) (append_assoc (encode_utf8 c) (encode_utf8_all cs) rest) (narrow c) (no_line_end c (chars (encode_utf8_all cs ++ rest)) this) (no_cr c this) in
+        let last = counted_past cs rest (offset + len_utf8 c) line (character + width c) (All-tail EndsNoLine c cs of_one) next in
+        subst (λ n. IsCounted width text rest n line (character + sum_by width (c ∷ cs))) (omega (arith, byte_len-cons c cs))
+        (subst (λ n. IsCounted width text rest (offset + len_utf8 c + byte_len cs) line n) (omega (arith, wide)) last)
+
+    pub counted_past_stretch : (place : Place) (s : Stretch) → IsPlace width text place → IsStretch width text place.offset s → IsCounted width text (drop s.end text) s.end place.line (place.character + s.units)
+    unfolding piece
+    counted_past_stretch place s h is =
+        let passed = counted_past (chars (piece place.offset s is)) (drop s.end text) place.offset place.line place.character is.of_a_line.of_one (subst (λ r. IsCounted width text r place.offset place.line place.character) (split place.offset s is) h) in
+        subst (λ n. IsCounted width text (drop s.end text) n place.line (place.character + s.units)) (omega (arith, bytes place.offset s is, is.further))
+        (subst (λ n. IsCounted width text (drop s.end text) (place.offset + byte_len (chars (piece place.offset s is))) place.line (place.character + n)) is.of_a_line.counted passed)
+
+-- a stretch has at most as many units as bytes
+module _ (width : ℕ → ℕ) (narrow : (c : ℕ) → width c ≤ len_utf8 c) where
+  few_units : (cs : List ℕ) → sum_by width cs ≤ byte_len cs
+  few_units [] = omega arith
+  few_units (c ∷ cs) = omega (arith, narrow c, few_units cs, sum_by-cons width c cs, byte_len-cons c cs)
+
+  pub units_fit : (text : List ℕ) (from : ℕ) (s : Stretch) → IsStretch width text from s → s.units ≤ s.end - from
+  unfolding piece
+  units_fit text from s is = omega (arith, few_units (chars (piece width text from s is)), bytes width text from s is, is.of_a_line.counted)

@@ -1,0 +1,26 @@
+-- Characters of a line that stand one after another, counted together.
+use Rattle.std.specs.Prelude.{◌≡◌, ℕ, ◌+◌, ◌-◌, ◌<◌, ◌≤◌, false, ◌||◌, ◌==◌, if◌then◌else◌, nat_lt, nat_le, List, length, take, drop, sum_by}
+use Rattle.std.specs.List.{All}
+use Rattle.std.specs.Str.{IsUtf8, chars}
+use Rattle.ob0_text.specs.declared.stretches.Stretch.{Stretch}
+use Rattle.ob0_text.specs.Texts.{LF, CR}
+
+-- a character that ends no line, or a byte
+abbrev pub EndsNoLine : ℕ → Type 0
+EndsNoLine c = (c == LF || c == CR) ≡ false
+
+-- the units of UTF-16 that are counted at a byte: one at the first byte of each character, and another where the character has four
+abbrev pub utf16_units_at : ℕ → ℕ
+utf16_units_at b = (if nat_lt b 0x80 || nat_le 0xC0 b then 1 else 0) + (if nat_le 0xF0 b then 1 else 0)
+
+-- characters that end no line, and have so many units
+pub record AreOfALine (width : ℕ → ℕ) (cs : List ℕ) (units : ℕ) : Type 0 where
+  pub of_one : All EndsNoLine cs
+  pub counted : sum_by width cs ≡ units
+
+-- behind an offset of a text stand characters of a line
+pub record IsStretch (width : ℕ → ℕ) (text : List ℕ) (from : ℕ) (s : Stretch) : Type 0 where
+  pub further : from < s.end
+  pub inside : s.end ≤ length text
+  pub whole : IsUtf8 (take (s.end - from) (drop from text))
+  pub of_a_line : AreOfALine width (chars (take (s.end - from) (drop from text))) s.units
