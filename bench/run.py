@@ -161,9 +161,9 @@ def opened(text, times):
 
 
 def ratios(what, rows):
-    """Prints how time on a processor and peak memory grew from the first to the last of some rows of a text's length, seconds
-    and memory, and both by the growth of the length."""
-    (small, first, low), (large, last, high) = rows[0], rows[-1]
+    """Prints how time on a processor and peak memory grew between the last two of some rows of a text's length, seconds and
+    memory (from 100 KB to 1 MiB, where these are the sizes), and both by the growth of the length."""
+    (small, first, low), (large, last, high) = rows[-2:]
     grew = large / small
     said(f"{what}: time grew by {last / first:.1f} where the text grew by {grew:.1f}", f"ratio {last / first / grew:.2f}")
     if low:
@@ -173,7 +173,7 @@ def ratios(what, rows):
 
 
 def growth(what, sizes, make, each):
-    """Prints time on a processor, bytes a second and memory for growing sizes, and the ratios of the last to the first, by size."""
+    """Prints time on a processor, bytes a second and memory for growing sizes, and the ratios of the last to the one before it, by size."""
     rows = []
     for size in sizes:
         text = make(size)
@@ -190,6 +190,31 @@ def growing():
     each = lambda text, size: opened(text, max(3, 3 * MIB // size // 4))
     growth("module of", sizes, corpus.module, each)
     growth("module on one line of", sizes, lambda size: corpus.module(size, on_line=True), each)
+
+
+def changed(text, times):
+    """Time on a processor for one change of a letter, over so many of them behind an opening, and the peak memory."""
+    talk = lambda more: frames([initialize(), did_open(text), *more, SHUTDOWN, EXIT])
+    changes = [letter_at(text, version) for version in range(2, 2 + times)]
+    found, opening = (best(3, lambda more=more: Timed([BINARY, "serve"], talk(more))) for more in (changes, []))
+    return max(found.processor - opening.processor, 1e-4) / times, found.memory
+
+
+@measure("serve: what a change of one letter costs, from 10 KB to 1 MiB")
+def changing():
+    growth("a change in a module of", [10000, 100000, MIB - 1000], corpus.module, lambda text, _: changed(text, 20))
+
+
+@measure("serve: 100 faults at the end of a module, from 10 KB to 1 MiB")
+def faulty():
+    """What an opening costs; each fault is a truth value that is assigned to an integer."""
+
+    def make(size):
+        faults = ["x:=TRUE"] * 100
+        head = len(corpus.lines_of("MODULE Uses; VAR x: INTEGER;", faults, False))
+        return corpus.lines_of("MODULE Uses; VAR x: INTEGER;", ["x:=1"] * ((size - head) // 6) + faults, False)
+
+    growth("a module with 100 faults of", [10000, 100000, MIB], make, lambda text, _: opened(text, 3))
 
 
 class Talk:

@@ -4,7 +4,6 @@ ghost use Rattle.std.specs.Prelude.{negsuc};
 ghost use Rattle.serde_json.specs.Data.{number, string, unsigned};
 ghost use Rattle.serde_json.specs.Find.{of_integer};
 
-use json::Writer;
 use ob0_rpc::{
     Call, Client, Id, Incoming, RpcFault, Written, error, notification, read, request, result,
     result_of, write_count, write_integer, write_text,
@@ -292,7 +291,7 @@ struct Said<'a> {
 impl<'a> Written for Said<'a> {
     ghost value = { λ said. string said.text.now };
 
-    fn write(&self, out: &mut Writer) -> Result<(), AllocError> {
+    fn write(&self, out: &mut Vec<u8>) -> Result<(), AllocError> {
         write_text(out, self.text)
     }
 }
@@ -306,7 +305,7 @@ struct Counted {
 impl Written for Counted {
     ghost value = { λ counted. number (unsigned counted.count) };
 
-    fn write(&self, out: &mut Writer) -> Result<(), AllocError> {
+    fn write(&self, out: &mut Vec<u8>) -> Result<(), AllocError> {
         write_count(out, self.count)
     }
 }
@@ -318,7 +317,7 @@ struct Least {}
 impl Written for Least {
     ghost value = { λ _. number (of_integer (negsuc 9223372036854775807)) };
 
-    fn write(&self, out: &mut Writer) -> Result<(), AllocError> {
+    fn write(&self, out: &mut Vec<u8>) -> Result<(), AllocError> {
         write_integer(out, -9223372036854775808)
     }
 }

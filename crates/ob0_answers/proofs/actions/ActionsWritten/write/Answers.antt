@@ -1,4 +1,4 @@
-use Rattle.std.proofs.Common.{◌≡◌, ◌∙◌, ◌++◌, ◌&&◌, List, Option, Some, None, is_some, Vec, Global, ap, ap₂, refl, sym}
+use Rattle.std.proofs.Common.{◌≡◌, ◌∙◌, ◌++◌, ◌&&◌, Option, Some, None, is_some, Vec, Global, ap, ap₂, refl, sym}
 use Rattle.std.proofs.lemmas.Result.{on_ok_weaker}
 use Rattle.serde_json.specs.Written.{comma_if}
 use Rattle.ob0_text.specs.declared.edits.Edit.{Edit}
