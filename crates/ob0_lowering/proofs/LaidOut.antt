@@ -186,11 +186,11 @@ read-below [] i x d less e = absurd (omega arith)
 read-below (y ∷ ys) zero x d less e = ap Some (sym e)
 read-below (y ∷ ys) (suc i) x d less e = read-below ys i x d (omega arith) e
 
-pub read-there : {xs : List Layout} {i : ℕ} {x : Layout} (d : Layout) → true ≡ nat_lt i (length xs) → x ≡ slice_index_or xs i d → slice_get xs i ≡ Some x
-read-there {xs} {i} {x} d h e = read-below xs i x d (below i (length xs) h) e
+pub read-there : (xs : List Layout) (i : ℕ) (x d : Layout) → true ≡ nat_lt i (length xs) → x ≡ slice_index_or xs i d → slice_get xs i ≡ Some x
+read-there xs i x d h e = read-below xs i x d (below i (length xs) h) e
 
-pub read-past : {xs : List Layout} {i : ℕ} → false ≡ nat_lt i (length xs) → slice_get xs i ≡ None
-read-past {xs} {i} h = slice_get_past xs i (beyond i (length xs) h)
+pub read-past : (xs : List Layout) (i : ℕ) → false ≡ nat_lt i (length xs) → slice_get xs i ≡ None
+read-past xs i h = slice_get_past xs i (beyond i (length xs) h)
 
 -- the constants so far have 32 bits
 abbrev pub SmallBelow : Tables → ℕ → Type 0

@@ -134,17 +134,21 @@ fits-place : (checked : Typed Label) (f : typing.Formal) (e : Tree Label express
 unfolding argument_fits
 fits-place checked f e mode h = agreed f.shape (variable_type checked (designated e)) (sym (ap (λ (m : Mode). agree (Some f.shape) (elim m [ by_value ↦ type_of checked e | by_place ↦ variable_type checked (designated e) ])) mode) ∙ h)
 
-pub place-argument : (scene : Scene) (f : Formal) (e : Tree ℕ expression) (l : Located) → true ≡ f.by_place → LocatesAlone scene e l → LowersArgument scene f e (argument.Place l.place)
+pub place-argument : (scene : Scene) (f : Formal) (e : Tree ℕ expression) (l : Located) → f.by_place ≡ true → LocatesAlone scene e l → LowersArgument scene f e (argument.Place l.place)
 place-argument scene f e l by h checked slots targets sees fits =
     let formal = formal_in (shapes_of scene.types.now) f in
-    let mode : formal.mode ≡ by_place = ap mode_of (sym by) in
+    let mode : formal.mode ≡ by_place = ap mode_of by in
     (mode, (h checked slots targets sees formal.shape (fits-place checked formal (in_labels scene.resolved.now e) mode fits)).1)
 
 value-means : (checked : Typed Label) (slots : Label → Slot) (f : typing.Formal) (e : Tree Label expression) (s : Shape) (l : Lowered) → f.mode ≡ by_value → f.shape ≡ s → CodeMeans checked slots (code_of l) s (worth e) → (a : Argument) → IsValueOf l a → ArgumentMeans checked slots f (argument_of a) e
 value-means checked slots f e integer_shape (code.Number n) mode shape h a same = subst (λ a. ArgumentMeans checked slots f (argument_of a) e) same (mode, shape, h)
 value-means checked slots f e boolean_shape (code.Truth t) mode shape h a same = subst (λ a. ArgumentMeans checked slots f (argument_of a) e) same (mode, shape, h)
-value-means checked slots f e (array_shape k m s) (code.Block q n) mode shape h a same = subst (λ a. ArgumentMeans checked slots f (argument_of a) e) same (mode, subst (λ z. (n ≡ size z) × ValueAt checked slots (place_of q) z (worth e)) (sym shape) h)
-value-means checked slots f e (record_shape k fs) (code.Block q n) mode shape h a same = subst (λ a. ArgumentMeans checked slots f (argument_of a) e) same (mode, subst (λ z. (n ≡ size z) × ValueAt checked slots (place_of q) z (worth e)) (sym shape) h)
+value-means checked slots f e (array_shape k m s) (code.Block q n) mode shape h a same =
+    let there : (n ≡ size f.shape) × ValueAt checked slots (place_of q) f.shape (worth e) = subst (λ z. (n ≡ size z) × ValueAt checked slots (place_of q) z (worth e)) (sym shape) h in
+    subst (λ a. ArgumentMeans checked slots f (argument_of a) e) same (mode, there.0, there.1)
+value-means checked slots f e (record_shape k fs) (code.Block q n) mode shape h a same =
+    let there : (n ≡ size f.shape) × ValueAt checked slots (place_of q) f.shape (worth e) = subst (λ z. (n ≡ size z) × ValueAt checked slots (place_of q) z (worth e)) (sym shape) h in
+    subst (λ a. ArgumentMeans checked slots f (argument_of a) e) same (mode, there.0, there.1)
 value-means checked slots f e boolean_shape (code.Number n) mode shape h a same = absurd h
 value-means checked slots f e (array_shape k m s) (code.Number n) mode shape h a same = absurd h
 value-means checked slots f e (record_shape k fs) (code.Number n) mode shape h a same = absurd h
@@ -155,9 +159,9 @@ value-means checked slots f e integer_shape (code.Block q n) mode shape h a same
 value-means checked slots f e boolean_shape (code.Block q n) mode shape h a same = absurd h
 value-means checked slots f e s code.Nothing mode shape h a same = absurd h
 
-pub value-argument : (scene : Scene) (f : Formal) (e : Tree ℕ expression) (l : Lowered) (a : Argument) → false ≡ f.by_place → IsValueOf l a → Lowers scene e l → LowersArgument scene f e a
+pub value-argument : (scene : Scene) (f : Formal) (e : Tree ℕ expression) (l : Lowered) (a : Argument) → f.by_place ≡ false → IsValueOf l a → Lowers scene e l → LowersArgument scene f e a
 value-argument scene f e l a by same h checked slots targets sees fits =
     let formal = formal_in (shapes_of scene.types.now) f in
-    let mode : formal.mode ≡ by_value = ap mode_of (sym by) in
+    let mode : formal.mode ≡ by_value = ap mode_of by in
     let typed = fits-value checked formal (in_labels scene.resolved.now e) mode fits in
     value-means checked slots formal (in_labels scene.resolved.now e) formal.shape l mode refl (h checked slots targets sees formal.shape typed) a same
