@@ -1,6 +1,6 @@
 -- In a well-typed module each binding is what the declaration of its ordinal is.
-use Rattle.std.proofs.Common.{◌≡◌, ℕ, suc, ◌+◌, ◌<◌, ◌≤◌, ◌==◌, Bool, true, false, cond, nat_lt, List, [], ◌∷◌, ◌++◌, Some, None, Option, refl, sym, ap, ◌∙◌, subst, arith, le_refl, le_of_lt, eq-eqb, eqb-true}
-use Rattle.std.proofs.lemmas.Bool.{ltb-false, ltb-true, ne_eqb}
+use Rattle.std.proofs.Common.{◌≡◌, ℕ, suc, ◌+◌, ◌<◌, ◌≤◌, ◌==◌, Bool, true, false, cond, nat_lt, List, [], ◌∷◌, ◌++◌, Some, None, refl, sym, ap, ◌∙◌, subst, arith, le_refl, le_of_lt, eq-eqb, eqb-true}
+use Rattle.std.proofs.lemmas.Bool.{ltb-false, ltb-true}
 use Rattle.std.proofs.lemmas.List.{append-nil}
 use Rattle.ob0_tree.specs.Tree.{Tree, block, body, declares, declares_procedure, end, formals, has_body, is_module, items, maybe, module_text, more, procedure}
 use Rattle.ob0_scope.specs.Names.{Label, Name, as_labels, as_names, declared}
@@ -8,12 +8,11 @@ use Rattle.ob0_scope.specs.Parts.{block_procedures, block_statements, formal_nam
 use Rattle.ob0_scope.specs.Scopes.{Scope, after_block, after_names, after_procedure, after_procedures, as_label, declare_names, first_procedure, numbered, relabel_block, relabel_formals, relabel_procedures}
 use Rattle.ob0_scope.proofs.Ordinals.{le-after_names, le-after_block, le-after_procedure, le-after_procedures}
 use Rattle.ob0_checker.specs.Bindings.{block_bindings, module_bindings, object_bound, procedures_bindings}
-use Rattle.ob0_checker.specs.Checking.{declare_block}
 use Rattle.ob0_typing.specs.ConstantValues.{Known, no_constant}
 use Rattle.ob0_typing.specs.Declarations.{after_variables, formals_constructors, procedure_constructors}
 use Rattle.ob0_typing.specs.Environments.{from_binding, outermost}
 use Rattle.ob0_typing.specs.Expressions.{Object}
-use Rattle.ob0_typing.specs.WellTyped.{Signature, TypeEnvironment, TypedParameter, WellTyped, bind_names, bind_typed, block_fits, fits_over, heading, procedures_fit, typed_parameters}
+use Rattle.ob0_typing.specs.WellTyped.{Signature, TypeEnvironment, TypedParameter, WellTyped, bind_names, bind_typed, block_fits, fits_over, heading, procedures_fit}
 use Rattle.ob0_values.specs.Values.{Shape}
 use Rattle.ob0_checker.proofs.Agreement.{newest-if}
 use Rattle.ob0_checker.proofs.ConstantsDeclared.{Binds, Entered, FitParts, Knows, Opened, all_known, binds-append, binds-wider, block-listed, block-opened, block-parts, block-worths, bound-elsewhere, bound-first, knows-all, opened-above, opened-binds, opened-grown, opened-since, outermost-binds, predeclared-below, procedure-entered, procedure-parts, procedures-listed, procedures-worths}

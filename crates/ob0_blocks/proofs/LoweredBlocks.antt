@@ -1,9 +1,9 @@
 -- What the code of procedures and blocks means, of what the code of their parts means.
-use Rattle.std.proofs.Common.{◌≡◌, ℕ, zero, suc, ◌+◌, ◌-◌, ◌<◌, ◌≤◌, Bool, true, false, IsTrue, List, [], ◌∷◌, ◌++◌, map, length, drop, get_or, Some, None, Option, option_map, slice_get, refl, sym, ap, ◌∙◌, subst, arith, le_refl, length-append}
+use Rattle.std.proofs.Common.{◌≡◌, ℕ, zero, suc, ◌+◌, ◌-◌, ◌<◌, ◌≤◌, true, IsTrue, List, [], ◌∷◌, ◌++◌, map, length, drop, get_or, Some, Option, option_map, slice_get, refl, sym, ap, ◌∙◌, subst, arith, le_refl, length-append}
 use Rattle.std.proofs.Math.ListN.{set}
 use Rattle.std.proofs.lemmas.List.{drop_all, length-set}
 use Rattle.std.proofs.lemmas.Option.{slice_get-map, slice_get_within}
-use Rattle.ob0_tree.specs.Tree.{Tree, block, body, constants, declares, declares_procedure, end, formals, has_body, item, items, maybe, module_text, more, procedure, type_names, variables}
+use Rattle.ob0_tree.specs.Tree.{Tree, block, body, constants, declares, declares_procedure, end, formals, has_body, items, maybe, module_text, more, procedure, type_names, variables}
 use Rattle.ob0_tree.specs.Places.{text_at}
 use Rattle.ob0_tree.specs.View.{block_of, body_of, constants_of, formals_of, items_of, types_of, variables_of}
 use Rattle.ob0_tree.specs.View.{procedure_of as tree_procedure_of}
@@ -15,11 +15,10 @@ use Rattle.ob0_checker.proofs.Procedures.{procedure_parts}
 use Rattle.ob0_checker.proofs.Walked.{split}
 use Rattle.ob0_scope.specs.Resolution.{Resolution, ordinal_in}
 use Rattle.ob0_scope.specs.Names.{Label, Name, as_labels, as_names}
-use Rattle.ob0_scope.specs.Parts.{block_variables, constant_names, formal_sections, module_block, named_types, section_constants, section_types, section_variables}
+use Rattle.ob0_scope.specs.Parts.{constant_names, formal_sections, module_block, named_types, section_constants, section_types, section_variables}
 use Rattle.ob0_scope.specs.Scopes.{as_label, numbered}
 use Rattle.ob0_symbols.specs.KnownTables.{Tables, declared_in}
 use Rattle.ob0_checker.specs.Bindings.{declared_object}
-use Rattle.ob0_checker.specs.Checking.{declare_block}
 use Rattle.ob0_checker.proofs.ConstantsDeclared.{FitParts, block-parts, procedure-parts}
 use Rattle.ob0_typing.specs.Declarations.{after_types, after_variables, declare_first, formals_constructors, procedure_constructors}
 use Rattle.ob0_typing.specs.Environments.{outermost}
@@ -30,15 +29,14 @@ use Rattle.ob0_machine.specs.Lowered as lowered
 use Rattle.ob0_machine.specs.View.{procedure_of, program_of, sequence_of}
 use Rattle.ob0_machine.specs.declared.code.Procedure.{Procedure}
 use Rattle.ob0_machine.specs.declared.code.Program.{Program}
-use Rattle.ob0_cells.specs.Activations.{BlockMeans, Placed, Placing, ProceduresMean, ProgramMeans, at_target, entered_placing, hide_names, inward, nowhere, outermost_placing, own_target, place_parameters, place_variables}
+use Rattle.ob0_cells.specs.Activations.{BlockMeans, Placed, Placing, ProgramMeans, at_target, entered_placing, hide_names, inward, outermost_placing, own_target, place_parameters}
 use Rattle.ob0_cells.specs.Lowering.{held, of_module}
 use Rattle.ob0_bodies.specs.LoweredBodies.{BodyLowers}
 use Rattle.ob0_lowering.specs.Scenes.{seen_from, site_at}
 use Rattle.ob0_lowering.specs.declared.scene.Scene.{Scene}
-use Rattle.ob0_lowering.specs.declared.scene.Site.{Site}
 use Rattle.ob0_lowering.specs.declared.scene.Site.TheVariants as site
-use Rattle.ob0_blocks.specs.KnownBlocks.{AreDeclared, BlockDeclared, Objects, ProceduresDeclared}
-use Rattle.ob0_blocks.specs.Blocks.{AllMean, Goes, Grown, Later, LowersBlock, Ready, Standing}
+use Rattle.ob0_blocks.specs.KnownBlocks.{AreDeclared, BlockDeclared, Objects}
+use Rattle.ob0_blocks.specs.Blocks.{Goes, Grown, Later, LowersBlock, Ready, Standing}
 use Rattle.ob0_blocks.specs.Placed.{Follows, GoesBack, Holds, IsFrame, Matches, Places, declared_size, most, place_groups, place_sections, put_at, slots_at}
 use Rattle.ob0_blocks.specs.declared.lowering.Lowering.{Lowering}
 use Rattle.ob0_blocks.specs.declared.sight.Frame.{Frame}

@@ -1,8 +1,8 @@
 -- Where what is in sight is placed, and what the code's table has of it.
 use Rattle.std.proofs.Common.{◌≡◌, ℕ, suc, ◌+◌, ◌-◌, ◌≤◌, ◌==◌, Bool, true, false, List, [], ◌∷◌, ◌++◌, map, Some, None, Option, option_and_then, if◌then◌else◌, refl, sym, ap, ◌∙◌, subst, arith, eqb-true, true≢false}
-use Rattle.ob0_tree.specs.Tree.{Tree, block, constant, declares, declares_constant, declares_type, declares_variable, end, further_section, has_body, items, more, section, then_section, type_name, variable}
-use Rattle.ob0_scope.specs.Names.{Label, Name, as_labels, as_names, as_written, declared, label_text, same_label}
-use Rattle.ob0_scope.specs.Parts.{block_constants, block_types, constant_names, named_types, names_listed, section_constants, section_names, section_type, section_types}
+use Rattle.ob0_tree.specs.Tree.{Tree, block, constant, declares_constant, declares_type, declares_variable, end, further_section, items, more, section, then_section, type_name, variable}
+use Rattle.ob0_scope.specs.Names.{Label, Name, as_labels, as_names, as_written, declared, same_label}
+use Rattle.ob0_scope.specs.Parts.{block_constants, block_types, constant_names, named_types, names_listed, section_names, section_type}
 use Rattle.ob0_scope.specs.Scopes.{as_label}
 use Rattle.ob0_symbols.specs.KnownTables.{Tables, declared_in}
 use Rattle.ob0_typing.specs.Declarations.{declare_constants, declare_first, declare_types}
@@ -16,7 +16,7 @@ use Rattle.ob0_values.specs.Values.{Shape}
 use Rattle.ob0_cells.specs.Activations.{Placed, Placing, Whereabouts, at_target, first_slot, first_target, from_name, hide_names, in_slot, inward, inward_slot, inward_whereabouts, nowhere, place_names, place_parameter, place_parameters, place_variables, slot_of, slots_in, target_of, targets_in}
 use Rattle.ob0_cells.specs.Cells.{size}
 use Rattle.ob0_cells.specs.LoweredStatements.{Target}
-use Rattle.ob0_cells.specs.Lowering.{Slot, held, lent, of_module}
+use Rattle.ob0_cells.specs.Lowering.{Slot, held, lent}
 use Rattle.ob0_lowering.specs.Scenes.{Sees, object_at, seen_from, site_at, slot_at, target_at}
 use Rattle.ob0_lowering.specs.declared.scene.Scene.{Scene}
 use Rattle.ob0_lowering.specs.declared.scene.Site.{Site}

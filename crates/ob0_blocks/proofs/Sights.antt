@@ -1,11 +1,10 @@
 -- Sights that follow one another, and names placed one after the other.
-use Rattle.std.proofs.Common.{◌≡◌, ℕ, zero, suc, ◌+◌, ◌-◌, ◌<◌, ◌≤◌, ◌≢◌, ◌==◌, Bool, true, false, List, [], ◌∷◌, ◌++◌, map, length, get_or, drop, Some, None, Option, if◌then◌else◌, refl, sym, ap, ◌∙◌, subst, arith, append_assoc, length-append, eqb-true, eq-eqb, true≢false, le_refl}
+use Rattle.std.proofs.Common.{◌≡◌, ℕ, suc, ◌+◌, ◌-◌, ◌<◌, ◌≤◌, ◌==◌, Bool, true, false, List, [], ◌∷◌, ◌++◌, length, get_or, drop, Some, Option, if◌then◌else◌, refl, sym, ap, ◌∙◌, subst, arith, append_assoc, length-append, eqb-true, eq-eqb, true≢false, le_refl}
 use Rattle.std.proofs.Math.ListN.{set}
-use Rattle.std.proofs.lemmas.Bool.{ne_eqb}
 use Rattle.std.proofs.lemmas.List.{append-nil, drop_all, drop_more, get_or-set_other, get_or-set_same, length-set}
 use Rattle.ob0_symbols.proofs.Sighted.{last_of}
-use Rattle.ob0_cells.specs.Activations.{Placed, Whereabouts, in_slot}
-use Rattle.ob0_cells.specs.Lowering.{Slot, held, lent, of_module}
+use Rattle.ob0_cells.specs.Activations.{Placed, in_slot}
+use Rattle.ob0_cells.specs.Lowering.{Slot, lent}
 use Rattle.ob0_lowering.specs.Scenes.{seen_from, site_at}
 use Rattle.ob0_lowering.specs.declared.scene.Site.{Site}
 use Rattle.ob0_lowering.specs.declared.scene.Site.TheVariants as site
@@ -19,7 +18,7 @@ use Rattle.ob0_scope.specs.Resolution.{Resolution}
 use Rattle.ob0_symbols.specs.Tables.{mode_of}
 use Rattle.ob0_scope.specs.Names.{Label, Name, as_names}
 use Rattle.ob0_scope.specs.Scopes.{as_label}
-use Rattle.ob0_typing.specs.WellTyped.{Mode, by_place, by_value}
+use Rattle.ob0_typing.specs.WellTyped.{by_place, by_value}
 use Rattle.ob0_blocks.specs.Placed.{AllWithin, Follows, GoesBack, Holds, IsFrame, IsNextSite, Places, Tells, before_all, most, place_each, place_one, place_sections, put_at, put_site, slots_at}
 use Rattle.ob0_blocks.specs.declared.sight.Frame.{Frame}
 use Rattle.ob0_blocks.specs.declared.sight.Hidden.{Hidden}

@@ -1,15 +1,12 @@
 -- What a module's declarations bind, and what its table of declarations has, by ordinal.
 use Rattle.std.specs.Prelude.{◌≡◌, ℕ, ◌+◌, List, [], ◌∷◌, Some, Option}
-use Rattle.ob0_tree.specs.Tree.{Tree, block, declares, declares_procedure, end, has_body, item, items, module_text, more, procedure}
-use Rattle.ob0_scope.specs.Names.{Label, Name, as_labels, declared}
-use Rattle.ob0_scope.specs.Scopes.{numbered}
-use Rattle.ob0_scope.specs.Parts.{formal_sections, module_block, procedure_formals, procedure_name}
-use Rattle.ob0_checker.specs.Bindings.{declared_object}
+use Rattle.ob0_tree.specs.Tree.{Tree, block, declares, declares_procedure, end, has_body, item, items, more, procedure}
+use Rattle.ob0_scope.specs.Names.{Label, as_labels, declared}
+use Rattle.ob0_scope.specs.Parts.{formal_sections, procedure_formals, procedure_name}
 use Rattle.ob0_checker.specs.Checking.{declare_block}
 use Rattle.ob0_typing.specs.Declarations.{after_variables, formals_constructors, procedure_constructors}
-use Rattle.ob0_typing.specs.Environments.{outermost}
 use Rattle.ob0_typing.specs.Expressions.{Object}
-use Rattle.ob0_typing.specs.WellTyped.{Signature, TypeEnvironment, TypedParameter, WellTyped, bind_typed, heading, typed_parameters}
+use Rattle.ob0_typing.specs.WellTyped.{Signature, TypeEnvironment, TypedParameter, bind_typed, heading, typed_parameters}
 use Rattle.ob0_values.specs.Values.{Shape}
 
 -- what declarations are, by their ordinals
@@ -37,7 +34,3 @@ abbrev mutual
 
   pub ProcedureDeclared : Objects → TypeEnvironment Label → ℕ → Tree Label (item procedure) → Type 0
   ProcedureDeclared objects env k (declares_procedure x fs b closing) = BlockDeclared objects env (k + formals_constructors (formal_sections fs)) b
-
--- a well-typed module binds what its declarations are
-abbrev pub ModulesDeclare : Type 0
-ModulesDeclare = (m : Tree Name module_text) → WellTyped m → BlockDeclared (declared_object m) (outermost as_labels) 0 (module_block (numbered m))

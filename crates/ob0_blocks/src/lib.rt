@@ -2,7 +2,6 @@
 #![tactic(auto)]
 
 mod ground;
-mod laws;
 mod lowering;
 mod sight;
 

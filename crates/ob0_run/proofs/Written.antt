@@ -1,5 +1,5 @@
 -- What the machine puts out is what the module's run does.
-use Rattle.std.proofs.Common.{◌≡◌, List, [], ◌∷◌, map, refl, ap}
+use Rattle.std.proofs.Common.{◌≡◌, List, [], ◌∷◌, map, refl}
 use Rattle.ob0_machine.specs.declared.machine.Item.{Item}
 use Rattle.ob0_machine.specs.declared.machine.Item.TheVariants as item
 use Rattle.ob0_machine.specs.Machines as machine

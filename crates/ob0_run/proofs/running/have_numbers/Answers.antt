@@ -1,6 +1,6 @@
 use lib.IntN.{ℤ, pos, negsuc}
 use mir.Val.{SFits}
-use Rattle.std.proofs.Common.{◌≡◌, ℕ, ◌+◌, ◌<◌, ◌≤◌, Bool, true, false, List, nat_lt, nat_eq, ap, ◌∙◌, sym, length, get_or, arith, rules, w32, refl}
+use Rattle.std.proofs.Common.{◌≡◌, ℕ, ◌+◌, ◌<◌, ◌≤◌, Bool, true, false, List, nat_lt, ap, ◌∙◌, length, get_or, arith, rules, w32, refl}
 use Rattle.std.proofs.lemmas.Bool.{lt-ltb, ltb-false, ltb-true}
 use Rattle.std.proofs.lemmas.List.{get_or_past}
 use Rattle.ob0_machine.specs.Evaluation.{cell_at, fits}

@@ -5,7 +5,7 @@ use Rattle.ob0_checker.specs.InLabels.{in_labels}
 use Rattle.ob0_lowering.specs.declared.scene.Scene.{Scene}
 use Rattle.ob0_machine.specs.declared.code.Procedure.{Procedure}
 use Rattle.ob0_blocks.specs.Blocks.{LowersBlock}
-use Rattle.ob0_blocks.specs.Placed.{GoesBack, Places}
+use Rattle.ob0_blocks.specs.Placed.{GoesBack}
 use Rattle.ob0_blocks.specs.declared.sight.Frame.{Frame}
 use Rattle.ob0_blocks.proofs.LoweredBlocks.{block_means, goes_itself, goes_on, procedure_means}
 use Rattle.ob0_blocks.proofs.Sights.{follows_then}

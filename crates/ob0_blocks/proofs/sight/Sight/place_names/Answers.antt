@@ -1,9 +1,8 @@
-use Rattle.std.proofs.Common.{◌≡◌, ℕ, suc, ◌+◌, List, [], ◌∷◌, map, length, get_or, refl, sym, ap, ◌∙◌, subst, arith, add-one}
-use Rattle.ob0_tree.specs.View.{names_of}
-use Rattle.ob0_checker.specs.InLabels.{in_labels, label_in}
+use Rattle.std.proofs.Common.{◌∷◌, map, get_or, refl, sym, ap, ◌∙◌, arith, add-one}
+use Rattle.ob0_checker.specs.InLabels.{label_in}
 use Rattle.ob0_checker.proofs.Counted.{labels_listed}
 use Rattle.ob0_symbols.specs.Tables.{mode_of}
-use Rattle.ob0_blocks.specs.Placed.{Places, declared_size, place_each, place_one, slots_at}
+use Rattle.ob0_blocks.specs.Placed.{declared_size, place_each, place_one, slots_at}
 use Rattle.ob0_blocks.proofs.Sights.{as_deep, in_begins, in_ends, in_on, places_as}
 use Rattle.ob0_blocks.proofs.sight.Sight.place_names.Goals as goal
 
