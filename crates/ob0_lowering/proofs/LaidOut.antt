@@ -27,22 +27,17 @@ use Rattle.ob0_lowering.specs.declared.types.RecordLayout.{RecordLayout}
 
 abbrev pub array_size : Option Layout → ℕ
 array_size None = 0
-array_size (Some layout.Scalar) = 0
 array_size (Some (layout.Array cells)) = cells
 array_size (Some (layout.Record r)) = 0
 
 array-entry : (s : Shape) (l : Layout) → LaysOut s l → array_size (Some l) ≡ size (only_array s)
-array-entry integer_shape layout.Scalar h = refl
-array-entry boolean_shape layout.Scalar h = refl
 array-entry (array_shape k n s) (layout.Array cells) h = h
 array-entry (record_shape k fs) (layout.Record r) h = refl
 array-entry integer_shape (layout.Array cells) h = absurd h
 array-entry integer_shape (layout.Record r) h = absurd h
 array-entry boolean_shape (layout.Array cells) h = absurd h
 array-entry boolean_shape (layout.Record r) h = absurd h
-array-entry (array_shape k n s) layout.Scalar h = absurd h
 array-entry (array_shape k n s) (layout.Record r) h = absurd h
-array-entry (record_shape k fs) layout.Scalar h = absurd h
 array-entry (record_shape k fs) (layout.Array cells) h = absurd h
 
 pub array_size-at : (shapes : List Shape) (layouts : List Layout) (i : ℕ) → LayOut shapes layouts → array_size (slice_get layouts i) ≡ size (only_array (slice_index_or shapes i no_shape))
@@ -55,22 +50,17 @@ array_size-at (s ∷ shapes) [] i h = absurd h
 -- the record of an entry
 abbrev pub HasRecord : Option Layout → Shape → Type 0
 HasRecord (Some (layout.Record r)) s = (k : ℕ) × (fs : FieldShapes) × (s ≡ record_shape k fs) × AreLaidOut fs r
-HasRecord (Some layout.Scalar) s = s ≡ no_shape
 HasRecord (Some (layout.Array cells)) s = s ≡ no_shape
 HasRecord None s = s ≡ no_shape
 
 record-entry : (s : Shape) (l : Layout) → LaysOut s l → HasRecord (Some l) (only_record s)
-record-entry integer_shape layout.Scalar h = refl
-record-entry boolean_shape layout.Scalar h = refl
 record-entry (array_shape k n s) (layout.Array cells) h = refl
 record-entry (record_shape k fs) (layout.Record r) h = (k, fs, refl, h)
 record-entry integer_shape (layout.Array cells) h = absurd h
 record-entry integer_shape (layout.Record r) h = absurd h
 record-entry boolean_shape (layout.Array cells) h = absurd h
 record-entry boolean_shape (layout.Record r) h = absurd h
-record-entry (array_shape k n s) layout.Scalar h = absurd h
 record-entry (array_shape k n s) (layout.Record r) h = absurd h
-record-entry (record_shape k fs) layout.Scalar h = absurd h
 record-entry (record_shape k fs) (layout.Array cells) h = absurd h
 
 pub record-there : (shapes : List Shape) (layouts : List Layout) (i : ℕ) → LayOut shapes layouts → HasRecord (slice_get layouts i) (only_record (slice_index_or shapes i no_shape))

@@ -2,7 +2,7 @@
 use Rattle.std.specs.Prelude.{◌≡◌, ℕ, ◌+◌, List, [], ◌∷◌, Some, None, Option}
 use Rattle.std.specs.Borrow.{Bor}
 use Rattle.ob0_symbols.specs.Tables.{no_shape}
-use Rattle.ob0_values.specs.Values.{FieldShapes, Shape, array_shape, boolean_shape, integer_shape, next_field_shape, no_field_shape, record_shape}
+use Rattle.ob0_values.specs.Values.{FieldShapes, Shape, array_shape, next_field_shape, no_field_shape, record_shape}
 use Rattle.ob0_cells.specs.Cells.{field_sizes, size}
 use Rattle.ob0_lowering.specs.declared.types.Layout.{Layout}
 use Rattle.ob0_lowering.specs.declared.types.Layout.TheVariants as layout
@@ -20,8 +20,6 @@ pub record AreLaidOut (fs : FieldShapes) (r : RecordLayout) : Type 0 where
 
 -- an entry of the table has the sizes of a shape
 abbrev pub LaysOut : Shape → Layout → Type 0
-LaysOut integer_shape layout.Scalar = Unit {0}
-LaysOut boolean_shape layout.Scalar = Unit {0}
 LaysOut (array_shape k n s) (layout.Array cells) = cells ≡ size (array_shape k n s)
 LaysOut (record_shape k fs) (layout.Record r) = AreLaidOut fs r
 LaysOut _ _ = ⊥

@@ -26,7 +26,6 @@ struct RecordLayout {
 /// The sizes of an entry of the table of types.
 #[derive(Drop)]
 enum Layout {
-    Scalar,
     Array(usize),
     Record(RecordLayout),
 }
@@ -66,7 +65,6 @@ fn array_cells(layouts: &[Layout], place: usize) -> usize
         None => 0,
         Some(layout) => match layout {
             Layout::Array(cells) => *cells,
-            Layout::Scalar => 0,
             Layout::Record(_) => 0,
         },
     }
@@ -80,7 +78,6 @@ fn record_at(layouts: &[Layout], place: usize) -> Option<&RecordLayout>
         None => None,
         Some(layout) => match layout {
             Layout::Record(record) => Some(record),
-            Layout::Scalar => None,
             Layout::Array(_) => None,
         },
     }
@@ -126,8 +123,6 @@ fn entry(alloc: Global, layouts: &[Layout], shape: &Shape) -> Result<Layout, All
     ensures { (shapes : List values.Shape) → LayOut shapes layouts.now → IfOk result (LaysOut (made_shape shapes shape.now)) }
 {
     match shape {
-        Shape::Integer => Ok(Layout::Scalar),
-        Shape::Boolean => Ok(Layout::Scalar),
         Shape::Array(array) => {
             let cells = times(array.length, size_in(layouts, array.element))?;
             Ok(Layout::Array(cells))

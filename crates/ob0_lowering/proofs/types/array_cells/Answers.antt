@@ -12,11 +12,6 @@ returns-in-Array c =
     let there : slice_get c.args.layouts.now c.args.place ≡ Some c.in-Some.layout.now = read-there c.args.layouts.now c.args.place c.in-Some.layout.now _ c.in-Some.ensures.lookup.0 c.in-Some.ensures.lookup.1 in
     λ shapes laid. sym (ap array_size (there ∙ ap Some c.in-Array.is)) ∙ array_size-at shapes c.args.layouts.now c.args.place laid
 
-pub returns-in-Scalar : goal.returns-in-Scalar
-returns-in-Scalar c =
-    let there : slice_get c.args.layouts.now c.args.place ≡ Some c.in-Some.layout.now = read-there c.args.layouts.now c.args.place c.in-Some.layout.now _ c.in-Some.ensures.lookup.0 c.in-Some.ensures.lookup.1 in
-    λ shapes laid. sym (ap array_size (there ∙ ap Some c.in-Scalar.is)) ∙ array_size-at shapes c.args.layouts.now c.args.place laid
-
 pub returns-in-Record : goal.returns-in-Record
 returns-in-Record c =
     let there : slice_get c.args.layouts.now c.args.place ≡ Some c.in-Some.layout.now = read-there c.args.layouts.now c.args.place c.in-Some.layout.now _ c.in-Some.ensures.lookup.0 c.in-Some.ensures.lookup.1 in

@@ -13,11 +13,6 @@ returns-in-Record c =
     let there : slice_get c.args.layouts.now c.args.place ≡ Some c.in-Some.layout.now = read-there c.args.layouts.now c.args.place c.in-Some.layout.now _ c.in-Some.ensures.lookup.0 c.in-Some.ensures.lookup.1 in
     λ shapes laid. subst (λ o. HasRecord o (only_record (slice_index_or shapes c.args.place no_shape))) (there ∙ ap Some c.in-Record.is) (record-there shapes c.args.layouts.now c.args.place laid)
 
-pub returns-in-Scalar : goal.returns-in-Scalar
-returns-in-Scalar c =
-    let there : slice_get c.args.layouts.now c.args.place ≡ Some c.in-Some.layout.now = read-there c.args.layouts.now c.args.place c.in-Some.layout.now _ c.in-Some.ensures.lookup.0 c.in-Some.ensures.lookup.1 in
-    λ shapes laid. subst (λ o. HasRecord o (only_record (slice_index_or shapes c.args.place no_shape))) (there ∙ ap Some c.in-Scalar.is) (record-there shapes c.args.layouts.now c.args.place laid)
-
 pub returns-in-Array : goal.returns-in-Array
 returns-in-Array c =
     let there : slice_get c.args.layouts.now c.args.place ≡ Some c.in-Some.layout.now = read-there c.args.layouts.now c.args.place c.in-Some.layout.now _ c.in-Some.ensures.lookup.0 c.in-Some.ensures.lookup.1 in
