@@ -1,9 +1,10 @@
 //! Code actions on request: a constant is inlined, here or everywhere.
 
-ghost use Rattle.std.specs.Prelude.{◌≡◌, [], ◌∷◌, IfOk, OnOk, map, string_bytes};
+ghost use Rattle.std.specs.Prelude.{◌≡◌, [], ◌∷◌, ◌++◌, ◌&&◌, false, is_some, IfOk, OnOk, map, string_bytes};
 ghost use Rattle.std.specs.List.{list_any};
 ghost use Rattle.std.specs.Str.{chars};
 ghost use Rattle.serde_json.specs.Data.{Data, array, no_items};
+ghost use Rattle.serde_json.specs.Written.{comma_if};
 ghost use Rattle.ob0_rpc.specs.Appending.{AppendsEach};
 ghost use Rattle.ob0_rpc.specs.Seen.{id_data, kinds_seen};
 ghost use Rattle.ob0_rpc.specs.Shapes.{result_message};
@@ -14,10 +15,9 @@ ghost use Rattle.ob0_answers.specs.Actions.{AnswersActions, FindsInlinings, Inli
 ghost use Rattle.ob0_answers.specs.declared.actions.Inlining.TheVariants as how;
 
 use crate::writing::{DocumentEdits, write_action};
-use json::Writer;
 use ob0_analysis::{Asked, Question, ask};
 use ob0_inline::{inline_all, inline_here};
-use ob0_rpc::{Client, Id, Written, result, result_of};
+use ob0_rpc::{Client, Id, Written, result, result_of, write_comma, write_piece};
 use ob0_scan::Tokens;
 use ob0_text::{Edit, EditRefusal, Position, Range, TextStore};
 use ob0_types::WellTyped;
@@ -192,17 +192,26 @@ struct Actions<'a> {
 impl<'a> Written for Actions<'a> {
     ghost value = { λ a. actions_value (actions_asked a.request.now) a.found.now.here a.found.now.everywhere };
 
-    fn write(&self, out: &mut Writer) -> Result<(), AllocError> {
-        out.begin_array()?;
+    fn write(&self, out: &mut Vec<u8>) -> Result<(), AllocError> {
+        write_piece(out, b"[")?;
         write_offered(out, self.request, Inlining::Here, &self.found.here)?;
+        write_between(out, self.found)?;
         write_offered(
             out,
             self.request,
             Inlining::Everywhere,
             &self.found.everywhere,
         )?;
-        out.end_array()
+        write_piece(out, b"]")
     }
+}
+
+/// Writes a comma where both are offered.
+fn write_between(out: &mut Vec<u8>, found: &Inlinings) -> Result<(), AllocError>
+    ensures { OnOk result (out.new.items ≡ out.old.items ++ comma_if (is_some found.now.here && is_some found.now.everywhere)) }
+{
+    let both = found.here.is_some() && found.everywhere.is_some();
+    write_comma(out, both)
 }
 
 /// The actions, inlining here before inlining everywhere.
@@ -218,12 +227,12 @@ fn listed(
 
 /// Writes the action that makes these edits; nothing where there are none.
 fn write_offered(
-    out: &mut Writer,
+    out: &mut Vec<u8>,
     request: &ActionsRequest<'_>,
     how: Inlining,
     edits: &Option<Vec<Edit>>,
 ) -> Result<(), AllocError>
-    ensures { OnOk result (AppendsEach (action_values (actions_asked request.now) how edits.now) out.old out.new) }
+    ensures { OnOk result (AppendsEach false (action_values (actions_asked request.now) how edits.now) out.old.items out.new.items) }
 {
     match edits {
         Some(edits) => write_inlining(out, request, how, edits.as_slice()),
@@ -233,12 +242,12 @@ fn write_offered(
 
 /// Writes the action that makes these edits.
 fn write_inlining(
-    out: &mut Writer,
+    out: &mut Vec<u8>,
     request: &ActionsRequest<'_>,
     how: Inlining,
     edits: &[Edit],
 ) -> Result<(), AllocError>
-    ensures { OnOk result (AppendsEach (action_of (actions_asked request.now) how edits.now ∷ []) out.old out.new) }
+    ensures { OnOk result (AppendsEach false (action_of (actions_asked request.now) how edits.now ∷ []) out.old.items out.new.items) }
 {
     let edits = DocumentEdits {
         client: request.client,

@@ -1,14 +1,13 @@
 //! Places and edits, written as text one after another.
 
-ghost use Rattle.std.specs.Prelude.{◌≡◌, OnOk, codes, map};
+ghost use Rattle.std.specs.Prelude.{◌≡◌, false, OnOk, codes, map};
 ghost use Rattle.serde_json.specs.Data.{array, item, member, no_items, no_members, object};
 ghost use Rattle.serde_json.specs.View.{items_of};
 ghost use Rattle.ob0_rpc.specs.Appending.{Appends, AppendsEach};
 ghost use Rattle.ob0_answers.specs.Questions.{location_in};
 ghost use Rattle.ob0_answers.specs.Shapes.{action_value, document_edit, edit_value, edits_value, position_value, range_value, versioned_document, workspace_edit};
 
-use json::Writer;
-use ob0_rpc::{Client, Written, write_count, write_integer, write_text};
+use ob0_rpc::{Client, Written, write_comma, write_count, write_integer, write_piece, write_text};
 use ob0_text::{Edit, Position, Range};
 use std::alloc::AllocError;
 
@@ -22,10 +21,10 @@ pub struct Locations<'a> {
 impl<'a> Written for Locations<'a> {
     ghost value = { λ l. array (items_of (map (location_in l.uri.now) l.ranges.now)) };
 
-    fn write(&self, out: &mut Writer) -> Result<(), AllocError> {
-        out.begin_array()?;
+    fn write(&self, out: &mut Vec<u8>) -> Result<(), AllocError> {
+        write_piece(out, b"[")?;
         write_locations(out, self.uri, self.ranges)?;
-        out.end_array()
+        write_piece(out, b"]")
     }
 }
 
@@ -38,7 +37,7 @@ pub struct Edits<'a> {
 impl<'a> Written for Edits<'a> {
     ghost value = { λ e. edits_value e.edits.now };
 
-    fn write(&self, out: &mut Writer) -> Result<(), AllocError> {
+    fn write(&self, out: &mut Vec<u8>) -> Result<(), AllocError> {
         write_edits(out, self.edits)
     }
 }
@@ -55,7 +54,7 @@ pub struct DocumentEdits<'a> {
 impl<'a> Written for DocumentEdits<'a> {
     ghost value = { λ e. workspace_edit e.client e.uri.now e.version e.edits.now };
 
-    fn write(&self, out: &mut Writer) -> Result<(), AllocError> {
+    fn write(&self, out: &mut Vec<u8>) -> Result<(), AllocError> {
         if self.client.takes_document_changes {
             write_document_changes(out, self.uri, self.version, self.edits)
         } else {
@@ -66,160 +65,156 @@ impl<'a> Written for DocumentEdits<'a> {
 
 /// Writes an action that makes these edits, under a title.
 pub fn write_action(
-    out: &mut Writer,
+    out: &mut Vec<u8>,
     edits: &DocumentEdits<'_>,
     title: &str,
 ) -> Result<(), AllocError>
-    ensures { OnOk result (Appends (action_value (workspace_edit edits.now.client edits.now.uri.now edits.now.version edits.now.edits.now) title.now) out.old out.new) }
+    ensures { OnOk result (Appends (action_value (workspace_edit edits.now.client edits.now.uri.now edits.now.version edits.now.edits.now) title.now) out.old.items out.new.items) }
 {
-    out.begin_object()?;
-    out.key("edit")?;
+    write_piece(out, b"{\"edit\":")?;
     edits.write(out)?;
-    out.key("kind")?;
-    write_text(out, "refactor.inline")?;
-    out.key("title")?;
+    write_piece(out, b",\"kind\":\"refactor.inline\",\"title\":")?;
     write_text(out, title)?;
-    out.end_object()
+    write_piece(out, b"}")
 }
 
 fn write_document_changes(
-    out: &mut Writer,
+    out: &mut Vec<u8>,
     uri: &str,
     version: i64,
     edits: &[Edit],
 ) -> Result<(), AllocError>
-    ensures { OnOk result (Appends (object (member (codes "documentChanges") (array (item (document_edit uri.now version edits.now) no_items)) no_members)) out.old out.new) }
+    ensures { OnOk result (Appends (object (member (codes "documentChanges") (array (item (document_edit uri.now version edits.now) no_items)) no_members)) out.old.items out.new.items) }
 {
-    out.begin_object()?;
-    out.key("documentChanges")?;
+    write_piece(out, b"{\"documentChanges\":")?;
     write_document_list(out, uri, version, edits)?;
-    out.end_object()
+    write_piece(out, b"}")
 }
 
 fn write_document_list(
-    out: &mut Writer,
+    out: &mut Vec<u8>,
     uri: &str,
     version: i64,
     edits: &[Edit],
 ) -> Result<(), AllocError>
-    ensures { OnOk result (Appends (array (item (document_edit uri.now version edits.now) no_items)) out.old out.new) }
+    ensures { OnOk result (Appends (array (item (document_edit uri.now version edits.now) no_items)) out.old.items out.new.items) }
 {
-    out.begin_array()?;
+    write_piece(out, b"[")?;
     write_document_edit(out, uri, version, edits)?;
-    out.end_array()
+    write_piece(out, b"]")
 }
 
 fn write_document_edit(
-    out: &mut Writer,
+    out: &mut Vec<u8>,
     uri: &str,
     version: i64,
     edits: &[Edit],
 ) -> Result<(), AllocError>
-    ensures { OnOk result (Appends (document_edit uri.now version edits.now) out.old out.new) }
+    ensures { OnOk result (Appends (document_edit uri.now version edits.now) out.old.items out.new.items) }
 {
-    out.begin_object()?;
-    out.key("edits")?;
+    write_piece(out, b"{\"edits\":")?;
     write_edits(out, edits)?;
-    out.key("textDocument")?;
+    write_piece(out, b",\"textDocument\":")?;
     write_versioned(out, uri, version)?;
-    out.end_object()
+    write_piece(out, b"}")
 }
 
-fn write_versioned(out: &mut Writer, uri: &str, version: i64) -> Result<(), AllocError>
-    ensures { OnOk result (Appends (versioned_document uri.now version) out.old out.new) }
+fn write_versioned(out: &mut Vec<u8>, uri: &str, version: i64) -> Result<(), AllocError>
+    ensures { OnOk result (Appends (versioned_document uri.now version) out.old.items out.new.items) }
 {
-    out.begin_object()?;
-    out.key("uri")?;
+    write_piece(out, b"{\"uri\":")?;
     write_text(out, uri)?;
-    out.key("version")?;
+    write_piece(out, b",\"version\":")?;
     write_integer(out, version)?;
-    out.end_object()
+    write_piece(out, b"}")
 }
 
-fn write_changes(out: &mut Writer, uri: &str, edits: &[Edit]) -> Result<(), AllocError>
-    ensures { OnOk result (Appends (object (member (codes "changes") (object (member uri.now (edits_value edits.now) no_members)) no_members)) out.old out.new) }
+fn write_changes(out: &mut Vec<u8>, uri: &str, edits: &[Edit]) -> Result<(), AllocError>
+    ensures { OnOk result (Appends (object (member (codes "changes") (object (member uri.now (edits_value edits.now) no_members)) no_members)) out.old.items out.new.items) }
 {
-    out.begin_object()?;
-    out.key("changes")?;
+    write_piece(out, b"{\"changes\":")?;
     write_changes_of(out, uri, edits)?;
-    out.end_object()
+    write_piece(out, b"}")
 }
 
-fn write_changes_of(out: &mut Writer, uri: &str, edits: &[Edit]) -> Result<(), AllocError>
-    ensures { OnOk result (Appends (object (member uri.now (edits_value edits.now) no_members)) out.old out.new) }
+fn write_changes_of(out: &mut Vec<u8>, uri: &str, edits: &[Edit]) -> Result<(), AllocError>
+    ensures { OnOk result (Appends (object (member uri.now (edits_value edits.now) no_members)) out.old.items out.new.items) }
 {
-    out.begin_object()?;
-    out.key(uri)?;
-    write_edits(out, edits)?;
-    out.end_object()
-}
-
-fn write_edits(out: &mut Writer, edits: &[Edit]) -> Result<(), AllocError>
-    ensures { OnOk result (Appends (edits_value edits.now) out.old out.new) }
-{
-    out.begin_array()?;
-    write_each_edit(out, edits)?;
-    out.end_array()
-}
-
-fn write_each_edit(out: &mut Writer, edits: &[Edit]) -> Result<(), AllocError>
-    ensures { OnOk result (AppendsEach (map edit_value edits.now) out.old out.new) }
-{
-    for edit in edits {
-        write_edit(out, edit)?;
-    }
-    Ok(())
-}
-
-fn write_edit(out: &mut Writer, edit: &Edit) -> Result<(), AllocError>
-    ensures { OnOk result (Appends (edit_value edit.now) out.old out.new) }
-{
-    out.begin_object()?;
-    out.key("newText")?;
-    write_text(out, edit.text.as_str())?;
-    out.key("range")?;
-    write_range(out, edit.range.start, edit.range.end)?;
-    out.end_object()
-}
-
-fn write_locations(out: &mut Writer, uri: &str, ranges: &[Range]) -> Result<(), AllocError>
-    ensures { OnOk result (AppendsEach (map (location_in uri.now) ranges.now) out.old out.new) }
-{
-    for range in ranges {
-        write_location(out, uri, *range)?;
-    }
-    Ok(())
-}
-
-fn write_location(out: &mut Writer, uri: &str, range: Range) -> Result<(), AllocError>
-    ensures { OnOk result (Appends (location_in uri.now range) out.old out.new) }
-{
-    out.begin_object()?;
-    out.key("range")?;
-    write_range(out, range.start, range.end)?;
-    out.key("uri")?;
+    write_piece(out, b"{")?;
     write_text(out, uri)?;
-    out.end_object()
+    write_piece(out, b":")?;
+    write_edits(out, edits)?;
+    write_piece(out, b"}")
 }
 
-fn write_range(out: &mut Writer, start: Position, end: Position) -> Result<(), AllocError>
-    ensures { OnOk result (Appends (range_value start end) out.old out.new) }
+fn write_edits(out: &mut Vec<u8>, edits: &[Edit]) -> Result<(), AllocError>
+    ensures { OnOk result (Appends (edits_value edits.now) out.old.items out.new.items) }
 {
-    out.begin_object()?;
-    out.key("end")?;
+    write_piece(out, b"[")?;
+    write_each_edit(out, edits)?;
+    write_piece(out, b"]")
+}
+
+fn write_each_edit(out: &mut Vec<u8>, edits: &[Edit]) -> Result<(), AllocError>
+    ensures { OnOk result (AppendsEach false (map edit_value edits.now) out.old.items out.new.items) }
+{
+    let mut later = false;
+    for edit in edits {
+        write_comma(out, later)?;
+        write_edit(out, edit)?;
+        later = true;
+    }
+    Ok(())
+}
+
+fn write_edit(out: &mut Vec<u8>, edit: &Edit) -> Result<(), AllocError>
+    ensures { OnOk result (Appends (edit_value edit.now) out.old.items out.new.items) }
+{
+    write_piece(out, b"{\"newText\":")?;
+    write_text(out, edit.text.as_str())?;
+    write_piece(out, b",\"range\":")?;
+    write_range(out, edit.range.start, edit.range.end)?;
+    write_piece(out, b"}")
+}
+
+fn write_locations(out: &mut Vec<u8>, uri: &str, ranges: &[Range]) -> Result<(), AllocError>
+    ensures { OnOk result (AppendsEach false (map (location_in uri.now) ranges.now) out.old.items out.new.items) }
+{
+    let mut later = false;
+    for range in ranges {
+        write_comma(out, later)?;
+        write_location(out, uri, *range)?;
+        later = true;
+    }
+    Ok(())
+}
+
+fn write_location(out: &mut Vec<u8>, uri: &str, range: Range) -> Result<(), AllocError>
+    ensures { OnOk result (Appends (location_in uri.now range) out.old.items out.new.items) }
+{
+    write_piece(out, b"{\"range\":")?;
+    write_range(out, range.start, range.end)?;
+    write_piece(out, b",\"uri\":")?;
+    write_text(out, uri)?;
+    write_piece(out, b"}")
+}
+
+fn write_range(out: &mut Vec<u8>, start: Position, end: Position) -> Result<(), AllocError>
+    ensures { OnOk result (Appends (range_value start end) out.old.items out.new.items) }
+{
+    write_piece(out, b"{\"end\":")?;
     write_position(out, end)?;
-    out.key("start")?;
+    write_piece(out, b",\"start\":")?;
     write_position(out, start)?;
-    out.end_object()
+    write_piece(out, b"}")
 }
 
-fn write_position(out: &mut Writer, position: Position) -> Result<(), AllocError>
-    ensures { OnOk result (Appends (position_value position) out.old out.new) }
+fn write_position(out: &mut Vec<u8>, position: Position) -> Result<(), AllocError>
+    ensures { OnOk result (Appends (position_value position) out.old.items out.new.items) }
 {
-    out.begin_object()?;
-    out.key("character")?;
+    write_piece(out, b"{\"character\":")?;
     write_count(out, position.character)?;
-    out.key("line")?;
+    write_piece(out, b",\"line\":")?;
     write_count(out, position.line)?;
-    out.end_object()
+    write_piece(out, b"}")
 }

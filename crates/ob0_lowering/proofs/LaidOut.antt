@@ -1,11 +1,22 @@
 -- The table of sizes, entry by entry.
-use Rattle.std.proofs.Common.{◌≡◌, ℕ, zero, suc, ◌+◌, ◌<◌, ◌≤◌, List, [], ◌∷◌, ◌++◌, Some, None, Option, option_map, slice_get, slice_index_or, length, take, drop, get_or, sym, refl, ap, ◌∙◌, subst, arith, append_assoc, append-nil, if◌then◌else◌, true, false, Bool}
+use Rattle.std.proofs.Common.{◌≡◌, ℕ, zero, suc, ◌+◌, ◌<◌, ◌≤◌, List, [], ◌∷◌, ◌++◌, Some, None, Option, option_map, slice_get, slice_index_or, length, take, drop, get_or, sym, refl, ap, ◌∙◌, subst, arith, append_assoc, append-nil, if◌then◌else◌, true, false, Bool, zero-add, add-zero, add-one, ℤ, ◌⊎◌, inl, inr, option_and_then, nat_lt}
+use Rattle.std.proofs.lemmas.Bool.Decides.{nat_tests}
+use Rattle.std.proofs.lemmas.Option.{slice_get_past}
+use Rattle.std.proofs.lemmas.List.{drop_all, drop_more, take_all}
+use Rattle.std.proofs.Math.Seq.{take-suc}
 use Rattle.std.specs.Borrow.{Bor}
 use Rattle.ob0_scope.specs.Names.{Name, same_name}
-use Rattle.ob0_symbols.specs.FieldPlaces.{place_of_field}
-use Rattle.ob0_symbols.specs.Tables.{fields_shape, no_shape, only_array, only_record, type_shape}
+use Rattle.ob0_machine.specs.Evaluation as machine
+use Rattle.ob0_typing.specs.Expressions.{a_constant}
+use Rattle.ob0_symbols.specs.KnownTables.{Tables, declared_in, shapes_of}
+use Rattle.ob0_symbols.specs.declared.known.Entry.{Entry}
+use Rattle.ob0_symbols.specs.FieldPlaces.{field_selected, place_of_field}
+use Rattle.ob0_symbols.specs.Tables.{fields_shape, made_shape, no_shape, object_in, only_array, only_record, shapes_from, type_shape}
+use Rattle.ob0_symbols.proofs.Tables.{shapes_from-push}
+use Rattle.ob0_symbols.specs.declared.known.FieldOf.{FieldOf}
+use Rattle.ob0_symbols.specs.declared.known.Shape as code
 use Rattle.ob0_symbols.specs.declared.known.Field.{Field}
-use Rattle.ob0_values.specs.Values.{FieldShapes, Shape, array_shape, boolean_shape, integer_shape, next_field_shape, no_field_shape, record_shape}
+use Rattle.ob0_values.specs.Values.{FieldShapes, Shape, array_shape, boolean_shape, integer_shape, next_field_shape, no_field_shape, number, record_shape}
 use Rattle.ob0_cells.specs.Cells.{field_offset, field_sizes, size}
 use Rattle.ob0_lowering.specs.Layouts.{AreLaidOut, LaysOut, LayOut, RecordAt, offsets_from}
 use Rattle.ob0_lowering.specs.declared.types.Layout.{Layout}
@@ -102,3 +113,99 @@ offset-past (next_field_shape y s rest) x h = further-past (same_name x y) (size
 pub record LaidSoFar (shapes : List Shape) (fields : List Field) (done cells : ℕ) (offsets : List ℕ) : Type 0 where
   pub cells_left : cells + field_sizes (fields_shape shapes (drop done fields)) ≡ field_sizes (fields_shape shapes fields)
   pub offsets_left : offsets ++ offsets_from cells (fields_shape shapes (drop done fields)) ≡ offsets_from 0 (fields_shape shapes fields)
+
+pub laid_begins : (shapes : List Shape) (fields : List Field) (offsets : List ℕ) → offsets ≡ [] → LaidSoFar shapes fields 0 0 offsets
+laid_begins shapes fields offsets none = record {
+  cells_left = zero-add (field_sizes (fields_shape shapes fields));
+  offsets_left = ap (λ os. os ++ offsets_from 0 (fields_shape shapes fields)) none;
+}
+
+pub laid_goes_on : {shapes : List Shape} {fields : List Field} {done cells : ℕ} {offsets : List ℕ} (d : Field) (more cells' : ℕ) (offsets' : List ℕ) → LaidSoFar shapes fields done cells offsets → done < length fields
+    → more ≡ size (type_shape shapes (get_or fields done d).of) → cells' ≡ cells + more → offsets' ≡ offsets ++ cells ∷ [] → LaidSoFar shapes fields (done + 1) cells' offsets'
+laid_goes_on {shapes} {fields} {done} {cells} {offsets} d more cells' offsets' h less sized sum pushed =
+    let rest = fields_shape shapes (drop (done + 1) fields) in
+    let split : drop done fields ≡ get_or fields done d ∷ drop (done + 1) fields = drop_more fields done d less in
+    let sizes : field_sizes (fields_shape shapes (drop done fields)) ≡ size (type_shape shapes (get_or fields done d).of) + field_sizes rest = ap (λ xs. field_sizes (fields_shape shapes xs)) split in
+    let left = h.cells_left in
+    record {
+      cells_left = omega (arith, sizes, left, sized, sum);
+      offsets_left = ap (λ os. os ++ offsets_from cells' rest) pushed
+          ∙ ap (λ n. (offsets ++ cells ∷ []) ++ offsets_from n rest) (sum ∙ ap (λ m. cells + m) sized)
+          ∙ append_assoc offsets (cells ∷ []) (offsets_from (cells + size (type_shape shapes (get_or fields done d).of)) rest)
+          ∙ sym (ap (λ xs. offsets ++ offsets_from cells (fields_shape shapes xs)) split)
+          ∙ h.offsets_left;
+    }
+
+pub laid_ends : {shapes : List Shape} {fields : List Field} {done cells : ℕ} {offsets : List ℕ} → LaidSoFar shapes fields done cells offsets → length fields ≤ done → (cells ≡ field_sizes (fields_shape shapes fields)) × (offsets ≡ offsets_from 0 (fields_shape shapes fields))
+laid_ends {shapes} {fields} {done} {cells} {offsets} h all =
+    let none : drop done fields ≡ [] = drop_all done fields all in (
+      sym (add-zero cells) ∙ sym (ap (λ xs. cells + field_sizes (fields_shape shapes xs)) none) ∙ h.cells_left,
+      sym (append-nil offsets) ∙ sym (ap (λ xs. offsets ++ offsets_from cells (fields_shape shapes xs)) none) ∙ h.offsets_left,
+    )
+
+-- the types so far
+pub table_goes_on : (entries : List code.Shape) (done : ℕ) (layouts : List Layout) (x : code.Shape) (next : Layout) (read layouts' : List Layout) → LayOut (shapes_from [] (take done entries)) layouts → done < length entries → x ≡ get_or entries done x
+    → read ≡ layouts → ((shapes : List Shape) → LayOut shapes read → LaysOut (made_shape shapes x) next) → layouts' ≡ layouts ++ next ∷ [] → LayOut (shapes_from [] (take (done + 1) entries)) layouts'
+table_goes_on entries done layouts x next read layouts' h less here same made pushed =
+    let so_far = shapes_from [] (take done entries) in
+    let split : take (done + 1) entries ≡ take done entries ++ x ∷ [] = ap (λ n. take n entries) (add-one done) ∙ take-suc entries done x less ∙ ap (λ y. take done entries ++ y ∷ []) (sym here) in
+    let shapes : shapes_from [] (take (done + 1) entries) ≡ so_far ++ made_shape so_far x ∷ [] = ap (shapes_from []) split ∙ shapes_from-push [] (take done entries) x in
+    subst (λ ss. LayOut ss layouts') (sym shapes) (subst (λ ls. LayOut (so_far ++ made_shape so_far x ∷ []) ls) (sym pushed) (one_more so_far layouts (made_shape so_far x) next h (made so_far (subst (λ ls. LayOut so_far ls) (sym same) h))))
+
+pub table_ends : (entries : List code.Shape) (done : ℕ) (layouts : List Layout) (all : List code.Shape) → LayOut (shapes_from [] (take done entries)) layouts → length entries ≤ done → entries ≡ all → LayOut (shapes_from [] all) layouts
+table_ends entries done layouts all h past same = subst (λ es. LayOut (shapes_from [] es) layouts) (take_all done entries past ∙ same) h
+
+-- where a field of a record begins
+abbrev field_in : ℕ → ℕ → FieldOf
+field_in k i = record { ordinal = k; index = i }
+
+placed : (k : ℕ) (f : FieldOf) (o : Option ℕ) → Some f ≡ option_map (field_in k) o → o ≡ Some f.index
+placed k f None h = absurd (cc)
+placed k f (Some i) h = ap (option_map (λ (g : FieldOf). g.index)) (sym h)
+
+missing : (k : ℕ) (o : Option ℕ) → ◌≡◌ {A = Option FieldOf} None (option_map (field_in k) o) → o ≡ None
+missing k None h = refl
+missing k (Some i) h = absurd (cc)
+
+pub offset-found : (k : ℕ) (fs : FieldShapes) (x : Name) (r : RecordLayout) (f : FieldOf) → AreLaidOut fs r → Some f ≡ field_selected (record_shape k fs) x → slice_index_or r.offsets.items f.index 0 ≡ field_offset fs x
+offset-found k fs x r f laid h = ap (λ os. slice_index_or os f.index 0) laid.offsets ∙ offset-listed fs 0 x f.index (placed k f (place_of_field fs x) h) ∙ zero-add (field_offset fs x)
+
+pub offset-missing : (k : ℕ) (fs : FieldShapes) (x : Name) (r : RecordLayout) → AreLaidOut fs r → ◌≡◌ {A = Option FieldOf} None (field_selected (record_shape k fs) x) → r.cells ≡ field_offset fs x
+offset-missing k fs x r laid h = laid.cells ∙ sym (offset-past fs x (missing k (place_of_field fs x) h))
+
+-- what a look-up reads
+
+below : (i n : ℕ) → true ≡ nat_lt i n → i < n
+below i n h = grind (arith, nat_tests)
+
+beyond : (i n : ℕ) → false ≡ nat_lt i n → n ≤ i
+beyond i n h = grind (arith, nat_tests)
+
+read-below : (xs : List Layout) (i : ℕ) (x d : Layout) → i < length xs → x ≡ slice_index_or xs i d → slice_get xs i ≡ Some x
+read-below [] i x d less e = absurd (omega arith)
+read-below (y ∷ ys) zero x d less e = ap Some (sym e)
+read-below (y ∷ ys) (suc i) x d less e = read-below ys i x d (omega arith) e
+
+pub read-there : {xs : List Layout} {i : ℕ} {x : Layout} (d : Layout) → true ≡ nat_lt i (length xs) → x ≡ slice_index_or xs i d → slice_get xs i ≡ Some x
+read-there {xs} {i} {x} d h e = read-below xs i x d (below i (length xs) h) e
+
+pub read-past : {xs : List Layout} {i : ℕ} → false ≡ nat_lt i (length xs) → slice_get xs i ≡ None
+read-past {xs} {i} h = slice_get_past xs i (beyond i (length xs) h)
+
+-- the constants so far have 32 bits
+abbrev pub SmallBelow : Tables → ℕ → Type 0
+SmallBelow t n = (k : ℕ) (z : ℤ) → k < n → declared_in t k ≡ Some (a_constant (number z)) → machine.fits z ≡ true
+
+either_side : (k n : ℕ) → (k < n) ⊎ (n ≤ k)
+either_side k zero = inr (omega arith)
+either_side zero (suc n) = inl (omega arith)
+either_side (suc k) (suc n) = elim (either_side k n) [ inl h ↦ inl (omega arith) | inr h ↦ inr (omega arith) ]
+
+pub small_goes_on : (t : Tables) (n : ℕ) → SmallBelow t n → ((z : ℤ) → declared_in t n ≡ Some (a_constant (number z)) → machine.fits z ≡ true) → SmallBelow t (n + 1)
+small_goes_on t n h here k z less e = elim (either_side k n) [ inl below ↦ h k z below e | inr past ↦ let same : n ≡ k = omega arith in here z (ap (declared_in t) same ∙ e) ]
+
+none_past : (t : Tables) (k : ℕ) (z : ℤ) → length t.entries ≤ k → declared_in t k ≡ Some (a_constant (number z)) → ⊥
+none_past t k z past e = let none : None ≡ Some (a_constant (number z)) = sym (ap (option_and_then (λ (x : Entry). object_in (shapes_of t) x.object)) (slice_get_past t.entries k past)) ∙ e in absurd (cc)
+
+pub small_ends : (t : Tables) (n last : ℕ) → SmallBelow t n → last ≤ n → last ≡ length t.entries → (k : ℕ) (z : ℤ) → declared_in t k ≡ Some (a_constant (number z)) → machine.fits z ≡ true
+small_ends t n last h all count k z e = elim (either_side k n) [ inl below ↦ h k z below e | inr past ↦ absurd (none_past t k z (omega (arith, count, all, past)) e) ]

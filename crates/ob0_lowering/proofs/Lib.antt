@@ -1,3 +1,5 @@
 pub mod CodesMean
 pub mod TreesMean
 pub mod LaidOut
+pub mod CodeChains
+pub mod Lowerings

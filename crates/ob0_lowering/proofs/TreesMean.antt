@@ -17,15 +17,10 @@ use Rattle.ob0_cells.specs.Lowering.{Evaluated, PlaceLeads, PlaceMeans, Slot, pl
 use Rattle.ob0_cells.specs.Lowering as lowering
 use Rattle.ob0_cells.proofs.Lowered.{blocks_lower-holds, cells_lower-holds, constants_lower-holds, fields_lower-holds, indexes_lower-holds, integers_lower-holds, selectors_end-holds, variables_lower-holds}
 use Rattle.ob0_lowering.specs.Codes.{Code, CodeMeans, Found, a_block, a_number, a_truth, added, constant_code, element_found, element_of, field_found, multiplied, named_code, negated, no_code, related, signed, standing}
-use Rattle.ob0_lowering.specs.Scenes.{Sees, object_at, slot_at}
+use Rattle.ob0_lowering.specs.Scenes.{HasSmall, Sees, object_at, slot_at}
 use Rattle.ob0_lowering.specs.Trees.{addends_code, base_found, expression_code, factor_code, multipliers_code, selected_place, simple_code, term_code, variable_found}
 use Rattle.ob0_lowering.specs.declared.scene.Scene.{Scene}
 use Rattle.ob0_lowering.proofs.CodesMean.{CodeLeads, added-leads, addends-end, alone-means, multiplied-leads, multipliers-end, negated-means, number-code, parenthesised-means, related-means, some_inj, sum-begins, term-begins}
-
--- the numbers of a text and the constants of a module have 32 bits
-pub record HasSmall (scene : Scene) : Type 0 where
-  pub numbers : (token : ℕ) → machine.fits (pos (value_at scene.resolved.now.module_read.source token)) ≡ true
-  pub constants : (x : Label) (n : ℤ) → object_at scene.types.now x ≡ Some (a_constant (number n)) → machine.fits n ≡ true
 
 abbrev found_at : lowered.Place → Shape → Found
 found_at q s = record { place = q; shape = s }

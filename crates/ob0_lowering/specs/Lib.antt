@@ -3,3 +3,4 @@ pub mod Scenes
 pub mod Codes
 pub mod Trees
 pub mod Means
+pub mod Parts

@@ -1,11 +1,13 @@
 -- Where lowering stands: what declarations are, where each of them is, and how deep the running activation is.
-use Rattle.std.specs.Prelude.{◌≡◌, ℕ, ◌-◌, List, slice_index_or, Some, None, Option}
+use Rattle.std.specs.Prelude.{◌≡◌, ℕ, ◌-◌, List, slice_index_or, Some, None, Option, true, ℤ, pos}
+use Rattle.ob0_tree.specs.Places.{value_at}
+use Rattle.ob0_machine.specs.Evaluation as machine
 use Rattle.ob0_scope.specs.Names.{Label, as_written, declared, label_text}
 use Rattle.ob0_scope.specs.Resolution.{Resolution}
 use Rattle.ob0_symbols.specs.KnownTables.{Tables, declared_in}
-use Rattle.ob0_typing.specs.Expressions.{Object, a_procedure, a_variable}
+use Rattle.ob0_typing.specs.Expressions.{Object, a_constant, a_procedure, a_variable}
 use Rattle.ob0_typing.specs.WellTyped.{Signature, Typed}
-use Rattle.ob0_values.specs.Values.{Shape}
+use Rattle.ob0_values.specs.Values.{Shape, number}
 use Rattle.ob0_cells.specs.Activations.{Whereabouts, at_target, in_slot, nowhere, slot_of, target_of}
 use Rattle.ob0_cells.specs.LoweredStatements.{Target}
 use Rattle.ob0_cells.specs.Lowering.{Slot, held, lent, of_module}
@@ -39,6 +41,11 @@ target_at scene x = target_of (whereabouts scene x)
 abbrev pub object_at : Tables → Label → Option (Object Shape Signature)
 object_at t (declared k) = declared_in t k
 object_at t (as_written x) = None
+
+-- the numbers of the text and the constants of the module have 32 bits
+pub record HasSmall (scene : Scene) : Type 0 where
+  pub numbers : (token : ℕ) → machine.fits (pos (value_at scene.resolved.now.module_read.source token)) ≡ true
+  pub constants : (x : Label) (n : ℤ) → object_at scene.types.now x ≡ Some (a_constant (number n)) → machine.fits n ≡ true
 
 -- A scene is right for what names stand for in a body, for the slots of its variables and the targets of its procedures: what is
 -- bound there is what its declaration is, and is where the scene has it.

@@ -1,15 +1,17 @@
 //! The types of a module, with how many cells they have.
 
 ghost use Rattle.std.specs.Prelude.{◌≡◌, ◌+◌, ◌*◌, ℕ, ℤ, Some, true, IfOk, IfSome, List, pos, slice_get, slice_index_or};
-ghost use Rattle.ob0_cells.specs.Cells.{size, step_offset};
+ghost use Rattle.ob0_cells.specs.Cells.{field_offset, size, step_offset};
 ghost use Rattle.ob0_machine.specs.Evaluation as machine;
+ghost use Rattle.ob0_scope.specs.Names.{Name};
+ghost use Rattle.ob0_symbols.specs.FieldPlaces.{field_selected};
 ghost use Rattle.ob0_symbols.specs.KnownTables.{declared_in, shapes_of};
 ghost use Rattle.ob0_symbols.specs.Tables.{fields_shape, made_shape, no_shape, only_array, only_record, type_shape};
 ghost use Rattle.ob0_typing.specs.Expressions.{a_constant};
 ghost use Rattle.ob0_values.specs.Values as values;
 ghost use Rattle.ob0_lowering.specs.Layouts.{AreLaidOut, LayOut, LaysOut, RecordAt};
 
-use ob0_symbols::{Field, Known, Shape, TypeId};
+use ob0_symbols::{Field, FieldOf, Known, Shape, TypeId};
 use ob0_values::Scalar;
 use std::alloc::{AllocError, Global};
 use std::marker::Model;
@@ -210,19 +212,7 @@ impl<'k, 't> Types<'k, 't> {
     pub fn offset(&self, of: TypeId, name: &str) -> usize
         ensures { result ≡ step_offset (type_shape (shapes_of self.now) of) (at_field name.now) }
     {
-        match of {
-            TypeId::Record(place) => match record_at(self.layouts.as_slice(), place) {
-                None => 0,
-                Some(record) => match self.known.field_of(of, name) {
-                    None => record.cells,
-                    Some(field) => offset_at(record.offsets.as_slice(), field.index),
-                },
-            },
-            TypeId::Integer => 0,
-            TypeId::Boolean => 0,
-            TypeId::Array(_) => 0,
-            TypeId::Unknown => 0,
-        }
+        offset_in(self.known, self.layouts.as_slice(), of, name)
     }
 }
 
@@ -232,6 +222,31 @@ fn offset_at(offsets: &[usize], index: usize) -> usize
     match offsets.get(index) {
         None => 0,
         Some(offset) => *offset,
+    }
+}
+
+/// Where a field begins that was found, or all of them end.
+fn record_offset(laid: &RecordLayout, field: Option<FieldOf>) -> usize
+    ensures { (k : ℕ) (fs : values.FieldShapes) (x : Name) → AreLaidOut fs laid.now → field ≡ field_selected (values.record_shape k fs) x → result ≡ field_offset fs x }
+{
+    match field {
+        None => laid.cells,
+        Some(field) => offset_at(laid.offsets.as_slice(), field.index),
+    }
+}
+
+fn offset_in(known: &Known, layouts: &[Layout], of: TypeId, name: &str) -> usize
+    ensures { LayOut (shapes_of known.now) layouts.now → result ≡ step_offset (type_shape (shapes_of known.now) of) (values.at_field name.now) }
+{
+    match of {
+        TypeId::Record(place) => match record_at(layouts, place) {
+            None => 0,
+            Some(record) => record_offset(record, known.field_of(of, name)),
+        },
+        TypeId::Integer => 0,
+        TypeId::Boolean => 0,
+        TypeId::Array(_) => 0,
+        TypeId::Unknown => 0,
     }
 }
 

@@ -53,7 +53,7 @@ IsRefusedTo r d refusal.Shadowed = ⊥
 IsRefusedTo r d refusal.CommentInside = ⊥
 IsRefusedTo r d refusal.Memory = ⊥
 
--- edits for the declaration d, or why there are none; want of memory may take the place of either
+-- edits for the declaration d, or why there are none; out of memory may take the place of either
 abbrev pub AnswersFor : Renaming → ℕ → Result (Vec Edit Global) EditRefusal → Type 0
 AnswersFor r d (Ok edits) = Renames r d edits.items
 AnswersFor r d (Err why) = (why ≡ refusal.Memory) ⊎ IsRefusedTo r d why
@@ -80,7 +80,7 @@ IsRefusedToField r k f refusal.Shadowed = ⊥
 IsRefusedToField r k f refusal.CommentInside = ⊥
 IsRefusedToField r k f refusal.Memory = ⊥
 
--- edits for the field, or why there are none; want of memory may take the place of either
+-- edits for the field, or why there are none; out of memory may take the place of either
 abbrev pub AnswersForField : Renaming → ℕ → Name → Result (Vec Edit Global) EditRefusal → Type 0
 AnswersForField r k f (Ok edits) = RenamesField r k f edits.items
 AnswersForField r k f (Err why) = (why ≡ refusal.Memory) ⊎ IsRefusedToField r k f why
@@ -107,10 +107,16 @@ IsRefused r refusal.Memory = ⊥
 abbrev pub AreEdits : Renaming → List Edit → Type 0
 AreEdits r edits = ((d : ℕ) × Means r d × Renames r d edits) ⊎ ((k : ℕ) × ((f : Name) × MeansField r k f × RenamesField r k f edits))
 
--- edits, or the one refusal, or want of memory
+-- edits, or the one refusal, or out of memory
 abbrev pub Answers : Renaming → Result (Vec Edit Global) EditRefusal → Type 0
 Answers r (Ok edits) = AreEdits r edits.items
 Answers r (Err why) = (why ≡ refusal.Memory) ⊎ IsRefused r why
+
+-- Only here is memory asked for: a declaration or a field is named at the place, and the new name is an identifier.
+pub record AsksForMemory (r : Renaming) : Type 0 where
+  pub identifier : IsIdentifier r.new
+  pub some : ¬ (meant r ≡ nothing)
+  pub declared : ¬ (meant r ≡ predeclared)
 
 -- ---- the name that is there already
 

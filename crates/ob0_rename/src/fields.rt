@@ -1,9 +1,10 @@
 //! The edits that give a record's field another name.
 
-ghost use Rattle.std.specs.Prelude.{◌≡◌, IfOk, IfSome, None, if◌then◌else◌};
+ghost use Rattle.std.specs.Prelude.{◌≡◌, Err, IfOk, IfSome, None, if◌then◌else◌};
 ghost use Rattle.std.specs.Str.{chars};
 ghost use Rattle.ob0_scan.specs.Classes.{IsIdentifier};
 ghost use Rattle.ob0_text.specs.declared.positions.Position as positions;
+ghost use Rattle.ob0_text.specs.declared.refusals.EditRefusal.TheVariants as refused;
 ghost use Rattle.ob0_tree.specs.Places.{text_at};
 ghost use Rattle.ob0_scope.specs.Names.{same_name};
 ghost use Rattle.ob0_edits.specs.Replaced.{AreNames};
@@ -44,6 +45,7 @@ pub(crate) fn rename_field<T: TextStore>(
 ) -> Result<Vec<Edit>, EditRefusal>
     requires { T.content store.now ≡ chars well_typed.now.module_read.source.text }
     ensures answers { (place : positions.Position) → AnswersForField (record { unit = T.unit_of store.now; text = T.content store.now; names = well_typed.now; place = place; new = new.now }) field.1 (text_at well_typed.now.module_read.source field.0) result }
+    ensures memory { result ≡ Err refused.Memory → IsIdentifier new.now }
     ensures own_name { IsIdentifier new.now → new.now ≡ text_at well_typed.now.module_read.source field.0 → OnlyMemory result }
 {
     names_stand_for_names();

@@ -1,7 +1,8 @@
 //! The edits that give a declaration or a field another name.
 
-ghost use Rattle.std.specs.Prelude.{◌≡◌, ℕ, Some, slice_get, true};
+ghost use Rattle.std.specs.Prelude.{◌≡◌, ℕ, Err, Some, slice_get, true};
 ghost use Rattle.std.specs.Str.{chars};
+ghost use Rattle.ob0_scan.specs.Classes.{IsIdentifier};
 ghost use Rattle.ob0_text.specs.Units.{width_of};
 ghost use Rattle.ob0_text.specs.declared.positions.Position as positions;
 ghost use Rattle.ob0_tree.specs.Parsed.{tree_of};
@@ -10,7 +11,7 @@ ghost use Rattle.ob0_scope.specs.Resolution.{span_at};
 ghost use Rattle.ob0_scope.specs.declared.capturing.Capture.TheVariants.{Duplicate, Occurrence};
 ghost use Rattle.ob0_text.specs.declared.refusals.EditRefusal.TheVariants as refused;
 ghost use Rattle.ob0_edits.specs.Ranges.{range_of};
-ghost use Rattle.ob0_rename.specs.Answers.{Answers, AnswersFor, OnlyMemory, TakesOwnName};
+ghost use Rattle.ob0_rename.specs.Answers.{Answers, AnswersFor, AsksForMemory, OnlyMemory, TakesOwnName};
 ghost use Rattle.ob0_rename.specs.Renaming.{declaring_token, is_declared_as};
 
 use crate::fields::{field_named_at, rename_field};
@@ -39,6 +40,7 @@ pub fn rename<T: TextStore>(
 ) -> Result<Vec<Edit>, EditRefusal>
     requires { T.content store.now ≡ chars well_typed.now.module_read.source.text }
     ensures answers { Answers (record { unit = T.unit_of store.now; text = T.content store.now; names = well_typed.now; place = place; new = new.now }) result }
+    ensures memory { result ≡ Err refused.Memory → AsksForMemory (record { unit = T.unit_of store.now; text = T.content store.now; names = well_typed.now; place = place; new = new.now }) }
     ensures own_name { TakesOwnName (record { unit = T.unit_of store.now; text = T.content store.now; names = well_typed.now; place = place; new = new.now }) result }
 {
     let offset = store.offset(place);
@@ -67,6 +69,7 @@ fn rename_declaration<T: TextStore>(
 ) -> Result<Vec<Edit>, EditRefusal>
     requires { T.content store.now ≡ chars well_typed.now.module_read.source.text }
     ensures answers { (place : positions.Position) → AnswersFor (record { unit = T.unit_of store.now; text = T.content store.now; names = well_typed.now; place = place; new = new.now }) declaration result }
+    ensures memory { result ≡ Err refused.Memory → IsIdentifier new.now }
     ensures own_name { is_declared_as well_typed.now.module_read declaration new.now ≡ true → OnlyMemory result }
 {
     names_stand_for_names();

@@ -19,6 +19,9 @@ steps {f0 = f0} {x = x} {a = a} next s1 s2 = record {
   told = s2.told ∙ ap (λ f. f ++ (next x).faults) s1.told ∙ append_assoc f0 a.faults (next x).faults ∙ ap (λ z. f0 ++ (a.faults ++ (next z).faults)) s1.known;
 }
 
+pub tells_known : {A : Type 0} (faults : List Fault) {x y : A} → x ≡ y → Tells faults faults x (right y)
+tells_known faults e = record { known = e; told = sym (append-nil faults) }
+
 -- the same told, known by another name
 pub tells_same : {A : Type 0} {f0 f1 : List Fault} {x : A} {a b : Told A} → Tells f0 f1 x a → a ≡ b → Tells f0 f1 x b
 tells_same {f0 = f0} s e = record { known = s.known ∙ ap (λ t. t.known) e; told = s.told ∙ ap (λ t. f0 ++ t.faults) e }

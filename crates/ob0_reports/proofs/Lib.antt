@@ -1,5 +1,8 @@
 pub mod Chains
-pub mod Continued
+pub mod GatheredFields
 pub mod Listed
+pub mod SameFacts
+pub mod ToldDeclarations
 pub mod ToldParts
 pub mod ToldStatements
+pub mod ToldTypes

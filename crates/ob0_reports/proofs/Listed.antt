@@ -1,5 +1,5 @@
 -- Faults that are told one list behind the other, and by a loop over what stands side by side.
-use Rattle.std.proofs.Common.{◌≡◌, ℕ, ◌+◌, ◌<◌, ◌≤◌, List, [], ◌∷◌, ◌++◌, length, get_or, drop, sym, ap, ◌∙◌, append-nil, append_assoc}
+use Rattle.std.proofs.Common.{◌≡◌, ℕ, ◌+◌, ◌<◌, ◌≤◌, List, [], ◌∷◌, ◌++◌, length, get_or, drop, map, refl, sym, ap, ◌∙◌, append-nil, append_assoc}
 use Rattle.std.proofs.lemmas.List.{drop_all, drop_more}
 use Rattle.ob0_scan.specs.declared.fault.Fault.{Fault}
 use Rattle.ob0_reports.specs.Known.{Told}
@@ -57,3 +57,19 @@ pairs_end {all = all} {xs = xs} {ys = ys} {done = done} {now = now} h s over pas
 
 pub nothing_told : (before : List Fault) {all : List Fault} → all ≡ [] → before ≡ before ++ all
 nothing_told before e = sym (append-nil before) ∙ sym (ap (λ f. before ++ f) e)
+
+-- the same put behind a list once for each element of another
+pub record RepeatedSoFar {A B : Type 0} (y : A) (before : List A) (xs : List B) (done : ℕ) (now : List A) : Type 0 where
+  pub so_far : now ++ map (λ (x : B). y) (drop done xs) ≡ before ++ map (λ (x : B). y) xs
+
+pub repeated_begins : {A B : Type 0} {y : A} {before : List A} {xs : List B} → RepeatedSoFar y before xs 0 before
+repeated_begins = record { so_far = refl }
+
+pub repeated_on : {A B : Type 0} {y : A} {before : List A} {xs : List B} {done : ℕ} {now next : List A} (d : B) → RepeatedSoFar y before xs done now → done < length xs → next ≡ now ++ y ∷ [] → RepeatedSoFar y before xs (done + 1) next
+repeated_on {B = B} {y = y} {xs = xs} {done = done} {now = now} d s less e =
+    let rest = map (λ (x : B). y) (drop (done + 1) xs) in
+    record { so_far = ap (λ zs. zs ++ rest) e ∙ append_assoc now (y ∷ []) rest ∙ sym (ap (λ zs. now ++ map (λ (x : B). y) zs) (drop_more xs done d less)) ∙ s.so_far }
+
+pub repeated_ends : {A B : Type 0} {y : A} {before : List A} {xs : List B} {done : ℕ} {now : List A} → RepeatedSoFar y before xs done now → length xs ≤ done → now ≡ before ++ map (λ (x : B). y) xs
+repeated_ends {B = B} {y = y} {xs = xs} {done = done} {now = now} s over =
+    sym (append-nil now) ∙ sym (ap (λ zs. now ++ map (λ (x : B). y) zs) (drop_all done xs over)) ∙ s.so_far

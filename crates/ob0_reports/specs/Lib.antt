@@ -3,5 +3,7 @@ pub mod Operations
 pub mod ExpressionFaults
 pub mod StatementFaults
 pub mod TypeFaults
+pub mod SoFar
+pub mod WrittenTypeFaults
+pub mod DeclarationFaults
 pub mod SupposedFacts
-pub mod InOrder

@@ -1,8 +1,10 @@
 -- What the telling supposes of types and declarations, as facts.
-use Rattle.std.specs.Prelude.{ℕ, ◌==◌, Bool, true, false, List, map, slice_get, slice_index_or, Option, Some, None, option_and_then, option_map}
-use Rattle.std.specs.BTreeMap.{get_by}
+use Rattle.std.specs.Prelude.{◌≡◌, ℕ, ◌-◌, ◌^◌, Bool, List, map, ◌++◌, min, slice_get, slice_index_or, Option, Some, None, option_and_then, option_map}
+use Rattle.std.specs.Borrow.{Bor}
+use Rattle.std.specs.BTreeMap.{BTreeMap, get_by}
 use Rattle.std.specs.Cmp.Lexicographic.{slice_cmp}
 use Rattle.std.specs.Ordering.{nat_cmp}
+use Rattle.ob0_scan.specs.declared.fault.Fault.{Fault}
 use Rattle.ob0_scope.specs.Names.{Name}
 use Rattle.ob0_scope.specs.Resolution.{ordinal_in}
 use Rattle.ob0_symbols.specs.declared.known.Formal as formal
@@ -14,25 +16,34 @@ use Rattle.ob0_reports.specs.declared.telling.supposed.Composite.{Composite}
 use Rattle.ob0_reports.specs.declared.telling.supposed.Meaning as meaning
 use Rattle.ob0_reports.specs.declared.telling.supposed.Meaning.TheVariants as declared
 use Rattle.ob0_reports.specs.declared.telling.supposed.Parts.TheVariants as parts
+use Rattle.ob0_reports.specs.declared.telling.supposed.Parts.{Parts}
+use Rattle.ob0_reports.specs.declared.telling.supposed.Size as code_size
 use Rattle.ob0_reports.specs.declared.telling.supposed.Supposed.{Supposed}
-use Rattle.ob0_reports.specs.Known.{Facts, Form, Formal, Meaning, Operand, Types, a_constant, a_procedure, a_record, a_scalar, a_type, a_variable, an_array, unknown_form}
+use Rattle.ob0_reports.specs.declared.telling.written_types.Gathered as gathering
+use Rattle.ob0_reports.specs.Known.{Facts, Form, Formal, Meaning, Operand, Told, Types, a_constant, a_procedure, a_record, a_scalar, a_type, a_variable, an_array, unknown_form}
+use Rattle.ob0_reports.specs.DeclarationFaults.{Heading}
+use Rattle.ob0_reports.specs.SoFar.{Made, Size, SoFar, of_elements, of_fields, same_type}
+use Rattle.ob0_reports.specs.SoFar as so_far
+use Rattle.ob0_reports.specs.WrittenTypeFaults.{Gathered}
 
--- an array or record is the same as itself alone
-abbrev pub same_type : TypeId → TypeId → Bool
-same_type type.Integer type.Integer = true
-same_type type.Boolean type.Boolean = true
-same_type type.Unknown type.Unknown = true
-same_type (type.Array i) (type.Array j) = i == j
-same_type (type.Record i) (type.Record j) = i == j
-same_type _ _ = false
+abbrev pub elements_among : Parts → TypeId
+elements_among (parts.Elements t) = t
+elements_among (parts.Fields fields) = type.Unknown
 
 abbrev pub elements_of : Option Composite → TypeId
 elements_of None = type.Unknown
-elements_of (Some c) = elim (c.parts) [ parts.Elements t ↦ t | parts.Fields fs ↦ type.Unknown ]
+elements_of (Some c) = elements_among c.parts
+
+abbrev pub fields_in : BTreeMap (Bor Name) TypeId → Name → Option TypeId
+fields_in fields x = get_by (λ key. slice_cmp nat_cmp x key.now) fields
+
+abbrev pub field_among : Parts → Name → Option TypeId
+field_among (parts.Elements t) x = None
+field_among (parts.Fields fields) x = fields_in fields x
 
 abbrev pub field_of : Option Composite → Name → Option TypeId
 field_of None x = None
-field_of (Some c) x = elim (c.parts) [ parts.Elements t ↦ None | parts.Fields fs ↦ get_by (λ key. slice_cmp nat_cmp x key.now) fs ]
+field_of (Some c) x = field_among c.parts x
 
 abbrev pub form_in : List Composite → TypeId → Form TypeId
 form_in composites type.Integer = a_scalar
@@ -67,3 +78,39 @@ facts_in s only_constants = record {
 
 abbrev pub operand_of : operand.Operand → Operand TypeId
 operand_of o = record { of = o.of; value = option_map scalar_value o.value; is_place = o.is_place; first = o.first; last = o.last }
+
+-- What is supposed, as what is known so far.
+abbrev pub parts_of : Parts → so_far.Parts
+parts_of (parts.Elements t) = of_elements t
+parts_of (parts.Fields fields) = of_fields (fields_in fields)
+
+abbrev pub size_of : code_size.Size → Size
+size_of z = record { scalars = z.scalars; depth = z.depth }
+
+abbrev pub made_of : Composite → Made
+made_of c = record { parts = parts_of c.parts; size = size_of c.size }
+
+abbrev pub so_far_in : Supposed → SoFar
+so_far_in s = record {
+  source = s.resolved.now.module_read.source;
+  ordinals = s.resolved.now.ordinals;
+  declared = map (option_map meaning_of) s.meanings.items;
+  made = map made_of s.composites.items;
+}
+
+abbrev pub heading_in : Supposed → List formal.Formal → Heading
+heading_in s formals = record { formals = map formal_of formals; behind = so_far_in s }
+
+-- a size that is counted to the end of `usize`
+abbrev pub counted : Size → Size
+counted z = record { scalars = min z.scalars (2 ^ 64 - 1); depth = min z.depth (2 ^ 64 - 1) }
+
+-- the fields that are gathered so far
+pub record IsGathered (g : Gathered) (s : Supposed) (now : gathering.Gathered) : Type 0 where
+  pub fields : fields_in now.fields ≡ g.fields
+  pub size : size_of now.size ≡ counted g.size
+  pub behind : so_far_in s ≡ g.behind
+
+pub record Gathers (before after : List Fault) (s : Supposed) (gathered : gathering.Gathered) (t : Told Gathered) : Type 0 where
+  pub told : after ≡ before ++ t.faults
+  pub now : IsGathered t.known s gathered

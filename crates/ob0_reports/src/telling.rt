@@ -1,8 +1,7 @@
 //! Tells the faults of a module's types. It is a walk of its own through the whole module, for modules that were found not
 //! to fit: whether a module fits is not asked here.
 //!
-//! What has a fault is of an unknown type, which raises no second fault. Which faults are told, and where, is shown by
-//! examples and by comparing with a second implementation; no clause says it.
+//! What has a fault is of an unknown type, which raises no second fault.
 
 mod declarations;
 mod expressions;
@@ -10,10 +9,12 @@ mod statements;
 mod supposed;
 mod written_types;
 
-ghost use Rattle.std.specs.Prelude.{◌≡◌, ◌++◌, [], IfOk, OnOk};
+ghost use Rattle.std.specs.Prelude.{◌≡◌, ◌++◌, IfOk, OnOk, map, option_map, None};
 ghost use Rattle.std.specs.List.{filter};
 ghost use Rattle.ob0_scope.specs.Resolution.{is_of_occurrences};
-ghost use Rattle.ob0_reports.specs.InOrder.{BeginsWithUnbound};
+ghost use Rattle.ob0_reports.specs.DeclarationFaults.{told_module};
+ghost use Rattle.ob0_reports.specs.SoFar.{at_first};
+ghost use Rattle.ob0_reports.specs.SupposedFacts.{meaning_of, so_far_in};
 
 use crate::telling::supposed::{Meaning, Supposed, predeclared};
 use ob0_scan::{Code, Fault};
@@ -23,10 +24,9 @@ use std::alloc::{AllocError, Global};
 /// The names of a module that nothing binds, in text order, and then the faults of its types. Its second declarations and closing names
 /// aren't looked at.
 pub fn tell<'t>(alloc: Global, resolved: &'t Resolved<'t>) -> Result<Vec<Fault>, AllocError>
-    ensures { IfOk result (λ faults. BeginsWithUnbound resolved.now faults.items) }
+    ensures { IfOk result (λ faults. faults.items ≡ told_module resolved.now) }
 {
     let mut teller = Teller::new(alloc, resolved)?;
-    teller.tell_undeclared()?;
     teller.block(resolved.module().block())?;
     Ok(teller.into_faults())
 }
@@ -41,12 +41,11 @@ struct Teller<'t> {
 
 impl<'t> Teller<'t> {
     fn new(alloc: Global, resolved: &'t Resolved<'t>) -> Result<Teller<'t>, AllocError>
-        ensures { IfOk result (λ t. (t.supposed.resolved.now ≡ resolved.now) × (t.faults.items ≡ [])) }
+        ensures supposed { IfOk result (λ t. so_far_in t.supposed ≡ at_first resolved.now) }
+        ensures faults { IfOk result (λ t. t.faults.items ≡ filter is_of_occurrences resolved.now.faults) }
     {
         let mut meanings = predeclared(alloc)?;
-        for _declaration in resolved.declarations() {
-            meanings.push(None)?;
-        }
+        add_unknown(&mut meanings, resolved.declarations())?;
         let supposed = Supposed {
             resolved,
             meanings,
@@ -55,7 +54,7 @@ impl<'t> Teller<'t> {
         Ok(Teller {
             alloc,
             supposed,
-            faults: Vec::new(alloc),
+            faults: unbound(alloc, resolved)?,
         })
     }
 
@@ -69,23 +68,30 @@ impl<'t> Teller<'t> {
         } = self;
         faults
     }
+}
 
-    /// Tells the names that nothing binds.
-    fn tell_undeclared(&mut self) -> Result<(), AllocError>
-        ensures { OnOk result (self.new.faults.items ≡ self.old.faults.items ++ filter is_of_occurrences self.old.supposed.resolved.now.faults) }
-    {
-        for fault in self.supposed.resolved.faults() {
-            if fault.code == Code::Undeclared {
-                self.faults.push(*fault)?;
-            }
+/// The names that nothing binds.
+fn unbound(alloc: Global, resolved: &Resolved) -> Result<Vec<Fault>, AllocError>
+    ensures { IfOk result (λ faults. faults.items ≡ filter is_of_occurrences resolved.now.faults) }
+{
+    let mut faults = Vec::new(alloc);
+    for fault in resolved.faults() {
+        if fault.code == Code::Undeclared {
+            faults.push(*fault)?;
         }
-        Ok(())
     }
+    Ok(faults)
+}
 
-    /// Says what the declaration at a token is.
-    fn define(&mut self, token: usize, meaning: Meaning)
-        ensures { self.new.faults.items ≡ self.old.faults.items }
-    {
-        self.supposed.define(token, meaning);
+/// Nothing is known yet of what these tokens declare.
+fn add_unknown(
+    meanings: &mut Vec<Option<Meaning>>,
+    declarations: &[usize],
+) -> Result<(), AllocError>
+    ensures { OnOk result (map (option_map meaning_of) meanings.new.items ≡ map (option_map meaning_of) meanings.old.items ++ map (λ token. None) declarations.now) }
+{
+    for _declaration in declarations {
+        meanings.push(None)?;
     }
+    Ok(())
 }

@@ -1,30 +1,31 @@
--- Values that are written as tokens, one part behind the other, and read back.
-use Rattle.std.proofs.Common.{◌≡◌, ◌∙◌, ◌≤◌, ◌<◌, ◌^◌, ℕ, ℤ, pos, negsuc, List, [], ◌∷◌, ◌++◌, Option, Some, Result, Ok, OnOk, option_map, option_and_then, decimal, SFits, w64, length, take, get_or, map, ◌+◌, refl, sym, ap, subst, arith, add-one, append_assoc, append-nil, take_all}
+-- Values whose texts are written one behind the other, and read back.
+use Rattle.std.proofs.Common.{◌≡◌, ◌∙◌, ◌≤◌, ◌<◌, ◌^◌, ℕ, zero, suc, ℤ, pos, negsuc, List, [], ◌∷◌, ◌++◌, Bool, true, false, Option, Some, option_map, option_and_then, decimal, SFits, w64, length, take, get_or, map, ◌+◌, refl, sym, ap, ap₂, subst, arith, add-one, append_assoc, append-nil, take_all, nat_le, nat_lt, ◌&&◌, ◌==◌, not, codes}
+use Rattle.std.proofs.Math.Bool.{and-true as and_true}
+use Rattle.std.proofs.lemmas.Bool.{and_parts, eqb-false, leb-true, lt-ltb, not-true}
 use Rattle.std.proofs.lemmas.List.{map-append}
+use Rattle.std.proofs.lemmas.Str.{IsUtf8-append, IsUtf8-nil, IsUtf8-from_ascii}
 use Rattle.std.proofs.Math.Seq.{take-suc}
-use Rattle.std.specs.List.{flat_map}
 use Rattle.serde_json.specs.View.{items_of}
 use Rattle.std.specs.Fmt.{signed_decimal}
 use Rattle.std.specs.Str.{IsUtf8}
 use Rattle.json.specs.Json as json
 use Rattle.json.specs.Lex.{tokens}
-use Rattle.json.specs.Print.{print}
+use Rattle.json.specs.Print.{escape, escape_byte, print, quoted}
 use Rattle.json.specs.Token.{Token}
-use Rattle.json.specs.Token as token
 use Rattle.json.specs.Tree as tree
-use Rattle.json.specs.Written.{Written, Writes as Writes_token}
-use Rattle.json.proofs.Printed.Trees.{value-json_tokens}
+use Rattle.json.proofs.Printed.Decimals.{IsNumber-decimal, IsNumber-signed_decimal}
+use Rattle.json.proofs.Printed.Strings.{escape_byte_plain}
+use Rattle.json.proofs.Printed.Tokens.{tokens-print}
+use Rattle.json.proofs.Printed.Trees.{ArePrintable-json_tokens, value-json_tokens}
+use Rattle.json.proofs.Printed.Utf8.{are_ascii, IsUtf8-are_ascii, IsUtf8-quoted}
 use Rattle.serde_json.specs.Data.{Data, null, boolean, number, string, array, object, unsigned, Items, no_items, item, Members, no_members, member, depth, items_depth, members_depth, put}
 use Rattle.serde_json.specs.Find.{of_integer}
 use Rattle.serde_json.specs.Read.{read, of_items, of_json, max_depth}
-use Rattle.serde_json.specs.Written.{outline, items_outline, members_outline}
+use Rattle.serde_json.specs.Written.{comma_if, compact_text, items_text, outline, items_outline, members_outline}
 use Rattle.serde_json.proofs.Numbers.{number_of-decimal, number_of-negative}
 use Rattle.serde_json.proofs.Texts.{print-outline}
-use Rattle.ob0_rpc.specs.Appending.{Appends, AppendsEach, AreReadBack, IsReadBack, tokens_of}
+use Rattle.ob0_rpc.specs.Appending.{Appends, AppendsEach, AreReadBack, IsReadBack, listed}
 use Rattle.ob0_rpc.specs.Writing.{Writes}
-
-abbrev Tokens : Type 0
-Tokens = List Token
 
 -- ---- the outline of a value nests no deeper than the value
 
@@ -47,150 +48,262 @@ mutual
 
 -- ---- a whole text
 
-abbrev whole : Option (json.Json × Tokens) → Option Data
+-- the tokens of a value's text are those of its outline
+tokens_of_text : (d : Data) → IsReadBack d → tokens (compact_text d) ≡ tree.json_tokens (outline d)
+tokens_of_text d r = ap tokens (sym (print-outline d)) ∙ tokens-print (tree.json_tokens (outline d)) (ArePrintable-json_tokens (outline d) r.numbers)
+
+abbrev whole : Option (json.Json × List Token) → Option Data
 whole o = option_and_then of_json (option_and_then (λ p. json.if_last p.0 p.1) o)
 
-reads_as : (d : Data) (ts : Tokens) → tokens (print ts) ≡ ts → ts ≡ tokens_of d → IsReadBack d → depth d ≤ 127 → read (print ts) ≡ Some d
-reads_as d ts same is reads shallow =
-    ap whole (ap (json.value max_depth) (same ∙ is ∙ sym (append-nil _)) ∙ value-json_tokens (outline d) max_depth [] (omega (arith, outline_depth d))) ∙ reads
+reads_as : (d : Data) → IsReadBack d → depth d ≤ 127 → read (compact_text d) ≡ Some d
+reads_as d r shallow =
+    ap whole (ap (json.value max_depth) (tokens_of_text d r ∙ sym (append-nil _)) ∙ value-json_tokens (outline d) max_depth [] (omega (arith, outline_depth d))) ∙ r.reads
 
 -- what was written behind nothing is the text of the value
-pub written : (d : Data) (start done : Written) (bytes : List ℕ) → start.before ≡ [] → start.tokens ≡ [] → Appends d start done → bytes ≡ done.before ++ print done.tokens
-    → tokens (print done.tokens) ≡ done.tokens → IsUtf8 (print done.tokens) → depth d ≤ 127 → Writes d bytes
-written d start done bytes none empty a is same utf8 shallow =
-    let bytes_are : bytes ≡ print done.tokens = is ∙ ap (λ b. b ++ print done.tokens) (a.before ∙ none) in
-    let tokens_are : done.tokens ≡ tokens_of d = a.tokens ∙ ap (λ ts. ts ++ tokens_of d) empty in
-    record {
-      text = bytes_are ∙ ap print tokens_are ∙ print-outline d;
-      reads = (subst IsUtf8 (sym bytes_are) utf8, ap read bytes_are ∙ reads_as d done.tokens same tokens_are a.reads shallow);
-    }
+pub written : (d : Data) (start bytes : List ℕ) → start ≡ [] → Appends d start bytes → depth d ≤ 127 → Writes d bytes
+written d start bytes none a shallow =
+    let is : bytes ≡ compact_text d = a.text ∙ ap (λ b. b ++ compact_text d) none in
+    record { text = is; reads = (subst IsUtf8 (sym is) a.reads.utf8, ap read is ∙ reads_as d a.reads shallow) }
 
--- ---- one token
+-- ---- names that need no escape
 
-pub text_written : (s : List ℕ) (old new : Written) → new.before ≡ old.before → new.tokens ≡ old.tokens ++ token.string s ∷ [] → Appends (string s) old new
-text_written s old new stays is = record { before = stays; tokens = is; reads = refl }
+abbrev is_plain_byte : ℕ → Bool
+is_plain_byte x = nat_le 32 x && nat_lt x 127 && not (x == 34) && not (x == 92)
 
-pub count_written : (n : ℕ) (old new : Written) → n < 2 ^ 64 → new.before ≡ old.before → new.tokens ≡ old.tokens ++ token.number (decimal n) ∷ [] → Appends (number (unsigned n)) old new
-count_written n old new fits stays is = record { before = stays; tokens = is; reads = ap (option_map number) (number_of-decimal n fits) }
+-- these are printable ASCII without quotes and backslashes
+abbrev pub are_plain : List ℕ → Bool
+are_plain [] = true
+are_plain (x ∷ xs) = is_plain_byte x && are_plain xs
 
-pub integer_written : (z : ℤ) (old new : Written) → SFits w64 z → new.before ≡ old.before → new.tokens ≡ old.tokens ++ token.number (signed_decimal z) ∷ [] → Appends (number (of_integer z)) old new
-integer_written (pos n) old new fits stays is = record { before = stays; tokens = is; reads = ap (option_map number) (number_of-decimal n (grind arith)) }
-integer_written (negsuc n) old new fits stays is = record { before = stays; tokens = is; reads = ap (option_map number) (number_of-negative n (grind arith)) }
+-- ---- texts and numbers
 
--- ---- objects of one, two and three members
+escape_plain : (k : List ℕ) → are_plain k ≡ true → escape k ≡ k
+escape_plain [] h = refl
+escape_plain (x ∷ xs) h =
+    let p = and_parts (is_plain_byte x) _ h in
+    let q = and_parts (nat_le 32 x && nat_lt x 127 && not (x == 34)) _ p.0 in
+    let r = and_parts (nat_le 32 x && nat_lt x 127) _ q.0 in
+    let t = and_parts (nat_le 32 x) _ r.0 in
+    ap₂ (λ a b. a ++ b) (escape_byte_plain x (eqb-false x 34 (not-true _ r.1)) (eqb-false x 92 (not-true _ q.1)) (leb-true 32 x t.0)) (escape_plain xs p.1)
 
--- a token is written behind the others
-pub record Puts (t : Token) (old new : Written) : Type 0 where
-  pub before : new.before ≡ old.before
-  pub tokens : new.tokens ≡ old.tokens ++ t ∷ []
+pub text_written : (s t0 t1 t2 t3 : List ℕ) → IsUtf8 s → t1 ≡ t0 ++ 34 ∷ [] → t2 ≡ t1 ++ escape s → t3 ≡ t2 ++ 34 ∷ [] → Appends (string s) t0 t3
+text_written s t0 t1 t2 t3 utf8 h1 h2 h3 = record {
+  text = rw (h3, h2, h1) (simp append_assoc refl);
+  reads = record { reads = refl; numbers = tt; utf8 = IsUtf8-quoted s utf8 };
+}
 
--- a call that has written a token
-pub puts : {E : Type 0} {r : Result (Unit {0}) E} {old new : Written} {t : Token} {x : Unit {0}} → r ≡ Ok x → Writes_token r old new t → Puts t old new
-puts {E} {r} {old} {new} {t} {x} is w = record { before = w.room.0; tokens = subst (λ (o : Result (Unit {0}) E). OnOk o (new.tokens ≡ old.tokens ++ t ∷ [])) is w.ok }
+pub count_written : (n : ℕ) (old new : List ℕ) → n < 2 ^ 64 → IsUtf8 (decimal n) → new ≡ old ++ decimal n → Appends (number (unsigned n)) old new
+count_written n old new fits utf8 is = record {
+  text = is;
+  reads = record { reads = ap (option_map number) (number_of-decimal n fits); numbers = IsNumber-decimal n fits; utf8 = utf8 };
+}
 
-tokens_one : (k : List ℕ) (d : Data) (a b c e f : Tokens) → b ≡ a ++ token.begin_object ∷ [] → c ≡ b ++ token.key k ∷ [] → e ≡ c ++ tokens_of d → f ≡ e ++ token.end_object ∷ []
-    → f ≡ a ++ tokens_of (object (member k d no_members))
-tokens_one k d a b c e f i j l m = rw (m, l, j, i) (simp append_assoc)
+pub integer_written : (z : ℤ) (old new : List ℕ) → SFits w64 z → IsUtf8 (signed_decimal z) → new ≡ old ++ signed_decimal z → Appends (number (of_integer z)) old new
+integer_written (pos n) old new fits utf8 is = record {
+  text = is;
+  reads = record { reads = ap (option_map number) (number_of-decimal n (grind arith)); numbers = IsNumber-decimal n (grind arith); utf8 = utf8 };
+}
+integer_written (negsuc n) old new fits utf8 is = record {
+  text = is;
+  reads = record { reads = ap (option_map number) (number_of-negative n (grind arith)); numbers = IsNumber-signed_decimal (negsuc n) (grind arith); utf8 = utf8 };
+}
 
-tokens_two : (k l : List ℕ) (d e : Data) (t0 t1 t2 t3 t4 t5 t6 : Tokens) → t1 ≡ t0 ++ token.begin_object ∷ [] → t2 ≡ t1 ++ token.key k ∷ [] → t3 ≡ t2 ++ tokens_of d
-    → t4 ≡ t3 ++ token.key l ∷ [] → t5 ≡ t4 ++ tokens_of e → t6 ≡ t5 ++ token.end_object ∷ []
-    → t6 ≡ t0 ++ tokens_of (object (member k d (member l e no_members)))
-tokens_two k l d e t0 t1 t2 t3 t4 t5 t6 h1 h2 h3 h4 h5 h6 = rw (h6, h5, h4, h3, h2, h1) (simp append_assoc)
+-- ---- objects
 
-tokens_three : (k l m : List ℕ) (d e f : Data) (t0 t1 t2 t3 t4 t5 t6 t7 t8 : Tokens) → t1 ≡ t0 ++ token.begin_object ∷ [] → t2 ≡ t1 ++ token.key k ∷ [] → t3 ≡ t2 ++ tokens_of d
-    → t4 ≡ t3 ++ token.key l ∷ [] → t5 ≡ t4 ++ tokens_of e → t6 ≡ t5 ++ token.key m ∷ [] → t7 ≡ t6 ++ tokens_of f → t8 ≡ t7 ++ token.end_object ∷ []
-    → t8 ≡ t0 ++ tokens_of (object (member k d (member l e (member m f no_members))))
-tokens_three k l m d e f t0 t1 t2 t3 t4 t5 t6 t7 t8 h1 h2 h3 h4 h5 h6 h7 h8 = rw (h8, h7, h6, h5, h4, h3, h2, h1) (simp append_assoc)
+utf8_joined : (xs ys : List ℕ) → IsUtf8 xs → IsUtf8 ys → IsUtf8 (xs ++ ys)
+utf8_joined xs ys h k = IsUtf8-append xs ys h k
 
-reads_one : (k : List ℕ) (d : Data) → IsReadBack d → of_json (outline (object (member k d no_members))) ≡ Some (object (member k d no_members))
+-- a name of a member that is in order: its text is the name between quotes
+pub record IsName (k : List ℕ) : Type 0 where
+  pub plain : escape k ≡ k
+  pub utf8 : IsUtf8 (quoted k)
+
+pub name : (k : List ℕ) → are_plain k ≡ true → are_ascii k ≡ true → IsName k
+name k plain ascii = record { plain = escape_plain k plain; utf8 = IsUtf8-quoted k (IsUtf8-are_ascii k ascii) }
+
+reads_one : (k : List ℕ) (d : Data) → of_json (outline d) ≡ Some d → of_json (outline (object (member k d no_members))) ≡ Some (object (member k d no_members))
 reads_one k d i = rw i refl
 
-reads_two : (k l : List ℕ) (d e : Data) → put l e (member k d no_members) ≡ member k d (member l e no_members) → IsReadBack d → of_json (outline e) ≡ Some e
+reads_two : (k l : List ℕ) (d e : Data) → put l e (member k d no_members) ≡ member k d (member l e no_members) → of_json (outline d) ≡ Some d → of_json (outline e) ≡ Some e
     → of_json (outline (object (member k d (member l e no_members)))) ≡ Some (object (member k d (member l e no_members)))
 reads_two k l d e order i j = rw (i, j) (ap (λ ms. Some (object ms)) order)
 
 reads_three : (k l m : List ℕ) (d e f : Data) → put m f (put l e (member k d no_members)) ≡ member k d (member l e (member m f no_members))
-    → IsReadBack d → of_json (outline e) ≡ Some e → of_json (outline f) ≡ Some f
+    → of_json (outline d) ≡ Some d → of_json (outline e) ≡ Some e → of_json (outline f) ≡ Some f
     → of_json (outline (object (member k d (member l e (member m f no_members))))) ≡ Some (object (member k d (member l e (member m f no_members))))
 reads_three k l m d e f order i j h = rw (i, j, h) (ap (λ ms. Some (object ms)) order)
 
-pub object_of_one : (k : List ℕ) (d : Data) (w0 w1 w2 w3 w4 : Written) → Puts token.begin_object w0 w1 → Puts (token.key k) w1 w2 → Appends d w2 w3 → Puts token.end_object w3 w4
-    → Appends (object (member k d no_members)) w0 w4
-object_of_one k d w0 w1 w2 w3 w4 p1 p2 p3 p4 = record {
-  before = p4.before ∙ p3.before ∙ p2.before ∙ p1.before;
-  tokens = tokens_one k d w0.tokens w1.tokens w2.tokens w3.tokens w4.tokens p1.tokens p2.tokens p3.tokens p4.tokens;
-  reads = reads_one k d p3.reads;
+brace : IsUtf8 (125 ∷ [])
+brace = IsUtf8-are_ascii _ refl
+
+-- a member's text behind a comma or a bracket, and what follows it
+utf8_member : (before : ℕ) (k t rest : List ℕ) → are_ascii (before ∷ []) ≡ true → IsUtf8 (quoted k) → IsUtf8 t → IsUtf8 rest → IsUtf8 (before ∷ (quoted k ++ 58 ∷ (t ++ rest)))
+utf8_member before k t rest ascii uk ut ur =
+    IsUtf8-append (before ∷ []) _ (IsUtf8-are_ascii _ ascii) (IsUtf8-append (quoted k) _ uk (IsUtf8-append (58 ∷ []) _ (IsUtf8-are_ascii _ refl) (IsUtf8-append t rest ut ur)))
+
+read_one : (k : List ℕ) (d : Data) → IsUtf8 (quoted k) → IsReadBack d → IsReadBack (object (member k d no_members))
+read_one k d uk r = record {
+  reads = reads_one k d r.reads;
+  numbers = (r.numbers, tt);
+  utf8 = utf8_member 123 k (compact_text d) (125 ∷ []) refl uk r.utf8 brace;
 }
 
-pub object_of_two : (k l : List ℕ) (d e : Data) (w0 w1 w2 w3 w4 w5 w6 : Written) → put l e (member k d no_members) ≡ member k d (member l e no_members)
-    → Puts token.begin_object w0 w1 → Puts (token.key k) w1 w2 → Appends d w2 w3 → Puts (token.key l) w3 w4 → Appends e w4 w5 → Puts token.end_object w5 w6
-    → Appends (object (member k d (member l e no_members))) w0 w6
-object_of_two k l d e w0 w1 w2 w3 w4 w5 w6 order p1 p2 p3 p4 p5 p6 = record {
-  before = p6.before ∙ p5.before ∙ p4.before ∙ p3.before ∙ p2.before ∙ p1.before;
-  tokens = tokens_two k l d e w0.tokens w1.tokens w2.tokens w3.tokens w4.tokens w5.tokens w6.tokens p1.tokens p2.tokens p3.tokens p4.tokens p5.tokens p6.tokens;
-  reads = reads_two k l d e order p3.reads p5.reads;
+read_two : (k l : List ℕ) (d e : Data) → put l e (member k d no_members) ≡ member k d (member l e no_members) → IsUtf8 (quoted k) → IsUtf8 (quoted l) → IsReadBack d → IsReadBack e
+    → IsReadBack (object (member k d (member l e no_members)))
+read_two k l d e order uk ul r q = record {
+  reads = reads_two k l d e order r.reads q.reads;
+  numbers = (r.numbers, (q.numbers, tt));
+  utf8 = utf8_member 123 k (compact_text d) _ refl uk r.utf8 (utf8_member 44 l (compact_text e) (125 ∷ []) refl ul q.utf8 brace);
 }
 
-pub object_of_three : (k l m : List ℕ) (d e f : Data) (w0 w1 w2 w3 w4 w5 w6 w7 w8 : Written) → put m f (put l e (member k d no_members)) ≡ member k d (member l e (member m f no_members))
-    → Puts token.begin_object w0 w1 → Puts (token.key k) w1 w2 → Appends d w2 w3 → Puts (token.key l) w3 w4 → Appends e w4 w5 → Puts (token.key m) w5 w6 → Appends f w6 w7
-    → Puts token.end_object w7 w8
-    → Appends (object (member k d (member l e (member m f no_members)))) w0 w8
-object_of_three k l m d e f w0 w1 w2 w3 w4 w5 w6 w7 w8 order p1 p2 p3 p4 p5 p6 p7 p8 = record {
-  before = p8.before ∙ p7.before ∙ p6.before ∙ p5.before ∙ p4.before ∙ p3.before ∙ p2.before ∙ p1.before;
-  tokens = tokens_three k l m d e f w0.tokens w1.tokens w2.tokens w3.tokens w4.tokens w5.tokens w6.tokens w7.tokens w8.tokens p1.tokens p2.tokens p3.tokens p4.tokens p5.tokens p6.tokens p7.tokens p8.tokens;
-  reads = reads_three k l m d e f order p3.reads p5.reads p7.reads;
+read_three : (k l m : List ℕ) (d e f : Data) → put m f (put l e (member k d no_members)) ≡ member k d (member l e (member m f no_members))
+    → IsUtf8 (quoted k) → IsUtf8 (quoted l) → IsUtf8 (quoted m) → IsReadBack d → IsReadBack e → IsReadBack f
+    → IsReadBack (object (member k d (member l e (member m f no_members))))
+read_three k l m d e f order uk ul um r q p = record {
+  reads = reads_three k l m d e f order r.reads q.reads p.reads;
+  numbers = (r.numbers, (q.numbers, (p.numbers, tt)));
+  utf8 =
+      utf8_member 123 k (compact_text d) _ refl uk r.utf8
+      (utf8_member 44 l (compact_text e) _ refl ul q.utf8 (utf8_member 44 m (compact_text f) (125 ∷ []) refl um p.utf8 brace));
 }
+
+-- a name's text, and what follows the colon
+abbrev named : List ℕ → List ℕ → List ℕ
+named k rest = 34 ∷ (k ++ 34 ∷ 58 ∷ rest)
+
+name_text : (k rest : List ℕ) → IsName k → named k rest ≡ quoted k ++ 58 ∷ rest
+name_text k rest n = rw n.plain (ap (λ t. 34 ∷ t) (sym (append_assoc k (34 ∷ []) (58 ∷ rest))))
+
+pub object_of_one : (k : List ℕ) (d : Data) (t0 t1 t2 t3 : List ℕ) → IsName k → t1 ≡ t0 ++ 123 ∷ named k [] → Appends d t1 t2 → t3 ≡ t2 ++ 125 ∷ []
+    → Appends (object (member k d no_members)) t0 t3
+object_of_one k d t0 t1 t2 t3 n h1 h2 h3 =
+    let c = compact_text d in
+    let put : t3 ≡ t0 ++ 123 ∷ named k (c ++ 125 ∷ []) = rw (h3, h2.text, h1) (simp append_assoc refl) in
+    record { text = put ∙ ap (λ t. t0 ++ 123 ∷ t) (name_text k (c ++ 125 ∷ []) n); reads = read_one k d n.utf8 h2.reads }
+
+pub object_of_two : (k l : List ℕ) (d e : Data) (t0 t1 t2 t3 t4 t5 : List ℕ) → put l e (member k d no_members) ≡ member k d (member l e no_members) → IsName k → IsName l
+    → t1 ≡ t0 ++ 123 ∷ named k [] → Appends d t1 t2 → t3 ≡ t2 ++ 44 ∷ named l [] → Appends e t3 t4 → t5 ≡ t4 ++ 125 ∷ []
+    → Appends (object (member k d (member l e no_members))) t0 t5
+object_of_two k l d e t0 t1 t2 t3 t4 t5 order n o h1 h2 h3 h4 h5 =
+    let c = compact_text d in
+    let last = compact_text e ++ 125 ∷ [] in
+    let put : t5 ≡ t0 ++ 123 ∷ named k (c ++ 44 ∷ named l last) = rw (h5, h4.text, h3, h2.text, h1) (simp append_assoc refl) in
+    record {
+      text = put ∙ ap (λ t. t0 ++ 123 ∷ named k (c ++ 44 ∷ t)) (name_text l last o) ∙ ap (λ t. t0 ++ 123 ∷ t) (name_text k (c ++ 44 ∷ (quoted l ++ 58 ∷ last)) n);
+      reads = read_two k l d e order n.utf8 o.utf8 h2.reads h4.reads;
+    }
+
+-- three members, of which the second is a text that needs no escape
+pub object_of_three : (k l s m : List ℕ) (d f : Data) (t0 t1 t2 t3 t4 t5 : List ℕ) → put m f (put l (string s) (member k d no_members)) ≡ member k d (member l (string s) (member m f no_members))
+    → IsName k → IsName l → IsName s → IsName m
+    → t1 ≡ t0 ++ 123 ∷ named k [] → Appends d t1 t2 → t3 ≡ t2 ++ 44 ∷ named l (34 ∷ (s ++ 34 ∷ 44 ∷ named m [])) → Appends f t3 t4 → t5 ≡ t4 ++ 125 ∷ []
+    → Appends (object (member k d (member l (string s) (member m f no_members)))) t0 t5
+object_of_three k l s m d f t0 t1 t2 t3 t4 t5 order n o q p h1 h2 h3 h4 h5 =
+    let c = compact_text d in
+    let last = compact_text f ++ 125 ∷ [] in
+    let after = quoted m ++ 58 ∷ last in
+    let put : t5 ≡ t0 ++ 123 ∷ named k (c ++ 44 ∷ named l (34 ∷ (s ++ 34 ∷ 44 ∷ named m last))) = rw (h5, h4.text, h3, h2.text, h1) (simp append_assoc refl) in
+    let text : 34 ∷ (s ++ 34 ∷ 44 ∷ after) ≡ quoted s ++ 44 ∷ after = rw q.plain (ap (λ t. 34 ∷ t) (sym (append_assoc s (34 ∷ []) (44 ∷ after)))) in
+    record {
+      text =
+          put ∙ ap (λ t. t0 ++ 123 ∷ named k (c ++ 44 ∷ named l (34 ∷ (s ++ 34 ∷ 44 ∷ t)))) (name_text m last p)
+          ∙ ap (λ t. t0 ++ 123 ∷ named k (c ++ 44 ∷ named l t)) text
+          ∙ ap (λ t. t0 ++ 123 ∷ named k (c ++ 44 ∷ t)) (name_text l (quoted s ++ 44 ∷ after) o)
+          ∙ ap (λ t. t0 ++ 123 ∷ t) (name_text k (c ++ 44 ∷ (quoted l ++ 58 ∷ (quoted s ++ 44 ∷ after))) n);
+      reads = read_three k l m d (string s) f order n.utf8 o.utf8 p.utf8 h2.reads (record { reads = refl; numbers = tt; utf8 = q.utf8 }) h4.reads;
+    }
+
+-- an object of one member whose name is a text of its own
+pub object_named : (k : List ℕ) (d : Data) (t0 t1 t2 t3 t4 t5 : List ℕ) → t1 ≡ t0 ++ 123 ∷ [] → Appends (string k) t1 t2 → t3 ≡ t2 ++ 58 ∷ [] → Appends d t3 t4 → t5 ≡ t4 ++ 125 ∷ []
+    → Appends (object (member k d no_members)) t0 t5
+object_named k d t0 t1 t2 t3 t4 t5 h1 h2 h3 h4 h5 = record { text = rw (h5, h4.text, h3, h2.text, h1) (simp append_assoc refl); reads = read_one k d h2.reads.utf8 h4.reads }
 
 -- ---- lists
 
-pub each_none : (w : Written) → AppendsEach [] w w
-each_none w = record { before = refl; tokens = sym (append-nil w.tokens); reads = tt }
+pub each_none : (later : Bool) (t : List ℕ) → AppendsEach later [] t t
+each_none later t = record { text = sym (append-nil t); reads = tt }
 
-pub each_one : (d : Data) (old new : Written) → Appends d old new → AppendsEach (d ∷ []) old new
-each_one d old new a = record { before = a.before; tokens = a.tokens ∙ ap (λ ts. old.tokens ++ ts) (sym (append-nil (tokens_of d))); reads = (a.reads, tt) }
+pub each_one : (d : Data) (old new : List ℕ) → Appends d old new → AppendsEach false (d ∷ []) old new
+each_one d old new a = record { text = a.text ∙ ap (λ t. old ++ t) (sym (append-nil (compact_text d))); reads = (a.reads, tt) }
 
-tokens_joined : (xs ys : List Data) → flat_map tokens_of (xs ++ ys) ≡ flat_map tokens_of xs ++ flat_map tokens_of ys
-tokens_joined [] ys = refl
-tokens_joined (x ∷ xs) ys = ap (λ ts. tokens_of x ++ ts) (tokens_joined xs ys) ∙ sym (append_assoc (tokens_of x) (flat_map tokens_of xs) (flat_map tokens_of ys))
+-- whether there is one
+abbrev pub some : List Data → Bool
+some [] = false
+some (d ∷ ds) = true
 
-reads_joined : (xs ys : List Data) → AreReadBack xs → AreReadBack ys → AreReadBack (xs ++ ys)
-reads_joined [] ys h k = k
-reads_joined (x ∷ xs) ys h k = (h.0, reads_joined xs ys h.1 k)
+read_joined : (xs ys : List Data) → AreReadBack xs → AreReadBack ys → AreReadBack (xs ++ ys)
+read_joined [] ys h k = k
+read_joined (x ∷ xs) ys h k = (h.0, read_joined xs ys h.1 k)
 
-pub each_joined : (xs ys : List Data) (a b c : Written) → AppendsEach xs a b → AppendsEach ys b c → AppendsEach (xs ++ ys) a c
-each_joined xs ys a b c h k = record {
-  before = k.before ∙ h.before;
-  tokens = k.tokens ∙ (ap (λ ts. ts ++ flat_map tokens_of ys) h.tokens ∙ (append_assoc a.tokens (flat_map tokens_of xs) (flat_map tokens_of ys) ∙ ap (λ ts. a.tokens ++ ts) (sym (tokens_joined xs ys))));
-  reads = reads_joined xs ys h.reads k.reads;
+listed_true : (xs ys : List Data) → listed true (xs ++ ys) ≡ listed true xs ++ listed true ys
+listed_true [] ys = refl
+listed_true (x ∷ xs) ys = rw (listed_true xs ys) (simp append_assoc refl)
+
+comma_before : (ys : List Data) → listed true ys ≡ comma_if (some ys) ++ listed false ys
+comma_before [] = refl
+comma_before (y ∷ ys) = refl
+
+listed_joined : (xs ys : List Data) → listed false (xs ++ ys) ≡ listed false xs ++ (comma_if (some xs && some ys) ++ listed false ys)
+listed_joined [] ys = refl
+listed_joined (x ∷ xs) ys = rw (listed_true xs ys, comma_before ys) (simp append_assoc refl)
+
+pub each_joined : (xs ys : List Data) (a b c d : List ℕ) → AppendsEach false xs a b → c ≡ b ++ comma_if (some xs && some ys) → AppendsEach false ys c d → AppendsEach false (xs ++ ys) a d
+each_joined xs ys a b c d h comma k = record {
+  text = rw (k.text, comma, h.text, listed_joined xs ys) (simp append_assoc refl);
+  reads = read_joined xs ys h.reads k.reads;
 }
 
+none_below : (i : ℕ) → i < 0 → ⊥
+none_below i h = omega (arith, h)
+
+some_taken : {A : Type 0} (shown : A → Data) (xs : List A) (i : ℕ) → i < length xs → some (map shown (take i xs)) ≡ nat_lt 0 i
+some_taken shown [] i h = absurd (none_below i h)
+some_taken shown (x ∷ xs) zero h = refl
+some_taken shown (x ∷ xs) (suc i) h = sym (lt-ltb 0 (suc i) (omega arith))
+
 -- the next item of a list
-pub each_next : {A : Type 0} (shown : A → Data) (xs : List A) (i : ℕ) (x : A) (a b c : Written) → i < length xs → AppendsEach (map shown (take i xs)) a b → Appends (shown (get_or xs i x)) b c
-    → AppendsEach (map shown (take (i + 1) xs)) a c
-each_next shown xs i x a b c h each next =
+pub each_next : {A : Type 0} (shown : A → Data) (xs : List A) (i : ℕ) (x : A) (later : Bool) (a b c d : List ℕ) → i < length xs → AppendsEach false (map shown (take i xs)) a b
+    → later ≡ nat_lt 0 i → c ≡ b ++ comma_if later → Appends (shown (get_or xs i x)) c d → AppendsEach false (map shown (take (i + 1) xs)) a d
+each_next shown xs i x later a b c d h each is comma next =
     rw (add-one, take-suc xs i x h, map-append shown (take i xs) (get_or xs i x ∷ []))
-    (each_joined (map shown (take i xs)) (shown (get_or xs i x) ∷ []) a b c each (each_one (shown (get_or xs i x)) b c next))
+    (each_joined (map shown (take i xs)) (shown (get_or xs i x) ∷ []) a b c d each
+    (comma ∙ ap (λ l. b ++ comma_if l) (is ∙ sym (some_taken shown xs i h) ∙ sym (and_true _))) (each_one (shown (get_or xs i x)) c d next))
 
 -- all items of a list
-pub each_done : {A : Type 0} (shown : A → Data) (xs : List A) (i : ℕ) (a b : Written) → length xs ≤ i → AppendsEach (map shown (take i xs)) a b → AppendsEach (map shown xs) a b
-each_done shown xs i a b all each = subst (λ ys. AppendsEach (map shown ys) a b) (take_all i xs all) each
+pub each_done : {A : Type 0} (shown : A → Data) (xs : List A) (i : ℕ) (a b : List ℕ) → length xs ≤ i → AppendsEach false (map shown (take i xs)) a b → AppendsEach false (map shown xs) a b
+each_done shown xs i a b all each = subst (λ ys. AppendsEach false (map shown ys) a b) (take_all i xs all) each
 
-items_tokens_of : (ds : List Data) → tree.items_tokens (items_outline (items_of ds)) ≡ flat_map tokens_of ds ++ token.end_array ∷ []
-items_tokens_of [] = refl
-items_tokens_of (d ∷ ds) = ap (λ ts. tokens_of d ++ ts) (items_tokens_of ds) ∙ sym (append_assoc (tokens_of d) (flat_map tokens_of ds) (token.end_array ∷ []))
+items_listed : (later : Bool) (ds : List Data) → items_text later (items_of ds) ≡ listed later ds ++ 93 ∷ []
+items_listed later [] = refl
+items_listed later (d ∷ ds) = rw (items_listed true ds) (simp append_assoc refl)
 
 items_read : (ds : List Data) → AreReadBack ds → of_items (items_outline (items_of ds)) ≡ Some (items_of ds)
 items_read [] h = refl
-items_read (d ∷ ds) h = rw (h.0, items_read ds h.1) refl
+items_read (d ∷ ds) h = rw (h.0.reads, items_read ds h.1) refl
 
-regroup : (old items : Tokens) → ((old ++ token.begin_array ∷ []) ++ items) ++ token.end_array ∷ [] ≡ old ++ token.begin_array ∷ (items ++ token.end_array ∷ [])
-regroup old items = simp append_assoc
+items_numbers : (ds : List Data) → AreReadBack ds → tree.ItemsHaveNumbers (items_outline (items_of ds))
+items_numbers [] h = tt
+items_numbers (d ∷ ds) h = (h.0.numbers, items_numbers ds h.1)
 
-pub array_of : (ds : List Data) (w0 w1 w2 w3 : Written) → Puts token.begin_array w0 w1 → AppendsEach ds w1 w2 → Puts token.end_array w2 w3 → Appends (array (items_of ds)) w0 w3
-array_of ds w0 w1 w2 w3 p1 p2 p3 = record {
-  before = p3.before ∙ p2.before ∙ p1.before;
-  tokens =
-      p3.tokens ∙ ap (λ ts. ts ++ token.end_array ∷ []) (p2.tokens ∙ ap (λ ts. ts ++ flat_map tokens_of ds) p1.tokens) ∙ regroup w0.tokens (flat_map tokens_of ds)
-      ∙ ap (λ ts. w0.tokens ++ token.begin_array ∷ ts) (sym (items_tokens_of ds));
-  reads = ap (option_map array) (items_read ds p2.reads);
+utf8_comma : (b : Bool) → IsUtf8 (comma_if b)
+utf8_comma true = IsUtf8-are_ascii _ refl
+utf8_comma false = IsUtf8-are_ascii _ refl
+
+listed_utf8 : (later : Bool) (ds : List Data) → AreReadBack ds → IsUtf8 (listed later ds)
+listed_utf8 later [] h = IsUtf8-nil
+listed_utf8 later (d ∷ ds) h = IsUtf8-append (comma_if later) _ (utf8_comma later) (IsUtf8-append (compact_text d) _ h.0.utf8 (listed_utf8 true ds h.1))
+
+read_list : (ds : List Data) → AreReadBack ds → IsReadBack (array (items_of ds))
+read_list ds h = record {
+  reads = ap (option_map array) (items_read ds h);
+  numbers = items_numbers ds h;
+  utf8 =
+      subst IsUtf8 (ap (λ t. 91 ∷ t) (sym (items_listed false ds)))
+      (IsUtf8-append (91 ∷ []) _ (IsUtf8-are_ascii _ refl) (IsUtf8-append (listed false ds) (93 ∷ []) (listed_utf8 false ds h) (IsUtf8-are_ascii _ refl)));
+}
+
+pub array_of : (ds : List Data) (t0 t1 t2 t3 : List ℕ) → t1 ≡ t0 ++ 91 ∷ [] → AppendsEach false ds t1 t2 → t3 ≡ t2 ++ 93 ∷ [] → Appends (array (items_of ds)) t0 t3
+array_of ds t0 t1 t2 t3 h1 h2 h3 = record {
+  text = rw (h3, h2.text, h1, items_listed false ds) (simp append_assoc refl);
+  reads = read_list ds h2.reads;
 }

@@ -1,33 +1,32 @@
 -- JSON values that are written as text, behind what stands there.
-use Rattle.std.specs.Prelude.{◌≡◌, ◌++◌, List, [], ◌∷◌, Some, ⊤}
-use Rattle.std.specs.List.{flat_map}
-use Rattle.json.specs.Token.{Token}
-use Rattle.json.specs.Tree.{json_tokens}
-use Rattle.json.specs.Written.{Written}
+use Rattle.std.specs.Prelude.{◌≡◌, ◌++◌, ℕ, List, [], ◌∷◌, Bool, true, Some, ⊤}
+use Rattle.std.specs.Str.{IsUtf8}
+use Rattle.json.specs.Tree.{HasNumbers}
 use Rattle.serde_json.specs.Data.{Data}
 use Rattle.serde_json.specs.Read.{of_json}
-use Rattle.serde_json.specs.Written.{outline}
+use Rattle.serde_json.specs.Written.{comma_if, compact_text, outline}
 
--- the tokens of a value's text
-abbrev pub tokens_of : Data → List Token
-tokens_of value = json_tokens (outline value)
-
--- these tokens read as the value: its whole numbers are of 64 bits, and it has each member once, in order
-abbrev pub IsReadBack : Data → Type 0
-IsReadBack value = of_json (outline value) ≡ Some value
+-- the value's text reads as the value: its whole numbers are of 64 bits, it has each member once, in order, and its texts are UTF-8
+pub record IsReadBack (value : Data) : Type 0 where
+  pub reads : of_json (outline value) ≡ Some value
+  pub numbers : HasNumbers (outline value)
+  pub utf8 : IsUtf8 (compact_text value)
 
 abbrev pub AreReadBack : List Data → Type 0
 AreReadBack [] = ⊤
 AreReadBack (value ∷ values) = IsReadBack value × AreReadBack values
 
--- the value's tokens are written behind the others
-pub record Appends (value : Data) (old new : Written) : Type 0 where
-  pub before : new.before ≡ old.before
-  pub tokens : new.tokens ≡ old.tokens ++ tokens_of value
+-- the texts of values with commas between them, and a comma before the first where something stands before
+abbrev pub listed : Bool → List Data → List ℕ
+listed later [] = []
+listed later (value ∷ values) = comma_if later ++ (compact_text value ++ listed true values)
+
+-- the value's text is written behind the other
+pub record Appends (value : Data) (old new : List ℕ) : Type 0 where
+  pub text : new ≡ old ++ compact_text value
   pub reads : IsReadBack value
 
--- the tokens of these values are written behind the others, one value after another
-pub record AppendsEach (values : List Data) (old new : Written) : Type 0 where
-  pub before : new.before ≡ old.before
-  pub tokens : new.tokens ≡ old.tokens ++ flat_map tokens_of values
+-- the texts of these values are written behind the other, with commas between them
+pub record AppendsEach (later : Bool) (values : List Data) (old new : List ℕ) : Type 0 where
+  pub text : new ≡ old ++ listed later values
   pub reads : AreReadBack values

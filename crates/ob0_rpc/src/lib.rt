@@ -16,4 +16,6 @@ pub use clients::Client;
 pub use incoming::{Id, Incoming, RpcFault, read};
 pub use notes::{Note, notice};
 pub use outgoing::{error, notification, result};
-pub use writing::{Written, result_of, write_count, write_integer, write_text};
+pub use writing::{
+    Written, result_of, write_comma, write_count, write_integer, write_piece, write_text,
+};

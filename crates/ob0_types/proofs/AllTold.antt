@@ -1,5 +1,5 @@
 -- What is told of a module: nothing exactly where it is well-typed.
-use Rattle.std.proofs.Common.{◌≤◌, ◌≡◌, ◌+◌, ◌&&◌, ◌||◌, if◌then◌else◌, Bool, true, false, not, List, [], ◌∷◌, ◌++◌, IfSome, is_some, Option, Some, None, length, refl, sym, ap, ◌∙◌, subst, true≢false, arith, length-append}
+use Rattle.std.proofs.Common.{◌≤◌, ◌≡◌, ◌+◌, ◌&&◌, ◌||◌, if◌then◌else◌, ◌==◌, Bool, true, false, not, List, [], ◌∷◌, ◌++◌, IfSome, is_some, Option, Some, None, length, refl, sym, ap, ◌∙◌, subst, true≢false, arith, length-append}
 use Rattle.std.proofs.lemmas.List.{nil_from_length}
 use Rattle.std.specs.List.{filter, list_any}
 use Rattle.ob0_scan.specs.declared.fault.Fault.{Fault}
@@ -7,12 +7,14 @@ use Rattle.ob0_scope.specs.Names.{as_labels, as_names}
 use Rattle.ob0_scope.specs.DeclaredOnce.{declared_once}
 use Rattle.ob0_scope.specs.Resolution.{IsResolution, Resolution, is_of_declarations}
 use Rattle.ob0_tree.specs.Parsed.{named_tree_of, tree_of}
-use Rattle.ob0_types.specs.FaultOrder.{AreFirstFaults}
+use Rattle.ob0_types.specs.FaultOrder.{AreFirstFaults, at_its_name, faults_of_types, or_at_its_name}
 use Rattle.ob0_types.specs.CheckedModules.{IsChecked, IsTold}
 use Rattle.ob0_checker.specs.Bindings.{module_bindings, object_bound}
 use Rattle.ob0_checker.specs.Checking.{Keeps}
 use Rattle.ob0_checker.specs.InLabels.{in_labels}
 use Rattle.ob0_symbols.specs.KnownTables.{Tables}
+use Rattle.std.proofs.lemmas.Bool.{eqb-true}
+use Rattle.ob0_reports.specs.DeclarationFaults.{told_module}
 use Rattle.ob0_typing.specs.Laws.{FitsByOrdinal}
 use Rattle.ob0_typing.specs.WellTyped.{WellTyped, fits_over}
 
@@ -76,7 +78,7 @@ if_some (Some a) f h = f a h
 -- where nothing is told exactly of a module that fits and declares each name once, it is told exactly of a well-typed one
 pub checked_told : (r : Resolution) (fits : Bool) (faults : List Fault) → FitsByOrdinal → IsResolution r → fits ≡ fits_over as_labels (in_labels r (tree_of r.module_read))
     → IsTold (fits && not (list_any is_of_declarations r.faults)) faults
-    → (known : Option Tables) → fits ≡ is_some known → IfSome known (Keeps (module_bindings as_labels (in_labels r (tree_of r.module_read)))) → length faults ≤ 100 → AreFirstFaults fits r.faults faults → IsChecked (record { names = r; faults = faults; known = known })
+    → (known : Option Tables) → fits ≡ is_some known → IfSome known (Keeps (module_bindings as_labels (in_labels r (tree_of r.module_read)))) → length faults ≤ 100 → AreFirstFaults fits r faults → IsChecked (record { names = r; faults = faults; known = known })
 unfolding WellTyped
 checked_told r fits faults law h e told known some keeps few first =
     let m = named_tree_of r.module_read in
@@ -93,5 +95,23 @@ checked_told r fits faults law h e told known some keeps few first =
       holds = if_some known (λ t kept d. sym (kept d) ∙ ap (λ z. object_bound (module_bindings as_labels z) d) (sym h.numbering)) keeps;
       kept = λ none. sym some ∙ first_right fits any (told.0 none);
       few = few;
-      first = subst (λ b. AreFirstFaults b r.faults faults) by_names first;
+      first = subst (λ b. AreFirstFaults b r faults) by_names first;
     }
+
+-- what is told of a module that doesn't fit
+pub told_itself : (r : Resolution) (faults : List Fault) → (length faults == 0) ≡ false → or_at_its_name r faults ≡ faults
+told_itself r [] some = absurd (true≢false some)
+told_itself r (fault ∷ faults) some = refl
+
+pub told_at_its_name : (r : Resolution) (faults : List Fault) → (length faults == 0) ≡ true → or_at_its_name r faults ≡ faults ++ at_its_name r ∷ []
+told_at_its_name r [] none = refl
+told_at_its_name r (fault ∷ faults) none = absurd (omega (arith, eqb-true (length (fault ∷ faults)) 0 none))
+
+some_told : (r : Resolution) (faults : List Fault) → length (or_at_its_name r faults) ≡ 0 → ⊥
+some_told r [] e = omega (arith, e)
+some_told r (fault ∷ faults) e = omega (arith, e)
+
+-- a fault of types is told exactly of a module that doesn't fit
+pub types_told : (fits : Bool) (r : Resolution) → IsTold fits (faults_of_types fits r)
+types_told true r = (λ e. refl, λ e. refl)
+types_told false r = (λ e. absurd (some_told r (told_module r) (ap length e)), λ e. absurd (true≢false (sym e)))

@@ -31,7 +31,7 @@ pub record IsChecked (c : CheckedModule) : Type 0 where
   pub holds : IfSome c.known (HoldsDeclarations (named_tree_of c.names.module_read))
   pub kept : c.faults ≡ [] → is_some c.known ≡ true
   pub few : length c.faults ≤ 100
-  pub first : AreFirstFaults (fits_over as_names (named_tree_of c.names.module_read)) c.names.faults c.faults
+  pub first : AreFirstFaults (fits_over as_names (named_tree_of c.names.module_read)) c.names c.faults
 
 -- a module that is well-typed
 pub record IsWellTyped (names : Resolution) : Type 0 where

@@ -1,18 +1,17 @@
 //! Checking a module, and what is known of a well-typed one.
 
-ghost use Rattle.ob0_reports.specs.InOrder.{BeginsWithUnbound};
 ghost use Rattle.ob0_scope.specs.Resolution.{is_of_declarations};
 ghost use Rattle.ob0_types.specs.CheckedModules.{IsChecked, IsTold};
-ghost use Rattle.ob0_types.specs.FaultOrder.{AreFirstFaults};
+ghost use Rattle.ob0_types.specs.FaultOrder.{AreFirstFaults, at_its_name, faults_of_types, or_at_its_name};
 ghost use Rattle.std.specs.List.{filter, list_any};
-ghost use Rattle.std.specs.Prelude.{◌≡◌, ◌≤◌, ◌&&◌, ◌++◌, [], false, length, not, IfOk, IfSome, OnOk, MatchOption};
+ghost use Rattle.std.specs.Prelude.{◌≡◌, ◌≤◌, ◌&&◌, ◌++◌, [], length, not, IfOk, IfSome, OnOk, MatchOption};
 ghost use Rattle.ob0_fields.specs.Listed.{listed_by};
 
 use ob0_checker::decide;
 use ob0_fields::FieldList;
 use ob0_reports::tell;
-use ob0_scan::{Code, Fault, Span};
-use ob0_scope::{PREDECLARED, Resolved};
+use ob0_scan::{Code, Fault};
+use ob0_scope::{PREDECLARED, Resolved, token_span};
 use ob0_symbols::{Known, Parts, TypeId};
 use ob0_typing::laws::fits_by_ordinal;
 use ob0_values::Scalar;
@@ -123,7 +122,7 @@ fn faults_of<'t>(
 ) -> Result<Vec<Fault>, AllocError>
     ensures told { IfOk result (λ faults. IsTold (fits && not (list_any is_of_declarations resolved.now.faults)) faults.items) }
     ensures few { IfOk result (λ faults. length faults.items ≤ 100) }
-    ensures first { IfOk result (λ faults. AreFirstFaults fits resolved.now.faults faults.items) }
+    ensures first { IfOk result (λ faults. AreFirstFaults fits resolved.now faults.items) }
 {
     let mut faults = of_types(alloc, resolved, fits)?;
     add_declarations(&mut faults, resolved.faults())?;
@@ -132,25 +131,30 @@ fn faults_of<'t>(
     Ok(faults)
 }
 
-/// The faults of types, behind the names that nothing binds. A module that doesn't fit has one.
+/// The faults of types. A module that doesn't fit has one.
 fn of_types<'t>(
     alloc: Global,
     resolved: &'t Resolved<'t>,
     fits: bool,
 ) -> Result<Vec<Fault>, AllocError>
-    ensures told { IfOk result (λ faults. IsTold fits faults.items) }
-    ensures unbound { IfOk result (λ faults. fits ≡ false → BeginsWithUnbound resolved.now faults.items) }
+    ensures { IfOk result (λ faults. faults.items ≡ faults_of_types fits resolved.now) }
 {
-    let mut faults = Vec::new(alloc);
     if fits {
-        return Ok(faults);
+        return Ok(Vec::new(alloc));
     }
     let told = tell(alloc, resolved)?;
+    or_at_its_name(resolved, told)
+}
+
+/// The faults that were told, or where there are none, one at the module's name.
+fn or_at_its_name(resolved: &Resolved, mut told: Vec<Fault>) -> Result<Vec<Fault>, AllocError>
+    ensures { IfOk result (λ faults. faults.items ≡ or_at_its_name resolved.now told.items) }
+{
     if !told.is_empty() {
         return Ok(told);
     }
-    faults.push(at_its_name(resolved))?;
-    Ok(faults)
+    told.push(at_its_name(resolved))?;
+    Ok(told)
 }
 
 /// Adds names that are declared twice, and closing names that differ.
@@ -172,15 +176,12 @@ fn is_of_declarations(fault: &Fault) -> bool
 }
 
 /// The fault of a module that doesn't fit, at its name.
-fn at_its_name(resolved: &Resolved) -> Fault {
-    let name = resolved.module().name();
-    let span = match resolved.tokens().tokens().get(name) {
-        Some(token) => token.span,
-        None => Span { start: 0, end: 0 },
-    };
+fn at_its_name(resolved: &Resolved) -> Fault
+    ensures { result ≡ at_its_name resolved.now }
+{
     Fault {
         code: Code::TypeMismatch,
-        span,
+        span: token_span(resolved.tokens(), resolved.module().name()),
     }
 }
 

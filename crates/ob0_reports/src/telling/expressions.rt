@@ -9,7 +9,8 @@ ghost use Rattle.ob0_reports.specs.ExpressionFaults.{told_expression, told_facto
 ghost use Rattle.ob0_reports.specs.Known.{Types};
 ghost use Rattle.ob0_reports.specs.Operations.{Tells, a_constant_name, a_number, added, asked, asked_both, at_operand, behind_sign, complemented, element_in, element_selected, enclosed, field_in, field_selected, fits, joined, multiplied, named, part_of, related, signed, truth_of, wanted_by_add, wanted_by_equality, wanted_by_multiply, wanted_by_relation, worth_type};
 ghost use Rattle.ob0_reports.specs.TypeFaults.{evaluated, told_constant};
-ghost use Rattle.ob0_reports.specs.SupposedFacts.{facts_in, form_in, operand_of, same_type, types_in};
+ghost use Rattle.ob0_reports.specs.SoFar.{same_type};
+ghost use Rattle.ob0_reports.specs.SupposedFacts.{facts_in, form_in, operand_of, types_in};
 
 use crate::telling::supposed::{Meaning, Supposed};
 use ob0_scan::{Code, Fault};

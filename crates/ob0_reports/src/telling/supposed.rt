@@ -1,11 +1,14 @@
 //! What is supposed of types and declarations while faults are told; each may be unknown, as a whole or in parts.
 
-ghost use Rattle.std.specs.Prelude.{◌≡◌, ◌∷◌, [], ◌++◌, OnOk, option_map, slice_get, slice_index_or, None};
+ghost use Rattle.std.specs.Prelude.{◌≡◌, ◌∷◌, [], ◌++◌, ◌+◌, ◌*◌, map, max, IfOk, OnOk, option_map, slice_get, slice_index_or, None, Some};
 ghost use Rattle.ob0_scope.specs.Resolution.{span_at};
+ghost use Rattle.ob0_symbols.specs.declared.types.TypeId.TheVariants as type;
 ghost use Rattle.ob0_tree.specs.Places.{text_at};
-ghost use Rattle.ob0_reports.specs.InOrder.{Continues};
-ghost use Rattle.ob0_reports.specs.Operations.{fault_between, token_behind};
-ghost use Rattle.ob0_reports.specs.SupposedFacts.{declared_at, elements_of, field_of};
+ghost use Rattle.ob0_reports.specs.Known.{a_procedure};
+ghost use Rattle.ob0_reports.specs.Operations.{Tells, fault_between, token_behind};
+ghost use Rattle.ob0_reports.specs.SoFar.{define, is_within, make, no_scalar, one_scalar, predeclared_meanings, size_at, type_with, with_declared};
+ghost use Rattle.ob0_reports.specs.SupposedFacts.{counted, declared_at, elements_of, field_of, meaning_of, parts_of, size_of, so_far_in};
+ghost use Rattle.ob0_reports.specs.WrittenTypeFaults.{array_size, beside, record_size};
 
 use ob0_scan::{Code, Fault, Span};
 use ob0_scope::{Resolved, token_span};
@@ -26,7 +29,9 @@ pub(crate) enum Meaning {
 }
 
 /// The predeclared names, in the order of their ordinals.
-pub(crate) fn predeclared(alloc: Global) -> Result<Vec<Option<Meaning>>, AllocError> {
+pub(crate) fn predeclared(alloc: Global) -> Result<Vec<Option<Meaning>>, AllocError>
+    ensures { IfOk result (λ ms. map (option_map meaning_of) ms.items ≡ predeclared_meanings) }
+{
     let mut meanings = Vec::new(alloc);
     meanings.push(Some(Meaning::Named(TypeId::Integer)))?;
     meanings.push(Some(Meaning::Named(TypeId::Boolean)))?;
@@ -39,7 +44,9 @@ pub(crate) fn predeclared(alloc: Global) -> Result<Vec<Option<Meaning>>, AllocEr
 }
 
 /// A procedure with one parameter, a number.
-fn one_parameter(alloc: Global, by_place: bool) -> Result<Meaning, AllocError> {
+fn one_parameter(alloc: Global, by_place: bool) -> Result<Meaning, AllocError>
+    ensures { IfOk result (λ m. meaning_of m ≡ a_procedure (record { by_place = by_place; of = type.Integer } ∷ [])) }
+{
     let mut formals = Vec::new(alloc);
     formals.push(Formal {
         by_place,
@@ -82,40 +89,43 @@ pub(crate) struct Composite<'t> {
 }
 
 impl Size {
-    /// So many of the same beside one another.
-    pub(crate) fn times(self, count: usize) -> Size {
+    /// An array of so many of these.
+    pub(crate) fn array(self, count: usize) -> Size
+        ensures { size_of result ≡ counted (array_size count (size_of self)) }
+    {
         Size {
             scalars: self.scalars.saturating_mul(count),
-            depth: self.depth,
+            depth: self.depth.saturating_add(1),
         }
     }
 
     /// Both beside one another.
-    pub(crate) fn and(self, other: Size) -> Size {
+    pub(crate) fn and(self, other: Size) -> Size
+        ensures { size_of result ≡ counted (beside (size_of self) (size_of other)) }
+    {
         Size {
             scalars: self.scalars.saturating_add(other.scalars),
             depth: self.depth.max(other.depth),
         }
     }
 
-    /// At least one scalar.
-    pub(crate) fn or_one(self) -> Size {
+    /// A record of these, with at least one scalar.
+    pub(crate) fn record(self) -> Size
+        ensures { size_of result ≡ counted (record_size (size_of self)) }
+    {
         Size {
             scalars: self.scalars.max(1),
-            depth: self.depth,
-        }
-    }
-
-    /// What holds these parts.
-    pub(crate) fn inside(self) -> Size {
-        Size {
-            scalars: self.scalars,
             depth: self.depth.saturating_add(1),
         }
     }
 
-    fn is_within(self) -> bool {
-        self.scalars <= MOST_SCALARS && self.depth <= MOST_DEPTH
+    fn is_within(self) -> bool
+        ensures { result ≡ is_within (size_of self) }
+    {
+        if self.scalars > MOST_SCALARS {
+            return false;
+        }
+        self.depth <= MOST_DEPTH
     }
 }
 
@@ -203,35 +213,42 @@ impl<'t> Supposed<'t> {
     }
 
     /// Says what the declaration at a token is.
-    pub(crate) fn define(&mut self, token: usize, meaning: Meaning) {
-        if let Some(ordinal) = self.resolved.ordinal_at(token)
-            && ordinal < self.meanings.len()
-        {
+    pub(crate) fn define(&mut self, token: usize, meaning: Meaning)
+        ensures { so_far_in self.new ≡ define (so_far_in self.old) (meaning_of meaning) token }
+    {
+        match self.resolved.ordinal_at(token) {
+            None => {}
+            Some(ordinal) => self.declare(ordinal, meaning),
+        }
+    }
+
+    fn declare(&mut self, ordinal: usize, meaning: Meaning)
+        ensures { so_far_in self.new ≡ with_declared (so_far_in self.old) (meaning_of meaning) (Some ordinal) }
+    {
+        if ordinal < self.meanings.len() {
             self.meanings[ordinal] = Some(meaning);
         }
     }
 
-    fn composite(&self, of: TypeId) -> Option<&Composite<'t>> {
+    /// What is counted of a type.
+    pub(crate) fn size_of(&self, of: TypeId) -> Size
+        ensures { size_of result ≡ size_at (so_far_in self.now).made of }
+    {
         match of {
-            TypeId::Array(place) => self.composites.get(place),
-            TypeId::Record(place) => self.composites.get(place),
-            TypeId::Integer => None,
-            TypeId::Boolean => None,
-            TypeId::Unknown => None,
+            TypeId::Array(place) => self.size_made(place),
+            TypeId::Record(place) => self.size_made(place),
+            TypeId::Integer => SCALAR,
+            TypeId::Boolean => SCALAR,
+            TypeId::Unknown => NOTHING,
         }
     }
 
-    /// What is counted of a type.
-    pub(crate) fn size_of(&self, of: TypeId) -> Size {
-        match self.composite(of) {
+    fn size_made(&self, place: usize) -> Size
+        ensures { size_of result ≡ size_at (so_far_in self.now).made (type.Array place) }
+    {
+        match self.composites.get(place) {
+            None => SCALAR,
             Some(composite) => composite.size,
-            None => {
-                if of == TypeId::Unknown {
-                    NOTHING
-                } else {
-                    SCALAR
-                }
-            }
         }
     }
 
@@ -269,18 +286,24 @@ impl<'t> Supposed<'t> {
         parts: Parts<'t>,
         size: Size,
     ) -> Result<TypeId, AllocError>
-        ensures { OnOk result (Continues faults.old.items faults.new.items) }
+        ensures { IfOk result (λ t. Tells faults.old.items faults.new.items (record { of = t; behind = so_far_in self.new }) (make (so_far_in self.old) token (parts_of parts.entry) (size_of size))) }
     {
         if !size.is_within() {
             self.tell_at(faults, Code::TypeTooLarge, token)?;
             return Ok(TypeId::Unknown);
         }
-        let place = self.composites.len();
-        let of = match &parts {
-            Parts::Elements(_) => TypeId::Array(place),
-            Parts::Fields(_) => TypeId::Record(place),
-        };
+        let of = type_with(&parts, self.composites.len());
         self.composites.push(Composite { parts, size })?;
         Ok(of)
+    }
+}
+
+/// The type of what is made of these parts and put at this place.
+fn type_with(parts: &Parts, place: usize) -> TypeId
+    ensures { result ≡ type_with (parts_of parts.now) place }
+{
+    match parts {
+        Parts::Elements(_) => TypeId::Array(place),
+        Parts::Fields(_) => TypeId::Record(place),
     }
 }

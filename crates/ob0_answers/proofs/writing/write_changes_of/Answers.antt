@@ -1,11 +1,10 @@
 use Rattle.std.proofs.lemmas.Result.{on_ok_weaker}
 use Rattle.ob0_answers.specs.Shapes.{edits_value}
-use Rattle.ob0_rpc.proofs.Appending.{object_of_one, puts}
+use Rattle.ob0_rpc.proofs.Appending.{object_named}
 use Rattle.ob0_answers.proofs.writing.write_changes_of.Goals as goal
 
 pub returns : goal.returns
 returns c =
-    on_ok_weaker c.end_object.result (λ is.
-    object_of_one (c.args.uri.now) (edits_value c.args.edits.now) _ _ _ _ _
-    (puts c.in_ok-begin_object.was c.begin_object.ensures) (puts c.in_ok-key.was c.key.ensures) c.in_ok-write_edits.ensures
-    (record { before = c.end_object.ensures.room.0; tokens = is })) c.end_object.ensures.ok
+    on_ok_weaker c.write_piece-3.result (λ is.
+    object_named c.args.uri.now (edits_value c.args.edits.now) _ _ _ _ _ _
+    c.in_ok-write_piece.ensures c.in_ok-write_text.ensures c.in_ok-write_piece-2.ensures c.in_ok-write_edits.ensures is) c.write_piece-3.ensures

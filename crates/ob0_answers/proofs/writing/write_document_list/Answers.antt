@@ -2,12 +2,11 @@ use Rattle.std.proofs.Common.{[], ◌∷◌}
 use Rattle.std.proofs.Math.Facts.{to_z-of_z}
 use Rattle.std.proofs.lemmas.Result.{on_ok_weaker}
 use Rattle.ob0_answers.specs.Shapes.{document_edit}
-use Rattle.ob0_rpc.proofs.Appending.{array_of, each_one, puts}
+use Rattle.ob0_rpc.proofs.Appending.{array_of, each_one}
 use Rattle.ob0_answers.proofs.writing.write_document_list.Goals as goal
 
 pub returns : goal.returns
 returns c =
     let there = rw (to_z-of_z c.ranges.version) at c.in_ok-write_document_edit.ensures in
-    on_ok_weaker c.end_array.result (λ is.
-    array_of (document_edit c.args.uri.now c.args.version c.args.edits.now ∷ []) _ _ _ _ (puts c.in_ok-begin_array.was c.begin_array.ensures) (each_one _ _ _ there)
-    (record { before = c.end_array.ensures.room.0; tokens = is })) c.end_array.ensures.ok
+    on_ok_weaker c.write_piece-2.result (λ is.
+    array_of (document_edit c.args.uri.now c.args.version c.args.edits.now ∷ []) _ _ _ _ c.in_ok-write_piece.ensures (each_one _ _ _ there) is) c.write_piece-2.ensures

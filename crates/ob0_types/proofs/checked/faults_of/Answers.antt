@@ -4,7 +4,7 @@ use Rattle.std.specs.List.{filter, list_any}
 use Rattle.std.specs.List.Sorted.{IsPermutation}
 use Rattle.ob0_scope.specs.Resolution.{is_of_declarations}
 use Rattle.ob0_types.specs.CheckedModules.{IsTold}
-use Rattle.ob0_types.proofs.AllTold.{told_alike, told_with}
+use Rattle.ob0_types.proofs.AllTold.{told_alike, told_with, types_told}
 use Rattle.ob0_types.proofs.FaultNumbers.{sorted_by_key}
 use Rattle.ob0_types.proofs.checked.faults_of.Tie as tie
 use Rattle.ob0_types.proofs.checked.faults_of.Goals as goal
@@ -17,7 +17,8 @@ returns-clause-told c =
     let sorted = c.sort_by_key.new.self in
     let kept = c.truncate.new.self in
     let all = c.in_ok-add_declarations.ensures ∙ ap (λ fs. first ++ filter is_of_declarations fs) c.faults.ensures in
-    let told = subst (IsTold right) (sym all) (told_with c.args.fits first c.args.resolved.now.faults c.in_ok-faults.ensures.told) in
+    let of_types = subst (IsTold c.args.fits) (sym c.in_ok-faults.ensures) (types_told c.args.fits c.args.resolved.now) in
+    let told = subst (IsTold right) (sym all) (told_with c.args.fits first c.args.resolved.now.faults of_types) in
     let a = added.ok.0 in
     let s = sorted.ok.0 in
     let k = kept.ok.0 in
@@ -36,12 +37,10 @@ returns-clause-first c =
     let first = c.in_ok-faults.faults.items in
     let scopes = c.args.resolved.now.faults in
     let all = c.in_ok-add_declarations.ensures ∙ ap (λ fs. first ++ filter is_of_declarations fs) c.faults.ensures in
+    let joined = all ∙ ap (λ fs. fs ++ filter is_of_declarations scopes) c.in_ok-faults.ensures in
     record {
-      types = first;
       all = c.sort_by_key.new.self.items;
-      told = c.in_ok-faults.ensures.told;
-      unbound = c.in_ok-faults.ensures.unbound;
-      joined = subst (λ fs. IsPermutation fs c.sort_by_key.new.self.items) all c.in_ok-sort_by_key.ensures.permutation;
+      joined = subst (λ fs. IsPermutation fs c.sort_by_key.new.self.items) joined c.in_ok-sort_by_key.ensures.permutation;
       in_order = sorted_by_key ((tie.ghosts-7-0-1-2 c.sort_by_key.lifetimes).cmp) c.sort_by_key.new.self.items (λ s e x s₂ e₂ y. refl)
           (c.in_ok-sort_by_key.ensures.sorted (λ x. (x.span.start, x.span.end, x.code)) (answers_always _ _ _ (λ f a r f2 q. search rules)));
       first = c.truncate.ensures.items;

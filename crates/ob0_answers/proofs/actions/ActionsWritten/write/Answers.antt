@@ -1,16 +1,26 @@
-use Rattle.std.proofs.Common.{◌++◌}
+use Rattle.std.proofs.Common.{◌≡◌, ◌∙◌, ◌++◌, ◌&&◌, List, Option, Some, None, is_some, Vec, Global, ap, ap₂, refl, sym}
 use Rattle.std.proofs.lemmas.Result.{on_ok_weaker}
-use Rattle.ob0_answers.specs.Actions.{action_values, actions_asked}
+use Rattle.serde_json.specs.Written.{comma_if}
+use Rattle.ob0_text.specs.declared.edits.Edit.{Edit}
+use Rattle.ob0_answers.specs.Actions.{ActionsAsked, action_values, actions_asked}
+use Rattle.ob0_answers.specs.declared.actions.Inlining.{Inlining}
 use Rattle.ob0_answers.specs.declared.actions.Inlining.TheVariants.{Here, Everywhere}
-use Rattle.ob0_rpc.proofs.Appending.{array_of, each_joined, puts}
+use Rattle.ob0_rpc.proofs.Appending.{array_of, each_joined, some}
 use Rattle.ob0_answers.proofs.actions.ActionsWritten.write.Goals as goal
+
+some_offered : (asked : ActionsAsked) (how : Inlining) (edits : Option (Vec Edit Global)) → some (action_values asked how edits) ≡ is_some edits
+some_offered asked how (Some edits) = refl
+some_offered asked how None = refl
 
 pub returns : goal.returns
 returns c =
     let asked = actions_asked c.args.self.now.request.now in
-    let here = action_values asked Here c.args.self.now.found.now.here in
-    let everywhere = action_values asked Everywhere c.args.self.now.found.now.everywhere in
-    on_ok_weaker c.end_array.result (λ is.
-    array_of (here ++ everywhere) _ _ _ _ (puts c.in_ok-begin_array.was c.begin_array.ensures)
-    (each_joined here everywhere _ _ _ c.in_ok-write_offered.ensures c.in_ok-write_offered-2.ensures)
-    (record { before = c.end_array.ensures.room.0; tokens = is })) c.end_array.ensures.ok
+    let found = c.args.self.now.found.now in
+    let here = action_values asked Here found.here in
+    let everywhere = action_values asked Everywhere found.everywhere in
+    let between =
+    c.in_ok-write_between.ensures
+    ∙ ap (λ b. c.write_offered.new.out.items ++ comma_if b) (sym (ap₂ (λ a b. a && b) (some_offered asked Here found.here) (some_offered asked Everywhere found.everywhere)))
+    in
+    on_ok_weaker c.write_piece-2.result (λ is.
+    array_of (here ++ everywhere) _ _ _ _ c.in_ok-write_piece.ensures (each_joined here everywhere _ _ _ _ c.in_ok-write_offered.ensures between c.in_ok-write_offered-2.ensures) is) c.write_piece-2.ensures

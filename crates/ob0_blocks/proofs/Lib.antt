@@ -1,0 +1,4 @@
+pub mod DeclaredBlocks
+pub mod Placings
+pub mod Sights
+pub mod LoweredBlocks

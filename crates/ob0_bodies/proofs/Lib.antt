@@ -1,0 +1,4 @@
+pub mod InScene
+pub mod Made
+pub mod Assigned
+pub mod Called

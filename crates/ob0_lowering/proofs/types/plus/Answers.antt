@@ -1,1 +1,0 @@
-use Rattle.ob0_lowering.proofs.LaidOut.{one_more}

@@ -1,7 +1,0 @@
-use Rattle.std.specs.List.{filter}
-use Rattle.ob0_scope.specs.Resolution.{is_of_occurrences}
-use Rattle.ob0_reports.proofs.Listed.{EachSoFar}
-use Rattle.ob0_reports.proofs.telling.Teller.tell_undeclared.Given as goal
-
-abbrev pub invariant-loop-fault : goal.invariant-loop-fault
-invariant-loop-fault l = EachSoFar (filter is_of_occurrences) l.initial.self.faults.items l.fault-items l.fault-index l.self.faults.items

@@ -1,0 +1,74 @@
+-- What was written of some bytes.
+use Rattle.std.proofs.Common.{◌≡◌, ◌∙◌, ◌<◌, ◌+◌, ℕ, suc, length, get_or, add-one, append-nil, List, [], ◌∷◌, ◌++◌, Bool, true, ◌||◌, Option, Result, Ok, Err, OnErr, is_err, take, drop, map, ap, sym, append_assoc}
+use Rattle.std.proofs.Math.Bool.{or-true}
+use Rattle.std.proofs.Math.ListN.{get_or-map as get_or_map}
+use Rattle.std.proofs.Math.Seq.{split_at, take-suc}
+use Rattle.std.proofs.lemmas.List.{get_or-map, map-append, take-append-drop}
+use Rattle.std.proofs.lemmas.List.Concat.{flat_map-append}
+use Rattle.std.specs.List.{flat_map}
+use Rattle.ob0_frame.specs.Frames.{frame, written_head}
+use Rattle.std.proofs.KnownBytes.{Appends-trans}
+use Rattle.std.specs.Io.KnownBytes.{Appends}
+use Rattle.ob0_session.specs.Sending.{AppendsFront}
+
+-- a front of the first ones, and of what follows them nothing
+pub front_of_first : (old new : Option (List ℕ)) (head content : List ℕ) → (n : ℕ) × Appends old new (take n head) → AppendsFront old new (head ++ content)
+front_of_first old new head content f = (
+  take f.0 head,
+  drop f.0 head ++ content,
+  ap (λ l. l ++ content) (sym (take-append-drop f.0 head)) ∙ append_assoc (take f.0 head) (drop f.0 head) content,
+  f.1,
+)
+
+-- all of the first ones, and a front of what follows them
+pub front_of_later : (old mid new : Option (List ℕ)) (head content : List ℕ) → Appends old mid head → (n : ℕ) × Appends mid new (take n content) → AppendsFront old new (head ++ content)
+front_of_later old mid new head content all f = (
+  head ++ take f.0 content,
+  drop f.0 content,
+  ap (λ l. head ++ l) (sym (take-append-drop f.0 content)) ∙ sym (append_assoc head (take f.0 content) (drop f.0 content)),
+  Appends-trans old mid new head (take f.0 content) all f.1,
+)
+
+-- a call that fails notes it
+pub failing : {T E P Q : Type 0} (r : Result T E) (before after : Bool) → after ≡ (before || is_err r) → (P → Q) → OnErr r P → OnErr r (Q × after ≡ true)
+failing (Ok x) before after noted weaker h = tt
+failing (Err e) before after noted weaker h = (weaker h, noted ∙ or-true before)
+
+pub front_after : (old mid new : Option (List ℕ)) (first part rest all : List ℕ) → Appends old mid first → AppendsFront mid new part → all ≡ first ++ (part ++ rest) → AppendsFront old new all
+front_after old mid new first part rest all whole f is = (
+  first ++ f.0,
+  f.1 ++ rest,
+  is ∙ ap (λ l. first ++ (l ++ rest)) f.2 ∙ ap (λ l. first ++ l) (append_assoc f.0 f.1 rest) ∙ sym (append_assoc first f.0 (f.1 ++ rest)),
+  Appends-trans old mid new first f.0 whole f.3,
+)
+
+-- what holds in any case holds where a call fails
+pub whatever : {T E P : Type 0} (r : Result T E) → P → OnErr r P
+whatever (Ok x) p = tt
+whatever (Err e) p = p
+
+-- ---- the frames of messages, one after another
+
+-- the head of a message among those of all
+pub head_text : {X : Type 0} (items : X → List ℕ) (heads messages : List X) (i : ℕ) (h m : X) → map items heads ≡ map (λ x. written_head (length (items x))) messages
+    → i < length messages → h ≡ get_or heads i h → m ≡ get_or messages i m → items h ≡ written_head (length (items m))
+head_text items heads messages i h m same inside his mis =
+    let head : _ → List ℕ = λ x. written_head (length (items x)) in
+    ap items his ∙ sym (get_or_map items heads i h) ∙ ap (λ l. get_or l i (items h)) same ∙ get_or-map head messages i m (items h) inside ∙ ap head (sym mis)
+
+pub frames_next : {X : Type 0} (items : X → List ℕ) (messages : List X) (i : ℕ) (m : X) → i < length messages → m ≡ get_or messages i m
+    → flat_map frame (map items (take (i + 1) messages)) ≡ flat_map frame (map items (take i messages)) ++ frame (items m)
+frames_next items messages i m inside is =
+    ap (λ n. flat_map frame (map items (take n messages))) (add-one i)
+    ∙ ap (λ l. flat_map frame (map items l)) (take-suc messages i m inside)
+    ∙ ap (flat_map frame) (map-append items (take i messages) (get_or messages i m ∷ []))
+    ∙ flat_map-append frame (map items (take i messages)) (items (get_or messages i m) ∷ [])
+    ∙ ap (λ l. flat_map frame (map items (take i messages)) ++ l) (append-nil (frame (items (get_or messages i m))) ∙ ap (λ x. frame (items x)) (sym is))
+
+pub frames_split : {X : Type 0} (items : X → List ℕ) (messages : List X) (i : ℕ) (m : X) → i < length messages → m ≡ get_or messages i m
+    → flat_map frame (map items messages) ≡ flat_map frame (map items (take i messages)) ++ (frame (items m) ++ flat_map frame (map items (drop (suc i) messages)))
+frames_split items messages i m inside is =
+    ap (λ l. flat_map frame (map items l)) (split_at messages i m inside)
+    ∙ ap (flat_map frame) (map-append items (take i messages) (get_or messages i m ∷ drop (suc i) messages))
+    ∙ flat_map-append frame (map items (take i messages)) (items (get_or messages i m) ∷ map items (drop (suc i) messages))
+    ∙ ap (λ x. flat_map frame (map items (take i messages)) ++ (frame (items x) ++ flat_map frame (map items (drop (suc i) messages)))) (sym is)
