@@ -3,3 +3,4 @@ pub mod TreesMean
 pub mod LaidOut
 pub mod CodeChains
 pub mod Lowerings
+pub mod Longer

@@ -1,6 +1,7 @@
 //! Lowering of designators, expressions and arguments.
 #![tactic(auto)]
 
+mod chains;
 mod expressions;
 mod lowered;
 mod lowering;

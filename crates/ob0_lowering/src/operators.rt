@@ -9,36 +9,12 @@ ghost use Rattle.ob0_machine.specs.View as view;
 ghost use Rattle.ob0_lowering.specs.Codes as codes;
 ghost use Rattle.ob0_lowering.specs.Trees.{code_of};
 
+use crate::chains::{both, either, operation};
 use crate::lowered::Lowered;
 use ob0_machine::code;
 use ob0_machine::code::{Number, Operands, Operator, Truth, Truths};
 use ob0_tree::{AddOperator, MultiplyOperator, Relation, Sign};
 use std::alloc::{AllocError, Global};
-
-/// An operation between two numbers.
-fn operation(
-    alloc: Global,
-    operator: Operator,
-    left: Number,
-    right: Number,
-) -> Result<Number, AllocError>
-    ensures { IfOk result (λ n. number_of n ≡ machine.operation (operator_of operator) (number_of left) (number_of right)) }
-{
-    let operands = Box::new(alloc, Operands { left, right })?;
-    Ok(Number::Operation(operator, operands))
-}
-
-fn both(alloc: Global, left: Truth, right: Truth) -> Result<Truth, AllocError>
-    ensures { IfOk result (λ t. truth_of t ≡ machine.both (truth_of left) (truth_of right)) }
-{
-    Ok(Truth::Both(Box::new(alloc, Truths { left, right })?))
-}
-
-fn either(alloc: Global, left: Truth, right: Truth) -> Result<Truth, AllocError>
-    ensures { IfOk result (λ t. truth_of t ≡ machine.either (truth_of left) (truth_of right)) }
-{
-    Ok(Truth::Either(Box::new(alloc, Truths { left, right })?))
-}
 
 fn operated(
     alloc: Global,
