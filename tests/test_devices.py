@@ -98,8 +98,8 @@ def short_calls():
 @test("devices: pieces of 8,192 bytes are read")
 def pieces():
     given = frame(b"[" + b" " * 99998 + b"]")
-    # (a piece a call, the call that finds the end, and the one that writes the answer)
-    same(failing.undisturbed(SERVE, given).calls["calls"], -(-len(given) // 8192) + 2, "the reads and writes of a message of 100,000 bytes")
+    # (a piece a call, the call that finds the end, and the two that write the answer: its head and its content)
+    same(failing.undisturbed(SERVE, given).calls["calls"], -(-len(given) // 8192) + 3, "the reads and writes of a message of 100,000 bytes")
 
 
 @test("devices: an input that fails at each byte of what a run reads")
