@@ -13,7 +13,7 @@ use Rattle.ob0_tree.specs.declared.tree.Role.TheVariants as role
 use Rattle.ob0_tree.specs.Tree.{occurrences}
 use Rattle.ob0_tree.specs.Parsed.{Parsed, IsParsed, tree_of, named_tree_of}
 use Rattle.ob0_tree.specs.Places.{text_at, value_at}
-use Rattle.ob0_scope.specs.DeclaredOnce.{declared_once}
+use Rattle.ob0_scope.specs.DeclaredTwice.{twice_in}
 use Rattle.ob0_scope.specs.Names.{Name, as_names}
 use Rattle.ob0_scope.specs.Occurrences.{bindings, binds, label_ordinal}
 use Rattle.ob0_scope.specs.Resolution.{AreFaultsOf, IsNumbering, IsResolution, Resolution, is_of_declarations, is_of_occurrences, is_unbound, label_at, ordinal_in, span_at, unbound_at, undeclared_at, with_ordinal}
@@ -23,6 +23,7 @@ use Rattle.ob0_scope.specs.Written.{as_in}
 use Rattle.ob0_scope.proofs.OccurrencesMapped.{occurrences-mapped}
 use Rattle.ob0_scope.proofs.Passing.{HasMarks, module_passed}
 use Rattle.ob0_scope.proofs.Tables.{marks_stand}
+use Rattle.ob0_scope.proofs.TwiceOnce.{twice_alone, twice_where}
 use Rattle.ob0_tree.specs.Order.{Ascending}
 use Rattle.ob0_tree.proofs.Leaves.{leaves_ascend}
 use Rattle.ob0_tree.proofs.Occurring.{looked_up-occurrences}
@@ -125,14 +126,32 @@ no_more : (a b : Bool) → b ≡ false → (a || b) ≡ a
 no_more true b e = refl
 no_more false b e = e
 
+kept : (b : Bool) (f : Fault) (fs gs : List Fault) → b ≡ true → fs ≡ gs → (if b then f ∷ fs else fs) ≡ f ∷ gs
+kept true f fs gs e h = ap (λ z. f ∷ z) h
+kept false f fs gs e h = absurd (cc)
+
+none_of_declarations : (fs : List Fault) → list_any is_of_declarations fs ≡ false → filter is_of_declarations fs ≡ []
+none_of_declarations [] e = refl
+none_of_declarations (f ∷ fs) e =
+    let h = both_false (is_of_declarations f) (list_any is_of_declarations fs) e in left_out (is_of_declarations f) f (filter is_of_declarations fs) [] h.0 (none_of_declarations fs h.1)
+
+declarations_kept : (fs gs : List Fault) → list_any (λ f. not (is_of_declarations f)) fs ≡ false → filter is_of_declarations gs ≡ [] → filter is_of_declarations (fs ++ gs) ≡ fs
+declarations_kept [] gs e none = none
+declarations_kept (f ∷ fs) gs e none =
+    let h = both_false (not (is_of_declarations f)) (list_any (λ f. not (is_of_declarations f)) fs) e in
+    kept (is_of_declarations f) f (filter is_of_declarations (fs ++ gs)) fs (not_false (is_of_declarations f) h.0) (declarations_kept fs gs h.1 none)
+
 -- the faults of declarations, and behind them those of occurrences
-pub faults_told : (m : Parsed) (ordinals : List (Option ℕ)) (once : List Fault) → IsNumbering m ordinals → list_any is_of_declarations once ≡ not (declared_once (named_tree_of m))
-    → list_any (λ f. not (is_of_declarations f)) once ≡ false → AreFaultsOf m (once ++ undeclared_at m.source ordinals (occurrences (tree_of m)))
-faults_told m ordinals once numbering told alone =
+faults_told : (m : Parsed) (ordinals : List (Option ℕ)) → IsNumbering m ordinals → AreFaultsOf m (twice_in m ++ undeclared_at m.source ordinals (occurrences (tree_of m)))
+faults_told m ordinals numbering =
+    let once = twice_in m in
+    let told = twice_where m in
+    let alone = twice_alone m in
     let unbound = undeclared_at m.source ordinals (occurrences (tree_of m)) in
     record {
       declared_twice = list_any-append is_of_declarations once unbound
           ∙ (no_more (list_any is_of_declarations once) (list_any is_of_declarations unbound) (undeclared_declares m.source ordinals (occurrences (tree_of m))) ∙ told);
+      declarations = declarations_kept once unbound alone (none_of_declarations unbound (undeclared_declares m.source ordinals (occurrences (tree_of m))));
       undeclared = declarations_left_out once unbound alone ∙ (all_occurrences m.source ordinals (occurrences (tree_of m)) ∙ (unbound_all m.source ordinals (occurrences (tree_of m))
           ∙ ap (unbound_at m.source (occurrences (tree_of m))) (sym (bindings_by_table m ordinals numbering))));
       no_other = list_any-append is_other once unbound
@@ -141,10 +160,9 @@ faults_told m ordinals once numbering told alone =
 
 -- a module gone through, with the table of its marks and its faults, is resolved
 pub resolution_made : (m : Parsed) (v : Visit) (ordinals : List (Option ℕ)) (declarations uses : List ℕ) (once faults : List Fault) → IsParsed m → v ≡ visit_module (tree_of m) (started (as_in m.source))
-    → ordinals ≡ with_marks (replicate (length m.source.tokens) None) v.marks → declarations ≡ v.declarations → uses ≡ v.uses → list_any is_of_declarations once ≡ not (declared_once (named_tree_of m))
-    → list_any (λ f. not (is_of_declarations f)) once ≡ false → faults ≡ once ++ undeclared_at m.source ordinals uses
+    → ordinals ≡ with_marks (replicate (length m.source.tokens) None) v.marks → declarations ≡ v.declarations → uses ≡ v.uses → once ≡ twice_in m → faults ≡ once ++ undeclared_at m.source ordinals uses
     → IsResolution (record { module_read = m; ordinals = ordinals; declarations = declarations; uses = uses; faults = faults })
-resolution_made m v ordinals declarations uses once faults parsed gone tabled declares occurs told alone all =
+resolution_made m v ordinals declarations uses once faults parsed gone tabled declares occurs twice all =
     let w = visit_module (tree_of m) (started (as_in m.source)) in
     let count = length-replicate (length m.source.tokens) (let nothing : Option ℕ = None in nothing) in
     let numbered_so = module_passed (ordinal_in ordinals) (as_label as_names) (as_in m.source) (tree_of m) (started (as_in m.source)) (record { writing = refl; scope = refl; next = refl }) in
@@ -161,5 +179,5 @@ resolution_made m v ordinals declarations uses once faults parsed gone tabled de
       binding = (paired.agree stand).1;
       declaring = declares ∙ (ap (λ (v : Visit). v.declarations) gone ∙ numbered_so.declared);
       occurring = occurring;
-      told = subst (AreFaultsOf m) (sym (all ∙ ap (λ us. once ++ undeclared_at m.source ordinals us) occurring)) (faults_told m ordinals once numbering told alone);
+      told = subst (AreFaultsOf m) (sym (all ∙ (λ i. twice i ++ undeclared_at m.source ordinals (occurring i)))) (faults_told m ordinals numbering);
     }

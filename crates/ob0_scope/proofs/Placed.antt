@@ -17,7 +17,8 @@ use Rattle.ob0_tree.specs.declared.tree.Role.{Role}
 use Rattle.ob0_tree.specs.declared.tree.Role.TheVariants as role
 use Rattle.ob0_scope.specs.Names.{Label, as_names, declared, same_label}
 use Rattle.ob0_scope.specs.Occurrences.{label_ordinal}
-use Rattle.ob0_scope.specs.Resolution.{IsResolution, Resolution, label_at, ordinal_in, span_at, span_in}
+use Rattle.ob0_scope.specs.Resolution.{IsResolution, Resolution, label_at, ordinal_in, span_at}
+use Rattle.ob0_scope.specs.Spans.{span_in}
 use Rattle.ob0_scope.specs.Scopes.{as_label, same_ordinal}
 use Rattle.ob0_scope.specs.declared.naming.Named as named
 use Rattle.ob0_scope.specs.Listing.{is_identifier, is_listed, is_name_on, tokens_listed}

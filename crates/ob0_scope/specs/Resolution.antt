@@ -4,7 +4,6 @@ use Rattle.std.specs.List.{filter, list_any}
 use Rattle.ob0_scan.specs.declared.fault.Code.TheVariants as code
 use Rattle.ob0_scan.specs.declared.fault.Fault.{Fault}
 use Rattle.ob0_scan.specs.declared.lexeme.Span.{Span}
-use Rattle.ob0_scan.specs.declared.lexeme.Token.{Token}
 use Rattle.ob0_scan.specs.Scanned.{Scanned}
 use Rattle.ob0_tree.specs.declared.tree.Role.{Role}
 use Rattle.ob0_tree.specs.declared.tree.Role.TheVariants as role
@@ -15,6 +14,8 @@ use Rattle.ob0_scope.specs.Names.{Label, Name, as_names, as_written, declared}
 use Rattle.ob0_scope.specs.Scopes.{Labels, as_label, numbered, relabelled}
 use Rattle.ob0_scope.specs.Occurrences.{bindings}
 use Rattle.ob0_scope.specs.DeclaredOnce.{declared_once}
+use Rattle.ob0_scope.specs.DeclaredTwice.{twice_in}
+use Rattle.ob0_scope.specs.Spans as spans
 
 -- the ordinal that a table has at a token: None also where it has no such token
 abbrev pub ordinal_in : List (Option ℕ) → ℕ → Option ℕ
@@ -50,13 +51,9 @@ is_of_declarations fault = elim (fault.code) [ code.Duplicate ↦ true | code.En
 abbrev pub is_of_occurrences : Fault → Bool
 is_of_occurrences fault = elim (fault.code) [ code.Undeclared ↦ true | _ ↦ false ]
 
--- where a token stands: at the text's start where there is no such token
-abbrev pub span_in : Option Token → Span
-span_in None = record { start = 0; end = 0 }
-span_in (Some t) = t.span
-
+-- where a token stands
 abbrev pub span_at : Scanned → ℕ → Span
-span_at source token = span_in (slice_get source.tokens token)
+span_at source token = spans.span_at source token
 
 -- the faults at the occurrences that a table binds to nothing
 abbrev pub undeclared_at : Scanned → List (Option ℕ) → List ℕ → List Fault
@@ -100,10 +97,12 @@ unbound_at source (token ∷ tokens) (label ∷ labels) =
 abbrev pub unbound_in : Parsed → List Fault
 unbound_in m = unbound_at m.source (occurrences (tree_of m)) (bindings (named_tree_of m))
 
--- The faults are one for each occurrence that no declaration binds, in text order, and some where a name is declared twice
--- or closes what another name opened, and no others.
+-- The faults are those of names that are declared once more and of closing names that differ, one for each occurrence that no
+-- declaration binds, in text order, and no others. There are some of the first exactly where a name is declared twice or closes
+-- what another name opened.
 pub record AreFaultsOf (m : Parsed) (faults : List Fault) : Type 0 where
   pub declared_twice : list_any is_of_declarations faults ≡ not (declared_once (named_tree_of m))
+  pub declarations : filter is_of_declarations faults ≡ twice_in m
   pub undeclared : filter is_of_occurrences faults ≡ unbound_in m
   pub no_other : list_any (λ fault. not (is_of_declarations fault || is_of_occurrences fault)) faults ≡ false
 

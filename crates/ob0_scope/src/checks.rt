@@ -1,15 +1,13 @@
 //! Names that are declared twice, and closing names that differ.
 
-ghost use Rattle.std.specs.Prelude.{◌≡◌, ◌&&◌, ◌++◌, IfOk, OnOk, map, not, true, false};
-ghost use Rattle.std.specs.List.{list_any};
+ghost use Rattle.std.specs.Prelude.{◌≡◌, ◌++◌, [], IfOk, OnOk};
 ghost use Rattle.ob0_scan.specs.Scanned.{Scanned};
-ghost use Rattle.ob0_tree.specs.Parsed.{named_tree_of};
-ghost use Rattle.ob0_tree.specs.Places.{named, text_at};
+ghost use Rattle.ob0_tree.specs.Places.{text_at};
 ghost use Rattle.ob0_tree.specs.View.{items_of, names_of, type_of, record_in, fields_of, constants_of, types_of, variables_of, formals_of, procedure_of, block_of, further_fields_of_group};
 ghost use Rattle.ob0_scope.specs.Names.{same_name};
 ghost use Rattle.ob0_scope.specs.Parts.{names_listed, constant_names, named_types, variable_names, formal_names, formal_sections, section_constants, section_types, section_variables};
-ghost use Rattle.ob0_scope.specs.DeclaredOnce.{are_distinct, block_names, declared_once, fields_once, group_fields, groups_fields, group_once, types_once, variables_once, formals_once, procedure_names, block_once, procedure_once};
-ghost use Rattle.ob0_scope.specs.Resolution.{is_of_declarations, span_at};
+ghost use Rattle.ob0_scope.specs.DeclaredOnce.{block_names, group_fields, procedure_names};
+ghost use Rattle.ob0_scope.specs.DeclaredTwice.{again, block_twice, closing_other, fields_twice, formals_twice, group_twice, procedure_twice, twice_in, types_twice, unless, variables_twice};
 
 use crate::table::token_span;
 use crate::writing::token_text;
@@ -22,7 +20,7 @@ use std::alloc::{AllocError, Global};
 use std::collections::BTreeSet;
 use std::marker::Model;
 
-/// The faults of declarations so far. A clause sees whether there is none.
+/// The faults of declarations so far.
 #[derive(Drop)]
 struct Checks {
     alloc: Global,
@@ -30,21 +28,17 @@ struct Checks {
 }
 
 impl Model for Checks {
-    ghost use Rattle.std.specs.Prelude.{◌≡◌, Bool, not, false};
-    ghost use Rattle.std.specs.List.{list_any};
-    ghost use Rattle.ob0_scope.specs.Resolution.{is_of_declarations};
+    ghost use Rattle.std.specs.Prelude.{List};
+    ghost use Rattle.ob0_scan.specs.declared.fault.Fault.{Fault};
 
-    ghost Value = { Bool };
+    ghost Value = { List Fault };
 
-    ghost view = { λ c. not (list_any is_of_declarations c.faults.items) };
-
-    ghost invariant = { λ c. list_any (λ fault. not (is_of_declarations fault)) c.faults.items ≡ false };
+    ghost view = { λ c. c.faults.items };
 }
 
 /// The second declarations of a module, and its closing names that differ.
 pub(crate) fn check<'t>(alloc: Global, read: &'t Module<'t>) -> Result<Vec<Fault>, AllocError>
-    ensures told { IfOk result (λ faults. list_any is_of_declarations faults.items ≡ not (declared_once (named_tree_of read.now))) }
-    ensures alone { IfOk result (λ faults. list_any (λ fault. not (is_of_declarations fault)) faults.items ≡ false) }
+    ensures { IfOk result (λ faults. faults.items ≡ twice_in read.now) }
 {
     let mut checks = Checks {
         alloc,
@@ -149,8 +143,7 @@ pub(crate) fn add_block(out: &mut Vec<usize>, b: &Block) -> Result<(), AllocErro
 
 impl Checks {
     fn into_faults(self) -> Vec<Fault>
-        ensures told { list_any is_of_declarations result.items ≡ not self }
-        ensures alone { list_any (λ fault. not (is_of_declarations fault)) result.items ≡ false }
+        ensures { result.items ≡ self }
     {
         let Checks { alloc: _, faults } = self;
         faults
@@ -158,8 +151,7 @@ impl Checks {
 
     /// Tells of a fault where something doesn't hold.
     fn expect(&mut self, holds: bool, fault: Fault) -> Result<(), AllocError>
-        requires { is_of_declarations fault ≡ true }
-        ensures { OnOk result (self.new ≡ (self.old && holds)) }
+        ensures { OnOk result (self.new ≡ self.old ++ unless holds fault) }
     {
         if !holds {
             self.faults.push(fault)?;
@@ -169,7 +161,7 @@ impl Checks {
 
     /// A closing name is its module's or procedure's name.
     fn closing(&mut self, tokens: &Tokens, name: usize, closing: usize) -> Result<(), AllocError>
-        ensures { OnOk result (self.new ≡ (self.old && same_name (text_at tokens.now name) (text_at tokens.now closing))) }
+        ensures { OnOk result (self.new ≡ self.old ++ closing_other tokens.now name closing) }
     {
         let fault = Fault {
             code: Code::EndName,
@@ -180,7 +172,7 @@ impl Checks {
 
     /// No name stands twice.
     fn distinct(&mut self, tokens: &Tokens, names: &[usize]) -> Result<(), AllocError>
-        ensures { OnOk result (self.new ≡ (self.old && are_distinct (map (text_at tokens.now) names.now))) }
+        ensures { OnOk result (self.new ≡ self.old ++ again tokens.now [] names.now) }
     {
         let mut seen = BTreeSet::new(self.alloc);
         for name in names {
@@ -196,7 +188,7 @@ impl Checks {
 
     #[cycle(types)]
     fn written(&mut self, tokens: &Tokens, t: &WrittenType) -> Result<(), AllocError>
-        ensures { OnOk result (self.new ≡ (self.old && fields_once (named tokens.now (type_of t.now)))) }
+        ensures { OnOk result (self.new ≡ self.old ++ fields_twice tokens.now (type_of t.now)) }
     {
         match t {
             WrittenType::Named(_) => Ok(()),
@@ -207,7 +199,7 @@ impl Checks {
 
     #[cycle(types)]
     fn record(&mut self, tokens: &Tokens, r: &RecordType) -> Result<(), AllocError>
-        ensures { OnOk result (self.new ≡ (self.old && fields_once (named tokens.now (record_in r.now)))) }
+        ensures { OnOk result (self.new ≡ self.old ++ fields_twice tokens.now (record_in r.now)) }
     {
         let mut names = Vec::new(self.alloc);
         for group in &r.groups {
@@ -222,7 +214,7 @@ impl Checks {
 
     #[cycle(types)]
     fn group(&mut self, tokens: &Tokens, f: &Fields) -> Result<(), AllocError>
-        ensures { OnOk result (self.new ≡ (self.old && group_once (named tokens.now (fields_of f.now)))) }
+        ensures { OnOk result (self.new ≡ self.old ++ group_twice tokens.now (fields_of f.now)) }
     {
         match f {
             Fields::Empty => Ok(()),
@@ -235,7 +227,7 @@ impl Checks {
         tokens: &Tokens,
         section: &Option<Vec<TypeDeclaration>>,
     ) -> Result<(), AllocError>
-        ensures { OnOk result (self.new ≡ (self.old && types_once (section_types (named tokens.now (types_of section.now))))) }
+        ensures { OnOk result (self.new ≡ self.old ++ types_twice tokens.now (section_types (types_of section.now))) }
     {
         if let Some(types) = section {
             for t in types {
@@ -250,7 +242,7 @@ impl Checks {
         tokens: &Tokens,
         section: &Option<Vec<Variables>>,
     ) -> Result<(), AllocError>
-        ensures { OnOk result (self.new ≡ (self.old && variables_once (section_variables (named tokens.now (variables_of section.now))))) }
+        ensures { OnOk result (self.new ≡ self.old ++ variables_twice tokens.now (section_variables (variables_of section.now))) }
     {
         if let Some(variables) = section {
             for v in variables {
@@ -261,7 +253,7 @@ impl Checks {
     }
 
     fn formals(&mut self, tokens: &Tokens, formals: &Option<Vec<Section>>) -> Result<(), AllocError>
-        ensures { OnOk result (self.new ≡ (self.old && formals_once (formal_sections (named tokens.now (formals_of formals.now))))) }
+        ensures { OnOk result (self.new ≡ self.old ++ formals_twice tokens.now (formal_sections (formals_of formals.now))) }
     {
         if let Some(sections) = formals {
             for s in sections {
@@ -273,7 +265,7 @@ impl Checks {
 
     #[cycle(blocks)]
     fn procedure(&mut self, tokens: &Tokens, p: &Procedure) -> Result<(), AllocError>
-        ensures { OnOk result (self.new ≡ (self.old && procedure_once (named tokens.now (procedure_of p.now)))) }
+        ensures { OnOk result (self.new ≡ self.old ++ procedure_twice tokens.now (procedure_of p.now)) }
     {
         self.closing(tokens, p.name, p.closing)?;
         self.formals(tokens, &p.formals)?;
@@ -285,7 +277,7 @@ impl Checks {
     /// A block, with the names of the parameters that are declared in it.
     #[cycle(blocks)]
     fn block(&mut self, tokens: &Tokens, own: Vec<usize>, b: &Block) -> Result<(), AllocError>
-        ensures { OnOk result (self.new ≡ (self.old && block_once (map (text_at tokens.now) own.items) (named tokens.now (block_of b.now)))) }
+        ensures { OnOk result (self.new ≡ self.old ++ block_twice tokens.now own.items (block_of b.now)) }
     {
         let mut names = own;
         add_constants(&mut names, &b.constants)?;

@@ -18,7 +18,7 @@ invariant_of-result c =
     let gone = c.in_ok-numbering.ensures ∙ ap (λ w. visit_module (tree_of m) (started w)) (c.as_in.ensures ∙ ap as_in c.tokens-tokens.ensures.source) in
     let all = c.in_ok-undeclared.ensures ∙ (λ i. once ++ undeclared_at (c.tokens-tokens.ensures.source i) (c.deref-2.ensures.value i) (c.deref-3.ensures.value i)) in
     resolution_made m c.in_ok-numbering.numbering c.in_ok-ordinals.ordinals.items parts.result.0.items parts.result.1.items once faults
-    c.tokens-tokens.ensures.parsed gone tabled parts.ensures.declarations parts.ensures.uses c.in_ok-faults.ensures.told c.in_ok-faults.ensures.alone
+    c.tokens-tokens.ensures.parsed gone tabled parts.ensures.declarations parts.ensures.uses c.in_ok-faults.ensures
     all
 
 pub returns : goal.returns
@@ -34,6 +34,6 @@ returns c =
     let all = c.in_ok-undeclared.ensures ∙ (λ i. once ++ undeclared_at (c.tokens-tokens.ensures.source i) (c.deref-2.ensures.value i) (c.deref-3.ensures.value i)) in (
       refl,
       resolution_made m c.in_ok-numbering.numbering c.in_ok-ordinals.ordinals.items parts.result.0.items parts.result.1.items once faults
-          c.tokens-tokens.ensures.parsed gone tabled parts.ensures.declarations parts.ensures.uses c.in_ok-faults.ensures.told c.in_ok-faults.ensures.alone
+          c.tokens-tokens.ensures.parsed gone tabled parts.ensures.declarations parts.ensures.uses c.in_ok-faults.ensures
           all,
     )

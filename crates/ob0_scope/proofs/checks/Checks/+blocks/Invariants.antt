@@ -1,8 +1,7 @@
-use Rattle.ob0_scope.specs.DeclaredOnce.{procedures_once}
-use Rattle.ob0_tree.specs.Places.{named}
+use Rattle.ob0_scope.specs.DeclaredTwice.{procedures_twice}
 use Rattle.ob0_tree.specs.View.{items_of, procedure_of}
-use Rattle.ob0_scope.proofs.Checking.{Holding}
+use Rattle.ob0_scope.proofs.Checking.{Gathering}
 use Rattle.ob0_scope.proofs.checks.Checks.+blocks.Given as goal
 
 abbrev pub invariant-block-loop-p : goal.invariant-block-loop-p
-invariant-block-loop-p l = Holding (λ xs. procedures_once (named l.tokens (items_of procedure_of xs))) l.p-items l.initial.self l.p-index l.self
+invariant-block-loop-p l = Gathering (λ xs. procedures_twice l.tokens (items_of procedure_of xs)) l.p-items l.initial.self l.p-index l.self

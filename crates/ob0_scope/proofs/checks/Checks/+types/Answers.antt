@@ -1,9 +1,9 @@
-use Rattle.std.proofs.Common.{◌≡◌, ◌&&◌, ◌++◌, OnOk, refl, sym, ap, ◌∙◌, subst, map}
-use Rattle.ob0_tree.specs.Places.{named, text_at}
+use Rattle.std.proofs.Common.{◌≡◌, [], ◌++◌, OnOk, refl, sym, ap, ◌∙◌, subst}
 use Rattle.ob0_tree.specs.View.{further_fields_of_group, items_of, type_of}
 use Rattle.ob0_tree.proofs.Viewed.{record_made}
-use Rattle.ob0_scope.specs.DeclaredOnce.{are_distinct, fields_once, groups_fields, groups_once}
-use Rattle.ob0_scope.proofs.Checking.{gathered, held, record_tested}
+use Rattle.ob0_scope.specs.DeclaredOnce.{groups_fields}
+use Rattle.ob0_scope.specs.DeclaredTwice.{again, fields_twice, groups_twice}
+use Rattle.ob0_scope.proofs.Checking.{gathered, record_told}
 use Rattle.ob0_scope.proofs.checks.Checks.+types.Goals as goal
 
 pub record-returns : goal.record-returns
@@ -12,12 +12,12 @@ record-returns t c =
     let gs = c.args.r.now.groups.items in
     let found = gathered (λ xs. groups_fields (items_of further_fields_of_group xs)) refl c.loop-group.invariant c.loop-group-test.false
     ∙ (λ i. c.new-names.ensures.items i ++ groups_fields (items_of further_fields_of_group (c.deref-group-items.ensures.value i))) in
-    let distinct = c.in_ok-distinct.ensures ∙ ap (λ xs. c.args.self.now && are_distinct (map (text_at src) xs)) c.deref.ensures.value in
-    let rest = held (λ xs. groups_once (named src (items_of further_fields_of_group xs))) refl c.loop-group-2.invariant c.loop-group-2-test.false
-    ∙ ap (λ xs. c.distinct.new.self && groups_once (named src (items_of further_fields_of_group xs))) c.deref-group-items-2.ensures.value in
-    record_tested src c.args.self.now c.distinct.new.self c.loop-group-2.self gs c.loop-group.names.items found distinct rest
+    let named = c.in_ok-distinct.ensures ∙ ap (λ xs. c.args.self.now ++ again src [] xs) c.deref.ensures.value in
+    let rest = gathered (λ xs. groups_twice src (items_of further_fields_of_group xs)) refl c.loop-group-2.invariant c.loop-group-2-test.false
+    ∙ ap (λ xs. c.distinct.new.self ++ groups_twice src (items_of further_fields_of_group xs)) c.deref-group-items-2.ensures.value in
+    record_told src c.args.self.now c.distinct.new.self c.loop-group-2.self gs c.loop-group.names.items found named rest
 
 pub written-returns-in-Record : goal.written-returns-in-Record
 written-returns-in-Record t c =
-    subst (λ r. OnOk c.record.result (c.record.new.self ≡ (c.args.self.now && fields_once (named c.args.tokens.now r))))
+    subst (λ r. OnOk c.record.result (c.record.new.self ≡ c.args.self.now ++ fields_twice c.args.tokens.now r))
     (sym (record_made c.in-Record.r) ∙ sym (ap type_of c.in-Record.is)) c.record.ensures

@@ -1,11 +1,11 @@
-use Rattle.ob0_scope.specs.DeclaredOnce.{groups_fields, groups_once}
-use Rattle.ob0_tree.specs.Places.{named}
+use Rattle.ob0_scope.specs.DeclaredOnce.{groups_fields}
+use Rattle.ob0_scope.specs.DeclaredTwice.{groups_twice}
 use Rattle.ob0_tree.specs.View.{items_of, further_fields_of_group}
-use Rattle.ob0_scope.proofs.Checking.{Gathering, Holding}
+use Rattle.ob0_scope.proofs.Checking.{Gathering}
 use Rattle.ob0_scope.proofs.checks.Checks.+types.Given as goal
 
 abbrev pub invariant-record-loop-group : goal.invariant-record-loop-group
 invariant-record-loop-group l = Gathering (λ xs. groups_fields (items_of further_fields_of_group xs)) l.group-items l.initial.names.items l.group-index l.names.items
 
 abbrev pub invariant-record-loop-group-2 : goal.invariant-record-loop-group-2
-invariant-record-loop-group-2 l = Holding (λ xs. groups_once (named l.tokens (items_of further_fields_of_group xs))) l.group-items l.initial.self l.group-index l.self
+invariant-record-loop-group-2 l = Gathering (λ xs. groups_twice l.tokens (items_of further_fields_of_group xs)) l.group-items l.initial.self l.group-index l.self

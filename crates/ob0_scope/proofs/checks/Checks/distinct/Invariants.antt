@@ -1,6 +1,5 @@
-use Rattle.ob0_tree.specs.Places.{text_at}
 use Rattle.ob0_scope.proofs.Checking.{Seeing}
 use Rattle.ob0_scope.proofs.checks.Checks.distinct.Given as goal
 
 abbrev pub invariant-loop-name : goal.invariant-loop-name
-invariant-loop-name l = Seeing (text_at l.tokens) l.names l.initial.self l.name-index l.seen l.self
+invariant-loop-name l = Seeing l.tokens l.names l.initial.self l.name-index l.seen l.self
