@@ -14,3 +14,5 @@ pub mod DeclaringWalks
 pub mod FieldTokens
 pub mod DuplicateFields
 pub mod FieldsDeclared
+pub mod MappedIdentifiers
+pub mod FieldsListed

@@ -9,7 +9,7 @@ use Rattle.ob0_tree.specs.Parsed.{tree_of}
 use Rattle.ob0_tree.specs.Tree.{Sort, Tree, item, adds, array_type, assigns, begins, branches, calls, compares, declares, declares_constant, declares_constants, declares_procedure, declares_type, declares_types, declares_variable, declares_variables, designator, else_branch, elsif_branch, empty, end, field, has_body, identifiers, index, integer, is_module, listed, more, multiplies, named_type, negation, no_arguments, no_fields, no_formals, none, one, parenthesised, product, record_type, relates, repeat_loop, runs, some_arguments, some_fields, some_formals, sum, then_argument, then_fields, then_name, then_section, then_statement, value_section, variable_section, while_loop, block, names, written_type, fields, further_name, further_fields, section, further_section, formals, type_name, type_names, variable, variables, procedure, module_text, items, maybe}
 use Rattle.ob0_tree.proofs.Leaves.{leaves_ascend}
 use Rattle.ob0_scope.specs.Parts.{further_names, names_listed, section_type}
-use Rattle.ob0_scope.specs.Resolution.{ordinal_in}
+use Rattle.ob0_scope.specs.Resolution.{IsResolution, Resolution, ordinal_in}
 use Rattle.ob0_typing.specs.Declarations.{after_formals, after_types, after_variables, procedure_constructors}
 use Rattle.ob0_typing.specs.Expressions.{Meanings}
 use Rattle.ob0_typing.specs.Typing.{constructors, group_constructors, object_type}
@@ -204,11 +204,17 @@ fields_stand ((x, Some k) ∷ xs) table low high ascend within vacant =
       fields_stand xs next (x + 1) high ascend.1 still (λ i l u. let other : i ≢ x = omega (arith, l) in get_or-set_other table x i (Some k) None other ∙ vacant i (omega (arith, l, ascend.0)) u),
     )
 
-pub owners_of_fields-holds : OwnersOfFields
-owners_of_fields-holds r named fits =
+-- the empty table, one entry a token, with the fields of a module written into it
+abbrev pub with_owners : Resolution → List (Option ℕ)
+with_owners r = with_fields_at (replicate (length r.module_read.source.tokens) None) (fields_among (owned_tokens r))
+
+pub fields_have-owners : (r : Resolution) → IsResolution r → HasOwners (ordinal_in (with_owners r)) (owned_tokens r)
+fields_have-owners r named =
     let n : ℕ = length r.module_read.source.tokens in
     let nothing : Option ℕ = None in
     let vacant : List (Option ℕ) = replicate n nothing in
     let ascend = subst (λ ts. Ascending 0 ts n) (sym (module-tokens _ (tree_of r.module_read))) (leaves_ascend r.module_read named.parsed) in
-    owners_by_declaration-holds r (with_fields_at vacant (fields_among (owned_tokens r))) named fits
-    (fields_stand (owned_tokens r) vacant 0 n ascend (subst (λ z. n ≤ z) (sym (length-replicate n nothing)) (le_refl n)) (λ i l u. get_or-replicate n i nothing None u))
+    fields_stand (owned_tokens r) vacant 0 n ascend (subst (λ z. n ≤ z) (sym (length-replicate n nothing)) (le_refl n)) (λ i l u. get_or-replicate n i nothing None u)
+
+pub owners_of_fields-holds : OwnersOfFields
+owners_of_fields-holds r named fits = owners_by_declaration-holds r (with_owners r) named fits (fields_have-owners r named)

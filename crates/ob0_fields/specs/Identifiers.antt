@@ -1,8 +1,10 @@
 -- The identifiers of one field: the one that declares it, and those that select it. The names of these trees are tokens.
-use Rattle.std.specs.Prelude.{◌≡◌, ℕ, ◌+◌, ◌==◌, ◌&&◌, Bool, true, not, is_some, List, [], ◌∷◌, ◌++◌, Option, Some, None, if◌then◌else◌}
+use Rattle.std.specs.Prelude.{◌≡◌, ℕ, ◌+◌, ◌==◌, ◌&&◌, Bool, true, not, is_some, List, [], ◌∷◌, ◌++◌, map, Option, Some, None, if◌then◌else◌}
 use Rattle.std.specs.List.{All, list_any, position_from}
 use Rattle.ob0_scan.specs.Scanned.{Scanned}
-use Rattle.ob0_tree.specs.Tree.{Tree, block, declares, declares_procedure, end, has_body, item, items, mapped, more, procedure}
+use Rattle.ob0_tree.specs.declared.tree.Role.{Role}
+use Rattle.ob0_tree.specs.declared.tree.Role.TheVariants as role
+use Rattle.ob0_tree.specs.Tree.{Tree, block, declares, declares_procedure, end, has_body, identifiers, item, items, mapped, more, procedure}
 use Rattle.ob0_tree.specs.Parsed.{Parsed, named_tree_of, tree_of}
 use Rattle.ob0_tree.specs.Places.{text_at, value_at}
 use Rattle.ob0_scope.specs.Names.{Name, same_name}
@@ -98,3 +100,18 @@ abbrev pub FieldsDeclared : Type 0
 FieldsDeclared =
     (r : Resolution) → IsResolution r → WellTyped (named_tree_of r.module_read)
     → All (λ x. is_some (declaring_field r.module_read x.1 (text_at r.module_read.source x.0)) ≡ true) (field_identifiers r)
+
+-- the tokens of the identifiers that are written as fields, where a record is declared or a field is selected
+abbrev pub written_fields : List (Role × ℕ) → List ℕ
+written_fields [] = []
+written_fields ((role.FieldName, token) ∷ rest) = token ∷ written_fields rest
+written_fields ((role.Declaring, token) ∷ rest) = written_fields rest
+written_fields ((role.LookedUp, token) ∷ rest) = written_fields rest
+written_fields ((role.ClosingName, token) ∷ rest) = written_fields rest
+written_fields ((role.ModuleName, token) ∷ rest) = written_fields rest
+
+-- In a well-typed module the fields are all identifiers that are written as fields, in text order, and no others.
+abbrev pub FieldsListed : Type 0
+FieldsListed =
+    (r : Resolution) → IsResolution r → WellTyped (named_tree_of r.module_read)
+    → map (λ x. x.0) (field_identifiers r) ≡ written_fields (identifiers role.Declaring (tree_of r.module_read))

@@ -1,6 +1,6 @@
 //! The laws. Each function does nothing: its contract is the law.
 
-ghost use Rattle.ob0_fields.specs.Identifiers.{DuplicateByToken, FieldsDeclared, RenamedAtTokens};
+ghost use Rattle.ob0_fields.specs.Identifiers.{DuplicateByToken, FieldsDeclared, FieldsListed, RenamedAtTokens};
 ghost use Rattle.ob0_fields.specs.Owned.{MarkedFields, OwnersByDeclaration, OwnersOfFields};
 
 /// In a well-typed module a table that has at each token the record whose field the token is, by what names are declared as,
@@ -33,4 +33,9 @@ pub fn duplicate_by_token()
 /// In a well-typed module each identifier that declares or selects a field is of a field that its record declares.
 pub fn fields_declared()
     ensures { FieldsDeclared }
+{}
+
+/// In a well-typed module the fields are all identifiers that are written as fields, in text order, and no others.
+pub fn fields_listed()
+    ensures { FieldsListed }
 {}
