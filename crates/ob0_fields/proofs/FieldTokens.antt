@@ -1,5 +1,5 @@
 -- The tokens of one field: they are identifiers in text order, and the module with the field renamed has the new name there.
-use Rattle.std.proofs.Common.{◌≡◌, ◌≢◌, ℕ, zero, suc, ◌+◌, ◌<◌, ◌≤◌, Bool, true, false, ◌&&◌, ◌||◌, ◌==◌, if◌then◌else◌, List, [], ◌∷◌, map, length, replicate, set, Some, None, Option, refl, ap, ◌∙◌, sym, subst, arith, get_or-set_other, get_or-set_same, eq-eqb, eqb-true}
+use Rattle.std.proofs.Common.{◌≡◌, ◌≢◌, ℕ, zero, suc, ◌+◌, ◌<◌, ◌≤◌, Bool, true, false, ◌&&◌, ◌||◌, ◌==◌, if◌then◌else◌, List, [], ◌∷◌, length, replicate, set, Some, None, Option, refl, ap, ◌∙◌, sym, subst, arith, get_or-set_other, get_or-set_same, eq-eqb, eqb-true}
 use Rattle.std.specs.List.{list_any}
 use Rattle.std.specs.Prelude.{IfSome}
 use Rattle.std.proofs.Math.ListN.{length-set}
@@ -15,14 +15,11 @@ use Rattle.ob0_scope.specs.Names.{Name, same_name}
 use Rattle.ob0_scope.specs.Resolution.{Resolution, ordinal_in, span_at}
 use Rattle.ob0_scope.specs.Standing.{is_on}
 use Rattle.ob0_scope.specs.Scopes.{same_ordinal}
-use Rattle.ob0_fields.specs.Identifiers.{RenamedAtTokens, field_identifiers, field_on, field_tokens, is_field, tokens_among}
+use Rattle.ob0_fields.specs.Identifiers.{AreInTextOrder, RenamedAtTokens, field_identifiers, field_on, field_tokens, firsts, is_field, tokens_among}
 use Rattle.ob0_fields.specs.Owned.{fields_among, owned_tokens, with_fields_at}
 use Rattle.ob0_field_laws.specs.Owners.{is_of_field}
 use Rattle.ob0_field_laws.proofs.ByToken.{renamed_by_token-holds}
 use Rattle.ob0_fields.proofs.OwnedTokens.{module-tokens, owners_of_fields-holds, tokens}
-
-abbrev pub firsts : List (ℕ × ℕ) → List ℕ
-firsts xs = map (λ x. x.0) xs
 
 -- ---- fields among identifiers
 
@@ -36,7 +33,7 @@ among_stand ts [] h = tt
 among_stand ts ((x, None) ∷ xs) h = among_stand ts xs h.1
 among_stand ts ((x, Some k) ∷ xs) h = (h.0, among_stand ts xs h.1)
 
-pub fields_ascend : (r : Resolution) → IsParsed r.module_read → Ascending 0 (firsts (field_identifiers r)) (length r.module_read.source.tokens)
+pub fields_ascend : (r : Resolution) → IsParsed r.module_read → AreInTextOrder r.module_read.source (field_identifiers r)
 fields_ascend r parsed =
     let n : ℕ = length r.module_read.source.tokens in
     among_ascend (owned_tokens r) 0 n (subst (λ ts. Ascending 0 ts n) (sym (module-tokens _ (tree_of r.module_read))) (leaves_ascend r.module_read parsed))

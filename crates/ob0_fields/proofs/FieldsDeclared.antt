@@ -1,7 +1,6 @@
 -- In a well-typed module each identifier of a field is of a field that its record declares. Were it not, the field could have
 -- another name where it is selected, and the module would be the same.
-use Rattle.std.proofs.Common.{◌≡◌, ℕ, suc, ◌==◌, Bool, true, false, ◌&&◌, ◌||◌, not, if◌then◌else◌, List, [], ◌∷◌, map, length, is_some, Some, None, Option, refl, sym, ap, ◌∙◌, subst, arith, true≢false, eq-eqb, eqb-true, All}
-use Rattle.std.proofs.lemmas.Bool.{and_parts}
+use Rattle.std.proofs.Common.{◌≡◌, ℕ, suc, ◌==◌, Bool, true, false, ◌&&◌, ◌||◌, not, if◌then◌else◌, List, [], ◌∷◌, map, length, is_some, Some, None, Option, refl, sym, ap, ◌∙◌, arith, true≢false, eq-eqb, eqb-true, All}
 use Rattle.std.proofs.lemmas.List.Elements.{All-cons, All-nil}
 use Rattle.std.proofs.lemmas.Slice.Eq.{bytes_eq-Decides}
 use Rattle.std.specs.List.{list_any}

@@ -11,6 +11,7 @@ pub mod GroupWalks
 pub mod DeclaredWalks
 pub mod ListedFields
 pub mod DeclaringWalks
+pub mod FieldSpans
 pub mod FieldTokens
 pub mod DuplicateFields
 pub mod FieldsDeclared

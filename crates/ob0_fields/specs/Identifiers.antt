@@ -1,9 +1,10 @@
 -- The identifiers of one field: the one that declares it, and those that select it. The names of these trees are tokens.
-use Rattle.std.specs.Prelude.{◌≡◌, ℕ, ◌+◌, ◌==◌, ◌&&◌, Bool, true, not, is_some, List, [], ◌∷◌, ◌++◌, map, Option, Some, None, if◌then◌else◌}
+use Rattle.std.specs.Prelude.{◌≡◌, ℕ, ◌+◌, ◌==◌, ◌&&◌, Bool, true, not, is_some, List, [], ◌∷◌, ◌++◌, length, map, Option, Some, None, if◌then◌else◌}
 use Rattle.std.specs.List.{All, list_any, position_from}
 use Rattle.ob0_scan.specs.Scanned.{Scanned}
 use Rattle.ob0_tree.specs.declared.tree.Role.{Role}
 use Rattle.ob0_tree.specs.declared.tree.Role.TheVariants as role
+use Rattle.ob0_tree.specs.Order.{Ascending}
 use Rattle.ob0_tree.specs.Tree.{Tree, block, declares, declares_procedure, end, has_body, identifiers, item, items, mapped, more, procedure}
 use Rattle.ob0_tree.specs.Parsed.{Parsed, named_tree_of, tree_of}
 use Rattle.ob0_tree.specs.Places.{text_at, value_at}
@@ -37,6 +38,14 @@ field_tokens r k x = tokens_among r.module_read.source k x (field_identifiers r)
 abbrev pub field_on : Scanned → ℕ → List (ℕ × ℕ) → Option (ℕ × ℕ)
 field_on source offset [] = None
 field_on source offset (x ∷ xs) = if is_on offset (span_at source x.0) then Some x else field_on source offset xs
+
+-- the tokens of identifiers
+abbrev pub firsts : List (ℕ × ℕ) → List ℕ
+firsts xs = map (λ x. x.0) xs
+
+-- Their tokens ascend, and are all among those of the text.
+abbrev pub AreInTextOrder : Scanned → List (ℕ × ℕ) → Type 0
+AreInTextOrder source xs = Ascending 0 (firsts xs) (length source.tokens)
 
 -- the field at a place: its identifier there, and the ordinal of its record
 abbrev pub field_at : Resolution → ℕ → Option (ℕ × ℕ)

@@ -6,7 +6,7 @@ ghost use Rattle.ob0_tree.specs.Parsed.{tree_of};
 ghost use Rattle.ob0_tree.specs.Places.{text_at};
 ghost use Rattle.ob0_scope.specs.Names.{same_name};
 ghost use Rattle.ob0_symbols.specs.KnownTables.{declared_in};
-ghost use Rattle.ob0_fields.specs.Identifiers.{declared_fields, field_on, first, record_tokens, tokens_among};
+ghost use Rattle.ob0_fields.specs.Identifiers.{AreInTextOrder, declared_fields, field_on, first, record_tokens, tokens_among};
 ghost use Rattle.ob0_fields.specs.Listed.{beside, listed_by};
 ghost use Rattle.ob0_fields.specs.Owned.{marked_module, token_objects};
 
@@ -61,9 +61,9 @@ impl FieldList {
     }
 
     /// The field that a place is on, where it lies in an identifier of the field or at its end: the identifier's token, and
-    /// the ordinal of the field's record.
+    /// the ordinal of the field's record. The tokens are those of the text that the fields stand in.
     pub fn at(&self, tokens: &Tokens, offset: usize) -> Option<(usize, usize)>
-        ensures { result ≡ field_on tokens.now offset self.now.all }
+        ensures { AreInTextOrder tokens.now self.now.all → result ≡ field_on tokens.now offset self.now.all }
     {
         field_on(tokens, offset, &self.all)
     }

@@ -1,31 +1,52 @@
 //! What is found in a list of fields.
 
-ghost use Rattle.std.specs.Prelude.{◌≡◌, IfOk};
+ghost use Rattle.std.specs.Prelude.{◌≡◌, ◌≤◌, IfOk, None, Some, false, if◌then◌else◌, length, nat_lt, true};
 ghost use Rattle.std.specs.List.{position_from};
+ghost use Rattle.std.specs.List.Sorted.{IsNonDecreasingBy, IsPartitionPoint};
 ghost use Rattle.ob0_tree.specs.Places.{text_at};
 ghost use Rattle.ob0_scope.specs.Names.{same_name};
+ghost use Rattle.ob0_scope.specs.Resolution.{span_at};
 ghost use Rattle.ob0_scope.specs.Standing.{is_on};
-ghost use Rattle.ob0_fields.specs.Identifiers.{field_on, first, is_field, record_tokens, tokens_among};
+ghost use Rattle.ob0_fields.specs.Identifiers.{AreInTextOrder, field_on, first, is_field, record_tokens, tokens_among};
 
 use ob0_scan::{Span, Tokens};
 use ob0_scope::token_span;
 use ob0_symbols::text_at;
 use std::alloc::{AllocError, Global};
 
-/// The first identifier that a place is on.
+/// The first identifier that a place is on. It is found by halving: of identifiers in text order it is the first that doesn't
+/// end before the place, if any.
 pub(crate) fn field_on(
     tokens: &Tokens,
     offset: usize,
     found: &[(usize, usize)],
 ) -> Option<(usize, usize)>
-    ensures { result ≡ field_on tokens.now offset found.now }
+    ensures { AreInTextOrder tokens.now found.now → result ≡ field_on tokens.now offset found.now }
 {
-    for field in found {
-        if is_on(offset, token_span(tokens, field.0)) {
-            return Some(*field);
-        }
+    let _scanned = tokens.text();
+    match found.get(ended_before(tokens, offset, found)) {
+        Some(field) => if_on(tokens, offset, *field),
+        None => None,
     }
-    None
+}
+
+/// How many identifiers end before a place.
+fn ended_before(tokens: &Tokens, offset: usize, found: &[(usize, usize)]) -> usize
+    ensures bound { result ≤ length found.now }
+    ensures point { IsNonDecreasingBy (λ x. (span_at tokens.now x.0).end) found.now → IsPartitionPoint (λ x. nat_lt (span_at tokens.now x.0).end offset ≡ true) (λ x. nat_lt (span_at tokens.now x.0).end offset ≡ false) found.now result }
+{
+    found.partition_point(|field| token_span(tokens, field.0).end < offset)
+}
+
+/// An identifier, where a place is on it.
+fn if_on(tokens: &Tokens, offset: usize, field: (usize, usize)) -> Option<(usize, usize)>
+    ensures { result ≡ (if is_on offset (span_at tokens.now field.0) then Some field else None) }
+{
+    if is_on(offset, token_span(tokens, field.0)) {
+        Some(field)
+    } else {
+        None
+    }
 }
 
 fn is_on(offset: usize, span: Span) -> bool

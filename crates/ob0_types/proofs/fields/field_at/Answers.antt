@@ -1,20 +1,31 @@
-use Rattle.std.proofs.Common.{◌∙◌, ap, sym, subst}
+use Rattle.std.proofs.Common.{◌≡◌, ℕ, List, Option, ◌∙◌, ap, sym, subst}
 use Rattle.std.specs.Prelude.{IfSome}
+use Rattle.ob0_scan.specs.Scanned.{Scanned}
 use Rattle.ob0_tree.specs.Order.{IsIdentifier}
+use Rattle.ob0_tree.specs.Parsed.{IsParsed}
 use Rattle.ob0_scope.specs.Resolution.{Resolution}
-use Rattle.ob0_fields.specs.Identifiers.{field_identifiers, field_on}
-use Rattle.ob0_fields.proofs.FieldTokens.{field_stands, fields_stand}
+use Rattle.ob0_fields.specs.Identifiers.{AreInTextOrder, field_at, field_identifiers, field_on}
+use Rattle.ob0_fields.proofs.FieldTokens.{field_stands, fields_ascend, fields_stand}
 use Rattle.ob0_types.proofs.fields.field_at.Goals as goal
+
+-- the fields of a module are in text order
+found_at : (r : Resolution) (source : Scanned) (xs : List (ℕ × ℕ)) (offset : ℕ) (found : Option (ℕ × ℕ)) → IsParsed r.module_read
+    → source ≡ r.module_read.source → xs ≡ field_identifiers r → (AreInTextOrder source xs → found ≡ field_on source offset xs) → found ≡ field_at r offset
+found_at r source xs offset found parsed read all on =
+    on (subst (λ s. AreInTextOrder s xs) (sym read) (subst (AreInTextOrder r.module_read.source) (sym all) (fields_ascend r parsed)))
+    ∙ (λ i. field_on (read i) offset (all i))
 
 pub returns-clause-value : goal.returns-clause-value
 returns-clause-value c =
+    let r = c.args.well_typed.now in
     let source = c.tokens.ensures ∙ ap (λ (r : Resolution). r.module_read.source) c.resolved-names.ensures.value in
-    c.at.ensures ∙ (λ i. field_on (source i) c.args.offset (c.fields.ensures.1 i))
+    found_at r _ _ c.args.offset _ c.resolved-names.ensures.well_typed.resolved.parsed source c.fields.ensures.1 c.at.ensures
 
 pub returns-clause-stand : goal.returns-clause-stand
 returns-clause-stand c =
     let r = c.args.well_typed.now in
+    let parsed = c.resolved-names.ensures.well_typed.resolved.parsed in
     let source = c.tokens.ensures ∙ ap (λ (r : Resolution). r.module_read.source) c.resolved-names.ensures.value in
-    let same = c.at.ensures ∙ (λ i. field_on (source i) c.args.offset (c.fields.ensures.1 i)) in
+    let same = found_at r _ _ c.args.offset _ parsed source c.fields.ensures.1 c.at.ensures in
     subst (λ found. IfSome found (λ x. IsIdentifier r.module_read.source.tokens x.0)) (sym same)
-    (field_stands r.module_read.source r.module_read.source.tokens c.args.offset (field_identifiers r) (fields_stand r c.resolved-names.ensures.well_typed.resolved.parsed))
+    (field_stands r.module_read.source r.module_read.source.tokens c.args.offset (field_identifiers r) (fields_stand r parsed))
