@@ -1,6 +1,6 @@
 -- What scanner and parser say of a text.
-use Rattle.std.proofs.Common.{◌≡◌, ◌≤◌, ◌<◌, ◌∙◌, ◌+◌, ◌++◌, ◌∷◌, ℕ, List, [], length, take, drop, map, min, encode_utf8_all, inl, inr, refl, sym, ap, subst, arith}
-use Rattle.std.proofs.lemmas.List.{take-append-drop, length-take}
+use Rattle.std.proofs.Common.{◌≡◌, ◌<◌, ◌∙◌, ◌+◌, ◌++◌, ◌∷◌, ℕ, List, [], length, drop, map, encode_utf8_all, inl, inr, refl, sym, ap, subst, arith}
+use Rattle.std.proofs.lemmas.List.{take-append-drop}
 use Rattle.std.specs.Str.{chars, IsUtf8}
 use Rattle.std.proofs.lemmas.Str.{encodes-chars}
 use Rattle.ob0_scan.specs.Refused.{AreFaults}
@@ -63,21 +63,29 @@ ill_typed s tree one only scan is ill w =
     let same : w.text_of.scanned ≡ s = one w.text_of.scanned s w.text_of.scan.scan scan w.text_of.scan.of in
     ill (subst WellTyped (only s w.tree tree (subst (λ (x : Scanned). ModuleOf x w.tree) same w.text_of.module_of) is) w.well_typed)
 
-pub finds_types : (c : CheckedModule) (faults : List Fault) (told : List Complaint) → OneScan → OneTree → IsScan c.names.module_read.source → IsChecked c → (c.faults ≡ [] → ⊥)
-    → 0 < length faults → length faults ≤ 100 → told ≡ map complaint_of faults
+some_of : (faults : List Fault) → (faults ≡ [] → ⊥) → 0 < length faults
+some_of [] some = absurd (some refl)
+some_of (f ∷ fs) some = omega arith
+
+pub finds_types : (c : CheckedModule) (told : List Complaint) → OneScan → OneTree → IsScan c.names.module_read.source → IsChecked c → (c.faults ≡ [] → ⊥) → told ≡ map complaint_of c.faults
     → ¬ IsWellTypedModule c.names.module_read.source.text × TellsFaults c.names.module_read.source.text told
-finds_types c faults told one only scan checked bad some few is =
+finds_types c told one only scan checked bad is =
     let s : Scanned = c.names.module_read.source in
     let tree : Tree (List ℕ) module_text = named_tree_of c.names.module_read in
-    let ill : WellTyped tree → ⊥ = λ w. bad (checked.told.1 w) in
-    let module_of : ModuleOf s tree = checked.resolved.parsed.module_of in
-    let text_of : IsTextOf tree s.text = record { scanned = s; scan = record { of = refl; scan = scan }; module_of = module_of } in
-    (ill_typed s tree one only scan module_of ill, inr (inr (record { tree = tree; text_of = text_of; ill_typed = ill; faults = faults; some = some; few = few; all = is })))
-
--- the first hundred of some faults
-pub few_of : (n : ℕ) (faults : List Fault) → n ≡ min (length faults) 100 → (faults ≡ [] → ⊥) → (0 < length (take n faults)) × (length (take n faults) ≤ 100)
-few_of n [] is some = absurd (some refl)
-few_of n (f ∷ fs) is some = rw (length-take n (f ∷ fs), is) (omega arith, omega arith)
+    let ill : WellTyped tree → ⊥ = λ w. bad (checked.told.1 w) in (
+      ill_typed s tree one only scan checked.resolved.parsed.module_of ill,
+      inr (inr (record {
+        names = c.names;
+        resolved = checked.resolved;
+        scan = record { of = refl; scan = scan };
+        ill_typed = ill;
+        faults = c.faults;
+        first = checked.first;
+        some = some_of c.faults bad;
+        few = checked.few;
+        all = is;
+      })),
+    )
 
 -- the module that was checked is that of its text
 pub module_in : (m : Parsed) (names : Resolution) → names.module_read ≡ m → IsScan m.source → IsWellTyped names → IsModuleIn m.source.text names

@@ -8,8 +8,11 @@ use Rattle.ob0_scan.specs.declared.lexeme.Span.{Span}
 use Rattle.ob0_scan.specs.declared.lexeme.Token.{Token}
 use Rattle.ob0_tree.specs.Module.{ModuleOf}
 use Rattle.ob0_tree.specs.Tree.{Tree, module_text}
-use Rattle.ob0_scope.specs.Names.{Name}
-use Rattle.ob0_typing.specs.WellTyped.{WellTyped}
+use Rattle.ob0_tree.specs.Parsed.{named_tree_of}
+use Rattle.ob0_scope.specs.Names.{Name, as_names}
+use Rattle.ob0_scope.specs.Resolution.{IsResolution, Resolution}
+use Rattle.ob0_typing.specs.WellTyped.{WellTyped, fits_over}
+use Rattle.ob0_types.specs.FaultOrder.{AreFirstFaults}
 use Rattle.ob0_parse.specs.RefusedBy.{NoneBegins}
 use Rattle.ob0_parse.specs.declared.refusal.ParseRefusal.{ParseRefusal}
 use Rattle.ob0_parse.specs.declared.refusal.ParseRefusal.TheVariants.{Syntax, TooDeep, Memory}
@@ -89,12 +92,14 @@ pub record TellsParser (text : List ℕ) (told : List Complaint) : Type 0 where
 
 -- ---- a text with a tree that isn't well-typed
 
--- faults of its names and types, 1 to 100
+-- the first hundred faults of its declarations, names and types, of which there is one at least
 pub record TellsTypes (text : List ℕ) (told : List Complaint) : Type 0 where
-  pub tree : Tree Name module_text
-  pub text_of : IsTextOf tree text
-  pub ill_typed : WellTyped tree → ⊥
+  pub names : Resolution
+  pub resolved : IsResolution names
+  pub scan : IsScanOf text names.module_read.source
+  pub ill_typed : WellTyped (named_tree_of names.module_read) → ⊥
   pub faults : List Fault
+  pub first : AreFirstFaults (fits_over as_names (named_tree_of names.module_read)) names faults
   pub some : 0 < length faults
   pub few : length faults ≤ 100
   pub all : told ≡ map complaint_of faults

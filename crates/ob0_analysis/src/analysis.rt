@@ -13,9 +13,6 @@ use ob0_tree::Module;
 use ob0_types::{WellTyped, check};
 use std::alloc::{AllocError, Global};
 
-/// How many faults of names and types are told.
-const MOST_TOLD: usize = 100;
-
 /// What is asked of a well-typed module.
 pub trait Question {
     type Answer;
@@ -114,8 +111,7 @@ fn ask_module<Q: Question>(
         }
         None => {
             let faults = checked.faults();
-            let most = faults.len().min(MOST_TOLD);
-            Ok(Asked::IllTyped(of_faults(alloc, &faults[..most])?))
+            Ok(Asked::IllTyped(of_faults(alloc, faults)?))
         }
     }
 }
