@@ -14,7 +14,7 @@ use Rattle.ob0_tree.specs.View.{fields_of, further_fields_of_group, items_of, re
 use Rattle.ob0_scope.specs.Names.{Name, same_name}
 use Rattle.ob0_scope.specs.Parts.{constant_names, formal_names, formal_sections, further_names, named_types, names_listed, section_constants, section_names, section_types, section_variables, variable_names}
 use Rattle.ob0_scope.specs.DeclaredOnce.{are_distinct, block_names, block_once, fields_once, formals_once, group_fields, group_once, groups_fields, groups_once, is_among, procedure_names, procedure_once, procedures_once, types_once, variables_once}
-use Rattle.ob0_scope.proofs.Shadows.{same_name-comm}
+use Rattle.ob0_scope.proofs.NewestNames.{same_name-comm}
 
 -- what is collected, with the names in what is left, is what was there at first with all of them
 pub record Gathering {A : Type 0} (f : List A → List ℕ) (xs : List A) (start : List ℕ) (done : ℕ) (out : List ℕ) : Type 0 where
