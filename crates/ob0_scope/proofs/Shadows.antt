@@ -1,26 +1,16 @@
 -- Bindings that hide one another: what is looked up after one is made or given up.
-use Rattle.std.proofs.Common.{◌≡◌, ◌⊎◌, inl, inr, if◌then◌else◌, ℕ, ◌<◌, Bool, true, false, cond, Option, Some, None, List, [], ◌∷◌, ◌++◌, map, length, get_or, reverse, refl, sym, ap, ◌∙◌, subst, arith, Bor, bytes_eq, is_eq, Ordering, Less, Equal, Greater, ⊎_elim}
+use Rattle.std.proofs.Common.{◌≡◌, ◌⊎◌, inl, inr, if◌then◌else◌, ℕ, ◌<◌, Bool, true, false, Option, Some, None, List, [], ◌∷◌, ◌++◌, map, length, get_or, reverse, refl, sym, ap, ◌∙◌, subst, arith}
 use Rattle.std.proofs.lemmas.List.{reverse-append, reverse-reverse, length-reverse}
 use Rattle.std.proofs.Math.ListN.{get_or-append}
 use Rattle.std.proofs.Math.Seq.{get_or-append_seam}
-use Rattle.std.proofs.lemmas.Bool.{cases_Bool}
-use Rattle.std.proofs.lemmas.Map.Text.{is_eq-slice_cmp}
-use Rattle.std.specs.Cmp.{nat_cmp_is}
 use Rattle.std.proofs.lemmas.Slice.Eq.{bytes_eq-Decides}
-use Rattle.std.proofs.lemmas.Bool.Decides.{same_from_decides}
-use Rattle.std.specs.BTreeMap.{BTreeMap, get_by, UpdatesBy}
-use Rattle.std.specs.Cmp.Lexicographic.{slice_cmp}
-use Rattle.std.specs.Ordering.{nat_cmp, ordering_then}
+use Rattle.ob0_scope.specs.declared.newest.Entry.{Entry}
 use Rattle.ob0_scope.specs.declared.visible.Binding.{Binding}
-use Rattle.ob0_scope.specs.Keys.{Key, compare_keys, compare_name, number_of}
 use Rattle.ob0_scope.specs.Names.{Name, as_names, same_name}
+use Rattle.ob0_scope.specs.NewestNames.{IsRenewed, newest_in}
 use Rattle.ob0_scope.specs.Scopes.{ordinal_of}
 use Rattle.ob0_scope.specs.Shadowing.{AreHidden, IsNewest, latest, scope_of}
-
-pub same_name-comm : (x y : Name) → same_name x y ≡ same_name y x
-same_name-comm x y =
-    let d = bytes_eq-Decides y x in
-    same_from_decides (same_name x y) (same_name y x) (bytes_eq-Decides x y) ((λ e. sym (d.0 e)), (λ e. d.1 (sym e)))
+use Rattle.ob0_scope.proofs.NewestNames.{same_name-comm, same_name-refl}
 
 abbrev pub shown : Binding → Name × ℕ
 shown b = (b.name.now, b.ordinal)
@@ -69,64 +59,36 @@ latest_none x (b ∷ bs) e =
     let h = none_step (same_name x b.name.now) (length bs) (latest x bs) e in
     ordinal_there (same_name x b.name.now) b.ordinal (ordinal_of as_names (map shown bs) x) h.0 ∙ latest_none x bs h.1
 
-chosen : (p q : Bool) (a b c d : Option ℕ) → p ≡ q → a ≡ c → b ≡ d → cond p a b ≡ (if q then c else d)
+chosen : (p q : Bool) (a b c d : Option ℕ) → p ≡ q → a ≡ c → b ≡ d → (if p then a else b) ≡ (if q then c else d)
 chosen true true a b c d e f g = f
 chosen true false a b c d e f g = absurd (cc)
 chosen false true a b c d e f g = absurd (cc)
 chosen false false a b c d e f g = g
 
-then_apart : (o p : Ordering) → is_eq p ≡ false → is_eq (ordering_then o p) ≡ false
-then_apart Less p e = refl
-then_apart Equal p e = e
-then_apart Greater p e = refl
-
--- the keys of two names are the same where the names are
-same_key : (a x : Name) → is_eq (ordering_then (nat_cmp (number_of a) (number_of x)) (slice_cmp nat_cmp a x)) ≡ bytes_eq a x
-same_key a x =
-    ⊎_elim
-    (λ y.
-    let numbers : nat_cmp (number_of a) (number_of x) ≡ Equal = sym (nat_cmp_is (number_of a) (number_of x) Equal (ap number_of ((bytes_eq-Decides a x).0 y))) in
-    ap (λ o. is_eq (ordering_then o (slice_cmp nat_cmp a x))) numbers ∙ is_eq-slice_cmp a x)
-    (λ n. then_apart (nat_cmp (number_of a) (number_of x)) (slice_cmp nat_cmp a x) (is_eq-slice_cmp a x ∙ n) ∙ sym n)
-    (cases_Bool (bytes_eq a x))
-
--- what a map has after it has another value at a key
-abbrev pub Renews : Key → BTreeMap Key ℕ → BTreeMap Key ℕ → Option ℕ → Type 0
-Renews key newest next value = UpdatesBy compare_keys (compare_keys key) newest next value
-
-abbrev pub key_of : Bor Name → Key
-key_of name = (number_of name.now, name)
-
-renewed_at : (name : Bor Name) (newest next : BTreeMap Key ℕ) (value : Option ℕ) → Renews (key_of name) newest next value
-    → (x : Name) → get_by (compare_name x) next ≡ cond (bytes_eq name.now x) value (get_by (compare_name x) newest)
-renewed_at name newest next value h x =
-    let key : Key = (number_of x, record { ref_ptr = name.ref_ptr; now = x }) in
-    h.0 key ∙ ap (λ same. cond same value (get_by (compare_name x) newest)) (same_key name.now x)
-
-pub bound_anew : (newest next : BTreeMap Key ℕ) (items : List Binding) (b : Binding) → IsNewest newest items → b.hidden ≡ latest b.name.now (reverse items)
-    → Renews (key_of b.name) newest next (Some (length items)) → IsNewest next (items ++ (b ∷ []))
+pub bound_anew : (newest next : List Entry) (items : List Binding) (b : Binding) → IsNewest newest items → b.hidden ≡ latest b.name.now (reverse items)
+    → IsRenewed newest next b.name.now (Some (length items)) → IsNewest next (items ++ (b ∷ []))
 bound_anew newest next items b w hidden renewed =
     let turned : reverse (items ++ (b ∷ [])) ≡ b ∷ reverse items = reverse-append items (b ∷ []) in
     record {
-      found = λ x. renewed_at b.name newest next (Some (length items)) renewed x
-          ∙ (chosen (bytes_eq b.name.now x) (same_name x b.name.now) (Some (length items)) _ (Some (length (reverse items))) (latest x (reverse items)) (same_name-comm b.name.now x) (ap Some (sym (length-reverse items))) (w.found x)
+      found = λ x. renewed x
+          ∙ (chosen (same_name b.name.now x) (same_name x b.name.now) (Some (length items)) (newest_in newest x) (Some (length (reverse items))) (latest x (reverse items)) (same_name-comm b.name.now x) (ap Some (sym (length-reverse items))) (w.found x)
           ∙ ap (latest x) (sym turned));
       hidden = subst AreHidden (sym turned) (hidden, w.hidden);
     }
 
-left_step : (p q : Bool) (a b c : Option ℕ) (n : ℕ) → p ≡ q → (p ≡ true → a ≡ c) → b ≡ (if q then Some n else c) → cond p a b ≡ c
+left_step : (p q : Bool) (a b c : Option ℕ) (n : ℕ) → p ≡ q → (p ≡ true → a ≡ c) → b ≡ (if q then Some n else c) → (if p then a else b) ≡ c
 left_step true true a b c n e f g = f refl
 left_step true false a b c n e f g = absurd (cc)
 left_step false true a b c n e f g = absurd (cc)
 left_step false false a b c n e f g = g
 
-pub given_up : (newest next : BTreeMap Key ℕ) (items : List Binding) (b : Binding) → IsNewest newest (items ++ (b ∷ [])) → Renews (key_of b.name) newest next b.hidden → IsNewest next items
+pub given_up : (newest next : List Entry) (items : List Binding) (b : Binding) → IsNewest newest (items ++ (b ∷ [])) → IsRenewed newest next b.name.now b.hidden → IsNewest next items
 given_up newest next items b w renewed =
     let turned : reverse (items ++ (b ∷ [])) ≡ b ∷ reverse items = reverse-append items (b ∷ []) in
     let trail : AreHidden (b ∷ reverse items) = subst AreHidden turned w.hidden in
     record {
-      found = λ x. renewed_at b.name newest next b.hidden renewed x
-          ∙ left_step (bytes_eq b.name.now x) (same_name x b.name.now) b.hidden _ (latest x (reverse items)) (length (reverse items)) (same_name-comm b.name.now x)
+      found = λ x. renewed x
+          ∙ left_step (same_name b.name.now x) (same_name x b.name.now) b.hidden (newest_in newest x) (latest x (reverse items)) (length (reverse items)) (same_name-comm b.name.now x)
           (λ e. trail.0 ∙ ap (λ y. latest y (reverse items)) ((bytes_eq-Decides b.name.now x).0 e)) (w.found x ∙ ap (latest x) turned);
       hidden = trail.1;
     }
@@ -136,20 +98,20 @@ found_step true n rest e = refl
 found_step false n rest e = absurd (cc)
 
 -- the name of the newest binding is found
-pub newest_found : (newest : BTreeMap Key ℕ) (items : List Binding) (b : Binding) → IsNewest newest (items ++ (b ∷ [])) → get_by (compare_name b.name.now) newest ≡ Some (length (reverse items))
+pub newest_found : (newest : List Entry) (items : List Binding) (b : Binding) → IsNewest newest (items ++ (b ∷ [])) → newest_in newest b.name.now ≡ Some (length (reverse items))
 newest_found newest items b w =
-    w.found b.name.now ∙ (ap (latest b.name.now) (reverse-append items (b ∷ [])) ∙ found_step (same_name b.name.now b.name.now) (length (reverse items)) (latest b.name.now (reverse items)) ((bytes_eq-Decides b.name.now b.name.now).1 refl))
+    w.found b.name.now ∙ (ap (latest b.name.now) (reverse-append items (b ∷ [])) ∙ found_step (same_name b.name.now b.name.now) (length (reverse items)) (latest b.name.now (reverse items)) (same_name-refl b.name.now))
 
 pub scope-popped : (items : List Binding) (b : Binding) → scope_of (items ++ (b ∷ [])) ≡ shown b ∷ scope_of items
 scope-popped items b = ap (map shown) (reverse-append items (b ∷ []))
 
-pub looked_up_below : (newest : BTreeMap Key ℕ) (items : List Binding) (x : Name) (i : ℕ) → IsNewest newest items → Some i ≡ get_by (compare_name x) newest → i < length items
+pub looked_up_below : (newest : List Entry) (items : List Binding) (x : Name) (i : ℕ) → IsNewest newest items → Some i ≡ newest_in newest x → i < length items
 looked_up_below newest items x i w e = subst (λ n. i < n) (length-reverse items) (latest_below x (reverse items) i (sym (w.found x) ∙ sym e))
 
-pub looked_up_some : (newest : BTreeMap Key ℕ) (items : List Binding) (x : Name) (i : ℕ) (b : Binding) → IsNewest newest items → Some i ≡ get_by (compare_name x) newest
+pub looked_up_some : (newest : List Entry) (items : List Binding) (x : Name) (i : ℕ) (b : Binding) → IsNewest newest items → Some i ≡ newest_in newest x
     → b ≡ get_or items i b → Some b.ordinal ≡ ordinal_of as_names (scope_of items) x
 looked_up_some newest items x i b w e here =
     ap (λ (z : Binding). Some z.ordinal) (here ∙ ap (λ l. get_or l i b) (sym (reverse-reverse items))) ∙ sym (latest_ordinal x (reverse items) i b (sym (w.found x) ∙ sym e))
 
-pub looked_up_none : (newest : BTreeMap Key ℕ) (items : List Binding) (x : Name) → IsNewest newest items → None ≡ get_by (compare_name x) newest → None ≡ ordinal_of as_names (scope_of items) x
+pub looked_up_none : (newest : List Entry) (items : List Binding) (x : Name) → IsNewest newest items → None ≡ newest_in newest x → None ≡ ordinal_of as_names (scope_of items) x
 looked_up_none newest items x w e = sym (latest_none x (reverse items) (sym (w.found x) ∙ sym e))

@@ -1,8 +1,8 @@
 -- A scope as it is kept: bindings, oldest first, each with the index of the one that it hides.
 use Rattle.std.specs.Prelude.{◌≡◌, ℕ, List, [], ◌∷◌, Option, Some, None, if◌then◌else◌, map, length, reverse}
-use Rattle.std.specs.BTreeMap.{BTreeMap, get_by}
 use Rattle.ob0_scope.specs.declared.visible.Binding.{Binding}
-use Rattle.ob0_scope.specs.Keys.{Key, compare_name}
+use Rattle.ob0_scope.specs.declared.newest.Entry.{Entry}
+use Rattle.ob0_scope.specs.NewestNames.{newest_in}
 use Rattle.ob0_scope.specs.Names.{Name, same_name}
 use Rattle.ob0_scope.specs.Scopes.{Scope}
 
@@ -20,7 +20,7 @@ abbrev pub AreHidden : List Binding → Type 0
 AreHidden [] = Unit {0}
 AreHidden (b ∷ bs) = (b.hidden ≡ latest b.name.now bs) × AreHidden bs
 
--- The map has the index of each name's newest binding.
-pub record IsNewest (newest : BTreeMap Key ℕ) (bindings : List Binding) : Type 0 where
-  pub found : (x : Name) → get_by (compare_name x) newest ≡ latest x (reverse bindings)
+-- What is kept of each name is the index of its newest binding.
+pub record IsNewest (newest : List Entry) (bindings : List Binding) : Type 0 where
+  pub found : (x : Name) → newest_in newest x ≡ latest x (reverse bindings)
   pub hidden : AreHidden (reverse bindings)

@@ -52,7 +52,7 @@ impl<'t> Model for Numbering<'t> {
 fn predeclared<'t>(alloc: Global) -> Result<Visible<'t>, AllocError>
     ensures { IfOk result (λ v. v ≡ predeclared_scope as_names) }
 {
-    let mut visible = Visible::new(alloc);
+    let mut visible = Visible::new(alloc)?;
     visible.declare("INTEGER", 0)?;
     visible.declare("BOOLEAN", 1)?;
     visible.declare("TRUE", 2)?;
@@ -157,10 +157,10 @@ impl<'t> Numbering<'t> {
     }
 
     /// Gives up the newest bindings until so many are left.
-    fn leave_to(&mut self, len: usize) -> Result<(), AllocError>
-        ensures { OnOk result (self.new ≡ left_to len self.old) }
+    fn leave_to(&mut self, len: usize)
+        ensures { self.new ≡ left_to len self.old }
     {
-        self.visible.leave_to(len)
+        self.visible.leave_to(len);
     }
 
     /// Looks a name up.
@@ -337,10 +337,10 @@ impl<'t> Numbering<'t> {
         let outside = self.bindings();
         let ordinal = self.number(p.name)?;
         self.heading(&p.formals)?;
-        self.leave_to(outside)?;
+        self.leave_to(outside);
         self.show_from(own)?;
         self.block(&p.block)?;
-        self.leave_to(outside)?;
+        self.leave_to(outside);
         self.show(p.name, ordinal)?;
         self.mark(p.closing, Some(ordinal))
     }

@@ -1,41 +1,12 @@
 //! The names that are visible at a place of a module.
 
 ghost use Rattle.std.specs.Prelude.{◌≡◌, ◌≤◌, ◌+◌, [], ◌∷◌, OnOk, IfOk, length, drop, ◌-◌};
-ghost use Rattle.ob0_scope.specs.Keys.{number_of, with_byte};
 ghost use Rattle.ob0_scope.specs.Names.{as_names};
 ghost use Rattle.ob0_scope.specs.Scopes.{ordinal_of};
 
+use crate::newest::Newest;
 use std::alloc::{AllocError, Global};
-use std::collections::BTreeMap;
 use std::marker::Model;
-
-/// A name as a key. Before it stands a number made of its last bytes, which tells most names apart.
-type Key<'t> = (u64, &'t str);
-
-/// The key of a name.
-fn key_of<'t>(name: &'t str) -> (u64, &'t str)
-    ensures { result ≡ (number_of name.entry.now, name.entry) }
-{
-    (number_of(name.as_bytes()), name)
-}
-
-/// The number before a name.
-fn number_of(bytes: &[u8]) -> u64
-    ensures { result ≡ number_of bytes.now }
-{
-    let mut number = 0;
-    for byte in bytes {
-        number = with_byte(number, *byte);
-    }
-    number
-}
-
-/// The number with a byte behind it: the last eight count.
-fn with_byte(number: u64, byte: u8) -> u64
-    ensures { result ≡ with_byte number byte }
-{
-    number.wrapping_mul(256).wrapping_add(u64::from(byte))
-}
 
 /// A declaration that is visible, with the index of the binding that it hides.
 #[derive(Drop)]
@@ -45,11 +16,10 @@ pub(crate) struct Binding<'t> {
     hidden: Option<usize>,
 }
 
-/// The bindings of a place, oldest first. For each name the index of its newest binding is kept, so that a name is looked
-/// up in logarithmic time.
+/// The bindings of a place, oldest first. For each name the index of its newest binding is kept.
 #[derive(Drop)]
 pub(crate) struct Visible<'t> {
-    newest: BTreeMap<Key<'t>, usize>,
+    newest: Newest<'t>,
     bindings: Vec<Binding<'t>>,
 }
 
@@ -66,13 +36,13 @@ impl<'t> Model for Visible<'t> {
 }
 
 impl<'t> Visible<'t> {
-    pub(crate) fn new(alloc: Global) -> Visible<'t>
-        ensures { result ≡ [] }
+    pub(crate) fn new(alloc: Global) -> Result<Visible<'t>, AllocError>
+        ensures { IfOk result (λ v. v ≡ []) }
     {
-        Visible {
-            newest: BTreeMap::new(alloc),
+        Ok(Visible {
+            newest: Newest::new(alloc)?,
             bindings: Vec::new(alloc),
-        }
+        })
     }
 
     /// How many bindings there are.
@@ -83,23 +53,23 @@ impl<'t> Visible<'t> {
     }
 
     /// The ordinal of the declaration to which a name is bound.
-    pub(crate) fn look_up(&self, name: &'t str) -> Option<usize>
-        ensures { result ≡ ordinal_of as_names self.now name.now }
+    pub(crate) fn look_up(&mut self, name: &'t str) -> Option<usize>
+        ensures found { result ≡ ordinal_of as_names self.old name.now }
+        ensures same { self.new ≡ self.old }
     {
-        let key = key_of(name);
-        match self.newest.get(&key) {
-            Some(index) => Some(self.bindings[*index].ordinal),
-            None => None,
-        }
+        let index = match self.newest.get(name) {
+            None => return None,
+            Some(index) => index,
+        };
+        Some(self.bindings[index].ordinal)
     }
 
     /// Binds a name anew.
     pub(crate) fn declare(&mut self, name: &'t str, ordinal: usize) -> Result<(), AllocError>
         ensures { OnOk result (self.new ≡ (name.entry.now, ordinal) ∷ self.old) }
     {
-        let key = key_of(name);
         self.bindings.reserve(1)?;
-        let hidden = self.newest.insert(key, self.bindings.len())?;
+        let hidden = self.newest.put(name, self.bindings.len())?;
         self.bindings.push_reserved(Binding {
             name,
             ordinal,
@@ -109,31 +79,21 @@ impl<'t> Visible<'t> {
     }
 
     /// Gives up the newest bindings until so many are left.
-    pub(crate) fn leave_to(&mut self, len: usize) -> Result<(), AllocError>
-        ensures { OnOk result (self.new ≡ drop (length self.old - len) self.old) }
+    pub(crate) fn leave_to(&mut self, len: usize)
+        ensures { self.new ≡ drop (length self.old - len) self.old }
     {
         for _left in 0..self.len().saturating_sub(len) {
-            self.leave()?;
+            self.leave();
         }
-        Ok(())
     }
 
     /// Gives up the newest binding, so that what it hid is visible again.
-    fn leave(&mut self) -> Result<(), AllocError>
-        ensures { OnOk result (self.new ≡ drop 1 self.old) }
+    fn leave(&mut self)
+        ensures { self.new ≡ drop 1 self.old }
     {
         let Some(left) = self.bindings.pop() else {
-            return Ok(());
+            return;
         };
-        let key = key_of(left.name);
-        match left.hidden {
-            Some(index) => {
-                self.newest.insert(key, index)?;
-            }
-            None => {
-                self.newest.remove(&key);
-            }
-        }
-        Ok(())
+        self.newest.put_back(left.name, left.hidden);
     }
 }

@@ -3,7 +3,7 @@ use Rattle.std.proofs.lemmas.List.{drop-drop}
 use Rattle.ob0_scope.proofs.visible.Visible.leave_to.Goals as goal
 
 pub loop-left-preserved : goal.loop-left-preserved
-loop-left-preserved c = c.in_ok-leave.ensures ∙ (ap (drop 1) c.loop-left.invariant ∙ drop-drop 1 c.loop-left._left c.args.self.now)
+loop-left-preserved c = c.leave.ensures ∙ (ap (drop 1) c.loop-left.invariant ∙ drop-drop 1 c.loop-left._left c.args.self.now)
 
 pub returns : goal.returns
 returns c =

@@ -1,0 +1,190 @@
+//! The newest binding of each name.
+
+ghost use Rattle.std.specs.Prelude.{◌≡◌, ◌<◌, ◌∷◌, ◌++◌, [], IfOk, IfSome, IsSome, OnErr, OnOk, None, Some, length};
+ghost use Rattle.ob0_scope.specs.Keys.{number_of, with_byte};
+ghost use Rattle.ob0_scope.specs.NewestNames.{IsRenewed, newest_in, place_of};
+
+use std::alloc::{AllocError, Global};
+use std::collections::BTreeMap;
+use std::marker::Model;
+
+/// How many names are found without the map. It is a power of two.
+const RECENT: usize = 1024;
+
+/// A name as a key. Before it stands a number made of its last bytes, which tells most names apart.
+type Key<'t> = (u64, &'t str);
+
+/// The key of a name.
+fn key_of<'t>(name: &'t str) -> (u64, &'t str)
+    ensures { result ≡ (number_of name.entry.now, name.entry) }
+{
+    (number_of(name.as_bytes()), name)
+}
+
+/// The number before a name.
+fn number_of(bytes: &[u8]) -> u64
+    ensures { result ≡ number_of bytes.now }
+{
+    let mut number = 0;
+    for byte in bytes {
+        number = with_byte(number, *byte);
+    }
+    number
+}
+
+/// The number with a byte behind it: the last eight count.
+fn with_byte(number: u64, byte: u8) -> u64
+    ensures { result ≡ with_byte number byte }
+{
+    number.wrapping_mul(256).wrapping_add(u64::from(byte))
+}
+
+/// Where a name with this number is noted among the recent ones. The product's first bits depend on all bits of the number.
+fn slot_of(number: u64) -> usize {
+    (number.wrapping_mul(0x9E37_79B9_7F4A_7C15) >> 54) as usize
+}
+
+/// A name that was bound, with the index of its newest binding, where it has one.
+#[derive(Clone, Copy)]
+pub(crate) struct Entry<'t> {
+    name: &'t str,
+    newest: Option<usize>,
+}
+
+/// The names that were bound so far, in the order in which they were bound first, each once. A name's place is found in
+/// logarithmic time, whatever the names are; that of a name that was asked for before mostly at once.
+#[derive(Drop)]
+pub(crate) struct Newest<'t> {
+    entries: Vec<Entry<'t>>,
+    places: BTreeMap<Key<'t>, usize>,
+    recent: Vec<usize>,
+}
+
+impl<'t> Model for Newest<'t> {
+    ghost use Rattle.std.specs.Prelude.{List};
+    ghost use Rattle.ob0_scope.specs.declared.newest.Entry.{Entry};
+    ghost use Rattle.ob0_scope.specs.NewestNames.{ArePlaces};
+
+    ghost Value = { List Entry };
+
+    ghost view = { λ t. t.entries.items };
+
+    ghost invariant = { λ t. ArePlaces t.places t.entries.items };
+}
+
+impl<'t> Newest<'t> {
+    pub(crate) fn new(alloc: Global) -> Result<Newest<'t>, AllocError>
+        ensures { IfOk result (λ t. t ≡ []) }
+    {
+        Ok(Newest {
+            entries: Vec::new(alloc),
+            places: BTreeMap::new(alloc),
+            recent: vec![in alloc; 0; RECENT]?,
+        })
+    }
+
+    /// The place of a name, where it is the one that is noted here.
+    fn noted(&self, slot: usize, name: &'t str) -> Option<usize>
+        ensures { IfSome result (λ place. place_of self.now name.now ≡ Some place) }
+    {
+        let place = match self.recent.get(slot) {
+            None => return None,
+            Some(place) => *place,
+        };
+        if place < self.entries.len() && self.entries[place].name == name {
+            Some(place)
+        } else {
+            None
+        }
+    }
+
+    /// Notes the place of a name.
+    fn note(&mut self, slot: usize, place: usize)
+        ensures { self.new ≡ self.old }
+    {
+        if slot < self.recent.len() {
+            self.recent[slot] = place;
+        }
+    }
+
+    /// The place of a name.
+    fn find(&mut self, name: &'t str) -> Option<usize>
+        ensures found { result ≡ place_of self.old name.now }
+        ensures same { self.new ≡ self.old }
+    {
+        let key = key_of(name);
+        let slot = slot_of(key.0);
+        if let Some(place) = self.noted(slot, name) {
+            return Some(place);
+        }
+        let place = match self.places.get(&key) {
+            None => return None,
+            Some(place) => *place,
+        };
+        self.note(slot, place);
+        Some(place)
+    }
+
+    /// Adds a name that wasn't bound before.
+    fn add(&mut self, name: &'t str, newest: Option<usize>) -> Result<(), AllocError>
+        requires { place_of self.old name.now ≡ None }
+        ensures renewed { OnOk result (IsRenewed self.old self.new name.now newest) }
+        ensures same { OnErr result (self.new ≡ self.old) }
+    {
+        self.entries.reserve(1)?;
+        self.places.insert(key_of(name), self.entries.len())?;
+        self.entries.push_reserved(Entry { name, newest });
+        Ok(())
+    }
+
+    /// Gives the name at a place another newest binding.
+    fn renew(&mut self, place: usize, name: &'t str, newest: Option<usize>)
+        requires { place_of self.old name.now ≡ Some place }
+        ensures { IsRenewed self.old self.new name.now newest }
+    {
+        self.entries[place] = Entry { name, newest };
+    }
+
+    /// The index of a name's newest binding.
+    pub(crate) fn get(&mut self, name: &'t str) -> Option<usize>
+        ensures found { result ≡ newest_in self.old name.now }
+        ensures same { self.new ≡ self.old }
+    {
+        let place = match self.find(name) {
+            None => return None,
+            Some(place) => place,
+        };
+        self.entries[place].newest
+    }
+
+    /// Gives a name a newer binding, and answers the one before.
+    pub(crate) fn put(&mut self, name: &'t str, index: usize) -> Result<Option<usize>, AllocError>
+        ensures before { IfOk result (λ before. before ≡ newest_in self.old name.now) }
+        ensures renewed { OnOk result (IsRenewed self.old self.new name.now (Some index)) }
+        ensures same { OnErr result (self.new ≡ self.old) }
+    {
+        match self.find(name) {
+            None => {
+                self.add(name, Some(index))?;
+                Ok(None)
+            }
+            Some(place) => {
+                let before = self.entries[place].newest;
+                self.renew(place, name, Some(index));
+                Ok(before)
+            }
+        }
+    }
+
+    /// Gives a name that is bound back the binding before its newest one.
+    pub(crate) fn put_back(&mut self, name: &'t str, before: Option<usize>)
+        requires { IsSome (newest_in self.old name.now) }
+        ensures { IsRenewed self.old self.new name.now before }
+    {
+        let place = match self.find(name) {
+            None => return,
+            Some(place) => place,
+        };
+        self.renew(place, name, before);
+    }
+}
