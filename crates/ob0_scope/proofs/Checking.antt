@@ -15,14 +15,8 @@ use Rattle.ob0_tree.specs.View.{fields_of, further_fields_of_group, items_of, re
 use Rattle.ob0_scope.specs.DeclaredOnce.{block_names, groups_fields, is_among, procedure_names}
 use Rattle.ob0_scope.specs.DeclaredTwice.{again, block_twice, closing_other, duplicate_at, fields_twice, formals_twice, group_twice, groups_twice, procedure_twice, procedures_twice, types_twice, unless, variables_twice}
 use Rattle.ob0_scope.specs.Names.{Name, same_name}
-<<<<<<< HEAD
 use Rattle.ob0_scope.specs.Parts.{constant_names, formal_names, formal_sections, named_types, section_constants, section_types, section_variables, variable_names}
-use Rattle.ob0_scope.proofs.Shadows.{same_name-comm}
-=======
-use Rattle.ob0_scope.specs.Parts.{constant_names, formal_names, formal_sections, further_names, named_types, names_listed, section_constants, section_names, section_types, section_variables, variable_names}
-use Rattle.ob0_scope.specs.DeclaredOnce.{are_distinct, block_names, block_once, fields_once, formals_once, group_fields, group_once, groups_fields, groups_once, is_among, procedure_names, procedure_once, procedures_once, types_once, variables_once}
 use Rattle.ob0_scope.proofs.NewestNames.{same_name-comm}
->>>>>>> change
 
 -- what is collected, with what is left, is what was there at first with all
 pub record Gathering {A B : Type 0} (f : List A → List B) (xs : List A) (start : List B) (done : ℕ) (out : List B) : Type 0 where

@@ -13,7 +13,7 @@ use Rattle.ob0_scope.specs.DeclaredTwice.{again, block_twice, closing_other, dup
 use Rattle.ob0_scope.specs.Names.{Name, same_name}
 use Rattle.ob0_scope.specs.Parts.{constant_names, formal_names, formal_sections, further_names, named_types, names_listed, section_constants, section_names, section_type, section_types, section_variables, variable_names}
 use Rattle.ob0_scope.specs.Resolution.{is_of_declarations}
-use Rattle.ob0_scope.proofs.Shadows.{same_name-comm}
+use Rattle.ob0_scope.proofs.NewestNames.{same_name-comm}
 
 and_true : (b : Bool) → (b && true) ≡ b
 and_true true = refl
