@@ -15,7 +15,7 @@ use Rattle.ob0_scope.specs.Scopes.{Scope, after_block, after_names, after_proced
 use Rattle.ob0_scope.proofs.DistinctNames.{distinct-onto, labels_in, onto, onto-append, own_name}
 use Rattle.ob0_scope.proofs.Ordinals.{le-after_block, le-after_names, le-after_procedure, le-after_procedures}
 use Rattle.ob0_scope.proofs.RenamedDeclarations.{Clashes, label_names-own, labels_in-names, own_names-block}
-use Rattle.ob0_scope.proofs.Shadows.{same_name-comm}
+use Rattle.ob0_scope.proofs.NewestNames.{same_name-comm}
 use Rattle.ob0_rename.proofs.Declared.{after_names_in_procedure, names_in, names_in_procedure, names_in_procedures}
 use Rattle.ob0_rename.proofs.Kept.{AreSo, InScope, in_scope-names, same_module, so-append}
 
