@@ -154,18 +154,18 @@ fn definition<'a>(alloc: Global) -> Result<Command<'a>, AllocError>
     let serve = Command::new(alloc, "serve")
         .about("Serves one conversation over standard input and output")
         .after_help(NOTES);
-    let check = check_definition(alloc)?;
-    let run = run_definition(alloc)?;
-    let rename = rename_definition(alloc)?;
-    Command::new(alloc, "ob0")
+    let with_serve = Command::new(alloc, "ob0")
         .about("A language server for Oberon-0")
         .version(VERSION)
         .after_help(NOTES)
         .subcommand_required(true)
-        .subcommand(serve)?
-        .subcommand(check)?
-        .subcommand(run)?
-        .subcommand(rename)
+        .subcommand(serve)?;
+    let check = check_definition(alloc)?;
+    let with_check = with_serve.subcommand(check)?;
+    let run = run_definition(alloc)?;
+    let with_run = with_check.subcommand(run)?;
+    let rename = rename_definition(alloc)?;
+    with_run.subcommand(rename)
 }
 
 fn check_definition<'a>(alloc: Global) -> Result<Command<'a>, AllocError>
@@ -182,40 +182,40 @@ fn run_definition<'a>(alloc: Global) -> Result<Command<'a>, AllocError>
     ensures { IfOk result (λ c. app_of c ≡ run_lines) }
 {
     let file = word(alloc, "file", "FILE", "The file with the module");
-    let calls = calls_argument(alloc);
-    let turns = turns_argument(alloc);
-    Command::new(alloc, "run")
+    let with_file = Command::new(alloc, "run")
         .about("Runs a module on the numbers of standard input")
         .after_help(NOTES)
-        .arg(file)?
-        .arg(calls)?
-        .arg(turns)
+        .arg(file)?;
+    let calls = calls_argument(alloc);
+    let with_calls = with_file.arg(calls)?;
+    let turns = turns_argument(alloc);
+    with_calls.arg(turns)
 }
 
 fn rename_definition<'a>(alloc: Global) -> Result<Command<'a>, AllocError>
     ensures { IfOk result (λ c. app_of c ≡ rename_lines) }
 {
     let file = word(alloc, "file", "FILE", "The file with the module");
+    let with_file = Command::new(alloc, "rename")
+        .about("Prints a module with another name for one of its names")
+        .after_help(NOTES)
+        .arg(file)?;
     let line = number(
         alloc,
         "line",
         "LINE",
         "The line of the name, counted from 0",
     );
+    let with_line = with_file.arg(line)?;
     let column = number(
         alloc,
         "column",
         "COLUMN",
         "Its column, counted from 0 in UTF-16 units",
     );
+    let with_column = with_line.arg(column)?;
     let name = word(alloc, "name", "NAME", "The new name");
-    Command::new(alloc, "rename")
-        .about("Prints a module with another name for one of its names")
-        .after_help(NOTES)
-        .arg(file)?
-        .arg(line)?
-        .arg(column)?
-        .arg(name)
+    with_column.arg(name)
 }
 
 /// A word that must stand there, and what help calls it.

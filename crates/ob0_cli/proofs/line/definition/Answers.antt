@@ -12,9 +12,9 @@ returns c =
     let check_is : app_of c.in_ok-check.check ≡ lines.check = c.in_ok-check.ensures in
     let run_is : app_of c.in_ok-run.run' ≡ lines.run = c.in_ok-run.ensures in
     let rename_is : app_of c.in_ok-rename.rename ≡ lines.rename = c.in_ok-rename.ensures in
-    let one_is : app_of c.in_ok-subcommand.field-0 ≡ with_subcommand lines.ob0_alone lines.serve.top =
-    c.in_ok-subcommand.ensures.shape (search rules) ∙ ap₂ with_subcommand alone_is (ap (λ (a : App). a.top) serve_is) in
-    let two_is = c.in_ok-subcommand-2.ensures.shape (no_globals _ _ _ _ (ap (λ (a : App). a.top.is_plain) check_is)) ∙ ap₂ with_subcommand one_is (ap (λ (a : App). a.top) check_is) in
-    let three_is = c.in_ok-subcommand-3.ensures.shape (no_globals _ _ _ _ (ap (λ (a : App). a.top.is_plain) run_is)) ∙ ap₂ with_subcommand two_is (ap (λ (a : App). a.top) run_is) in
+    let one_is : app_of c.in_ok-with_serve.with_serve ≡ with_subcommand lines.ob0_alone lines.serve.top =
+    c.in_ok-with_serve.ensures.shape (search rules) ∙ ap₂ with_subcommand alone_is (ap (λ (a : App). a.top) serve_is) in
+    let two_is = c.in_ok-with_check.ensures.shape (no_globals _ _ _ _ (ap (λ (a : App). a.top.is_plain) check_is)) ∙ ap₂ with_subcommand one_is (ap (λ (a : App). a.top) check_is) in
+    let three_is = c.in_ok-with_run.ensures.shape (no_globals _ _ _ _ (ap (λ (a : App). a.top.is_plain) run_is)) ∙ ap₂ with_subcommand two_is (ap (λ (a : App). a.top) run_is) in
     let plain = no_globals _ _ _ _ (ap (λ (a : App). a.top.is_plain) rename_is) in
     IfOk-weaker c.subcommand-4.result _ _ (λ r h. h.shape plain ∙ ap₂ with_subcommand three_is (ap (λ (a : App). a.top) rename_is)) c.subcommand-4.ensures
