@@ -3,7 +3,7 @@ use Rattle.ob0_scope.specs.declared.newest.Entry.{Entry}
 use Rattle.ob0_scope.specs.Keys.{Key}
 use Rattle.ob0_scope.specs.Names.{same_name}
 use Rattle.ob0_scope.specs.NewestNames.{ArePlaces, newest_in, place_of}
-use Rattle.ob0_scope.proofs.NewestNames.{Renews, added, key_of, places_added}
+use Rattle.ob0_scope.proofs.NewestNames.{Renews, added, places_added}
 use Rattle.ob0_scope.proofs.newest.Newest.add.Goals as goal
 
 pub invariant_of-self-2 : goal.invariant_of-self-2
@@ -24,4 +24,4 @@ returns-clause-renewed c =
     let kept : c.reserve.new.self.items ≡ items = c.reserve.ensures.items in
     let absent : place_of items c.args.name.now ≡ None = ap (λ es. place_of es c.args.name.now) c.self.view_is ∙ c.requires in
     λ y. ap (λ es. newest_in es y) (c.push_reserved.ensures.items ∙ ap (λ (l : List Entry). l ++ (r ∷ [])) kept)
-        ∙ (added items r absent y ∙ ap (λ es. if same_name c.args.name.now y then c.args.newest else newest_in es y) c.self.view_is)
+    ∙ (added items r absent y ∙ ap (λ es. if same_name c.args.name.now y then c.args.newest else newest_in es y) c.self.view_is)

@@ -1,4 +1,4 @@
-use Rattle.std.proofs.Common.{◌≡◌, Bool, true, false, None, is_some, sym, ap, ◌∙◌}
+use Rattle.std.proofs.Common.{◌≡◌, true, false, None, is_some, sym, ap, ◌∙◌}
 use Rattle.ob0_scope.specs.NewestNames.{newest_in}
 use Rattle.ob0_scope.proofs.NewestNames.{newest_none}
 use Rattle.ob0_scope.proofs.newest.Newest.put_back.Goals as goal

@@ -1,4 +1,4 @@
-use Rattle.std.proofs.Common.{◌≡◌, if◌then◌else◌, None, Some, refl, sym, ap, arith, ◌∙◌}
+use Rattle.std.proofs.Common.{◌≡◌, if◌then◌else◌, Some, refl, ap, arith, ◌∙◌}
 use Rattle.ob0_scope.specs.declared.newest.Entry.{Entry}
 use Rattle.ob0_scope.specs.Names.{same_name}
 use Rattle.ob0_scope.specs.NewestNames.{newest_in, place_of}
@@ -23,4 +23,4 @@ returns c =
     let at : place_of c.self.inside.entries.items c.args.name.now ≡ Some c.args.place = ap (λ es. place_of es c.args.name.now) c.self.view_is ∙ c.requires in
     let r : Entry = record { name = c.args.name; newest = c.args.newest } in
     λ y. renewed c.self.inside.entries.items c.args.name.now c.args.place r refl at y
-        ∙ ap (λ es. if same_name c.args.name.now y then c.args.newest else newest_in es y) c.self.view_is
+    ∙ ap (λ es. if same_name c.args.name.now y then c.args.newest else newest_in es y) c.self.view_is

@@ -1,4 +1,4 @@
-use Rattle.std.proofs.Common.{◌≡◌, IsSome, refl, sym, subst}
+use Rattle.std.proofs.Common.{IsSome, refl, sym, subst}
 use Rattle.ob0_scope.specs.Shadowing.{IsNewest}
 use Rattle.ob0_scope.proofs.Shadows.{given_up, newest_found}
 use Rattle.ob0_scope.proofs.visible.Visible.leave.Goals as goal

@@ -1,4 +1,4 @@
-use Rattle.std.proofs.Common.{◌≡◌, Some, None, arith, ap, ◌∙◌}
+use Rattle.std.proofs.Common.{arith, ap, ◌∙◌}
 use Rattle.ob0_scope.specs.Names.{as_names}
 use Rattle.ob0_scope.specs.Scopes.{ordinal_of}
 use Rattle.ob0_scope.proofs.Shadows.{looked_up_below, looked_up_none, looked_up_some}
