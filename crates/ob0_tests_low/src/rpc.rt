@@ -349,7 +349,8 @@ fn ranges_are_written_as_text(rt: HostRuntime) {
         end: position(10, 12345),
     };
     let answer = result_of(rt.alloc(), &Id::Signed(1), &reached);
-    let wanted = "{\"id\":1,\"jsonrpc\":\"2.0\",\"result\":{\"end\":{\"character\":12345,\"line\":10},\"start\":{\"character\":9,\"line\":0}}}";
+    let wanted =
+        "{\"id\":1,\"jsonrpc\":\"2.0\",\"result\":{\"end\":{\"character\":12345,\"line\":10},\"start\":{\"character\":9,\"line\":0}}}";
     assert!(rt; is_written(answer, wanted));
     let most = position(u64::MAX, u64::MAX);
     let reached = Reached {
@@ -357,7 +358,8 @@ fn ranges_are_written_as_text(rt: HostRuntime) {
         end: most,
     };
     let answer = result_of(rt.alloc(), &Id::Signed(1), &reached);
-    let wanted = "{\"id\":1,\"jsonrpc\":\"2.0\",\"result\":{\"end\":{\"character\":18446744073709551615,\"line\":18446744073709551615},\"start\":{\"character\":18446744073709551615,\"line\":18446744073709551615}}}";
+    let wanted =
+        "{\"id\":1,\"jsonrpc\":\"2.0\",\"result\":{\"end\":{\"character\":18446744073709551615,\"line\":18446744073709551615},\"start\":{\"character\":18446744073709551615,\"line\":18446744073709551615}}}";
     assert!(rt; is_written(answer, wanted));
 }
 
