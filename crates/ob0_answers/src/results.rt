@@ -4,9 +4,9 @@ ghost use Rattle.serde_json.specs.Data.{boolean, object, put as with_member};
 ghost use Rattle.serde_json.specs.View.{members_view, view};
 ghost use Rattle.ob0_rpc.specs.Writing.{Writes};
 ghost use Rattle.ob0_answers.specs.Diagnostics.{DiagnosticsAre};
-ghost use Rattle.ob0_answers.specs.Shapes.{Diagnostic, synchronisation as sync_data, rename_provider as rename_data, action_provider as action_data, server_members, capabilities as announced, publication as published_as, publication_params as params_of, position_value as position_data, range_value as range_data, edit_refused, hover_value as hover_data, location_value as location_data};
+ghost use Rattle.ob0_answers.specs.Shapes.{Diagnostic, synchronisation as sync_data, rename_provider as rename_data, action_provider as action_data, server_members, capabilities as announced, publication as published_as, publication_params as params_of, edit_refused, hover_value as hover_data, location_value as location_data};
 ghost use Rattle.ob0_rpc.specs.Seen.{id_data};
-ghost use Rattle.ob0_rpc.specs.Shapes.{text};
+ghost use Rattle.ob0_rpc.specs.Shapes.{text, position_value as position_data, range_value as range_data};
 ghost use Rattle.ob0_text.specs.RefusalTexts.{refusal_text};
 
 use ob0_rpc::{Client, Id, error, notification};

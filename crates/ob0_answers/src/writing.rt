@@ -5,10 +5,10 @@ ghost use Rattle.serde_json.specs.Data.{array, item, member, no_items, no_member
 ghost use Rattle.serde_json.specs.View.{items_of};
 ghost use Rattle.ob0_rpc.specs.Appending.{Appends, AppendsEach};
 ghost use Rattle.ob0_answers.specs.Questions.{location_in};
-ghost use Rattle.ob0_answers.specs.Shapes.{action_value, document_edit, edit_value, edits_value, position_value, range_value, versioned_document, workspace_edit};
+ghost use Rattle.ob0_answers.specs.Shapes.{action_value, document_edit, edit_value, edits_value, versioned_document, workspace_edit};
 
-use ob0_rpc::{Client, Written, write_comma, write_count, write_integer, write_piece, write_text};
-use ob0_text::{Edit, Position, Range};
+use ob0_rpc::{Client, Written, write_comma, write_integer, write_piece, write_range, write_text};
+use ob0_text::{Edit, Range};
 use std::alloc::AllocError;
 
 /// Ranges of a document, as a list of places.
@@ -196,25 +196,5 @@ fn write_location(out: &mut Vec<u8>, uri: &str, range: Range) -> Result<(), Allo
     write_range(out, range.start, range.end)?;
     write_piece(out, b",\"uri\":")?;
     write_text(out, uri)?;
-    write_piece(out, b"}")
-}
-
-fn write_range(out: &mut Vec<u8>, start: Position, end: Position) -> Result<(), AllocError>
-    ensures { OnOk result (Appends (range_value start end) out.old.items out.new.items) }
-{
-    write_piece(out, b"{\"end\":")?;
-    write_position(out, end)?;
-    write_piece(out, b",\"start\":")?;
-    write_position(out, start)?;
-    write_piece(out, b"}")
-}
-
-fn write_position(out: &mut Vec<u8>, position: Position) -> Result<(), AllocError>
-    ensures { OnOk result (Appends (position_value position) out.old.items out.new.items) }
-{
-    write_piece(out, b"{\"character\":")?;
-    write_count(out, position.character)?;
-    write_piece(out, b",\"line\":")?;
-    write_count(out, position.line)?;
     write_piece(out, b"}")
 }

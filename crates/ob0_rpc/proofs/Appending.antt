@@ -3,6 +3,7 @@ use Rattle.std.proofs.Common.{◌≡◌, ◌∙◌, ◌≤◌, ◌<◌, ◌^◌,
 use Rattle.std.proofs.Math.Bool.{and-true as and_true}
 use Rattle.std.proofs.lemmas.Bool.{and_parts, eqb-false, leb-true, lt-ltb, not-true}
 use Rattle.std.proofs.lemmas.List.{map-append}
+use Rattle.std.proofs.lemmas.Fmt.{IsAscii-decimal}
 use Rattle.std.proofs.lemmas.Str.{IsUtf8-append, IsUtf8-nil, IsUtf8-from_ascii}
 use Rattle.std.proofs.Math.Seq.{take-suc}
 use Rattle.serde_json.specs.View.{items_of}
@@ -24,7 +25,9 @@ use Rattle.serde_json.specs.Read.{read, of_items, of_json, max_depth}
 use Rattle.serde_json.specs.Written.{comma_if, compact_text, items_text, outline, items_outline, members_outline}
 use Rattle.serde_json.proofs.Numbers.{number_of-decimal, number_of-negative}
 use Rattle.serde_json.proofs.Texts.{print-outline}
+use Rattle.ob0_text.specs.declared.positions.Position.{Position}
 use Rattle.ob0_rpc.specs.Appending.{Appends, AppendsEach, AreReadBack, IsReadBack, listed}
+use Rattle.ob0_rpc.specs.Shapes.{position_value, range_value}
 use Rattle.ob0_rpc.specs.Writing.{Writes}
 
 -- ---- the outline of a value nests no deeper than the value
@@ -85,6 +88,16 @@ escape_plain (x ∷ xs) h =
     let r = and_parts (nat_le 32 x && nat_lt x 127) _ q.0 in
     let t = and_parts (nat_le 32 x) _ r.0 in
     ap₂ (λ a b. a ++ b) (escape_byte_plain x (eqb-false x 34 (not-true _ r.1)) (eqb-false x 92 (not-true _ q.1)) (leb-true 32 x t.0)) (escape_plain xs p.1)
+
+-- a text that is plain so far, and one more byte of it
+
+escape_joined : (xs ys : List ℕ) → escape (xs ++ ys) ≡ escape xs ++ escape ys
+escape_joined [] ys = refl
+escape_joined (x ∷ xs) ys = ap (λ t. escape_byte x ++ t) (escape_joined xs ys) ∙ sym (append_assoc (escape_byte x) (escape xs) (escape ys))
+
+pub plain_next : (xs : List ℕ) (i x : ℕ) → i < length xs → escape (take i xs) ≡ take i xs → 32 ≤ get_or xs i x → (get_or xs i x ≡ 34 → ⊥) → (get_or xs i x ≡ 92 → ⊥)
+    → escape (take (i + 1) xs) ≡ take (i + 1) xs
+plain_next xs i x low plain l q b = rw (add-one, take-suc xs i x low, escape_joined (take i xs) (get_or xs i x ∷ []), plain, escape_byte_plain (get_or xs i x) q b l) refl
 
 pub text_written : (s t0 t1 t2 t3 : List ℕ) → IsUtf8 s → t1 ≡ t0 ++ 34 ∷ [] → t2 ≡ t1 ++ escape s → t3 ≡ t2 ++ 34 ∷ [] → Appends (string s) t0 t3
 text_written s t0 t1 t2 t3 utf8 h1 h2 h3 = record {
@@ -217,6 +230,42 @@ object_of_three k l s m d f t0 t1 t2 t3 t4 t5 order n o q p h1 h2 h3 h4 h5 =
 pub object_named : (k : List ℕ) (d : Data) (t0 t1 t2 t3 t4 t5 : List ℕ) → t1 ≡ t0 ++ 123 ∷ [] → Appends (string k) t1 t2 → t3 ≡ t2 ++ 58 ∷ [] → Appends d t3 t4 → t5 ≡ t4 ++ 125 ∷ []
     → Appends (object (member k d no_members)) t0 t5
 object_named k d t0 t1 t2 t3 t4 t5 h1 h2 h3 h4 h5 = record { text = rw (h5, h4.text, h3, h2.text, h1) (simp append_assoc refl); reads = read_one k d h2.reads.utf8 h4.reads }
+
+-- the text of an object of two members, before another text
+object_text_of_two : (k l : List ℕ) (d e : Data) (rest : List ℕ) → IsName k → IsName l
+    → 123 ∷ named k (compact_text d ++ 44 ∷ named l (compact_text e ++ 125 ∷ rest)) ≡ compact_text (object (member k d (member l e no_members))) ++ rest
+object_text_of_two k l d e rest n o =
+    ap (λ t. 123 ∷ named k (compact_text d ++ 44 ∷ t)) (name_text l (compact_text e ++ 125 ∷ rest) o)
+    ∙ ap (λ t. 123 ∷ t) (name_text k (compact_text d ++ 44 ∷ (quoted l ++ 58 ∷ (compact_text e ++ 125 ∷ rest))) n)
+    ∙ simp append_assoc refl
+
+-- ---- positions and ranges
+
+count_read : (n : ℕ) → n < 2 ^ 64 → IsReadBack (number (unsigned n))
+count_read n fits = record { reads = ap (option_map number) (number_of-decimal n fits); numbers = IsNumber-decimal n fits; utf8 = IsUtf8-from_ascii _ (IsAscii-decimal n fits) }
+
+pub position_read : (p : Position) → p.character < 2 ^ 64 → p.line < 2 ^ 64 → IsReadBack (position_value p)
+position_read p fits fit =
+    read_two (codes "character") (codes "line") (number (unsigned p.character)) (number (unsigned p.line)) refl (name (codes "character") refl refl).utf8 (name (codes "line") refl refl).utf8
+    (count_read p.character fits) (count_read p.line fit)
+
+-- a position's text, put together from its end on before another text
+pub position_written : (p : Position) (t0 t1 t2 t3 t4 t5 : List ℕ) → t1 ≡ (125 ∷ []) ++ t0 → t2 ≡ decimal p.line ++ t1 → t3 ≡ (44 ∷ named (codes "line") []) ++ t2 → t4 ≡ decimal p.character ++ t3
+    → t5 ≡ (123 ∷ named (codes "character") []) ++ t4 → t5 ≡ compact_text (position_value p) ++ t0
+position_written p t0 t1 t2 t3 t4 t5 h1 h2 h3 h4 h5 =
+    rw (h5, h4, h3, h2, h1) (object_text_of_two (codes "character") (codes "line") (number (unsigned p.character)) (number (unsigned p.line)) t0 (name (codes "character") refl refl) (name (codes "line") refl refl))
+
+-- a range's text, put together from its end on, stands behind another
+pub range_written : (start end : Position) (old new t0 t1 t2 t3 t4 t5 : List ℕ) → IsReadBack (position_value start) → IsReadBack (position_value end) → t0 ≡ [] → t1 ≡ (125 ∷ []) ++ t0
+    → t2 ≡ compact_text (position_value start) ++ t1 → t3 ≡ (44 ∷ named (codes "start") []) ++ t2 → t4 ≡ compact_text (position_value end) ++ t3 → t5 ≡ (123 ∷ named (codes "end") []) ++ t4
+    → new ≡ old ++ t5 → Appends (range_value start end) old new
+range_written start end old new t0 t1 t2 t3 t4 t5 r q none h1 h2 h3 h4 h5 is =
+    let all : t5 ≡ compact_text (range_value start end) ++ [] =
+    rw (h5, h4, h3, h2, h1, none) (object_text_of_two (codes "end") (codes "start") (position_value end) (position_value start) [] (name (codes "end") refl refl) (name (codes "start") refl refl)) in
+    record {
+      text = is ∙ ap (λ t. old ++ t) (all ∙ append-nil _);
+      reads = read_two (codes "end") (codes "start") (position_value end) (position_value start) refl (name (codes "end") refl refl).utf8 (name (codes "start") refl refl).utf8 q r;
+    }
 
 -- ---- lists
 

@@ -1,7 +1,8 @@
 -- The messages that are written, as JSON values. Members stand in byte order of their names.
 use Rattle.std.specs.Prelude.{ℕ, ℤ, List, codes}
-use Rattle.serde_json.specs.Data.{Data, number, string, object, member, no_members}
+use Rattle.serde_json.specs.Data.{Data, number, string, object, unsigned, member, no_members}
 use Rattle.serde_json.specs.Find.{of_integer}
+use Rattle.ob0_text.specs.declared.positions.Position.{Position}
 
 abbrev pub text : List ℕ → Data
 text = string
@@ -27,3 +28,11 @@ error_message id code said = object (member (codes "error") (error_value code sa
 -- {"jsonrpc":"2.0","method":M,"params":P}
 abbrev pub notification_message : List ℕ → Data → Data
 notification_message method params = object (member (codes "jsonrpc") json_rpc (member (codes "method") (text method) (member (codes "params") params no_members)))
+
+-- {"character":c,"line":l}
+abbrev pub position_value : Position → Data
+position_value p = object (member (codes "character") (number (unsigned p.character)) (member (codes "line") (number (unsigned p.line)) no_members))
+
+-- {"end":P,"start":P}
+abbrev pub range_value : Position → Position → Data
+range_value start end = object (member (codes "end") (position_value end) (member (codes "start") (position_value start) no_members))

@@ -9,6 +9,7 @@ mod incoming;
 mod members;
 mod notes;
 mod outgoing;
+mod ranges;
 mod writing;
 
 pub use calls::{Call, Place, request};
@@ -16,6 +17,7 @@ pub use clients::Client;
 pub use incoming::{Id, Incoming, RpcFault, read};
 pub use notes::{Note, notice};
 pub use outgoing::{error, notification, result};
+pub use ranges::write_range;
 pub use writing::{
     Written, result_of, write_comma, write_count, write_integer, write_piece, write_text,
 };

@@ -1,5 +1,5 @@
 //! Answers that are written as text, part after part, with no `Value` of them in between.
-ghost use Rattle.std.specs.Prelude.{◌≡◌, ◌<◌, ◌++◌, IfOk, OnOk};
+ghost use Rattle.std.specs.Prelude.{◌≡◌, ◌<◌, ◌++◌, true, IfOk, OnOk};
 ghost use Rattle.std.specs.Char.{digit_char};
 ghost use Rattle.json.specs.Print.{escape, escape_byte, escape_letter};
 ghost use Rattle.serde_json.specs.Data.{Data, number, string, unsigned};
@@ -79,6 +79,27 @@ pub fn write_text(out: &mut Vec<u8>, text: &str) -> Result<(), AllocError>
 }
 
 fn write_escaped(out: &mut Vec<u8>, text: &[u8]) -> Result<(), AllocError>
+    ensures { OnOk result (out.new.items ≡ out.old.items ++ escape text.now) }
+{
+    if is_plain(text) {
+        return write_piece(out, text);
+    }
+    write_each_byte(out, text)
+}
+
+/// Whether no byte of a text has an escape.
+fn is_plain(text: &[u8]) -> bool
+    ensures plain { result ≡ true → escape text.now ≡ text.now }
+{
+    for byte in text {
+        if *byte < 32 || *byte == b'"' || *byte == b'\\' {
+            return false;
+        }
+    }
+    true
+}
+
+fn write_each_byte(out: &mut Vec<u8>, text: &[u8]) -> Result<(), AllocError>
     ensures { OnOk result (out.new.items ≡ out.old.items ++ escape text.now) }
 {
     for byte in text {

@@ -3,12 +3,13 @@
 ghost use Rattle.std.specs.Prelude.{negsuc};
 ghost use Rattle.serde_json.specs.Data.{number, string, unsigned};
 ghost use Rattle.serde_json.specs.Find.{of_integer};
+ghost use Rattle.ob0_rpc.specs.Shapes.{range_value};
 
 use ob0_rpc::{
     Call, Client, Id, Incoming, RpcFault, Written, error, notification, read, request, result,
-    result_of, write_count, write_integer, write_text,
+    result_of, write_count, write_integer, write_range, write_text,
 };
-use ob0_text::Indent;
+use ob0_text::{Indent, Position};
 use serde_json::Value;
 use std::alloc::{AllocError, Global};
 use std::process::Abort;
@@ -320,6 +321,46 @@ impl Written for Least {
     fn write(&self, out: &mut Vec<u8>) -> Result<(), AllocError> {
         write_integer(out, -9223372036854775808)
     }
+}
+
+/// A range that is written as it is.
+#[derive(Drop)]
+struct Reached {
+    start: Position,
+    end: Position,
+}
+
+impl Written for Reached {
+    ghost value = { λ reached. range_value reached.start reached.end };
+
+    fn write(&self, out: &mut Vec<u8>) -> Result<(), AllocError> {
+        write_range(out, self.start, self.end)
+    }
+}
+
+fn position(line: u64, character: u64) -> Position {
+    Position { line, character }
+}
+
+#[test]
+fn ranges_are_written_as_text(rt: HostRuntime) {
+    let reached = Reached {
+        start: position(0, 9),
+        end: position(10, 12345),
+    };
+    let answer = result_of(rt.alloc(), &Id::Signed(1), &reached);
+    let wanted =
+        "{\"id\":1,\"jsonrpc\":\"2.0\",\"result\":{\"end\":{\"character\":12345,\"line\":10},\"start\":{\"character\":9,\"line\":0}}}";
+    assert!(rt; is_written(answer, wanted));
+    let most = position(u64::MAX, u64::MAX);
+    let reached = Reached {
+        start: most,
+        end: most,
+    };
+    let answer = result_of(rt.alloc(), &Id::Signed(1), &reached);
+    let wanted =
+        "{\"id\":1,\"jsonrpc\":\"2.0\",\"result\":{\"end\":{\"character\":18446744073709551615,\"line\":18446744073709551615},\"start\":{\"character\":18446744073709551615,\"line\":18446744073709551615}}}";
+    assert!(rt; is_written(answer, wanted));
 }
 
 #[test]

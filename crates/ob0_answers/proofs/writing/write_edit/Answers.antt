@@ -1,7 +1,7 @@
 use Rattle.std.proofs.Common.{codes, refl, string_bytes}
 use Rattle.std.proofs.lemmas.Result.{on_ok_weaker}
 use Rattle.serde_json.specs.Data.{string}
-use Rattle.ob0_answers.specs.Shapes.{range_value}
+use Rattle.ob0_rpc.specs.Shapes.{range_value}
 use Rattle.ob0_rpc.proofs.Appending.{name, object_of_two}
 use Rattle.ob0_answers.proofs.writing.write_edit.Goals as goal
 
