@@ -48,7 +48,6 @@ def scan(text):
         space = re.compile(r"[ \t\r\n]+").match(text, at)
         word = re.compile(r"[A-Za-z][A-Za-z0-9]*").match(text, at)
         digits = re.compile(r"[0-9]+").match(text, at)
-        symbol = next((it for it in SYMBOLS if text.startswith(it, at)), None)
         if space:
             at = space.end()
         elif text.startswith("(*", at):
@@ -69,7 +68,7 @@ def scan(text):
                 faults.append(("NumberTooLarge", at, digits.end()))
             found.append(Token("integer", digits[0], at))
             at = whole.end()
-        elif symbol:
+        elif symbol := next((it for it in SYMBOLS if text.startswith(it, at)), None):
             found.append(Token(symbol, symbol, at))
             at += len(symbol)
         else:
