@@ -1,9 +1,9 @@
 """Well-typed modules whose runs show where each value stands: few variables, of arrays and records within one another, passed
-by value and by VAR, copied whole and in part, read and written by procedures within procedures."""
+by value and by VAR, copied whole and in part, changed under an index that is used again, and seen by procedures within
+procedures that call one another anew. Nearly all is written in the end. `fuel` ends recursions, `i` and `j` are indexes."""
 import random
 
-NUMBERS = ["0", "1", "1", "2", "3", "7", "100", "2147483647"]
-SCALARS = ("INTEGER", "BOOLEAN")
+NUMBERS = ["0", "1", "2", "3", "5", "(-1)", "(-4)", "(-7)", "2147483647"]
 
 
 class Type:
@@ -13,120 +13,133 @@ class Type:
         self.name, self.count, self.element, self.fields = name, count, element, fields
 
     def parts(self):
-        """The types of its parts, with the selector that leads to one."""
+        """The selectors of its parts, with the types of these; [] is an element."""
         return [("[]", self.element)] * bool(self.element) + [(f".{name}", it) for name, it in self.fields]
 
     def holds(self, wanted):
         return self is wanted or any(it.holds(wanted) for _, it in self.parts())
 
 
-INTEGER, BOOLEAN = map(Type, SCALARS)
+INTEGER, BOOLEAN = Type("INTEGER"), Type("BOOLEAN")
+SCALARS = (INTEGER, BOOLEAN)
 
 
 class Maker:
     def __init__(self, seed):
         self.chance = random.Random(f"aliases {seed}")
-        self.types, self.made = [INTEGER, BOOLEAN], 0
+        self.types, self.made = [*SCALARS], 0
 
     def fresh(self, letter):
         self.made += 1
         return f"{letter}{self.made}"
 
+    def pick(self, *ways):
+        """One of some ways, each given with its weight."""
+        return self.chance.choices([it for _, it in ways], [it for it, _ in ways])[0]
+
     def declared_types(self):
-        """Some named types, each of those before it."""
+        """Some named types, each made of those before it."""
         found = ""
         for _ in range(2 + self.chance.randrange(3)):
             name = self.fresh("T")
-            if self.chance.random() < 0.5:
-                made = Type(name, 1 + self.chance.randrange(3), self.chance.choice(self.types))
+            parts = [it for it in self.types if it is not BOOLEAN or self.chance.random() < 0.4]
+            if self.chance.random() < 0.6:
+                made = Type(name, 2 + self.chance.randrange(2), self.chance.choice(parts))
                 found += f" {name} = ARRAY {made.count} OF {made.element.name};"
             else:
-                made = Type(name, fields=[(it, self.chance.choice(self.types)) for it in "fgh"[: 1 + self.chance.randrange(3)]])
+                made = Type(name, fields=[(it, self.chance.choice(parts)) for it in "fgh"[: 1 + self.chance.randrange(3)]])
                 found += f" {name} = RECORD {'; '.join(f'{field}: {it.name}' for field, it in made.fields)} END;"
             self.types.append(made)
         return f"TYPE{found}\n"
 
+    # Expressions and places
+
     def index(self, scope, count, depth):
-        """An index, mostly one that is in the array."""
-        way = self.chance.random()
-        if way < 0.55 or depth > 1:
-            return str(self.chance.randrange(count))
-        if way < 0.95:
-            return f"{self.place(scope, INTEGER, depth + 1)} MOD {count}"
-        return self.chance.choice([self.place(scope, INTEGER, depth + 1), str(count), "-1"])
+        """An index that is nearly always in its array."""
+        if depth > 1:
+            return f"{self.chance.choice('ij')} MOD {count}"
+        some = lambda: self.place(scope, INTEGER, depth + 1)
+        ways = (30, lambda: str(self.chance.randrange(count))), (50, lambda: f"{self.chance.choice('ij')} MOD {count}"), (18, lambda: f"{some()} MOD {count}")
+        return self.pick(*ways, (1, some), (1, lambda: self.chance.choice([str(count), "-1"])))()
 
     def place(self, scope, wanted, depth=0):
         """A designator of a type that some variable holds."""
-        name, type_ = self.chance.choice([it for it in scope["variables"] if it[1].holds(wanted)])
-        while type_ is not wanted or (type_.parts() and self.chance.random() < 0.1 and any(it.holds(wanted) for _, it in type_.parts())):
-            selector, type_, count = *self.chance.choice([it for it in type_.parts() if it[1].holds(wanted)]), type_.count
-            name += f"[{self.index(scope, count, depth)}]" if selector == "[]" else selector
+        found = [it for it in scope["variables"] if it[1].holds(wanted)]
+        name, type_ = self.chance.choice(found[-4:] if self.chance.random() < 0.6 else found)
+        while type_ is not wanted:
+            selector, part = self.chance.choice([it for it in type_.parts() if it[1].holds(wanted)])
+            name += f"[{self.index(scope, type_.count, depth)}]" if selector == "[]" else selector
+            type_ = part
         return name
 
     def integer(self, scope, depth=0):
-        way = self.chance.random()
-        if way < 0.3 or depth > 2:
-            return self.chance.choice(NUMBERS)
-        if way < 0.75:
-            return self.place(scope, INTEGER, depth)
-        if way < 0.8:
-            return f"(-{self.integer(scope, depth + 1)})"
-        left, right = self.integer(scope, depth + 1), self.integer(scope, depth + 1)
-        operator = self.chance.choice(["+", "+", "-", "-", "*", "DIV", "MOD"])
-        if operator in ("DIV", "MOD") and self.chance.random() < 0.9:
-            right = self.chance.choice(["2", "3", "10"])
-        return f"({left} {operator} {right})"
+        some = lambda: self.integer(scope, depth + 1)
+        number, place = lambda: self.chance.choice(NUMBERS[:8]), lambda: self.place(scope, INTEGER)
+        if depth > 1:
+            return self.pick((1, number), (2, place))()
+        added = lambda: f"({some()} {self.chance.choice('+-')} {some()})"
+        divided = lambda: f"({some()} {self.chance.choice(['DIV', 'MOD'])} {self.chance.choice('234')})"
+        any_ = lambda: f"({some()} {self.chance.choice(['*', 'DIV', 'MOD'])} {self.chance.choice([*NUMBERS, some()])})"
+        return self.pick((20, number), (45, place), (15, added), (18, divided), (2, any_))()
 
     def truth(self, scope, depth=0):
-        way = self.chance.random()
-        if way < 0.3:
-            return self.place(scope, BOOLEAN, depth) if any(it[1].holds(BOOLEAN) for it in scope["variables"]) else "TRUE"
-        if way < 0.4 and depth < 2:
-            return f"~{self.truth(scope, depth + 1)}"
-        if way < 0.55 and depth < 2:
-            return f"({self.truth(scope, depth + 1)} {self.chance.choice(['&', 'OR', '=', '#'])} {self.truth(scope, depth + 1)})"
-        return f"({self.integer(scope, 1)} {self.chance.choice(['=', '#', '<', '<=', '>', '>='])} {self.integer(scope, 1)})"
+        some = lambda: self.truth(scope, depth + 1)
+        related = lambda: f"({self.integer(scope, 1)} {self.chance.choice(['=', '#', '<', '<=', '>', '>='])} {self.integer(scope, 1)})"
+        if depth > 1:
+            return related()
+        joined = lambda: f"({some()} {self.chance.choice(['&', 'OR', '=', '#'])} {some()})"
+        return self.pick((5, related), (3, lambda: self.place(scope, BOOLEAN)), (1, lambda: "~" + some()), (2, joined))()
 
     def value(self, scope, type_):
-        """An expression of a type, which some variable holds where it is an array or a record."""
-        if type_ is INTEGER:
-            return self.integer(scope)
-        if type_ is BOOLEAN:
-            return self.truth(scope)
-        found = self.place(scope, type_)
-        return f"({found})" if self.chance.random() < 0.1 else found
+        """An expression of a type."""
+        make = {INTEGER: self.integer, BOOLEAN: self.truth}.get(type_)
+        found = make(scope) if make else self.place(scope, type_)
+        return f"({found})" if self.chance.random() < 0.05 else found
 
-    def held(self, scope):
-        """A type that some variable holds."""
-        return self.chance.choice([it for it in self.types for _, of in scope["variables"] if of.holds(it)])
+    # Statements
 
-    def call(self, scope):
-        names = [it for it in scope["procedures"] if all(any(of.holds(type_) for _, of in scope["variables"]) for _, type_, by_place in it[1] if by_place or type_.parts())]
-        if not names:
-            return "WriteLn"
-        name, formals = self.chance.choice(names[-4:])
-        arguments = [self.place(scope, type_) if by_place else self.value(scope, type_) for _, type_, by_place in formals]
-        return f"{name}({', '.join(arguments)})" if arguments else name
+    def assigned(self, scope, _depth):
+        type_ = self.chance.choice([it for it in self.types for _, of in scope["variables"] if of.holds(it)])
+        return f"{self.place(scope, type_)} := {self.value(scope, type_)}"
+
+    def moved(self, _scope, _depth):
+        """Another index."""
+        name = self.chance.choice("ij")
+        return f"{name} := {self.chance.choice([f'{name} + 1', '0', '1', '2'])}"
+
+    def called(self, scope, _depth):
+        """A call; of a procedure that is running, most often, only while there is fuel."""
+        if not scope["procedures"]:
+            return self.moved(scope, 0)
+        name, formals = self.chance.choice(scope["procedures"][-5:])
+        arguments = [self.place(scope, it) if by_place else self.value(scope, it) for _, it, by_place in formals]
+        found = name + (f"({', '.join(arguments)})" if arguments else "")
+        if name not in scope["running"]:
+            return found
+        return f"IF fuel > 0 THEN fuel := fuel - 1; {found} END" if self.chance.random() < 0.97 else found
+
+    def branched(self, scope, depth):
+        body = lambda: self.body(scope, depth + 1)
+        other = f" ELSIF {self.truth(scope)} THEN {body()}" if self.chance.random() < 0.3 else ""
+        return f"IF {self.truth(scope)} THEN {body()}{other} ELSE {body()} END"
+
+    def repeated(self, scope, depth):
+        """A loop: its variable, declared in each block, ends it most often."""
+        body, count, name = self.body(scope, depth + 1), self.chance.randrange(4), scope["counter"]
+        ends = self.chance.random() < 0.1
+        if self.chance.random() < 0.5:
+            return f"{name} := 0; WHILE {self.truth(scope) if ends else f'{name} < {count}'} DO {body}; {name} := {name} + 1 END"
+        return f"{name} := 0; REPEAT {body}; {name} := {name} + 1 UNTIL {self.truth(scope) if ends else f'{name} >= {count}'}"
 
     def statement(self, scope, depth):
-        way = self.chance.random()
-        if way < 0.35:
-            type_ = self.held(scope)
-            return f"{self.place(scope, type_)} := {self.value(scope, type_)}"
-        if way < 0.55:
-            return f"Write({self.integer(scope)})"
-        if way < 0.78 or depth > 1:
-            return self.call(scope)
-        if way < 0.82:
-            return f"Read({self.place(scope, INTEGER)})"
-        body = self.body(scope, depth + 1)
-        if way < 0.9:
-            other = f" ELSIF {self.truth(scope)} THEN {self.body(scope, depth + 1)}" if self.chance.random() < 0.3 else ""
-            return f"IF {self.truth(scope)} THEN {body}{other} ELSE {self.body(scope, depth + 1)} END"
-        return f"WHILE {self.truth(scope)} DO {body} END" if way < 0.95 else f"REPEAT {body} UNTIL {self.truth(scope)}"
+        written = lambda *_: f"Write({self.integer(scope)})"
+        read = lambda *_: f"Read({self.place(scope, INTEGER)})"
+        ways = (40, self.assigned), (25, self.called), (12, self.moved), (10, written), (3, read)
+        nested = () if depth > 1 else ((6, self.branched), (6, self.repeated))
+        return self.pick(*ways, *nested)(scope, depth)
 
     def body(self, scope, depth=0):
-        return "; ".join(self.statement(scope, depth) for _ in range(1 + self.chance.randrange(6 - 2 * depth)))
+        return "; ".join(self.statement(scope, depth) for _ in range(1 + self.chance.randrange(5 - 2 * depth)))
 
     def told(self, name, type_):
         """Statements that write all of a variable."""
@@ -137,29 +150,40 @@ class Maker:
         selectors = [(f"[{at}]", type_.element) for at in range(type_.count)] or type_.parts()
         return [it for selector, part in selectors for it in self.told(name + selector, part)]
 
-    def block(self, scope, formals, depth):
-        """Declarations and statements behind a heading; what was declared is written at the end."""
-        own = [(self.fresh("v"), self.chance.choice(self.types)) for _ in range(1 + self.chance.randrange(2 if depth else 4))]
-        own += [] if depth else [(self.fresh("v"), it) for it in self.types[:3]]
-        inner = {"variables": [*scope["variables"], *own, *formals], "procedures": list(scope["procedures"])}
-        procedures = "".join(self.procedure(inner, depth + 1) for _ in range(self.chance.randrange(*[(2, 4), (0, 2), (0, 2), (0, 1)][depth])))
-        first = [f"{self.place(inner, INTEGER)} := {self.chance.choice(NUMBERS[1:7])}" for _ in range(3)] + [self.call(inner)] if not depth else []
+    def filled(self, variables):
+        """Statements that give another number to each integer in some variables."""
+        places = [it[len("Write(") : -1] for name, of in variables for it in self.told(name, of) if it.startswith("Write")]
+        return [f"{name} := {at}" for at, name in enumerate(places[:24], 11)]
+
+    # Blocks
+
+    def block(self, scope, formals, first, depth):
+        """Declarations and statements behind a heading; some of what was declared is written at the end."""
+        own = [(self.fresh("v"), self.chance.choice(self.types)) for _ in range(1 + self.chance.randrange(2))]
+        own += [] if depth else [(self.fresh("v"), it) for it in self.types]
+        scope = {**scope, "variables": [*scope["variables"], *own, *formals], "procedures": list(scope["procedures"]), "counter": self.fresh("k")}
+        inside = "".join(self.procedure(scope, depth + 1) for _ in range(self.chance.randrange(*[(1, 4), (0, 3), (0, 2), (0, 1)][depth])))
+        if not depth:
+            first += self.filled(own) + [self.called(scope, 0) for _ in range(4)]
         end = [it for name, of in [*own, *formals] for it in self.told(name, of)]
-        found = "".join(f" {name}: {of.name};" for name, of in own)
-        return f"VAR{found}\n{procedures}BEGIN\n  {'; '.join([*first, self.body(inner)])};\n  {'; '.join(end[:12])}; WriteLn\n"
+        end = self.chance.sample(end, min(len(end), 8)) if depth else end
+        declared = "".join(f" {name}: {of.name};" for name, of in own) + f" {scope['counter']}{'' if depth else ', fuel, i, j'}: INTEGER;"
+        return f"VAR{declared}\n{inside}BEGIN\n  {'; '.join([*first, self.body(scope)])};\n  {'; '.join(end)}; WriteLn\n"
 
     def procedure(self, scope, depth):
+        """A procedure, which those within it and behind it may call, and itself."""
         name = self.fresh("p")
-        formals = [(self.fresh("n"), self.chance.choice(self.types), self.chance.random() < 0.5) for _ in range(self.chance.randrange(4))]
-        seen = scope if self.chance.random() < 0.3 else {**scope, "procedures": list(scope["procedures"])}
+        formals = [(self.fresh("n"), self.chance.choice(self.types), self.chance.random() < 0.6) for _ in range(self.chance.randrange(4))]
         scope["procedures"].append((name, formals))
         heading = "; ".join(f"{'VAR ' if by_place else ''}{formal}: {of.name}" for formal, of, by_place in formals)
-        block = self.block(seen, [it[:2] for it in formals], depth)
+        inner = {**scope, "running": [*scope["running"], name]}
+        block = self.block(inner, [it[:2] for it in formals], [], depth)
         return f"PROCEDURE {name}{f'({heading})' if heading else ''};\n{block}END {name};\n"
 
     def module(self):
-        types = self.declared_types()
-        return f"MODULE M;\n{types}{self.block({'variables': [], 'procedures': []}, [], 0)}END M.\n"
+        types, scope = self.declared_types(), {"variables": [], "procedures": [], "running": []}
+        first = [f"fuel := {self.chance.randrange(7)}", f"i := {self.chance.randrange(3)}", f"j := {self.chance.randrange(3)}"]
+        return f"MODULE M;\n{types}{self.block(scope, [], first, 0)}END M.\n"
 
 
 def module(seed):

@@ -724,8 +724,7 @@ class Run:
 
     def statement(self, node, frame):
         if node.kind == "assign":
-            holder, key = self.place(node.target, frame)
-            holder[key] = copy.deepcopy(self.value(node.right, frame))
+            put(*self.place(node.target, frame), copy.deepcopy(self.value(node.right, frame)))
         elif node.kind == "call":
             self.call(node, frame)
         elif node.kind == "IF":
@@ -815,6 +814,15 @@ class Run:
             return left
         right = self.value(node.right, frame)
         return right if node.operator in ("&", "OR") else apply(node.operator, left, right)
+
+
+def put(holder, key, value):
+    """Gives a place another value. Of an array or a record each part stays where it is, as other places lead to it."""
+    if isinstance(value, (list, dict)):
+        for it in value if isinstance(value, dict) else range(len(value)):
+            put(holder[key], it, value[it])
+    else:
+        holder[key] = value
 
 
 class Frame(dict):
