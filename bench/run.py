@@ -489,17 +489,27 @@ def ran():
             said(f"{name}: {command}", f"{beside.processor:.3f} s  ob0 takes {found.processor / beside.processor:.1f} times that; {agrees}")
 
 
-@measure("run: memory over 100,000 and 10,000,000 calls")
+def output_of(text, wanted):
+    """A run that has to write this number."""
+    found = on_file(["run"], text, times=1)
+    if found.status or found.out != b" %d\n" % wanted:
+        said("NOTE: another output was expected", f"status {found.status}, {found.out[:100]!r}")
+    return found
+
+
+@measure("run: memory by the calls that are made, and by those that are open at a time")
 def flat():
     import programs
 
-    few, many = (on_file(["run"], programs.calls(count), times=1) for count in (100000, 10000000))
-    for count, found, wanted in ((100000, few, b" 100000\n"), (10000000, many, b" 10000000\n")):
-        said(f"{count:,} calls", f"{found.processor:.3f} s  {megabytes(found.memory)}")
-        if found.status or found.out != wanted:
-            said("NOTE: another output was expected", f"status {found.status}, {found.out[:100]!r}")
-    said("peak memory of the second, by the first", f"ratio {many.memory / few.memory:.3f}")
-    said("time of the second, by the first and by their calls", f"ratio {many.processor / few.processor / 100:.2f}")
+    counts = (1000, 1000000, 10000000)
+    few, many, most = (output_of(programs.calls(count), count) for count in counts)
+    for count, found in zip(counts, (few, many, most)):
+        said(f"{count:,} calls, one after the other", f"{found.processor:.3f} s  {megabytes(found.memory)}")
+    said("peak memory of the second and the third, by the first", f"ratio {many.memory / few.memory:.3f}, {most.memory / few.memory:.3f}")
+    said("time of the third, by the second and by their calls", f"ratio {most.processor / many.processor / 10:.2f}")
+    for depth, turns in ((1, 640), (8, 80), (64, 10), (64, 100)):
+        found = output_of(programs.open_calls(depth, turns), depth * turns)
+        said(f"{depth} open at a time, 64 KiB each, {depth * turns:,} in all", f"{found.processor:.3f} s  {megabytes(found.memory)}")
 
 
 def main(words):
