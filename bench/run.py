@@ -362,6 +362,8 @@ def asked(text, method, params, expected, count, **capabilities):
 
 
 USES = (("on many lines", False), ("on one line", True))
+# (uses in texts of 100 KB and of 1 MB: of a variable or a constant, and of a field)
+COUNTS, OF_A_FIELD = [17000, 170000], [12500, 125000]
 
 
 @measure("large: the largest that is taken, beside half of it")
@@ -382,19 +384,19 @@ def largest():
         said(f"{name}, {size:,}", f"{whole:7.3f} s, ratio {whole / half / 2:.2f}; {megabytes(high)}, of half of it {megabytes(low)}")
 
 
-@measure("questions: references of one name, 10,000 and 100,000")
+@measure("questions: references of one name, on 100 KB and 1 MB")
 def referred():
     ask = {"context": {"includeDeclaration": True}, "position": place(0, 18)}
     each = lambda text, size: asked(text, "references", ask, b'"uri":"file:///m"}', size + 1)
     for name, on_line in USES:
-        growth(f"references {name},", [10000, 100000], lambda size, on_line=on_line: corpus.uses(size, on_line), each)
+        growth(f"references {name},", COUNTS, lambda size, on_line=on_line: corpus.uses(size, on_line), each)
 
 
-@measure("rename: a name with 10,000 and 100,000 uses")
+@measure("rename: a name that is used all over 100 KB and 1 MB")
 def renamed():
     each = lambda text, size: asked(text, "rename", {"newName": "y", "position": place(0, 18)}, b'"newText":"y"', size + 1)
     for name, on_line in USES:
-        growth(f"rename {name},", [10000, 100000], lambda size, on_line=on_line: corpus.uses(size, on_line), each)
+        growth(f"rename {name},", COUNTS, lambda size, on_line=on_line: corpus.uses(size, on_line), each)
 
 
 @measure("rename: from the request to the end of its answer, on 1 MiB")
@@ -417,14 +419,14 @@ def rename_answered():
         whole(f"uses {name}", corpus.uses(most, on_line).ljust(MIB), 0, 18, "x", "y")
 
 
-@measure("rename: a field with 10,000 and 100,000 uses")
+@measure("rename: a field that is used all over 100 KB and 1 MB")
 def field_renamed():
     each = lambda text, size: asked(text, "rename", {"newName": "y", "position": place(0, 26)}, b'"newText":"y"', size + 1)
     for name, on_line in USES:
-        growth(f"rename of a field {name},", [10000, 100000], lambda size, on_line=on_line: corpus.fields(size, on_line), each)
+        growth(f"rename of a field {name},", OF_A_FIELD, lambda size, on_line=on_line: corpus.fields(size, on_line), each)
 
 
-@measure("inline: a constant with 10,000 and 100,000 uses")
+@measure("inline: a constant that is used all over 100 KB and 1 MB")
 def inlined():
     """At the declaration Inline everywhere is offered, at a use both actions are: the last one, at the text's end."""
     literals = {"textDocument": {"codeAction": {"codeActionLiteralSupport": {}}}}
@@ -438,8 +440,8 @@ def inlined():
     both = lambda text, size: asked(text, "codeAction", at(text, text.rindex("c")), b'"newText":"7"', size + 1, **literals)
     for name, on_line in USES:
         make = lambda size, on_line=on_line: corpus.constants(size, on_line)
-        growth(f"inline everywhere, {name},", [10000, 100000], make, everywhere)
-        growth(f"inline here and everywhere, {name},", [10000, 100000], make, both)
+        growth(f"inline everywhere, {name},", COUNTS, make, everywhere)
+        growth(f"inline here and everywhere, {name},", COUNTS, make, both)
 
 
 @measure("format: what a layout costs, from 100 KB to 1 MiB")
