@@ -106,7 +106,7 @@ class Timed:
             watcher.join()
             out.seek(0)
             self.out = out.read()
-            self.memory = max(peak[0], peak_of(words, file, cwd) if self.seconds < 0.1 else 0)
+            self.memory = max(peak[0], peak_of(words, file, cwd) if self.processor < 0.1 else 0)
 
 
 def best(count, run):

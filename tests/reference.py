@@ -39,16 +39,17 @@ def comment_end(text, at):
     return None
 
 
+SPACE, WORD, DIGITS, JOINED = map(re.compile, (r"[ \t\r\n]+", r"[A-Za-z][A-Za-z0-9]*", r"[0-9]+", r"[0-9][A-Za-z0-9]*"))
+SYMBOL = re.compile("|".join(map(re.escape, SYMBOLS)))
+
+
 def scan(text):
     """The lexemes that aren't white space, and the faults, triples of a code, a start and an end."""
     if len(text.encode()) > LIMIT:
         return [], [("TooLong", 0, 0)]
     found, faults, at = [], [], 0
     while at < len(text) and len(faults) < 100:
-        space = re.compile(r"[ \t\r\n]+").match(text, at)
-        word = re.compile(r"[A-Za-z][A-Za-z0-9]*").match(text, at)
-        digits = re.compile(r"[0-9]+").match(text, at)
-        if space:
+        if space := SPACE.match(text, at):
             at = space.end()
         elif text.startswith("(*", at):
             end = comment_end(text, at)
@@ -57,20 +58,20 @@ def scan(text):
                 break
             found.append(Token("comment", text[at:end], at))
             at = end
-        elif word:
+        elif word := WORD.match(text, at):
             found.append(Token(word[0] if word[0] in WORDS else "ident", word[0], at))
             at = word.end()
-        elif digits:
-            whole = re.compile(r"[0-9][A-Za-z0-9]*").match(text, at)
+        elif digits := DIGITS.match(text, at):
+            whole = JOINED.match(text, at)
             if whole.end() > digits.end():
                 faults.append(("NumberJoinsLetter", at, whole.end()))
             elif int(digits[0]) > MOST:
                 faults.append(("NumberTooLarge", at, digits.end()))
             found.append(Token("integer", digits[0], at))
             at = whole.end()
-        elif symbol := next((it for it in SYMBOLS if text.startswith(it, at)), None):
-            found.append(Token(symbol, symbol, at))
-            at += len(symbol)
+        elif symbol := SYMBOL.match(text, at):
+            found.append(Token(symbol[0], symbol[0], at))
+            at = symbol.end()
         else:
             faults.append(("BadChar", at, at + 1))
             at += 1
