@@ -7,7 +7,7 @@
 # and beside them:
 #   make editors           installs the editors and tools that the end-to-end tests want, by apt-get
 #   make end-to-end        the end-to-end tests alone, on bin/ob0
-#   make faults            what takes longer: memory refused at each allocation, and one long conversation; WORDS=".." names some
+#   make faults            what takes longer: memory refused at each allocation, one long conversation, many random runs; WORDS=".." names some
 #   make wrong-bodies      tries each crate's wrong bodies, all at once where that can be; CRATE="NAME.." names some
 #   make surface           the public functions, who uses them and their wrong bodies: docs/SURFACE.md
 #   make bench             times the program; nothing fails by time

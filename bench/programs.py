@@ -214,7 +214,7 @@ print(total)
 
 
 def calls(count):
-    """A program of Oberon-0 that makes so many calls (a multiple of 100,000), one after the other, and writes how many."""
+    """A program of Oberon-0 that makes so many calls (a multiple of 1,000), one after the other, and writes how many."""
     return f"""MODULE Many;
 VAR i, j, made: INTEGER;
 PROCEDURE Count(n: INTEGER; VAR made: INTEGER);
@@ -222,11 +222,26 @@ VAR before: INTEGER; room: ARRAY 8 OF INTEGER;
 BEGIN before := made; room[n MOD 8] := 1; made := before + room[n MOD 8] END Count;
 BEGIN
   i := 0;
-  WHILE i < {count // 100000} DO
+  WHILE i < {count // 1000} DO
     j := 0;
-    WHILE j < 100000 DO Count(j, made); j := j + 1 END;
+    WHILE j < 1000 DO Count(j, made); j := j + 1 END;
     i := i + 1
   END;
   Write(made); WriteLn
 END Many.
+"""
+
+
+def open_calls(depth, turns):
+    """A program that has so many calls open at a time, so often, each with 16,384 cells of its own, and writes how many it made."""
+    return f"""MODULE Deep;
+VAR i, made: INTEGER;
+PROCEDURE Down(n: INTEGER; VAR made: INTEGER);
+VAR room: ARRAY 16384 OF INTEGER;
+BEGIN room[n] := n; made := made + 1; IF n > 1 THEN Down(n - 1, made) END END Down;
+BEGIN
+  i := 0;
+  WHILE i < {turns} DO Down({depth}, made); i := i + 1 END;
+  Write(made); WriteLn
+END Deep.
 """

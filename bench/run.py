@@ -106,7 +106,7 @@ class Timed:
             watcher.join()
             out.seek(0)
             self.out = out.read()
-            self.memory = max(peak[0], peak_of(words, file, cwd) if self.seconds < 0.1 else 0)
+            self.memory = max(peak[0], peak_of(words, file, cwd) if self.processor < 0.1 else 0)
 
 
 def best(count, run):
@@ -362,6 +362,8 @@ def asked(text, method, params, expected, count, **capabilities):
 
 
 USES = (("on many lines", False), ("on one line", True))
+# (uses in texts of 100 KB and of 1 MB: of a variable or a constant, and of a field)
+COUNTS, OF_A_FIELD = [17000, 170000], [12500, 125000]
 
 
 @measure("large: the largest that is taken, beside half of it")
@@ -382,19 +384,19 @@ def largest():
         said(f"{name}, {size:,}", f"{whole:7.3f} s, ratio {whole / half / 2:.2f}; {megabytes(high)}, of half of it {megabytes(low)}")
 
 
-@measure("questions: references of one name, 10,000 and 100,000")
+@measure("questions: references of one name, on 100 KB and 1 MB")
 def referred():
     ask = {"context": {"includeDeclaration": True}, "position": place(0, 18)}
     each = lambda text, size: asked(text, "references", ask, b'"uri":"file:///m"}', size + 1)
     for name, on_line in USES:
-        growth(f"references {name},", [10000, 100000], lambda size, on_line=on_line: corpus.uses(size, on_line), each)
+        growth(f"references {name},", COUNTS, lambda size, on_line=on_line: corpus.uses(size, on_line), each)
 
 
-@measure("rename: a name with 10,000 and 100,000 uses")
+@measure("rename: a name that is used all over 100 KB and 1 MB")
 def renamed():
     each = lambda text, size: asked(text, "rename", {"newName": "y", "position": place(0, 18)}, b'"newText":"y"', size + 1)
     for name, on_line in USES:
-        growth(f"rename {name},", [10000, 100000], lambda size, on_line=on_line: corpus.uses(size, on_line), each)
+        growth(f"rename {name},", COUNTS, lambda size, on_line=on_line: corpus.uses(size, on_line), each)
 
 
 @measure("rename: from the request to the end of its answer, on 1 MiB")
@@ -417,14 +419,14 @@ def rename_answered():
         whole(f"uses {name}", corpus.uses(most, on_line).ljust(MIB), 0, 18, "x", "y")
 
 
-@measure("rename: a field with 10,000 and 100,000 uses")
+@measure("rename: a field that is used all over 100 KB and 1 MB")
 def field_renamed():
     each = lambda text, size: asked(text, "rename", {"newName": "y", "position": place(0, 26)}, b'"newText":"y"', size + 1)
     for name, on_line in USES:
-        growth(f"rename of a field {name},", [10000, 100000], lambda size, on_line=on_line: corpus.fields(size, on_line), each)
+        growth(f"rename of a field {name},", OF_A_FIELD, lambda size, on_line=on_line: corpus.fields(size, on_line), each)
 
 
-@measure("inline: a constant with 10,000 and 100,000 uses")
+@measure("inline: a constant that is used all over 100 KB and 1 MB")
 def inlined():
     """At the declaration Inline everywhere is offered, at a use both actions are: the last one, at the text's end."""
     literals = {"textDocument": {"codeAction": {"codeActionLiteralSupport": {}}}}
@@ -438,8 +440,8 @@ def inlined():
     both = lambda text, size: asked(text, "codeAction", at(text, text.rindex("c")), b'"newText":"7"', size + 1, **literals)
     for name, on_line in USES:
         make = lambda size, on_line=on_line: corpus.constants(size, on_line)
-        growth(f"inline everywhere, {name},", [10000, 100000], make, everywhere)
-        growth(f"inline here and everywhere, {name},", [10000, 100000], make, both)
+        growth(f"inline everywhere, {name},", COUNTS, make, everywhere)
+        growth(f"inline here and everywhere, {name},", COUNTS, make, both)
 
 
 @measure("format: what a layout costs, from 100 KB to 1 MiB")
@@ -489,17 +491,27 @@ def ran():
             said(f"{name}: {command}", f"{beside.processor:.3f} s  ob0 takes {found.processor / beside.processor:.1f} times that; {agrees}")
 
 
-@measure("run: memory over 100,000 and 10,000,000 calls")
+def output_of(text, wanted):
+    """A run that has to write this number."""
+    found = on_file(["run"], text, times=1)
+    if found.status or found.out != b" %d\n" % wanted:
+        said("NOTE: another output was expected", f"status {found.status}, {found.out[:100]!r}")
+    return found
+
+
+@measure("run: memory by the calls that are made, and by those that are open at a time")
 def flat():
     import programs
 
-    few, many = (on_file(["run"], programs.calls(count), times=1) for count in (100000, 10000000))
-    for count, found, wanted in ((100000, few, b" 100000\n"), (10000000, many, b" 10000000\n")):
-        said(f"{count:,} calls", f"{found.processor:.3f} s  {megabytes(found.memory)}")
-        if found.status or found.out != wanted:
-            said("NOTE: another output was expected", f"status {found.status}, {found.out[:100]!r}")
-    said("peak memory of the second, by the first", f"ratio {many.memory / few.memory:.3f}")
-    said("time of the second, by the first and by their calls", f"ratio {many.processor / few.processor / 100:.2f}")
+    counts = (1000, 1000000, 10000000)
+    few, many, most = (output_of(programs.calls(count), count) for count in counts)
+    for count, found in zip(counts, (few, many, most)):
+        said(f"{count:,} calls, one after the other", f"{found.processor:.3f} s  {megabytes(found.memory)}")
+    said("peak memory of the second and the third, by the first", f"ratio {many.memory / few.memory:.3f}, {most.memory / few.memory:.3f}")
+    said("time of the third, by the second and by their calls", f"ratio {most.processor / many.processor / 10:.2f}")
+    for depth, turns in ((1, 640), (8, 80), (64, 10), (64, 100)):
+        found = output_of(programs.open_calls(depth, turns), depth * turns)
+        said(f"{depth} open at a time, 64 KiB each, {depth * turns:,} in all", f"{found.processor:.3f} s  {megabytes(found.memory)}")
 
 
 def main(words):

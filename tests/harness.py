@@ -180,11 +180,11 @@ class Ended:
         return unframed(self.out)
 
 
-def run(words, given=b"", small_stack=False, cwd=None):
-    """Runs the program with these words on this standard input, all at once."""
+def run(words, given=b"", stack=None, cwd=None):
+    """Runs the program with these words on this standard input, all at once, under a stack of so many kilobytes."""
     words = [BINARY, *words]
-    if small_stack:
-        words = ["sh", "-c", 'ulimit -S -s 8192; exec "$@"', "sh", *words]
+    if stack:
+        words = ["sh", "-c", f'ulimit -S -s {stack}; exec "$@"', "sh", *words]
     how = {"stdin": subprocess.PIPE, "stdout": subprocess.PIPE, "stderr": subprocess.PIPE, "cwd": cwd}
     with subprocess.Popen(words, **how) as process:
         try:
@@ -365,12 +365,12 @@ MESSAGES = {
 }
 
 
-def on_file(command, text, *more, given=b"", name="m.mod", small_stack=False):
+def on_file(command, text, *more, given=b"", name="m.mod", stack=None):
     """Runs a command on a file with this text (or these bytes)."""
     with tempfile.TemporaryDirectory() as room:
         with open(os.path.join(room, name), "wb") as file:
             file.write(text if isinstance(text, bytes) else text.encode())
-        return run([command, name, *more], given, small_stack, cwd=room)
+        return run([command, name, *more], given, stack, cwd=room)
 
 
 def ends(found, out, status, err=""):

@@ -39,17 +39,17 @@ def comment_end(text, at):
     return None
 
 
+SPACE, WORD, DIGITS, JOINED = map(re.compile, (r"[ \t\r\n]+", r"[A-Za-z][A-Za-z0-9]*", r"[0-9]+", r"[0-9][A-Za-z0-9]*"))
+SYMBOL = re.compile("|".join(map(re.escape, SYMBOLS)))
+
+
 def scan(text):
     """The lexemes that aren't white space, and the faults, triples of a code, a start and an end."""
     if len(text.encode()) > LIMIT:
         return [], [("TooLong", 0, 0)]
     found, faults, at = [], [], 0
     while at < len(text) and len(faults) < 100:
-        space = re.compile(r"[ \t\r\n]+").match(text, at)
-        word = re.compile(r"[A-Za-z][A-Za-z0-9]*").match(text, at)
-        digits = re.compile(r"[0-9]+").match(text, at)
-        symbol = next((it for it in SYMBOLS if text.startswith(it, at)), None)
-        if space:
+        if space := SPACE.match(text, at):
             at = space.end()
         elif text.startswith("(*", at):
             end = comment_end(text, at)
@@ -58,20 +58,20 @@ def scan(text):
                 break
             found.append(Token("comment", text[at:end], at))
             at = end
-        elif word:
+        elif word := WORD.match(text, at):
             found.append(Token(word[0] if word[0] in WORDS else "ident", word[0], at))
             at = word.end()
-        elif digits:
-            whole = re.compile(r"[0-9][A-Za-z0-9]*").match(text, at)
+        elif digits := DIGITS.match(text, at):
+            whole = JOINED.match(text, at)
             if whole.end() > digits.end():
                 faults.append(("NumberJoinsLetter", at, whole.end()))
             elif int(digits[0]) > MOST:
                 faults.append(("NumberTooLarge", at, digits.end()))
             found.append(Token("integer", digits[0], at))
             at = whole.end()
-        elif symbol:
-            found.append(Token(symbol, symbol, at))
-            at += len(symbol)
+        elif symbol := SYMBOL.match(text, at):
+            found.append(Token(symbol[0], symbol[0], at))
+            at = symbol.end()
         else:
             faults.append(("BadChar", at, at + 1))
             at += 1
@@ -725,8 +725,7 @@ class Run:
 
     def statement(self, node, frame):
         if node.kind == "assign":
-            holder, key = self.place(node.target, frame)
-            holder[key] = copy.deepcopy(self.value(node.right, frame))
+            put(*self.place(node.target, frame), copy.deepcopy(self.value(node.right, frame)))
         elif node.kind == "call":
             self.call(node, frame)
         elif node.kind == "IF":
@@ -816,6 +815,15 @@ class Run:
             return left
         right = self.value(node.right, frame)
         return right if node.operator in ("&", "OR") else apply(node.operator, left, right)
+
+
+def put(holder, key, value):
+    """Gives a place another value. Of an array or a record each part stays where it is, as other places lead to it."""
+    if isinstance(value, (list, dict)):
+        for it in value if isinstance(value, dict) else range(len(value)):
+            put(holder[key], it, value[it])
+    else:
+        holder[key] = value
 
 
 class Frame(dict):

@@ -1,4 +1,4 @@
-"""The deepest texts through the built program under a stack of 8 MiB: no mix of constructs runs it out."""
+"""The deepest texts through the built program under a stack of 4 MiB: no mix of constructs runs it out."""
 import json
 import os
 import random
@@ -7,12 +7,13 @@ import nesting
 from harness import did_open, ends, frames, holds, initialize, on_file, place, same, serve, test, SHUTDOWN, EXIT
 
 MIXES = int(os.environ.get("OB0_MIXES", "400"))
+STACK = 4096  # kilobytes, half of what systems give
 
 
 def diagnosed(texts):
-    """What is told of each text by one server under the small stack."""
+    """What is told of each text by one server under this stack."""
     talk = frames([initialize(), *(did_open(it, version=at) for at, it in enumerate(texts)), SHUTDOWN, EXIT])
-    found = serve(talk, small_stack=True)
+    found = serve(talk, stack=STACK)
     same((found.err, found.status), (b"", 0), "the end")
     sent = [json.loads(it) for it in found.contents()]
     same(len(sent), len(texts) + 2, "the number of messages")
@@ -35,7 +36,7 @@ def texts(depth):
     return found
 
 
-@test("nesting: 100 of each construct and mixes of 100, under a stack of 8 MiB")
+@test("nesting: 100 of each construct and mixes of 100, under a stack of 4 MiB")
 def hundred():
     made = texts(100)
     for (name, (text, _)), found in zip(made.items(), diagnosed([text for text, _ in made.values()])):
@@ -49,7 +50,7 @@ def hundred_and_one():
         same(found, [told_too_deep(text, at)], f"{name}: {text}")
 
 
-@test("nesting: far past the limit, under a stack of 8 MiB")
+@test("nesting: far past the limit, under a stack of 4 MiB")
 def far():
     made = [nesting.of_one(it, 20000)[0] for it in nesting.REPEATED]
     for text, found in zip(made, diagnosed(made)):
@@ -65,21 +66,21 @@ def chosen():
     return found
 
 
-@test("nesting: 64 open calls, each inside 100 nested constructs, run under a stack of 8 MiB")
+@test("nesting: 64 open calls, each inside 100 nested constructs, run under a stack of 4 MiB")
 def calls():
     for name, choose in chosen().items():
         text, out = nesting.recursive(64, choose)
-        ends(on_file("run", text, small_stack=True), out, 0)
+        ends(on_file("run", text, stack=STACK), out, 0)
         same(len(out.split()), 65, f"the numbers that are written: {name}")
         text, out = nesting.recursive(65, choose)
-        ends(on_file("run", text, small_stack=True), out.rsplit(" ", 2)[0], 1, "fault: CallBound\n")
+        ends(on_file("run", text, stack=STACK), out.rsplit(" ", 2)[0], 1, "fault: CallBound\n")
 
 
-@test("nesting: 64 open calls of procedures inside one another, run under a stack of 8 MiB")
+@test("nesting: 64 open calls of procedures inside one another, run under a stack of 4 MiB")
 def inward():
     for choose in chosen().values():
         text, out = nesting.inward(64, choose)
-        ends(on_file("run", text, small_stack=True), out, 0)
+        ends(on_file("run", text, stack=STACK), out, 0)
 
 
 @test("nesting: calls inside 100 nested constructs are taken, inside 101 they are not")

@@ -1,11 +1,14 @@
 """The program against the language's second writing (reference.py), on random texts and runs.
 
 OB0_RANDOM is how many of each are tried, OB0_SEED where they begin."""
+import collections
+import concurrent.futures
 import os
 import random
 import re
 import sys
 
+import aliases
 import reference
 import reference_edits
 import reference_questions
@@ -145,18 +148,66 @@ def program(seed):
     return text, given, chance.choice([0, 1, 3, 8]), chance.choice([0, 1, 2, 5])
 
 
+def aliased(seed):
+    """A module of arrays and records that are copied and passed, with its input and bounds."""
+    chance = random.Random(f"run {seed}")
+    given = [chance.choice([0, 1, -1, 2, 5]) for _ in range(chance.randrange(12))]
+    return aliases.module(seed), given, chance.choice([0, 2, 4, 6, 9, 64, 64, 64]), chance.choice([0, 1, 2, 3, 20, 20])
+
+
+class Short(reference.Run):
+    """A run that is given up where it takes long."""
+
+    steps = 0
+
+    def statement(self, node, frame):
+        self.steps += 1
+        if self.steps > 20000:
+            raise reference.Ends(LONG)
+        return super().statement(node, frame)
+
+
+LONG = "given up"
+
+
+def run_of(make, seed):
+    """Holds a run to that by the second writing, and gives how it ends."""
+    text, given, calls, turns = make(seed)
+    found = Short(text, given, calls, turns)
+    if found.end == LONG:
+        return LONG
+    got = on_file("run", text, "--calls", str(calls), "--turns", str(turns), given=" ".join(map(str, given)).encode())
+    err = "" if found.end == "Done" else f"fault: {found.end}\n"
+    result = (found.output(), err, 1 if err else 0)
+    same((got.out.decode(), got.err.decode(), got.status), result, f"seed {seed}, input {given}, {calls} calls, {turns} turns, of\n{text}\n")
+    return found.end
+
+
+def counted(found):
+    """How often each end came, as a line."""
+    counts = collections.Counter(found)
+    return ", ".join(f"{name} {counts[name]:,}" for name in sorted(counts))
+
+
 @test("random: runs")
 def runs():
-    ends = {}
-    for seed in range(SEED, SEED + COUNT):
-        text, given, calls, turns = program(seed)
-        found = reference.Run(text, given, calls, turns)
-        got = on_file("run", text, "--calls", str(calls), "--turns", str(turns), given=" ".join(map(str, given)).encode())
-        err = "" if found.end == "Done" else f"fault: {found.end}\n"
-        result = (found.output(), err, 1 if err else 0)
-        same((got.out.decode(), got.err.decode(), got.status), result, f"seed {seed}, input {given}, {calls} calls, {turns} turns, of\n{text}\n")
-        ends[found.end] = ends.get(found.end, 0) + 1
-    print(f"    {ends}")
+    print("    " + counted(run_of(program, seed) for seed in range(SEED, SEED + COUNT)))
+
+
+@test("random: runs in which arrays and records are passed and copied")
+def aliased_runs():
+    print("    " + counted(run_of(aliased, seed) for seed in range(SEED, SEED + COUNT)))
+
+
+def of_either(seed):
+    return run_of(aliased if seed % 2 else program, seed)
+
+
+def many_runs(count, processes):
+    """So many runs, half of them with arrays and records that are passed and copied, by some processes. Returns a line with figures."""
+    with concurrent.futures.ProcessPoolExecutor(processes) as pool:
+        ends = list(pool.map(of_either, range(SEED, SEED + count), chunksize=50))
+    return f"{len(ends) - ends.count(LONG):,} runs, each as by the second writing: {counted(ends)}"
 
 
 def spread(found, edits):

@@ -1,12 +1,14 @@
 #!/usr/bin/env python3
 """What is done to the program beyond the end-to-end tests, since it takes long: memory refused at each allocation, of longer
-conversations and commands, and of the tests of the crates that are made for it (`a_refused_..`); one long conversation.
+conversations and commands, and of the tests of the crates that are made for it (`a_refused_..`); one long conversation; many
+random modules, run by the program and by the language's second writing.
 
   tools/faults.py [WORD..]   what has one of these words in its name; with no word all of it
 
 It runs bin/ob0 (or the program that the variable OB0 names) and the programs of tests that `make test` or `rt test` left in
-crates/NAME/out. OB0_LONG is how many messages the long conversation has (100,000), OB0_WALK about how many allocations of
-one test are refused (10,000): of more, each second, third and so on. The last line is 'N passed, M failed'."""
+crates/NAME/out. OB0_LONG is how many messages the long conversation has (100,000), OB0_RUNS how many random modules are
+run (20,000), OB0_WALK about how many allocations of one test are refused (10,000): of more, each second, third and so on. The
+last line is 'N passed, M failed'."""
 import os
 import subprocess
 import sys
@@ -22,11 +24,13 @@ import failing  # noqa: E402
 import harness  # noqa: E402
 import hostile  # noqa: E402
 import long_talk  # noqa: E402
+import test_random  # noqa: E402
 from harness import holds, same  # noqa: E402
 
 CRATES = ("ob0_tests_low", "ob0_tests_language", "ob0_tests_top")
 WALK = int(os.environ.get("OB0_WALK", "10000"))
 LONG = int(os.environ.get("OB0_LONG", "100000"))
+RUNS = int(os.environ.get("OB0_RUNS", "20000"))
 
 
 def tests_of(program):
@@ -85,6 +89,7 @@ def all_of_it():
         for test in tests_of(program):
             yield f"refused memory: {crate}, {test}", lambda program=program, test=test: walk(program, test)
     yield f"a long conversation: {LONG:,} messages", lambda: long_talk.converse(LONG)
+    yield f"random runs: {RUNS:,} modules", lambda: test_random.many_runs(RUNS, failing.PROCESSORS)
 
 
 def main(words):
