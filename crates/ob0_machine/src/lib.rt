@@ -9,6 +9,7 @@ pub mod level;
 pub mod machine;
 pub mod operators;
 pub mod passing;
+pub mod quick;
 pub mod running;
 pub mod statements;
 

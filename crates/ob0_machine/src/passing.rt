@@ -8,7 +8,7 @@ ghost use Rattle.ob0_machine.specs.View.{argument_of};
 
 use crate::code::Argument;
 use crate::ending::Stop;
-use crate::evaluating::{address, number, truth};
+use crate::evaluating::{located, truth, worth};
 use crate::level::Level;
 use crate::machine::push_block;
 use crate::operators::as_cell;
@@ -24,11 +24,11 @@ fn pass(
 {
     match argument {
         Argument::Place(place) => {
-            let a = address(place, level, cells.as_slice())?;
+            let a = located(place, level, cells.as_slice())?;
             addresses.push(a)?;
         }
         Argument::Number(n) => {
-            let a = number(n, level, cells.as_slice())?;
+            let a = worth(n, level, cells.as_slice())?;
             cells.push(a)?;
         }
         Argument::Truth(t) => {
@@ -36,7 +36,7 @@ fn pass(
             cells.push(as_cell(a))?;
         }
         Argument::Block(place, count) => {
-            let a = address(place, level, cells.as_slice())?;
+            let a = located(place, level, cells.as_slice())?;
             push_block(cells, a, *count)?;
         }
     }

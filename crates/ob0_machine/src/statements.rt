@@ -11,7 +11,7 @@ ghost use Rattle.ob0_machine.specs.View.{branches_in, call_of, number_of, place_
 
 use crate::code::{Call, If, Number, Place, Repeat, Statement, Truth, While};
 use crate::ending::{Ending, Stop};
-use crate::evaluating::{address, number, truth};
+use crate::evaluating::{located, truth, worth};
 use crate::level::{Level, outside};
 use crate::machine::{Item, Machine, copy, store};
 use crate::operators::as_cell;
@@ -27,8 +27,8 @@ fn store_number(
 ) -> Result<(), Ending>
     ensures { (enters : Calls) (t : ℕ) → moved result machine.new ≡ execute enters t (levels_of level.now) (lowered.stores_number (place_of place.now) (number_of n.now)) (state_of machine.old) }
 {
-    let a = address(place, level, machine.cells.as_slice())?;
-    let v = number(n, level, machine.cells.as_slice())?;
+    let a = located(place, level, machine.cells.as_slice())?;
+    let v = worth(n, level, machine.cells.as_slice())?;
     store(&mut machine.cells, a, v);
     Ok(())
 }
@@ -43,7 +43,7 @@ fn store_truth(
 ) -> Result<(), Ending>
     ensures { (enters : Calls) (turns : ℕ) → moved result machine.new ≡ execute enters turns (levels_of level.now) (lowered.stores_truth (place_of place.now) (truth_of t.now)) (state_of machine.old) }
 {
-    let a = address(place, level, machine.cells.as_slice())?;
+    let a = located(place, level, machine.cells.as_slice())?;
     let v = truth(t, level, machine.cells.as_slice())?;
     store(&mut machine.cells, a, as_cell(v));
     Ok(())
@@ -59,8 +59,8 @@ fn copy_block(
 ) -> Result<(), Ending>
     ensures { (enters : Calls) (t : ℕ) → moved result machine.new ≡ execute enters t (levels_of level.now) (lowered.copies (place_of to.now) (place_of from.now) count) (state_of machine.old) }
 {
-    let a = address(to, level, machine.cells.as_slice())?;
-    let b = address(from, level, machine.cells.as_slice())?;
+    let a = located(to, level, machine.cells.as_slice())?;
+    let b = located(from, level, machine.cells.as_slice())?;
     copy(&mut machine.cells, a, b, count);
     Ok(())
 }
@@ -69,7 +69,7 @@ fn copy_block(
 fn read(place: &Place, level: &Level<'_>, machine: &mut Machine<'_>) -> Result<(), Ending>
     ensures { (enters : Calls) (t : ℕ) → moved result machine.new ≡ execute enters t (levels_of level.now) (lowered.reads (place_of place.now)) (state_of machine.old) }
 {
-    let a = address(place, level, machine.cells.as_slice())?;
+    let a = located(place, level, machine.cells.as_slice())?;
     machine.read_number(a)
 }
 
@@ -77,7 +77,7 @@ fn read(place: &Place, level: &Level<'_>, machine: &mut Machine<'_>) -> Result<(
 fn write(n: &Number, level: &Level<'_>, machine: &mut Machine<'_>) -> Result<(), Stop>
     ensures { (enters : Calls) (t : ℕ) → Steps result machine.new (execute enters t (levels_of level.now) (lowered.writes (number_of n.now)) (state_of machine.old)) }
 {
-    let v = number(n, level, machine.cells.as_slice())?;
+    let v = worth(n, level, machine.cells.as_slice())?;
     machine.put_out(Item::Number(v))?;
     Ok(())
 }
