@@ -6,9 +6,10 @@ ghost use Rattle.ob0_machine.specs.Evaluation.{truth};
 ghost use Rattle.ob0_machine.specs.Execution.{Calls, execute};
 ghost use Rattle.ob0_machine.specs.Levels.{levels_of};
 ghost use Rattle.ob0_machine.specs.Lowered as lowered;
-ghost use Rattle.ob0_machine.specs.Machines.{Does, Steps, executed, executed_all, moved, state_of};
+ghost use Rattle.ob0_machine.specs.Machines.{Does, Steps, entering, executed, executed_all, moved, state_of};
 ghost use Rattle.ob0_machine.specs.View.{branches_in, call_of, number_of, place_of, repeat_of, sequence_of, statement_of, truth_of, while_of};
 
+use crate::addresses::Addresses;
 use crate::code::{Call, If, Number, Place, Repeat, Statement, Truth, While};
 use crate::ending::{Ending, Stop};
 use crate::evaluating::{located, truth, worth};
@@ -90,6 +91,27 @@ fn write_line(level: &Level<'_>, machine: &mut Machine<'_>) -> Result<(), Stop>
     Ok(())
 }
 
+/// Enters the procedure of a call, whose arguments are passed.
+#[inline(always)]
+fn go_in<F: Fn(&mut Machine<'_>, usize, &Level<'_>) -> Result<(), Stop>>(
+    c: &Call,
+    base: usize,
+    addresses: &[usize],
+    level: &Level<'_>,
+    machine: &mut Machine<'_>,
+    enter: &F,
+) -> Result<(), Stop>
+    requires { F.IsAlwaysCallable enter.now }
+    ensures { Does (F.post enter.now) result machine.old machine.new (entering c.now.procedure c.now.up (levels_of level.now) base addresses.now) }
+{
+    let entered = Level {
+        base,
+        addresses,
+        enclosing: outside(level, c.up),
+    };
+    enter(machine, c.procedure, &entered)
+}
+
 /// A call: its arguments are passed, then the procedure is entered.
 #[inline(never)]
 fn called<F: Fn(&mut Machine<'_>, usize, &Level<'_>) -> Result<(), Stop>>(
@@ -102,19 +124,20 @@ fn called<F: Fn(&mut Machine<'_>, usize, &Level<'_>) -> Result<(), Stop>>(
     ensures { (t : ℕ) → Does (F.post enter.now) result machine.old machine.new (executed t (levels_of level.now) (call_of c.now)) }
 {
     let base = machine.size();
-    let mut addresses = Vec::new(machine.alloc);
+    let mut addresses = Addresses::Empty;
     pass_all(
+        machine.alloc,
         c.arguments.as_slice(),
         level,
         &mut machine.cells,
         &mut addresses,
     )?;
-    let entered = Level {
-        base,
-        addresses: addresses.as_slice(),
-        enclosing: outside(level, c.up),
-    };
-    enter(machine, c.procedure, &entered)
+    match &addresses {
+        Addresses::Empty => go_in(c, base, &[], level, machine, enter),
+        Addresses::One(a) => go_in(c, base, &[*a], level, machine, enter),
+        Addresses::Two(a, b) => go_in(c, base, &[*a, *b], level, machine, enter),
+        Addresses::More(all) => go_in(c, base, all.as_slice(), level, machine, enter),
+    }
 }
 
 /// Whether a condition holds, now.
