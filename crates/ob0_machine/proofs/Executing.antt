@@ -19,7 +19,7 @@ use Rattle.ob0_machine.specs.Answers.{end_of}
 use Rattle.ob0_machine.specs.Evaluation.{Levels, Outcome, TurnBound, ends, gives, truth}
 use Rattle.ob0_machine.specs.Execution.{Calls, Progress, State, choose, entered, execute, execute_all, execute_branches, go_on, pass_all, running, stopped, turns, turns_until, use_in}
 use Rattle.ob0_machine.specs.Lowered as lowered
-use Rattle.ob0_machine.specs.Machines.{Does, Doing, Passes, Performs, Post, Steps, executed, executed_all, items_out, moved, passed_in, state_of}
+use Rattle.ob0_machine.specs.Machines.{Does, Doing, Passes, Performs, Post, Steps, executed, executed_all, entering, items_out, moved, passed_in, state_of}
 use Rattle.ob0_machine.specs.View.{all_branches, argument_of, branches_in, call_of, repeat_of, sequence_of, statement_of, truth_of, while_of}
 
 failed_then : (e : Stop) (m : Machine) (p : Progress) (k : State → Progress) → Steps (Err e) m p → Steps (Err e) m (go_on p k)
@@ -308,6 +308,10 @@ call_enters {m = m} {m' = m'} {r = r} cells addresses t ls inner c xs none empty
       ∙ ap (λ ls. enters c.procedure ls record (state_of m) { cells = cells }) (sym seen)))
       (done enters p);
 }
+
+pub enters_as : {post : Post} {m m' : Machine} {r : Result (Unit {0}) Stop} (k up base : ℕ) (addresses : List ℕ) (ls inner : Levels) → inner ≡ entered ls base up (passed_in m.cells.items addresses)
+    → ((enters : Calls) → Performs post enters → Steps r m' (enters k inner (state_of m))) → Does post r m m' (entering k up ls base addresses)
+enters_as {m = m} {m' = m'} {r = r} k up base addresses ls inner seen done = record { as_defined = λ enters p. subst (λ seen. Steps r m' (enters k seen (state_of m))) seen (done enters p) }
 
 -- the levels of an activation that is made
 behind : (o : _) → levels_behind (level.back-Level-enclosing o) ≡ levels_seen o

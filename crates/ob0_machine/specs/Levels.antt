@@ -1,6 +1,8 @@
--- The activations that an activation sees, itself first.
-use Rattle.std.specs.Prelude.{Option, Some, None, [], ◌∷◌}
+-- The activations that an activation sees, itself first, and where VAR parameters lead.
+use Rattle.std.specs.Prelude.{ℕ, List, Option, Some, None, [], ◌∷◌}
 use denote.Ref.{Bor}
+use Rattle.ob0_machine.specs.declared.addresses.Addresses.{Addresses}
+use Rattle.ob0_machine.specs.declared.addresses.Addresses.TheVariants as addresses
 use Rattle.ob0_machine.specs.declared.level.Level as code
 use Rattle.ob0_machine.specs.Evaluation.{Levels}
 
@@ -15,3 +17,9 @@ abbrev mutual
 abbrev pub levels_seen : Option (Bor code.Level) → Levels
 levels_seen None = []
 levels_seen (Some l) = levels_of l.now
+
+abbrev pub addresses_in : Addresses → List ℕ
+addresses_in addresses.Empty = []
+addresses_in (addresses.One a) = a ∷ []
+addresses_in (addresses.Two a b) = a ∷ b ∷ []
+addresses_in (addresses.More all) = all.items

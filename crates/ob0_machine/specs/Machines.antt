@@ -11,7 +11,7 @@ use Rattle.ob0_machine.specs.declared.machine.Item.TheVariants as item
 use Rattle.ob0_machine.specs.declared.machine.Machine.{Machine}
 use Rattle.ob0_machine.specs.Answers.{end_of}
 use Rattle.ob0_machine.specs.Evaluation.{Levels, Outcome, ends, gives}
-use Rattle.ob0_machine.specs.Execution.{Calls, Passed, Progress, State, Written, activate, call, execute, execute_all, line_out, number_out, running, stopped}
+use Rattle.ob0_machine.specs.Execution.{Calls, Passed, Progress, State, Written, activate, call, entered, execute, execute_all, line_out, number_out, running, stopped}
 use Rattle.ob0_machine.specs.Levels.{levels_of}
 use Rattle.ob0_machine.specs.Lowered.{Procedure, Statement, Statements}
 use Rattle.ob0_machine.specs.View.{program_of}
@@ -65,6 +65,10 @@ pub record Does (post : Post) (r : Result (Unit {0}) Stop) (m m' : Machine) (doi
 -- what was passed, on top of what was there
 abbrev pub passed_in : List ℤ → List ℕ → Passed
 passed_in cells addresses = record { cells = cells; addresses = addresses }
+
+-- a procedure, declared so many levels out, is entered in an activation with this base and these addresses
+abbrev pub entering : ℕ → ℕ → Levels → ℕ → List ℕ → Doing
+entering k up ls base addresses enters s = enters k (entered ls base up (passed_in s.cells addresses)) s
 
 -- an argument is passed, or it ends the run, but where memory was refused
 abbrev pub Passes : Result (Unit {0}) Stop → List ℤ → List ℕ → Outcome Passed → Type 0

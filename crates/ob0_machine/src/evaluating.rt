@@ -14,6 +14,7 @@ use crate::code::{
 use crate::ending::Ending;
 use crate::level::{Level, base_at, passed_at};
 use crate::operators::{alike, compare, element_at, forward, is_true, negative, operate};
+use crate::quick::{quick_address, quick_number};
 
 /// What a cell holds. What isn't there is worth 0.
 #[inline(always)]
@@ -108,6 +109,28 @@ fn linked(link: &Link, left: i32, level: &Level<'_>, cells: &[i32]) -> Result<i3
     operate(link.operator, left, right)
 }
 
+/// The address of a place: found quickly, or else told with the rule that it breaks.
+#[inline(always)]
+pub fn located(place: &Place, level: &Level<'_>, cells: &[i32]) -> Result<usize, Ending>
+    ensures { told result ≡ address (levels_of level.now) cells.now (place_of place.now) }
+{
+    match quick_address(place, level, cells) {
+        Some(a) => Ok(a),
+        None => address(place, level, cells),
+    }
+}
+
+/// What a number is worth: found quickly, or else told with the rule that it breaks.
+#[inline(always)]
+pub fn worth(n: &Number, level: &Level<'_>, cells: &[i32]) -> Result<i32, Ending>
+    ensures { told result ≡ number (levels_of level.now) cells.now (number_of n.now) }
+{
+    match quick_number(n, level, cells) {
+        Some(v) => Ok(v),
+        None => number(n, level, cells),
+    }
+}
+
 /// Whether a truth is TRUE.
 #[cycle(truths)]
 pub fn truth(t: &Truth, level: &Level<'_>, cells: &[i32]) -> Result<bool, Ending>
@@ -116,7 +139,7 @@ pub fn truth(t: &Truth, level: &Level<'_>, cells: &[i32]) -> Result<bool, Ending
     match t {
         Truth::Constant(b) => Ok(*b),
         Truth::Flag(place) => {
-            let a = address(place, level, cells)?;
+            let a = located(place, level, cells)?;
             Ok(is_true(cell_at(cells, a)))
         }
         Truth::Negation(operand) => {
@@ -142,8 +165,8 @@ fn related(
 ) -> Result<bool, Ending>
     ensures { told result ≡ truth (levels_of level.now) cells.now (related_by relation operands.now) }
 {
-    let left = number(&operands.left, level, cells)?;
-    let right = number(&operands.right, level, cells)?;
+    let left = worth(&operands.left, level, cells)?;
+    let right = worth(&operands.right, level, cells)?;
     Ok(compare(relation, left, right))
 }
 

@@ -1,6 +1,7 @@
 //! Lowered code, and the machine that runs it over one store of cells.
 #![tactic(auto)]
 
+pub mod addresses;
 pub mod calls;
 pub mod code;
 pub mod ending;
@@ -9,6 +10,7 @@ pub mod level;
 pub mod machine;
 pub mod operators;
 pub mod passing;
+pub mod quick;
 pub mod running;
 pub mod statements;
 

@@ -2,33 +2,36 @@
 
 ghost use Rattle.std.specs.Prelude.{map};
 ghost use Rattle.ob0_machine.specs.Execution.{pass, pass_all};
-ghost use Rattle.ob0_machine.specs.Levels.{levels_of};
+ghost use Rattle.ob0_machine.specs.Levels.{addresses_in, levels_of};
 ghost use Rattle.ob0_machine.specs.Machines.{Passes, passed_in};
 ghost use Rattle.ob0_machine.specs.View.{argument_of};
 
+use crate::addresses::Addresses;
 use crate::code::Argument;
 use crate::ending::Stop;
-use crate::evaluating::{address, number, truth};
+use crate::evaluating::{located, truth, worth};
 use crate::level::Level;
 use crate::machine::push_block;
 use crate::operators::as_cell;
+use std::alloc::Global;
 
 /// Evaluates an argument and passes it.
 fn pass(
+    alloc: Global,
     argument: &Argument,
     level: &Level<'_>,
     cells: &mut Vec<i32>,
-    addresses: &mut Vec<usize>,
+    addresses: &mut Addresses,
 ) -> Result<(), Stop>
-    ensures { Passes result cells.new.items addresses.new.items (pass (levels_of level.now) (argument_of argument.now) (passed_in cells.old.items addresses.old.items)) }
+    ensures { Passes result cells.new.items (addresses_in addresses.new) (pass (levels_of level.now) (argument_of argument.now) (passed_in cells.old.items (addresses_in addresses.old))) }
 {
     match argument {
         Argument::Place(place) => {
-            let a = address(place, level, cells.as_slice())?;
-            addresses.push(a)?;
+            let a = located(place, level, cells.as_slice())?;
+            addresses.push(alloc, a)?;
         }
         Argument::Number(n) => {
-            let a = number(n, level, cells.as_slice())?;
+            let a = worth(n, level, cells.as_slice())?;
             cells.push(a)?;
         }
         Argument::Truth(t) => {
@@ -36,7 +39,7 @@ fn pass(
             cells.push(as_cell(a))?;
         }
         Argument::Block(place, count) => {
-            let a = address(place, level, cells.as_slice())?;
+            let a = located(place, level, cells.as_slice())?;
             push_block(cells, a, *count)?;
         }
     }
@@ -45,15 +48,16 @@ fn pass(
 
 /// Evaluates and passes arguments, from left to right.
 pub(crate) fn pass_all(
+    alloc: Global,
     arguments: &[Argument],
     level: &Level<'_>,
     cells: &mut Vec<i32>,
-    addresses: &mut Vec<usize>,
+    addresses: &mut Addresses,
 ) -> Result<(), Stop>
-    ensures { Passes result cells.new.items addresses.new.items (pass_all (levels_of level.now) (map argument_of arguments.now) (passed_in cells.old.items addresses.old.items)) }
+    ensures { Passes result cells.new.items (addresses_in addresses.new) (pass_all (levels_of level.now) (map argument_of arguments.now) (passed_in cells.old.items (addresses_in addresses.old))) }
 {
     for argument in arguments {
-        pass(argument, level, cells, addresses)?;
+        pass(alloc, argument, level, cells, addresses)?;
     }
     Ok(())
 }

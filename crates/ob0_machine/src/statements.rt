@@ -6,12 +6,13 @@ ghost use Rattle.ob0_machine.specs.Evaluation.{truth};
 ghost use Rattle.ob0_machine.specs.Execution.{Calls, execute};
 ghost use Rattle.ob0_machine.specs.Levels.{levels_of};
 ghost use Rattle.ob0_machine.specs.Lowered as lowered;
-ghost use Rattle.ob0_machine.specs.Machines.{Does, Steps, executed, executed_all, moved, state_of};
+ghost use Rattle.ob0_machine.specs.Machines.{Does, Steps, entering, executed, executed_all, moved, state_of};
 ghost use Rattle.ob0_machine.specs.View.{branches_in, call_of, number_of, place_of, repeat_of, sequence_of, statement_of, truth_of, while_of};
 
+use crate::addresses::Addresses;
 use crate::code::{Call, If, Number, Place, Repeat, Statement, Truth, While};
 use crate::ending::{Ending, Stop};
-use crate::evaluating::{address, number, truth};
+use crate::evaluating::{located, truth, worth};
 use crate::level::{Level, outside};
 use crate::machine::{Item, Machine, copy, store};
 use crate::operators::as_cell;
@@ -27,8 +28,8 @@ fn store_number(
 ) -> Result<(), Ending>
     ensures { (enters : Calls) (t : ℕ) → moved result machine.new ≡ execute enters t (levels_of level.now) (lowered.stores_number (place_of place.now) (number_of n.now)) (state_of machine.old) }
 {
-    let a = address(place, level, machine.cells.as_slice())?;
-    let v = number(n, level, machine.cells.as_slice())?;
+    let a = located(place, level, machine.cells.as_slice())?;
+    let v = worth(n, level, machine.cells.as_slice())?;
     store(&mut machine.cells, a, v);
     Ok(())
 }
@@ -43,7 +44,7 @@ fn store_truth(
 ) -> Result<(), Ending>
     ensures { (enters : Calls) (turns : ℕ) → moved result machine.new ≡ execute enters turns (levels_of level.now) (lowered.stores_truth (place_of place.now) (truth_of t.now)) (state_of machine.old) }
 {
-    let a = address(place, level, machine.cells.as_slice())?;
+    let a = located(place, level, machine.cells.as_slice())?;
     let v = truth(t, level, machine.cells.as_slice())?;
     store(&mut machine.cells, a, as_cell(v));
     Ok(())
@@ -59,8 +60,8 @@ fn copy_block(
 ) -> Result<(), Ending>
     ensures { (enters : Calls) (t : ℕ) → moved result machine.new ≡ execute enters t (levels_of level.now) (lowered.copies (place_of to.now) (place_of from.now) count) (state_of machine.old) }
 {
-    let a = address(to, level, machine.cells.as_slice())?;
-    let b = address(from, level, machine.cells.as_slice())?;
+    let a = located(to, level, machine.cells.as_slice())?;
+    let b = located(from, level, machine.cells.as_slice())?;
     copy(&mut machine.cells, a, b, count);
     Ok(())
 }
@@ -69,7 +70,7 @@ fn copy_block(
 fn read(place: &Place, level: &Level<'_>, machine: &mut Machine<'_>) -> Result<(), Ending>
     ensures { (enters : Calls) (t : ℕ) → moved result machine.new ≡ execute enters t (levels_of level.now) (lowered.reads (place_of place.now)) (state_of machine.old) }
 {
-    let a = address(place, level, machine.cells.as_slice())?;
+    let a = located(place, level, machine.cells.as_slice())?;
     machine.read_number(a)
 }
 
@@ -77,7 +78,7 @@ fn read(place: &Place, level: &Level<'_>, machine: &mut Machine<'_>) -> Result<(
 fn write(n: &Number, level: &Level<'_>, machine: &mut Machine<'_>) -> Result<(), Stop>
     ensures { (enters : Calls) (t : ℕ) → Steps result machine.new (execute enters t (levels_of level.now) (lowered.writes (number_of n.now)) (state_of machine.old)) }
 {
-    let v = number(n, level, machine.cells.as_slice())?;
+    let v = worth(n, level, machine.cells.as_slice())?;
     machine.put_out(Item::Number(v))?;
     Ok(())
 }
@@ -88,6 +89,27 @@ fn write_line(level: &Level<'_>, machine: &mut Machine<'_>) -> Result<(), Stop>
 {
     machine.put_out(Item::Line)?;
     Ok(())
+}
+
+/// Enters the procedure of a call, whose arguments are passed.
+#[inline(always)]
+fn go_in<F: Fn(&mut Machine<'_>, usize, &Level<'_>) -> Result<(), Stop>>(
+    c: &Call,
+    base: usize,
+    addresses: &[usize],
+    level: &Level<'_>,
+    machine: &mut Machine<'_>,
+    enter: &F,
+) -> Result<(), Stop>
+    requires { F.IsAlwaysCallable enter.now }
+    ensures { Does (F.post enter.now) result machine.old machine.new (entering c.now.procedure c.now.up (levels_of level.now) base addresses.now) }
+{
+    let entered = Level {
+        base,
+        addresses,
+        enclosing: outside(level, c.up),
+    };
+    enter(machine, c.procedure, &entered)
 }
 
 /// A call: its arguments are passed, then the procedure is entered.
@@ -102,19 +124,20 @@ fn called<F: Fn(&mut Machine<'_>, usize, &Level<'_>) -> Result<(), Stop>>(
     ensures { (t : ℕ) → Does (F.post enter.now) result machine.old machine.new (executed t (levels_of level.now) (call_of c.now)) }
 {
     let base = machine.size();
-    let mut addresses = Vec::new(machine.alloc);
+    let mut addresses = Addresses::Empty;
     pass_all(
+        machine.alloc,
         c.arguments.as_slice(),
         level,
         &mut machine.cells,
         &mut addresses,
     )?;
-    let entered = Level {
-        base,
-        addresses: addresses.as_slice(),
-        enclosing: outside(level, c.up),
-    };
-    enter(machine, c.procedure, &entered)
+    match &addresses {
+        Addresses::Empty => go_in(c, base, &[], level, machine, enter),
+        Addresses::One(a) => go_in(c, base, &[*a], level, machine, enter),
+        Addresses::Two(a, b) => go_in(c, base, &[*a, *b], level, machine, enter),
+        Addresses::More(all) => go_in(c, base, all.as_slice(), level, machine, enter),
+    }
 }
 
 /// Whether a condition holds, now.
