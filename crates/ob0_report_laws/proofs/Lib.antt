@@ -1,0 +1,3 @@
+pub mod DeclaredNames
+pub mod DeclaredModules
+pub mod DeclaredShapes
