@@ -1,3 +1,5 @@
 pub mod DeclaredNames
 pub mod DeclaredModules
 pub mod DeclaredShapes
+pub mod DeclaredStanding
+pub mod DeclaredTypes

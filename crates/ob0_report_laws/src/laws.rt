@@ -1,8 +1,8 @@
 //! The laws. Each function does nothing: its contract is the law.
 
-ghost use Rattle.ob0_report_laws.specs.ModuleLaws.{NamesArePlaced};
+ghost use Rattle.ob0_report_laws.specs.ModuleLaws.{ModulesFitByParts};
 
-/// Each name of a resolved module has its ordinal.
-pub fn names_are_placed()
-    ensures { NamesArePlaced }
+/// A module of which nothing is told fits, where expressions and statements do.
+pub fn modules_fit_by_parts()
+    ensures { ModulesFitByParts }
 {}
