@@ -22,14 +22,11 @@ use Rattle.ob0_report_laws.specs.ModuleLaws.{PartsFit}
 use Rattle.ob0_report_laws.proofs.DeclaredNames.{AreSeen, Each, IsPlaced, IsSeen, NamesPlaced, Numbering, scope_behind}
 use Rattle.ob0_report_laws.proofs.DeclaredShapes.{Longer, longer_same, longer_then}
 
-formals_kept : (before after : List Shape) → Longer before after → (fs : List (Formal TypeId)) (gs : Signature) → FormalsAgree (shape_in before) fs gs → FormalsAgree (shape_in after) fs gs
+pub formals_kept : (before after : List Shape) → Longer before after → (fs : List (Formal TypeId)) (gs : Signature) → FormalsAgree (shape_in before) fs gs → FormalsAgree (shape_in after) fs gs
 formals_kept before after longer [] [] h = tt
 formals_kept before after longer [] (g ∷ gs) h = absurd h
 formals_kept before after longer (f ∷ fs) [] h = absurd h
 formals_kept before after longer (f ∷ fs) (g ∷ gs) h = (h.0, longer f.of g.shape h.1, formals_kept before after longer fs gs h.2)
-
-pub formals_longer : (before after : List Shape) → Longer before after → (fs : List (Formal TypeId)) (gs : Signature) → FormalsAgree (shape_in before) fs gs → FormalsAgree (shape_in after) fs gs
-formals_longer = formals_kept
 
 meaning_kept : (before after : List Shape) → Longer before after → (m : Meaning TypeId) (o : Option (meant.Object Shape Signature)) → MeaningAgrees (shape_in before) m o → MeaningAgrees (shape_in after) m o
 meaning_kept before after longer (a_type t) o (s, e, h) = (s, longer t s e, h)
@@ -37,7 +34,7 @@ meaning_kept before after longer (a_constant c) o h = h
 meaning_kept before after longer (a_variable t) o (s, e, h) = (s, longer t s e, h)
 meaning_kept before after longer (a_procedure fs) o (signature, e, h) = (signature, e, formals_kept before after longer fs signature h)
 
-stands_kept : (before after : List Shape) → Longer before after → (m : Option (Meaning TypeId)) (o : Option (meant.Object Shape Signature)) → StandsAlike (shape_in before) m o → StandsAlike (shape_in after) m o
+pub stands_kept : (before after : List Shape) → Longer before after → (m : Option (Meaning TypeId)) (o : Option (meant.Object Shape Signature)) → StandsAlike (shape_in before) m o → StandsAlike (shape_in after) m o
 stands_kept before after longer None o h = absurd h
 stands_kept before after longer (Some m) o h = meaning_kept before after longer m o h
 

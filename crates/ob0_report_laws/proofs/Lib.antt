@@ -3,3 +3,4 @@ pub mod DeclaredModules
 pub mod DeclaredShapes
 pub mod DeclaredStanding
 pub mod DeclaredTypes
+pub mod BlocksDeclared

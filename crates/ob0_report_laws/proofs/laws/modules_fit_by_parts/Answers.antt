@@ -1,5 +1,5 @@
 use Rattle.ob0_report_laws.proofs.DeclaredModules.{module_placed}
-use Rattle.ob0_report_laws.proofs.DeclaredTypes.{type_denotes}
+use Rattle.ob0_report_laws.proofs.BlocksDeclared.{constants_declare}
 use Rattle.ob0_report_laws.proofs.laws.modules_fit_by_parts.Goals as goal
 
 pub returns : goal.returns
