@@ -4,3 +4,4 @@ pub mod DeclaredShapes
 pub mod DeclaredStanding
 pub mod DeclaredTypes
 pub mod BlocksDeclared
+pub mod BlocksParameters
