@@ -41,7 +41,7 @@ nothing_declared : (w : Numbering) (n : ℕ) (p : SoFar) (before : List Shape) (
 nothing_declared w n p before scope env st = record { env = env; given_is = refl; after = before; later = later_same n p before st.table; stands = st }
 
 -- what is declared in two steps
-declared_then : {A : Type 0} (w : Numbering) (n i m : ℕ) (p q r : SoFar) (before mid : List Shape) (scope : Scope Name) (given : Option A) (a : A) (next : A → Option (TypeEnvironment Name)) → n ≤ i → given ≡ Some a → Later n p q before mid → Declared w i m q r mid scope (next a)
+pub declared_then : {A : Type 0} (w : Numbering) (n i m : ℕ) (p q r : SoFar) (before mid : List Shape) (scope : Scope Name) (given : Option A) (a : A) (next : A → Option (TypeEnvironment Name)) → n ≤ i → given ≡ Some a → Later n p q before mid → Declared w i m q r mid scope (next a)
     → Declared w n m p r before scope (option_and_then next given)
 declared_then w n i m p q r before mid scope given a next le is later d = record {
   env = d.env;
@@ -51,7 +51,7 @@ declared_then w n i m p q r before mid scope given a next le is later d = record
   stands = d.stands;
 }
 
-next_le : (n : ℕ) → n ≤ suc n
+pub next_le : (n : ℕ) → n ≤ suc n
 next_le n = le_of_lt (le_refl (suc n))
 
 module _ (w : Numbering) (fit : PartsFit) where

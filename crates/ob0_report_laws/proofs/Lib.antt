@@ -5,3 +5,4 @@ pub mod DeclaredStanding
 pub mod DeclaredTypes
 pub mod BlocksDeclared
 pub mod BlocksParameters
+pub mod BlocksFit

@@ -1,7 +1,5 @@
-use Rattle.ob0_report_laws.proofs.DeclaredModules.{module_placed}
-use Rattle.ob0_report_laws.proofs.BlocksDeclared.{constants_declare}
-use Rattle.ob0_report_laws.proofs.BlocksParameters.{sections_declare}
+use Rattle.ob0_report_laws.proofs.BlocksFit.{modules_fit_by_parts-holds}
 use Rattle.ob0_report_laws.proofs.laws.modules_fit_by_parts.Goals as goal
 
 pub returns : goal.returns
-returns c = ?
+returns c = modules_fit_by_parts-holds
