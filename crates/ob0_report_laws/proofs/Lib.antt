@@ -1,0 +1,3 @@
+pub mod Untold
+pub mod Valued
+pub mod Operands
