@@ -1,3 +1,4 @@
 pub mod Untold
 pub mod Valued
 pub mod Operands
+pub mod FittingExpressions

@@ -1,5 +1,6 @@
 -- Operations of which nothing is told: the types of their operands are those that are asked for, and so is their own.
 use Rattle.std.proofs.Common.{◌≡◌, ℕ, Bool, true, false, ◌||◌, cond, List, [], ◌∷◌, if◌then◌else◌, Option, Some, None, option_and_then, option_map, is_some, zero, suc, ℤ, pos, negsuc, ◌+ℤ◌, ◌-ℤ◌, ◌*ℤ◌, neg_ℤ, refl, sym, ap, ◌∙◌, subst}
+use Rattle.ob0_scan.specs.declared.fault.Code.TheVariants as code
 use Rattle.ob0_scope.specs.Names.{Name}
 use Rattle.ob0_symbols.specs.Operators.{product_value, sum_value}
 use Rattle.ob0_tree.specs.declared.tree.AddOperator.{AddOperator}
@@ -16,7 +17,7 @@ use Rattle.ob0_typing.specs.Typing.{add_type, complement_type, element_type, fie
 use Rattle.ob0_values.specs.Values.{FieldShapes, Outcome, Overflow, Shape, Value, add, add_is_settled, array_shape, boolean_shape, divided_by, ends, gives, in_range, integer_shape, multiply, multiply_is_settled, negated, number, quotient, record_shape, relate, remainder, truth}
 use Rattle.ob0_values.specs.Values as values
 use Rattle.ob0_reports.specs.Known.{Facts, Form, Operand, Told, Types, a_record, a_scalar, an_array, unknown_form}
-use Rattle.ob0_reports.specs.Operations.{added, asked, asked_both, complemented, element_in, element_selected, field_in, field_selected, fits, found_field, multiplied, related, signed, truth_of, wanted_by_add, wanted_by_equality, wanted_by_multiply, wanted_by_relation}
+use Rattle.ob0_reports.specs.Operations.{added, asked, asked_both, at_operand, complemented, element_in, element_selected, field_in, field_selected, fits, found_field, multiplied, related, signed, truth_of, wanted_by_add, wanted_by_equality, wanted_by_multiply, wanted_by_relation}
 use Rattle.ob0_report_laws.specs.Agreement.{FormAgrees, TypesAgree}
 use Rattle.ob0_report_laws.proofs.Untold.{first-of, first-told, none-if, none-told, not-true, some-none, some-same}
 
@@ -114,10 +115,11 @@ module _ {T : Type 0} (facts : Facts T) (shape : T → Option Shape) (types : Ty
       → ((asked_both facts wanted a b).known ≡ wanted) × (s ≡ w) × (t ≡ w)
   both-asked wanted a b s t w hs ht hw h =
       let left : Told T = record { known = if facts.types.same a.of wanted then (asked facts wanted b).known else facts.types.unknown; faults = (asked facts wanted b).faults } in
-      let (fit, none) = first-told (fits facts.types a.of wanted) left _ _ refl h in
+      let wrong : Told T = record { known = facts.types.unknown; faults = at_operand facts code.TypeMismatch a } in
+      let (fit, none) = first-told (fits facts.types a.of wanted) left wrong _ refl h in
       let same : facts.types.same a.of wanted ≡ true = same-where-fits a.of wanted s w hs hw fit in
       let (known, right) = asked-fits wanted b t w ht hw none in
-      (ap (λ c. (if c then left else _).known) fit ∙ (ap (λ c. if c then (asked facts wanted b).known else facts.types.unknown) same ∙ known), same-shape a.of wanted s w hs hw same, right)
+      (ap (λ c. (if c then left else wrong).known) fit ∙ (ap (λ c. if c then (asked facts wanted b).known else facts.types.unknown) same ∙ known), same-shape a.of wanted s w hs hw same, right)
 
   -- what operators ask for has a shape, and of two operands of that shape the whole has a type
 
@@ -224,5 +226,5 @@ module _ {T : Type 0} (facts : Facts T) (shape : T → Option Shape) (types : Ty
   element-fits o i s t hs ht h =
       let parts = none-told (asked facts facts.types.integer i).faults _ h in
       let (known, index) = asked-fits facts.types.integer i t integer_shape ht types.integer parts.0 in
-      let (u, found, typed) = element-found (facts.types.form o.of) s (types.formed o.of s hs) o (asked facts facts.types.integer i).known known (none-told _ _ parts.1).0 in
+      let (u, found, typed) = element-found (facts.types.form o.of) s (types.formed o.of s hs) i (asked facts facts.types.integer i).known known (none-told _ _ parts.1).0 in
       (u, found, ap (element_type s) index ∙ typed)

@@ -38,9 +38,9 @@ ExpressionsFit =
     → OperandFits (shape_in shapes) (meaning_here only_constants meaning) (told_expression (facts_at p only_constants) e).known (mapped label (value_at p.source) e)
 
 -- a constant's right side of which nothing is told has the value that is known, a scalar
-pub record ConstantFits {N : Type 0} (meaning : Typed N) (known : Option Value) (e : Tree N expression) : Type 0 where
+pub record ConstantFits {N : Type 0} (meaning : Typed N) (told : Option Value) (e : Tree N expression) : Type 0 where
   pub value : Value
-  pub known : known ≡ Some value
+  pub known : told ≡ Some value
   pub given : constant_value meaning e ≡ Some value
   pub scalar : is_some (value_type value) ≡ true
 
@@ -51,10 +51,10 @@ ConstantsFit =
     → ConstantFits meaning (told_constant (facts_at p true) e).known (mapped label (value_at p.source) e)
 
 -- an array's length of which nothing is told is the one that is known
-pub record LengthFits {N : Type 0} (meaning : Typed N) (known : Option ℕ) (e : Tree N expression) : Type 0 where
+pub record LengthFits {N : Type 0} (meaning : Typed N) (told : Option ℕ) (e : Tree N expression) : Type 0 where
   pub value : Value
   pub length : ℕ
-  pub known : known ≡ Some length
+  pub known : told ≡ Some length
   pub given : constant_value meaning e ≡ Some value
   pub counted : array_length value ≡ Some length
 
