@@ -2,3 +2,8 @@ pub mod Untold
 pub mod Valued
 pub mod Operands
 pub mod FittingExpressions
+pub mod FittingNames
+pub mod FittingPlaces
+pub mod FittingStatements
+pub mod Tables
+pub mod Proved
