@@ -78,3 +78,40 @@ constants_fit-holds p shapes label meaning e agrees h =
 
 pub expressions_fit-holds : ExpressionsFit
 expressions_fit-holds p only shapes label meaning e agrees h = here-fits (facts_at p only) (shape_in shapes) label meaning e agrees only refl h
+
+-- a length that is told of nothing is there
+pub record IsLong {T : Type 0} (o : Operand T) (told : Option ℕ) : Type 0 where
+  pub value : Value
+  pub length : ℕ
+  pub known : told ≡ Some length
+  pub there : o.value ≡ Some value
+  pub counted : array_length value ≡ Some length
+
+bounded : {T : Type 0} (facts : Facts T) (o : Operand T) (v : Value) (n : Option ℕ) → o.value ≡ Some v → array_length v ≡ n → (in_bounds facts o n).faults ≡ [] → IsLong o (in_bounds facts o n).known
+bounded facts o v None there e h = absurd (cc)
+bounded facts o v (Some n) there e h = record { value = v; length = n; known = refl; there = there; counted = e }
+
+length-given : {T : Type 0} (facts : Facts T) (o : Operand T) (c : Option Value) → o.value ≡ c → (length_given facts o c).faults ≡ [] → IsLong o (length_given facts o c).known
+length-given facts o None e h = absurd (cc)
+length-given facts o (Some v) e h = bounded facts o v (array_length v) e refl h
+
+pub length-there : {T : Type 0} (facts : Facts T) (shape : T → Option Shape) (types : TypesAgree facts.types shape) (o : Operand T) (s : Shape) → shape o.of ≡ Some s → (length_of facts o).faults ≡ [] → IsLong o (length_of facts o).known
+length-there facts shape types o s hs h =
+    let parts = none-told (asked facts facts.types.integer o).faults _ h in
+    let (given, same) = asked-fits facts shape types facts.types.integer o s integer_shape hs types.integer parts.0 in
+    let alone : facts.types.same (asked facts facts.types.integer o).known facts.types.integer ≡ true = ap (λ t. facts.types.same t facts.types.integer) given ∙ types.alone in
+    let long : IsLong o (length_given facts o o.value).known = length-given facts o o.value refl (sym (ap (λ b. (if b then length_given facts o o.value else right None).faults) alone) ∙ parts.1) in
+    record {
+      value = long.value;
+      length = long.length;
+      known = ap (λ b. (if b then length_given facts o o.value else right None).known) alone ∙ long.known;
+      there = long.there;
+      counted = long.counted;
+    }
+
+pub lengths_fit-holds : LengthsFit
+lengths_fit-holds p shapes label meaning e agrees h =
+    let parts = none-told (told_expression (facts_at p true) e).faults _ h in
+    let c = constant-known (facts_at p true) (shape_in shapes) label meaning e agrees refl parts.0 in
+    let long = length-there (facts_at p false) (shape_in shapes) agrees.types (told_expression (facts_at p true) e).known c.of c.known parts.1 in
+    record { value = long.value; length = long.length; known = long.known; given = c.given long.value long.there; counted = long.counted }
