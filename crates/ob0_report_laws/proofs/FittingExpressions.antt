@@ -1,5 +1,5 @@
 -- Expressions of which nothing is told: what is known of them is their type and their value.
-use Rattle.std.proofs.Common.{◌≡◌, ℕ, Bool, true, false, true≢false, List, [], ◌∷◌, ◌++◌, Option, Some, None, option_and_then, option_map, pos, refl, sym, ap, ◌∙◌}
+use Rattle.std.proofs.Common.{◌≡◌, ℕ, true, false, List, [], ◌∷◌, ◌++◌, Option, Some, None, option_and_then, pos, refl, sym, ap, ◌∙◌}
 use Rattle.ob0_tree.specs.declared.tree.AddOperator.{AddOperator}
 use Rattle.ob0_tree.specs.declared.tree.MultiplyOperator.{MultiplyOperator}
 use Rattle.ob0_tree.specs.declared.tree.Relation.{Relation}
@@ -10,18 +10,16 @@ use Rattle.ob0_tree.specs.Places.{text_at, value_at}
 use Rattle.ob0_tree.specs.Tree.{Sort, Tree, addend, adds, compares, designator, end, expression, factor, field, identifiers, index, integer, item, items, mapped, more, multiplier, multiplies, negation, none, one, parenthesised, product, relates, selector, simple, sum, term}
 use Rattle.ob0_typing.specs.Expressions.{Meanings, a_variable, evaluate, evaluate_addends, evaluate_factor, evaluate_multipliers, evaluate_simple, evaluate_term}
 use Rattle.ob0_typing.specs.Selected.{both}
-use Rattle.ob0_typing.specs.Typing.{add_type, complement_type, constant_of, constants_only, designated, element_type, field_type, given_value, multiply_type, object_type, relation_type, sign_type, type_at, type_of, type_of_addends, type_of_factor, type_of_multipliers, type_of_simple, type_of_term}
-use Rattle.ob0_typing.specs.WellTyped.{variable_type}
+use Rattle.ob0_typing.specs.Typing.{add_type, complement_type, constant_of, constants_only, element_type, field_type, given_value, multiply_type, object_type, relation_type, sign_type, type_at, type_of, type_of_addends, type_of_factor, type_of_multipliers, type_of_simple, type_of_term}
 use Rattle.ob0_symbols.specs.Operators.{product_value, sum_value}
 use Rattle.ob0_values.specs.Values.{Place, Shape, Value, boolean_shape, integer_shape, negated, number, relate}
 use Rattle.ob0_values.specs.Values.{signed as with_sign}
 use Rattle.ob0_reports.specs.ExpressionFaults.{told_addends, told_expression, told_factor, told_multipliers, told_selectors, told_simple, told_term}
-use Rattle.ob0_reports.specs.Known.{Facts, Operand, Told}
-use Rattle.ob0_reports.specs.Operations.{added, complemented, element_selected, enclosed, field_selected, multiplied, named, related, signed}
+use Rattle.ob0_reports.specs.Known.{Facts, Operand}
+use Rattle.ob0_reports.specs.Operations.{added, complemented, element_selected, field_selected, multiplied, named, related, signed}
 use Rattle.ob0_report_laws.specs.Agreement.{TypesAgree}
-use Rattle.ob0_report_laws.specs.ReportLaws.{OperandFits}
 use Rattle.ob0_report_laws.proofs.Operands.{Scalar, added-fits, complement-scalar, complemented-fits, element-fits, field-fits, multiplied-fits, product-scalar, related-fits, relation-scalar, scalar-none, scalar-some, sign-scalar, signed-fits, sum-scalar}
-use Rattle.ob0_report_laws.proofs.Untold.{goes-on, none-told, some-same, then-assoc, then-itself}
+use Rattle.ob0_report_laws.proofs.Untold.{goes-on, none-told, then-assoc, then-itself}
 use Rattle.ob0_report_laws.proofs.Valued.{addend-valued, multiplier-valued, name-valued, negation-valued, parts-valued, related-valued, simple-valued, term-valued}
 
 -- an operand, its type and its value

@@ -7,12 +7,11 @@ use Rattle.ob0_typing.specs.Expressions.{Meanings, Object}
 use Rattle.ob0_typing.specs.Typing.{constant_of, constants_only, object_type, value_type}
 use Rattle.ob0_typing.specs.WellTyped.{Signature, Typed}
 use Rattle.ob0_values.specs.Values.{Shape, Value, boolean_shape, elements, integer_shape, members, number, truth}
-use Rattle.ob0_reports.specs.Known.{Facts, Meaning, Operand, Told, a_constant, a_procedure, a_type, a_variable}
-use Rattle.ob0_reports.specs.Operations.{a_constant_name, a_name, at_token, named, named_value, right}
+use Rattle.ob0_reports.specs.Known.{Facts, Meaning, Operand, a_constant, a_procedure, a_type, a_variable}
+use Rattle.ob0_reports.specs.Operations.{a_constant_name, a_name, at_token, named_value, right}
 use Rattle.ob0_report_laws.specs.Agreement.{StandsAlike, TokenAgrees, TokensAgree, TypesAgree}
-use Rattle.ob0_report_laws.proofs.FittingExpressions.{Fits, NameFits, TokenFits, TokensFit}
+use Rattle.ob0_report_laws.proofs.FittingExpressions.{Fits, TokenFits, TokensFit}
 use Rattle.ob0_report_laws.proofs.Operands.{scalar-none, scalar-some}
-use Rattle.ob0_report_laws.proofs.Untold.{second-told}
 use Rattle.ob0_scan.specs.declared.fault.Code.TheVariants as code
 
 -- a name by itself, and what it stands for

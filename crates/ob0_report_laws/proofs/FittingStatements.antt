@@ -1,5 +1,5 @@
 -- Statements of which nothing is told fit.
-use Rattle.std.proofs.Common.{◌≡◌, ℕ, suc, ◌+◌, Bool, true, false, ◌&&◌, not, nat_eq, List, [], ◌∷◌, ◌++◌, length, map, Option, Some, None, if◌then◌else◌, refl, sym, ap, ◌∙◌, arith, eqb-true}
+use Rattle.std.proofs.Common.{◌≡◌, ℕ, Bool, true, false, ◌&&◌, not, nat_eq, List, [], ◌∷◌, ◌++◌, length, map, Option, Some, None, if◌then◌else◌, refl, sym, ap, ◌∙◌, arith, eqb-true}
 use Rattle.ob0_scan.specs.declared.fault.Code.TheVariants as code
 use Rattle.ob0_symbols.specs.Tables.{mode_of}
 use Rattle.ob0_symbols.proofs.SameShapes.{same_shape-refl}
@@ -10,22 +10,22 @@ use Rattle.ob0_tree.specs.Tree.{Sort, Tree, arguments, assigns, branches, calls,
 use Rattle.ob0_typing.specs.Arguments.{arguments_listed, further_arguments}
 use Rattle.ob0_typing.specs.Expressions as meant
 use Rattle.ob0_typing.specs.Expressions.{Object}
-use Rattle.ob0_typing.specs.Typing.{designated, type_at, type_of}
-use Rattle.ob0_typing.specs.WellTyped.{Formal, Mode, Signature, Typed, agree, argument_fits, arguments_fit, by_place, by_value, call_fits, condition_fits, else_fits, elsifs_fit, sequence_fits, signature_of, statement_fits, statements_fit, variable_type}
+use Rattle.ob0_typing.specs.Typing.{designated, type_of}
+use Rattle.ob0_typing.specs.WellTyped.{Formal, Signature, Typed, agree, argument_fits, arguments_fit, by_place, by_value, call_fits, condition_fits, else_fits, elsifs_fit, sequence_fits, signature_of, statement_fits, statements_fit, variable_type}
 use Rattle.ob0_values.specs.Values.{Shape, boolean_shape}
-use Rattle.ob0_reports.specs.ExpressionFaults.{told_expression, told_selectors}
+use Rattle.ob0_reports.specs.ExpressionFaults.{told_expression}
 use Rattle.ob0_reports.specs.Known.{Facts, Meaning, Operand, Told, a_constant, a_procedure, a_type, a_variable}
 use Rattle.ob0_reports.specs.Known as known
-use Rattle.ob0_reports.specs.Operations.{a_name, asked, at_operand, at_token}
+use Rattle.ob0_reports.specs.Operations.{a_name, asked, at_operand}
 use Rattle.ob0_reports.specs.SoFar.{facts_at}
-use Rattle.ob0_reports.specs.StatementFaults.{assigned, assigned_meaning, called, passed, told_argument, told_arguments, told_asked, told_assigned, told_call, told_condition, told_else, told_elsifs, told_sequence, told_statement, told_statements, told_target}
+use Rattle.ob0_reports.specs.StatementFaults.{assigned, assigned_meaning, called, told_argument, told_arguments, told_asked, told_assigned, told_call, told_condition, told_else, told_elsifs, told_sequence, told_statement, told_statements, told_target}
 use Rattle.ob0_report_laws.specs.Agreement.{FormalsAgree, StandsAlike, TokensAgree, TypesAgree, shape_in}
 use Rattle.ob0_report_laws.specs.ReportLaws.{OperandFits, StatementsFit}
 use Rattle.ob0_report_laws.proofs.FittingExpressions.{FitsSelectors, selectors-fit}
 use Rattle.ob0_report_laws.proofs.FittingNames.{tokens-fit}
 use Rattle.ob0_report_laws.proofs.FittingPlaces.{operand-fits, variable-typed}
 use Rattle.ob0_report_laws.proofs.Operands.{asked-fits}
-use Rattle.ob0_report_laws.proofs.Untold.{both-true, none-told, second-told, some-same}
+use Rattle.ob0_report_laws.proofs.Untold.{both-true, none-told, second-told}
 
 pub agree-same : (s : Shape) (a b : Option Shape) → a ≡ Some s → b ≡ Some s → agree a b ≡ true
 agree-same s a b p q = (λ i. agree (p i) (q i)) ∙ same_shape-refl s
@@ -91,7 +91,7 @@ module _ {T N : Type 0} (facts : Facts T) (shape : T → Option Shape) (types : 
       let rest = split (ids path) (ids e) k.1 in
       let a : IsAssigned (assigned facts x) (meaning.stands_for (label x)) = assigned-stands x (facts.stands_for x) (meaning.stands_for (label x)) k.0 target.0 in
       let fs : FitsSelectors facts shape types label meaning (a_name (assigned facts x).known x) a.of path
-          = selectors-fit facts shape types label meaning (a_name (assigned facts x).known x) a.of path a.known (tokens-fit facts shape types label meaning (ids path) rest.0) target.1 in
+      = selectors-fit facts shape types label meaning (a_name (assigned facts x).known x) a.of path a.known (tokens-fit facts shape types label meaning (ids path) rest.0) target.1 in
       agree-same fs.of (variable_type meaning (Some (label x, here path))) (type_of meaning (here e))
       (variable-typed facts shape types label meaning x path a.of (Some fs.of) a.stands fs.typed)
       (asked-typed (told_target facts x path).known.of fs.of e fs.known rest.1 parts.1)

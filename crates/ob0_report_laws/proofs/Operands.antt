@@ -1,7 +1,6 @@
 -- Operations of which nothing is told: the types of their operands are those that are asked for, and so is their own.
-use Rattle.std.proofs.Common.{◌≡◌, ℕ, Bool, true, false, ◌||◌, cond, List, [], ◌∷◌, if◌then◌else◌, Option, Some, None, option_and_then, option_map, is_some, zero, suc, ℤ, pos, negsuc, ◌+ℤ◌, ◌-ℤ◌, ◌*ℤ◌, neg_ℤ, refl, sym, ap, ◌∙◌, subst}
+use Rattle.std.proofs.Common.{◌≡◌, ℕ, Bool, true, false, ◌||◌, cond, [], if◌then◌else◌, Option, Some, None, option_and_then, option_map, is_some, zero, suc, ℤ, pos, negsuc, ◌+ℤ◌, ◌-ℤ◌, ◌*ℤ◌, neg_ℤ, refl, sym, ap, ◌∙◌, subst}
 use Rattle.ob0_scan.specs.declared.fault.Code.TheVariants as code
-use Rattle.ob0_scope.specs.Names.{Name}
 use Rattle.ob0_symbols.specs.Operators.{product_value, sum_value}
 use Rattle.ob0_tree.specs.declared.tree.AddOperator.{AddOperator}
 use Rattle.ob0_tree.specs.declared.tree.AddOperator.TheVariants as add_operator
@@ -16,7 +15,7 @@ use Rattle.ob0_typing.specs.Selected.{both}
 use Rattle.ob0_typing.specs.Typing.{add_type, complement_type, element_type, field_type, given_value, multiply_type, relation_type, shape_of_field, sign_type, value_type}
 use Rattle.ob0_values.specs.Values.{FieldShapes, Outcome, Overflow, Shape, Value, add, add_is_settled, array_shape, boolean_shape, divided_by, ends, gives, in_range, integer_shape, multiply, multiply_is_settled, negated, number, quotient, record_shape, relate, remainder, truth}
 use Rattle.ob0_values.specs.Values as values
-use Rattle.ob0_reports.specs.Known.{Facts, Form, Operand, Told, Types, a_record, a_scalar, an_array, unknown_form}
+use Rattle.ob0_reports.specs.Known.{Facts, Form, Operand, Told, a_record, a_scalar, an_array, unknown_form}
 use Rattle.ob0_reports.specs.Operations.{added, asked, asked_both, at_operand, complemented, element_in, element_selected, field_in, field_selected, fits, found_field, multiplied, related, signed, truth_of, wanted_by_add, wanted_by_equality, wanted_by_multiply, wanted_by_relation}
 use Rattle.ob0_report_laws.specs.Agreement.{FormAgrees, TypesAgree}
 use Rattle.ob0_report_laws.proofs.Untold.{first-of, first-told, none-if, none-told, not-true, some-none, some-same}
@@ -138,9 +137,9 @@ module _ {T : Type 0} (facts : Facts T) (shape : T → Option Shape) (types : Ty
       → (w : Shape) × (shape (wanted_by_equality facts.types t) ≡ Some w) × (relation_type r w w ≡ Some boolean_shape)
   equality-wanted r both t s h =
       elim (facts.types.same t facts.types.integer)
-      as (λ b. (w : Shape) × (shape (if b then facts.types.integer else if facts.types.same t facts.types.unknown then facts.types.unknown else facts.types.boolean) ≡ Some w) × (relation_type r w w ≡ Some boolean_shape))
-      [ true ↦ (integer_shape, types.integer, refl)
-      | false ↦ (boolean_shape, ap (λ b. shape (if b then facts.types.unknown else facts.types.boolean)) (not-true (facts.types.same t facts.types.unknown) (is-known t s h)) ∙ types.boolean, both)
+      as (λ b. (w : Shape) × (shape (if b then facts.types.integer else if facts.types.same t facts.types.unknown then facts.types.unknown else facts.types.boolean) ≡ Some w) × (relation_type r w w ≡ Some boolean_shape)) [
+        | true ↦ (integer_shape, types.integer, refl)
+        | false ↦ (boolean_shape, ap (λ b. shape (if b then facts.types.unknown else facts.types.boolean)) (not-true (facts.types.same t facts.types.unknown) (is-known t s h)) ∙ types.boolean, both)
       ]
 
   relation-wanted : (r : Relation) (t : T) (s : Shape) → shape t ≡ Some s → (w : Shape) × (shape (wanted_by_relation facts.types r t) ≡ Some w) × (relation_type r w w ≡ Some boolean_shape)

@@ -1,10 +1,10 @@
 -- The laws of what is told of expressions.
-use Rattle.std.proofs.Common.{◌≡◌, ℕ, Bool, true, false, List, [], Option, Some, None, option_and_then, option_map, is_some, if◌then◌else◌, refl, sym, ap, ◌∙◌}
+use Rattle.std.proofs.Common.{◌≡◌, ℕ, Bool, true, false, [], Option, Some, None, option_map, if◌then◌else◌, refl, sym, ap, ◌∙◌}
 use Rattle.ob0_tree.specs.declared.tree.Role.TheVariants as role
 use Rattle.ob0_tree.specs.Places.{value_at}
 use Rattle.ob0_tree.specs.Tree.{Tree, expression, identifiers, mapped}
 use Rattle.ob0_typing.specs.Expressions.{Meanings, Object, a_constant, evaluate}
-use Rattle.ob0_typing.specs.Typing.{array_length, constant_of, constant_value, constants_only, given_value, type_of, value_type}
+use Rattle.ob0_typing.specs.Typing.{array_length, constant_of, constant_value, constants_only, given_value, type_of}
 use Rattle.ob0_typing.specs.WellTyped.{Typed}
 use Rattle.ob0_values.specs.Values.{Place, Shape, Value, integer_shape}
 use Rattle.ob0_reports.specs.ExpressionFaults.{told_expression}
@@ -13,12 +13,12 @@ use Rattle.ob0_reports.specs.Operations.{asked, right}
 use Rattle.ob0_reports.specs.SoFar.{facts_at}
 use Rattle.ob0_reports.specs.TypeFaults.{evaluated, in_bounds, length_given, length_of, told_constant, valued}
 use Rattle.ob0_report_laws.specs.Agreement.{Agrees, TypesAgree, shape_in}
-use Rattle.ob0_report_laws.specs.ReportLaws.{ConstantFits, ConstantsFit, ExpressionsFit, LengthFits, LengthsFit, OperandFits, meaning_here}
+use Rattle.ob0_report_laws.specs.ReportLaws.{ConstantsFit, ExpressionsFit, LengthsFit, OperandFits, meaning_here}
 use Rattle.ob0_report_laws.proofs.FittingExpressions.{FitsExpression, expression-fits}
 use Rattle.ob0_report_laws.proofs.FittingNames.{only-tokens, tokens-fit}
 use Rattle.ob0_report_laws.proofs.FittingPlaces.{operand-fits}
 use Rattle.ob0_report_laws.proofs.Operands.{Scalar, asked-fits, is-known}
-use Rattle.ob0_report_laws.proofs.Untold.{goes-on, none-told, not-true, some-same}
+use Rattle.ob0_report_laws.proofs.Untold.{goes-on, none-told, not-true}
 
 only-once : {V P : Type 0} (o : Option (Object V P)) → option_map {U = Object Place (Unit {0})} a_constant (constant_of {V = Shape} {P = Unit {0}} (option_map a_constant (constant_of o))) ≡ option_map a_constant (constant_of o)
 only-once o = elim (constant_of o) as (λ c. option_map {U = Object Place (Unit {0})} a_constant (constant_of {V = Shape} {P = Unit {0}} (option_map a_constant c)) ≡ option_map a_constant c) [ None ↦ refl | Some v ↦ refl ]
@@ -42,7 +42,7 @@ module _ {T N : Type 0} (facts : Facts T) (shape : T → Option Shape) (label : 
   unfolding constant_value
   constant-known only h =
       let fe : FitsExpression facts shape agrees.types label (constants_only {W = Shape} {Q = Unit {0}} meaning) e
-          = expression-fits facts shape agrees.types label (constants_only {W = Shape} {Q = Unit {0}} meaning) e (only-tokens facts shape agrees.types label meaning _ only (identifiers role.Declaring e) agrees.tokens) h in
+      = expression-fits facts shape agrees.types label (constants_only {W = Shape} {Q = Unit {0}} meaning) e (only-tokens facts shape agrees.types label meaning _ only (identifiers role.Declaring e) agrees.tokens) h in
       record {
         of = fe.of;
         known = fe.known;

@@ -1,13 +1,11 @@
 -- What is known of types by what was made is so of their shapes.
-use Rattle.std.proofs.Common.{◌≡◌, ℕ, zero, suc, ◌==◌, true, false, List, [], ◌∷◌, slice_get, Option, Some, None, option_and_then, option_map, refl, sym, ap, ◌∙◌, subst, eqb-true}
+use Rattle.std.proofs.Common.{◌≡◌, ℕ, zero, suc, true, List, [], ◌∷◌, slice_get, Option, Some, option_and_then, refl, sym, ap, ◌∙◌, subst, eqb-true}
 use Rattle.std.proofs.lemmas.Option.{option_and_then_some}
-use Rattle.ob0_scope.specs.Names.{Name}
 use Rattle.ob0_symbols.specs.declared.types.TypeId.{TypeId}
 use Rattle.ob0_symbols.specs.declared.types.TypeId.TheVariants as type
-use Rattle.ob0_typing.specs.Typing.{shape_of_field}
-use Rattle.ob0_values.specs.Values.{FieldShapes, Shape, array_shape, record_shape}
-use Rattle.ob0_reports.specs.Known.{Form, a_record, an_array}
-use Rattle.ob0_reports.specs.SoFar.{Made, Parts, elements_at, elements_in, field_at, field_in, form_at, of_elements, of_fields, same_type, types_at}
+use Rattle.ob0_values.specs.Values.{Shape, array_shape, record_shape}
+use Rattle.ob0_reports.specs.Known.{a_record, an_array}
+use Rattle.ob0_reports.specs.SoFar.{Made, Parts, elements_at, elements_in, field_at, field_in, form_at, of_elements, of_fields, same_type}
 use Rattle.ob0_report_laws.specs.Agreement.{EachMade, FormAgrees, MadeAgrees, PartsAgree, TableAgrees, as_array, as_record, shape_in}
 use Rattle.ob0_report_laws.specs.ReportLaws.{TypesOfTables}
 use Rattle.ob0_report_laws.proofs.Untold.{some-none, some-same}

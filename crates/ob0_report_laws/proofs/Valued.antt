@@ -1,10 +1,10 @@
 -- The values of expressions over constants, part by part, as operands have them.
-use Rattle.std.proofs.Common.{◌≡◌, Bool, true, false, cond, List, [], ◌∷◌, Option, Some, None, option_and_then, option_map, is_some, refl, sym, ap, ◌∙◌}
+use Rattle.std.proofs.Common.{◌≡◌, Bool, true, false, cond, [], ◌∷◌, Option, Some, None, option_and_then, option_map, is_some, refl, ap, ◌∙◌}
 use Rattle.ob0_tree.specs.declared.tree.AddOperator.{AddOperator}
 use Rattle.ob0_tree.specs.declared.tree.MultiplyOperator.{MultiplyOperator}
 use Rattle.ob0_tree.specs.declared.tree.Relation.{Relation}
 use Rattle.ob0_tree.specs.declared.tree.Sign.{Sign}
-use Rattle.ob0_tree.specs.Tree.{Tree, addend, adds, compares, designator, end, expression, factor, field, index, item, items, more, multiplier, multiplies, negation, none, one, product, relates, selector, simple, sum, term}
+use Rattle.ob0_tree.specs.Tree.{Tree, addend, adds, compares, designator, end, factor, field, index, item, items, more, multiplier, multiplies, negation, one, product, relates, selector, simple, sum, term}
 use Rattle.ob0_symbols.specs.Operators.{product_value, sum_value}
 use Rattle.ob0_typing.specs.Expressions.{Meanings, a_constant, element_step, evaluate, evaluate_addends, evaluate_factor, evaluate_multipliers, evaluate_simple, evaluate_term, follow, value_of}
 use Rattle.ob0_typing.specs.Selected.{both}
@@ -18,7 +18,6 @@ given_step (ends e) next = refl
 given_settled : (b : Bool) (x : Value) (o : Outcome Value) (operation : Value → Outcome Value) → given_value (elim b [ true ↦ gives x | false ↦ o >>= operation ]) ≡ cond b (Some x) (option_and_then (λ y. given_value (operation y)) (given_value o))
 given_settled true x o operation = refl
 given_settled false x o operation = given_step o operation
-
 
 module _ {N : Type 0} (among : Meanings N Place (Unit {0})) where
   pub related-valued : (r : Relation) (a b : Tree N simple)
