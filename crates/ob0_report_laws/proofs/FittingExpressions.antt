@@ -1,5 +1,5 @@
 -- Expressions of which nothing is told: what is known of them is their type and their value.
-use Rattle.std.proofs.Common.{◌≡◌, ℕ, true, false, List, [], ◌∷◌, ◌++◌, Option, Some, None, option_and_then, pos, refl, sym, ap, ◌∙◌}
+use Rattle.std.proofs.Common.{◌≡◌, ℕ, true, false, List, [], ◌∷◌, ◌++◌, Option, Some, None, option_and_then, is_some, pos, refl, sym, ap, ◌∙◌}
 use Rattle.ob0_tree.specs.declared.tree.AddOperator.{AddOperator}
 use Rattle.ob0_tree.specs.declared.tree.MultiplyOperator.{MultiplyOperator}
 use Rattle.ob0_tree.specs.declared.tree.Relation.{Relation}
@@ -18,7 +18,7 @@ use Rattle.ob0_reports.specs.ExpressionFaults.{told_addends, told_expression, to
 use Rattle.ob0_reports.specs.Known.{Facts, Operand}
 use Rattle.ob0_reports.specs.Operations.{added, complemented, element_selected, field_selected, multiplied, named, related, signed}
 use Rattle.ob0_report_laws.specs.Agreement.{TypesAgree}
-use Rattle.ob0_report_laws.proofs.Operands.{Scalar, added-fits, complement-scalar, complemented-fits, element-fits, field-fits, multiplied-fits, product-scalar, related-fits, relation-scalar, scalar-none, scalar-some, sign-scalar, signed-fits, sum-scalar}
+use Rattle.ob0_report_laws.proofs.Operands.{IsOf, added-fits, complement-of, complemented-fits, element-fits, field-fits, multiplied-fits, none-of, related-fits, relation-of, signed-fits, some-of}
 use Rattle.ob0_report_laws.proofs.Untold.{goes-on, none-told, then-assoc, then-itself}
 use Rattle.ob0_report_laws.proofs.Valued.{addend-valued, multiplier-valued, name-valued, negation-valued, parts-valued, related-valued, simple-valued, term-valued}
 
@@ -28,7 +28,7 @@ pub record Fits {T : Type 0} (shape : T → Option Shape) (o : Operand T) (type 
   pub known : shape o.of ≡ Some of
   pub typed : type ≡ Some of
   pub valued : o.value ≡ value
-  pub scalar : Scalar o.value
+  pub scalar : IsOf of o.value
 
 -- a name, which may stand for a place where it is a variable's
 pub record NameFits {T N P : Type 0} (facts : Facts T) (shape : T → Option Shape) (label : ℕ → N) (meaning : Meanings N Shape P) (x : ℕ) : Type 0 where
@@ -129,7 +129,7 @@ module _ {T N P : Type 0} (facts : Facts T) (shape : T → Option Shape) (types 
         typed = goes-on (λ x. option_and_then (relation_type r x) (type_of_simple meaning (tree b))) (type_of_simple meaning (tree a)) fa.of (Some boolean_shape) fa.typed
             (goes-on (relation_type r fa.of) (type_of_simple meaning (tree b)) fb.of (Some boolean_shape) fb.typed typed);
         valued = (λ i. both (λ x y. given_value (relate r x y)) (fa.valued i) (fb.valued i)) ∙ sym (related-valued among r (tree a) (tree b));
-        scalar = relation-scalar r (told_simple facts a).known.value (told_simple facts b).known.value;
+        scalar = relation-of r (told_simple facts a).known.value (told_simple facts b).known.value;
       }
 
   addend-whole : (x : Operand T) (s : Shape) (o : AddOperator) (t : Tree ℕ term) (rest : Tree ℕ (items addend)) (ft : FitsTerm t) (w : Shape) → add_type o s ft.of ≡ Some w
@@ -164,10 +164,6 @@ module _ {T N P : Type 0} (facts : Facts T) (shape : T → Option Shape) (types 
   sign-value None o = then-itself o.value
   sign-value (Some g) o = refl
 
-  sign-keeps : (g : Option Sign) (o : Operand T) → Scalar o.value → Scalar (signed facts g o).known.value
-  sign-keeps None o h = h
-  sign-keeps (Some g) o h = sign-scalar g o.value
-
   simple-whole : (g : Option Sign) (t : Tree ℕ term) (rest : Tree ℕ (items addend)) (ft : FitsTerm t) (w : Shape) → sign_type g ft.of ≡ Some w
       → FitsAddends (signed facts g (told_term facts t).known).known w rest → FitsSimple (sum g t rest)
   unfolding told_expression type_of evaluate
@@ -199,12 +195,12 @@ module _ {T N P : Type 0} (facts : Facts T) (shape : T → Option Shape) (types 
   designator-valued x end name = name.fits.valued ∙ sym (name-valued among (label x) (constant_of (meaning.stands_for (label x))) refl)
   designator-valued x (more s path) name =
       parts-have-none facts (named facts x).known s path
-      ∙ sym (parts-valued among (label x) (constant_of (meaning.stands_for (label x))) (tree s) (tree path) refl (λ v e. name.fits.scalar v (name.fits.valued ∙ e)))
+      ∙ sym (parts-valued among (label x) (constant_of (meaning.stands_for (label x))) (tree s) (tree path) refl (λ v e. ap is_some (name.fits.scalar v (name.fits.valued ∙ e))))
 
-  designator-scalar : (x : ℕ) (path : Tree ℕ (items selector)) → NameFits facts shape label meaning x → Scalar (told_factor facts (designator x path)).known.value
+  designator-scalar : (x : ℕ) (path : Tree ℕ (items selector)) (name : NameFits facts shape label meaning x) (fs : FitsSelectors (named facts x).known name.fits.of path) → IsOf fs.of (told_factor facts (designator x path)).known.value
   unfolding told_expression
-  designator-scalar x end name = name.fits.scalar
-  designator-scalar x (more s path) name = λ v e. scalar-none v (sym (parts-have-none facts (named facts x).known s path) ∙ e)
+  designator-scalar x end name fs = λ v e. name.fits.scalar v e ∙ (sym name.fits.known ∙ fs.known)
+  designator-scalar x (more s path) name fs = λ v e. none-of fs.of v (sym (parts-have-none facts (named facts x).known s path) ∙ e)
 
   designator-whole : (x : ℕ) (path : Tree ℕ (items selector)) (name : NameFits facts shape label meaning x) → FitsSelectors (named facts x).known name.fits.of path → FitsFactor (designator x path)
   unfolding told_expression type_of evaluate
@@ -213,7 +209,7 @@ module _ {T N P : Type 0} (facts : Facts T) (shape : T → Option Shape) (types 
     known = fs.known;
     typed = goes-on (λ s. type_at meaning s (tree path)) (object_type (meaning.stands_for (label x))) name.fits.of (Some fs.of) name.fits.typed fs.typed;
     valued = designator-valued x path name;
-    scalar = designator-scalar x path name;
+    scalar = designator-scalar x path name fs;
   }
 
   negation-whole : (f : Tree ℕ factor) (ff : FitsFactor f) → (complemented facts (told_factor facts f).known).faults ≡ [] → FitsFactor (negation f)
@@ -225,7 +221,7 @@ module _ {T N P : Type 0} (facts : Facts T) (shape : T → Option Shape) (types 
         known = known;
         typed = goes-on complement_type (type_of_factor meaning (tree f)) ff.of (Some boolean_shape) ff.typed typed;
         valued = ap (option_and_then (λ x. given_value (negated x))) ff.valued ∙ sym (negation-valued among (tree f));
-        scalar = complement-scalar (told_factor facts f).known.value;
+        scalar = complement-of (told_factor facts f).known.value;
       }
 
   parentheses-whole : (e : Tree ℕ expression) → FitsExpression e → FitsFactor (parenthesised e)
@@ -234,7 +230,7 @@ module _ {T N P : Type 0} (facts : Facts T) (shape : T → Option Shape) (types 
 
   integer-whole : (n : ℕ) → FitsFactor (integer n)
   unfolding told_expression type_of evaluate
-  integer-whole n = record { of = integer_shape; known = types.integer; typed = refl; valued = refl; scalar = scalar-some (number (pos (value_at facts.source n))) refl }
+  integer-whole n = record { of = integer_shape; known = types.integer; typed = refl; valued = refl; scalar = some-of integer_shape (number (pos (value_at facts.source n))) refl }
 
   field-whole : (x : Operand T) (s : Shape) (n : ℕ) (rest : Tree ℕ (items selector)) (u : Shape) → field_type s (text_at facts.source n) ≡ Some u → meaning.written (label n) ≡ text_at facts.source n
       → FitsSelectors (field_selected facts x n).known u rest → FitsSelectors x s (more (field n) rest)
@@ -255,11 +251,11 @@ module _ {T N P : Type 0} (facts : Facts T) (shape : T → Option Shape) (types 
         (goes-on (λ t. type_at meaning t (tree rest)) (element_type s fe.of) u (Some fs.of) typed fs.typed);
   }
 
-  ended-addends : (x : Operand T) (s : Shape) → shape x.of ≡ Some s → Scalar x.value → FitsAddends x s end
+  ended-addends : (x : Operand T) (s : Shape) → shape x.of ≡ Some s → IsOf s x.value → FitsAddends x s end
   unfolding told_expression type_of evaluate
   ended-addends x s hx scalar = record { of = s; known = hx; typed = refl; valued = then-itself x.value; scalar = scalar }
 
-  ended-multipliers : (x : Operand T) (s : Shape) → shape x.of ≡ Some s → Scalar x.value → FitsMultipliers x s end
+  ended-multipliers : (x : Operand T) (s : Shape) → shape x.of ≡ Some s → IsOf s x.value → FitsMultipliers x s end
   unfolding told_expression type_of evaluate
   ended-multipliers x s hx scalar = record { of = s; known = hx; typed = refl; valued = then-itself x.value; scalar = scalar }
 
@@ -290,19 +286,19 @@ module _ {T N P : Type 0} (facts : Facts T) (shape : T → Option Shape) (types 
         let left = none-told (told_term facts t).faults _ h in
         let right = none-told (signed facts g (told_term facts t).known).faults _ left.1 in
         let ft : FitsTerm t = term-fits t parts.0 left.0 in
-        let (w, known, typed) = signed-fits facts shape types g (told_term facts t).known ft.of ft.known right.0 in
-        simple-whole g t rest ft w typed (addends-fit (signed facts g (told_term facts t).known).known w rest known (sign-keeps g (told_term facts t).known ft.scalar) parts.1 right.1)
+        let (w, known, typed, keeps) = signed-fits facts shape types g (told_term facts t).known ft.of ft.known right.0 in
+        simple-whole g t rest ft w typed (addends-fit (signed facts g (told_term facts t).known).known w rest known (keeps ft.scalar) parts.1 right.1)
 
-    addends-fit : (x : Operand T) (s : Shape) (rest : Tree ℕ (items addend)) → shape x.of ≡ Some s → Scalar x.value → All rest → (told_addends facts x rest).faults ≡ [] → FitsAddends x s rest
+    addends-fit : (x : Operand T) (s : Shape) (rest : Tree ℕ (items addend)) → shape x.of ≡ Some s → IsOf s x.value → All rest → (told_addends facts x rest).faults ≡ [] → FitsAddends x s rest
     addends-fit x s end hx scalar k h = ended-addends x s hx scalar
     addends-fit x s (more (adds o t) rest) hx scalar k h =
         let parts = split (ids t) (ids rest) k in
         let left = none-told (told_term facts t).faults _ h in
         let right = none-told (added facts o x (told_term facts t).known).faults _ left.1 in
         let ft : FitsTerm t = term-fits t parts.0 left.0 in
-        let (w, known, typed) = added-fits facts shape types o x (told_term facts t).known s ft.of hx ft.known right.0 in
+        let (w, known, typed, keeps) = added-fits facts shape types o x (told_term facts t).known s ft.of hx ft.known right.0 in
         addend-whole x s o t rest ft w typed
-        (addends-fit (added facts o x (told_term facts t).known).known w rest known (sum-scalar o x.value (told_term facts t).known.value scalar) parts.1 right.1)
+        (addends-fit (added facts o x (told_term facts t).known).known w rest known (keeps scalar) parts.1 right.1)
 
     term-fits : (t : Tree ℕ term) → All t → (told_term facts t).faults ≡ [] → FitsTerm t
     term-fits (product f rest) k h =
@@ -311,16 +307,16 @@ module _ {T N P : Type 0} (facts : Facts T) (shape : T → Option Shape) (types 
         let ff : FitsFactor f = factor-fits f parts.0 left.0 in
         term-whole f rest ff (multipliers-fit (told_factor facts f).known ff.of rest ff.known ff.scalar parts.1 left.1)
 
-    multipliers-fit : (x : Operand T) (s : Shape) (rest : Tree ℕ (items multiplier)) → shape x.of ≡ Some s → Scalar x.value → All rest → (told_multipliers facts x rest).faults ≡ [] → FitsMultipliers x s rest
+    multipliers-fit : (x : Operand T) (s : Shape) (rest : Tree ℕ (items multiplier)) → shape x.of ≡ Some s → IsOf s x.value → All rest → (told_multipliers facts x rest).faults ≡ [] → FitsMultipliers x s rest
     multipliers-fit x s end hx scalar k h = ended-multipliers x s hx scalar
     multipliers-fit x s (more (multiplies o f) rest) hx scalar k h =
         let parts = split (ids f) (ids rest) k in
         let left = none-told (told_factor facts f).faults _ h in
         let right = none-told (multiplied facts o x (told_factor facts f).known).faults _ left.1 in
         let ff : FitsFactor f = factor-fits f parts.0 left.0 in
-        let (w, known, typed) = multiplied-fits facts shape types o x (told_factor facts f).known s ff.of hx ff.known right.0 in
+        let (w, known, typed, keeps) = multiplied-fits facts shape types o x (told_factor facts f).known s ff.of hx ff.known right.0 in
         multiplier-whole x s o f rest ff w typed
-        (multipliers-fit (multiplied facts o x (told_factor facts f).known).known w rest known (product-scalar o x.value (told_factor facts f).known.value scalar) parts.1 right.1)
+        (multipliers-fit (multiplied facts o x (told_factor facts f).known).known w rest known (keeps scalar) parts.1 right.1)
 
     factor-fits : (f : Tree ℕ factor) → All f → (told_factor facts f).faults ≡ [] → FitsFactor f
     factor-fits (designator x path) k h =

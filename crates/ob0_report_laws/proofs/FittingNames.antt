@@ -11,7 +11,7 @@ use Rattle.ob0_reports.specs.Known.{Facts, Meaning, Operand, a_constant, a_proce
 use Rattle.ob0_reports.specs.Operations.{a_constant_name, a_name, at_token, named_value, right}
 use Rattle.ob0_report_laws.specs.Agreement.{StandsAlike, TokenAgrees, TokensAgree, TypesAgree}
 use Rattle.ob0_report_laws.proofs.FittingExpressions.{Fits, TokenFits, TokensFit}
-use Rattle.ob0_report_laws.proofs.Operands.{scalar-none, scalar-some}
+use Rattle.ob0_report_laws.proofs.Operands.{none-of, some-of}
 use Rattle.ob0_scan.specs.declared.fault.Code.TheVariants as code
 
 -- a name by itself, and what it stands for
@@ -22,11 +22,11 @@ pub record ObjectFits {T P : Type 0} (shape : T → Option Shape) (k : Operand T
 module _ {T : Type 0} (facts : Facts T) (shape : T → Option Shape) (types : TypesAgree facts.types shape) where
   constant-fits : {P : Type 0} (x : ℕ) (v : Value) → is_some (value_type v) ≡ true → ObjectFits {P = P} shape (a_constant_name facts.types (Some v) x) (Some (meant.a_constant v))
   constant-fits x (number n) h = record {
-    fits = record { of = integer_shape; known = types.integer; typed = refl; valued = refl; scalar = scalar-some (number n) refl };
+    fits = record { of = integer_shape; known = types.integer; typed = refl; valued = refl; scalar = some-of integer_shape (number n) refl };
     placed = λ e. absurd (true≢false (sym e));
   }
   constant-fits x (truth b) h = record {
-    fits = record { of = boolean_shape; known = types.boolean; typed = refl; valued = refl; scalar = scalar-some (truth b) refl };
+    fits = record { of = boolean_shape; known = types.boolean; typed = refl; valued = refl; scalar = some-of boolean_shape (truth b) refl };
     placed = λ e. absurd (true≢false (sym e));
   }
   constant-fits x (elements vs) h = absurd (cc)
@@ -36,7 +36,7 @@ module _ {T : Type 0} (facts : Facts T) (shape : T → Option Shape) (types : Ty
       → (if b then record { known = a_name facts.types.unknown x; faults = at_token facts code.NotConstant x } else right (a_name t x)).faults ≡ []
       → ObjectFits {P = P} shape (if b then record { known = a_name facts.types.unknown x; faults = at_token facts code.NotConstant x } else right (a_name t x)).known (Some (meant.a_variable s))
   variable-fits x t s known true h = absurd (cc)
-  variable-fits x t s known false h = record { fits = record { of = s; known = known; typed = refl; valued = refl; scalar = scalar-none }; placed = λ e. refl }
+  variable-fits x t s known false h = record { fits = record { of = s; known = known; typed = refl; valued = refl; scalar = none-of s }; placed = λ e. refl }
 
   stands-fits : (x : ℕ) (m : Option (Meaning T)) (o : Option (Object Shape Signature)) → StandsAlike shape m o → (named_value facts x m).faults ≡ [] → ObjectFits shape (named_value facts x m).known o
   stands-fits x None o a h = absurd a

@@ -1,5 +1,5 @@
 -- Operations of which nothing is told: the types of their operands are those that are asked for, and so is their own.
-use Rattle.std.proofs.Common.{◌≡◌, ℕ, Bool, true, false, ◌||◌, cond, [], if◌then◌else◌, Option, Some, None, option_and_then, option_map, is_some, zero, suc, ℤ, pos, negsuc, ◌+ℤ◌, ◌-ℤ◌, ◌*ℤ◌, neg_ℤ, refl, sym, ap, ◌∙◌, subst}
+use Rattle.std.proofs.Common.{◌≡◌, ℕ, Bool, true, false, ◌||◌, cond, [], if◌then◌else◌, Option, Some, None, option_and_then, option_map, zero, suc, ℤ, pos, negsuc, ◌+ℤ◌, ◌-ℤ◌, ◌*ℤ◌, neg_ℤ, refl, sym, ap, ◌∙◌, subst}
 use Rattle.ob0_scan.specs.declared.fault.Code.TheVariants as code
 use Rattle.ob0_symbols.specs.Operators.{product_value, sum_value}
 use Rattle.ob0_tree.specs.declared.tree.AddOperator.{AddOperator}
@@ -20,79 +20,110 @@ use Rattle.ob0_reports.specs.Operations.{added, asked, asked_both, at_operand, c
 use Rattle.ob0_report_laws.specs.Agreement.{FormAgrees, TypesAgree}
 use Rattle.ob0_report_laws.proofs.Untold.{first-of, first-told, none-if, none-told, not-true, some-none, some-same}
 
--- a value that is known is a number or a truth value
-abbrev pub Scalar : Option Value → Type 0
-Scalar c = (v : Value) → c ≡ Some v → is_some (value_type v) ≡ true
+-- a value that is known is of this type
+abbrev pub IsOf : Shape → Option Value → Type 0
+IsOf s c = (v : Value) → c ≡ Some v → value_type v ≡ Some s
 
-pub scalar-none : Scalar None
-scalar-none v e = absurd (cc)
+pub none-of : (s : Shape) → IsOf s None
+none-of s v e = absurd (cc)
 
-pub scalar-some : (w : Value) → is_some (value_type w) ≡ true → Scalar (Some w)
-scalar-some w h v e = subst (λ u. is_some (value_type u) ≡ true) (some-same w v e) h
+pub some-of : (s : Shape) (w : Value) → value_type w ≡ Some s → IsOf s (Some w)
+some-of s w h v e = subst (λ u. value_type u ≡ Some s) (some-same w v e) h
 
-in_range-scalar : (n : ℤ) → Scalar (given_value (in_range n))
-in_range-scalar n =
-    elim (values.fits n) as (λ b. Scalar (given_value (if b then gives (number n) else ends Overflow))) [ true ↦ scalar-some (number n) refl | false ↦ scalar-none ]
+-- what operators give
+abbrev shape_added : AddOperator → Shape
+shape_added add_operator.Add = integer_shape
+shape_added add_operator.Subtract = integer_shape
+shape_added add_operator.Or = boolean_shape
 
-divided_by-scalar : (result : ℕ → ℤ) (n : ℤ) → Scalar (given_value (divided_by (λ d. in_range (result d)) n))
-divided_by-scalar result (pos zero) = scalar-none
-divided_by-scalar result (pos (suc d)) = in_range-scalar (result (suc d))
-divided_by-scalar result (negsuc d) = scalar-none
+abbrev shape_multiplied : MultiplyOperator → Shape
+shape_multiplied multiply_operator.Multiply = integer_shape
+shape_multiplied multiply_operator.Divide = integer_shape
+shape_multiplied multiply_operator.Modulo = integer_shape
+shape_multiplied multiply_operator.And = boolean_shape
 
-add-scalar : (o : AddOperator) (v w : Value) → Scalar (given_value (add o v w))
-add-scalar add_operator.Add (number a) (number b) = in_range-scalar (a +ℤ b)
-add-scalar add_operator.Subtract (number a) (number b) = in_range-scalar (a -ℤ b)
-add-scalar add_operator.Or (truth a) (truth b) = scalar-some (truth (a || b)) refl
-add-scalar _ _ _ = scalar-none
+in_range-of : (n : ℤ) → IsOf integer_shape (given_value (in_range n))
+in_range-of n =
+    elim (values.fits n) as (λ b. IsOf integer_shape (given_value (if b then gives (number n) else ends Overflow)))
+    [ true ↦ some-of integer_shape (number n) refl | false ↦ none-of integer_shape ]
 
-multiply-scalar : (o : MultiplyOperator) (v w : Value) → Scalar (given_value (multiply o v w))
-multiply-scalar multiply_operator.Multiply (number a) (number b) = in_range-scalar (a *ℤ b)
-multiply-scalar multiply_operator.Divide (number a) (number b) = divided_by-scalar (quotient a) b
-multiply-scalar multiply_operator.Modulo (number a) (number b) = divided_by-scalar (remainder a) b
-multiply-scalar multiply_operator.And (truth a) (truth b) = scalar-some (truth _) refl
-multiply-scalar _ _ _ = scalar-none
+divided_by-of : (result : ℕ → ℤ) (n : ℤ) → IsOf integer_shape (given_value (divided_by (λ d. in_range (result d)) n))
+divided_by-of result (pos zero) = none-of integer_shape
+divided_by-of result (pos (suc d)) = in_range-of (result (suc d))
+divided_by-of result (negsuc d) = none-of integer_shape
 
-relate-scalar : (r : Relation) (v w : Value) → Scalar (given_value (relate r v w))
-relate-scalar r (number a) (number b) = scalar-some (truth _) refl
-relate-scalar relation.Equal (truth a) (truth b) = scalar-some (truth _) refl
-relate-scalar relation.NotEqual (truth a) (truth b) = scalar-some (truth _) refl
-relate-scalar _ _ _ = scalar-none
+add-of : (o : AddOperator) (v w : Value) → IsOf (shape_added o) (given_value (add o v w))
+add-of add_operator.Add (number a) (number b) = in_range-of (a +ℤ b)
+add-of add_operator.Subtract (number a) (number b) = in_range-of (a -ℤ b)
+add-of add_operator.Or (truth a) (truth b) = some-of boolean_shape (truth (a || b)) refl
+add-of _ _ _ = none-of _
 
-signed-scalar : (s : Sign) (v : Value) → Scalar (given_value (values.signed (Some s) v))
-signed-scalar sign.Plus (number a) = in_range-scalar a
-signed-scalar sign.Minus (number a) = in_range-scalar (neg_ℤ a)
-signed-scalar _ _ = scalar-none
+multiply-of : (o : MultiplyOperator) (v w : Value) → IsOf (shape_multiplied o) (given_value (multiply o v w))
+multiply-of multiply_operator.Multiply (number a) (number b) = in_range-of (a *ℤ b)
+multiply-of multiply_operator.Divide (number a) (number b) = divided_by-of (quotient a) b
+multiply-of multiply_operator.Modulo (number a) (number b) = divided_by-of (remainder a) b
+multiply-of multiply_operator.And (truth a) (truth b) = some-of boolean_shape (truth _) refl
+multiply-of _ _ _ = none-of _
 
-negated-scalar : (v : Value) → Scalar (given_value (negated v))
-negated-scalar (truth b) = scalar-some (truth _) refl
-negated-scalar _ = scalar-none
+relate-of : (r : Relation) (v w : Value) → IsOf boolean_shape (given_value (relate r v w))
+relate-of r (number a) (number b) = some-of boolean_shape (truth _) refl
+relate-of relation.Equal (truth a) (truth b) = some-of boolean_shape (truth _) refl
+relate-of relation.NotEqual (truth a) (truth b) = some-of boolean_shape (truth _) refl
+relate-of _ _ _ = none-of boolean_shape
 
-then-scalar : (f : Value → Option Value) (c : Option Value) → ((v : Value) → c ≡ Some v → Scalar (f v)) → Scalar (option_and_then f c)
-then-scalar f None each = scalar-none
-then-scalar f (Some v) each = each v refl
+signed-of : (s : Sign) (v : Value) → IsOf integer_shape (given_value (values.signed (Some s) v))
+signed-of sign.Plus (number a) = in_range-of a
+signed-of sign.Minus (number a) = in_range-of (neg_ℤ a)
+signed-of _ _ = none-of integer_shape
 
-settled-scalar : (b : Bool) (x : Value) (o : Option Value) → is_some (value_type x) ≡ true → Scalar o → Scalar (cond b (Some x) o)
-settled-scalar true x o h k = scalar-some x h
-settled-scalar false x o h k = k
+negated-of : (v : Value) → IsOf boolean_shape (given_value (negated v))
+negated-of (truth b) = some-of boolean_shape (truth _) refl
+negated-of _ = none-of boolean_shape
 
-pub sum-scalar : (o : AddOperator) (a b : Option Value) → Scalar a → Scalar (option_and_then (sum_value o b) a)
-sum-scalar o a b h =
-    then-scalar (sum_value o b) a (λ x e. settled-scalar (add_is_settled o x) x (option_and_then (λ y. given_value (add o x y)) b) (h x e) (then-scalar (λ y. given_value (add o x y)) b (λ y f. add-scalar o x y)))
+then-of : (s : Shape) (f : Value → Option Value) (c : Option Value) → ((v : Value) → c ≡ Some v → IsOf s (f v)) → IsOf s (option_and_then f c)
+then-of s f None each = none-of s
+then-of s f (Some v) each = each v refl
 
-pub product-scalar : (o : MultiplyOperator) (a b : Option Value) → Scalar a → Scalar (option_and_then (product_value o b) a)
-product-scalar o a b h =
-    then-scalar (product_value o b) a
-    (λ x e. settled-scalar (multiply_is_settled o x) x (option_and_then (λ y. given_value (multiply o x y)) b) (h x e) (then-scalar (λ y. given_value (multiply o x y)) b (λ y f. multiply-scalar o x y)))
+settled-of : (s : Shape) (b : Bool) (x : Value) (o : Option Value) → value_type x ≡ Some s → IsOf s o → IsOf s (cond b (Some x) o)
+settled-of s true x o h k = some-of s x h
+settled-of s false x o h k = k
 
-pub relation-scalar : (r : Relation) (a b : Option Value) → Scalar (both (λ x y. given_value (relate r x y)) a b)
-relation-scalar r a b =
-    then-scalar (λ x. option_and_then (λ y. given_value (relate r x y)) b) a (λ x e. then-scalar (λ y. given_value (relate r x y)) b (λ y f. relate-scalar r x y))
+sum-of : (o : AddOperator) (a b : Option Value) (s : Shape) → s ≡ shape_added o → IsOf s a → IsOf (shape_added o) (option_and_then (sum_value o b) a)
+sum-of o a b s same h =
+    then-of (shape_added o) (sum_value o b) a
+    (λ x e. settled-of (shape_added o) (add_is_settled o x) x (option_and_then (λ y. given_value (add o x y)) b) (h x e ∙ ap (λ u. Some u) same)
+    (then-of (shape_added o) (λ y. given_value (add o x y)) b (λ y f. add-of o x y)))
 
-pub sign-scalar : (s : Sign) (a : Option Value) → Scalar (option_and_then (λ x. given_value (values.signed (Some s) x)) a)
-sign-scalar s a = then-scalar (λ x. given_value (values.signed (Some s) x)) a (λ x e. signed-scalar s x)
+product-of : (o : MultiplyOperator) (a b : Option Value) (s : Shape) → s ≡ shape_multiplied o → IsOf s a → IsOf (shape_multiplied o) (option_and_then (product_value o b) a)
+product-of o a b s same h =
+    then-of (shape_multiplied o) (product_value o b) a
+    (λ x e. settled-of (shape_multiplied o) (multiply_is_settled o x) x (option_and_then (λ y. given_value (multiply o x y)) b) (h x e ∙ ap (λ u. Some u) same)
+    (then-of (shape_multiplied o) (λ y. given_value (multiply o x y)) b (λ y f. multiply-of o x y)))
 
-pub complement-scalar : (a : Option Value) → Scalar (option_and_then (λ x. given_value (negated x)) a)
-complement-scalar a = then-scalar (λ x. given_value (negated x)) a (λ x e. negated-scalar x)
+pub relation-of : (r : Relation) (a b : Option Value) → IsOf boolean_shape (both (λ x y. given_value (relate r x y)) a b)
+relation-of r a b =
+    then-of boolean_shape (λ x. option_and_then (λ y. given_value (relate r x y)) b) a (λ x e. then-of boolean_shape (λ y. given_value (relate r x y)) b (λ y f. relate-of r x y))
+
+sign-of : (s : Sign) (a : Option Value) → IsOf integer_shape (option_and_then (λ x. given_value (values.signed (Some s) x)) a)
+sign-of s a = then-of integer_shape (λ x. given_value (values.signed (Some s) x)) a (λ x e. signed-of s x)
+
+pub complement-of : (a : Option Value) → IsOf boolean_shape (option_and_then (λ x. given_value (negated x)) a)
+complement-of a = then-of boolean_shape (λ x. given_value (negated x)) a (λ x e. negated-of x)
+
+add-typed : (o : AddOperator) → add_type o (shape_added o) (shape_added o) ≡ Some (shape_added o)
+add-typed add_operator.Add = refl
+add-typed add_operator.Subtract = refl
+add-typed add_operator.Or = refl
+
+multiply-typed : (o : MultiplyOperator) → multiply_type o (shape_multiplied o) (shape_multiplied o) ≡ Some (shape_multiplied o)
+multiply-typed multiply_operator.Multiply = refl
+multiply-typed multiply_operator.Divide = refl
+multiply-typed multiply_operator.Modulo = refl
+multiply-typed multiply_operator.And = refl
+
+sign-typed : (s : Sign) → sign_type (Some s) integer_shape ≡ Some integer_shape
+sign-typed sign.Plus = refl
+sign-typed sign.Minus = refl
 
 module _ {T : Type 0} (facts : Facts T) (shape : T → Option Shape) (types : TypesAgree facts.types shape) where
   pub is-known : (t : T) (s : Shape) → shape t ≡ Some s → facts.types.same t facts.types.unknown ≡ true → ⊥
@@ -120,18 +151,18 @@ module _ {T : Type 0} (facts : Facts T) (shape : T → Option Shape) (types : Ty
       let (known, right) = asked-fits wanted b t w ht hw none in
       (ap (λ c. (if c then left else wrong).known) fit ∙ (ap (λ c. if c then (asked facts wanted b).known else facts.types.unknown) same ∙ known), same-shape a.of wanted s w hs hw same, right)
 
-  -- what operators ask for has a shape, and of two operands of that shape the whole has a type
+  -- what operators ask for has a shape
 
-  add-wanted : (o : AddOperator) → (w : Shape) × (shape (wanted_by_add facts.types o) ≡ Some w) × (add_type o w w ≡ Some w)
-  add-wanted add_operator.Add = (integer_shape, types.integer, refl)
-  add-wanted add_operator.Subtract = (integer_shape, types.integer, refl)
-  add-wanted add_operator.Or = (boolean_shape, types.boolean, refl)
+  add-wanted : (o : AddOperator) → shape (wanted_by_add facts.types o) ≡ Some (shape_added o)
+  add-wanted add_operator.Add = types.integer
+  add-wanted add_operator.Subtract = types.integer
+  add-wanted add_operator.Or = types.boolean
 
-  multiply-wanted : (o : MultiplyOperator) → (w : Shape) × (shape (wanted_by_multiply facts.types o) ≡ Some w) × (multiply_type o w w ≡ Some w)
-  multiply-wanted multiply_operator.Multiply = (integer_shape, types.integer, refl)
-  multiply-wanted multiply_operator.Divide = (integer_shape, types.integer, refl)
-  multiply-wanted multiply_operator.Modulo = (integer_shape, types.integer, refl)
-  multiply-wanted multiply_operator.And = (boolean_shape, types.boolean, refl)
+  multiply-wanted : (o : MultiplyOperator) → shape (wanted_by_multiply facts.types o) ≡ Some (shape_multiplied o)
+  multiply-wanted multiply_operator.Multiply = types.integer
+  multiply-wanted multiply_operator.Divide = types.integer
+  multiply-wanted multiply_operator.Modulo = types.integer
+  multiply-wanted multiply_operator.And = types.boolean
 
   equality-wanted : (r : Relation) → relation_type r boolean_shape boolean_shape ≡ Some boolean_shape → (t : T) (s : Shape) → shape t ≡ Some s
       → (w : Shape) × (shape (wanted_by_equality facts.types t) ≡ Some w) × (relation_type r w w ≡ Some boolean_shape)
@@ -156,18 +187,16 @@ module _ {T : Type 0} (facts : Facts T) (shape : T → Option Shape) (types : Ty
   -- operations
 
   pub added-fits : (o : AddOperator) (a b : Operand T) (s t : Shape) → shape a.of ≡ Some s → shape b.of ≡ Some t → (added facts o a b).faults ≡ []
-      → (w : Shape) × (shape (added facts o a b).known.of ≡ Some w) × (add_type o s t ≡ Some w)
+      → (w : Shape) × (shape (added facts o a b).known.of ≡ Some w) × (add_type o s t ≡ Some w) × (IsOf s a.value → IsOf w (added facts o a b).known.value)
   added-fits o a b s t hs ht h =
-      let (w, hw, typed) = add-wanted o in
-      let (known, left, right) = both-asked (wanted_by_add facts.types o) a b s t w hs ht hw (none-told _ _ h).0 in
-      (w, ap shape known ∙ hw, (λ i. add_type o (left i) (right i)) ∙ typed)
+      let (known, left, right) = both-asked (wanted_by_add facts.types o) a b s t (shape_added o) hs ht (add-wanted o) (none-told _ _ h).0 in
+      (shape_added o, ap shape known ∙ add-wanted o, (λ i. add_type o (left i) (right i)) ∙ add-typed o, sum-of o a.value b.value s left)
 
   pub multiplied-fits : (o : MultiplyOperator) (a b : Operand T) (s t : Shape) → shape a.of ≡ Some s → shape b.of ≡ Some t → (multiplied facts o a b).faults ≡ []
-      → (w : Shape) × (shape (multiplied facts o a b).known.of ≡ Some w) × (multiply_type o s t ≡ Some w)
+      → (w : Shape) × (shape (multiplied facts o a b).known.of ≡ Some w) × (multiply_type o s t ≡ Some w) × (IsOf s a.value → IsOf w (multiplied facts o a b).known.value)
   multiplied-fits o a b s t hs ht h =
-      let (w, hw, typed) = multiply-wanted o in
-      let (known, left, right) = both-asked (wanted_by_multiply facts.types o) a b s t w hs ht hw (none-told _ _ h).0 in
-      (w, ap shape known ∙ hw, (λ i. multiply_type o (left i) (right i)) ∙ typed)
+      let (known, left, right) = both-asked (wanted_by_multiply facts.types o) a b s t (shape_multiplied o) hs ht (multiply-wanted o) (none-told _ _ h).0 in
+      (shape_multiplied o, ap shape known ∙ multiply-wanted o, (λ i. multiply_type o (left i) (right i)) ∙ multiply-typed o, product-of o a.value b.value s left)
 
   pub related-fits : (r : Relation) (a b : Operand T) (s t : Shape) → shape a.of ≡ Some s → shape b.of ≡ Some t → (related facts r a b).faults ≡ []
       → (shape (related facts r a b).known.of ≡ Some boolean_shape) × (relation_type r s t ≡ Some boolean_shape)
@@ -176,16 +205,12 @@ module _ {T : Type 0} (facts : Facts T) (shape : T → Option Shape) (types : Ty
       let (known, left, right) = both-asked (wanted_by_relation facts.types r a.of) a b s t w hs ht hw (none-told _ _ h).0 in
       (ap (λ u. shape (truth_of facts.types u)) known ∙ truth-known (wanted_by_relation facts.types r a.of) w hw, (λ i. relation_type r (left i) (right i)) ∙ typed)
 
-  sign-typed : (s : Sign) → sign_type (Some s) integer_shape ≡ Some integer_shape
-  sign-typed sign.Plus = refl
-  sign-typed sign.Minus = refl
-
   pub signed-fits : (g : Option Sign) (o : Operand T) (s : Shape) → shape o.of ≡ Some s → (signed facts g o).faults ≡ []
-      → (w : Shape) × (shape (signed facts g o).known.of ≡ Some w) × (sign_type g s ≡ Some w)
-  signed-fits None o s hs h = (s, hs, refl)
+      → (w : Shape) × (shape (signed facts g o).known.of ≡ Some w) × (sign_type g s ≡ Some w) × (IsOf s o.value → IsOf w (signed facts g o).known.value)
+  signed-fits None o s hs h = (s, hs, refl, λ worth. worth)
   signed-fits (Some g) o s hs h =
       let (known, right) = asked-fits facts.types.integer o s integer_shape hs types.integer (none-told _ _ h).0 in
-      (integer_shape, ap shape known ∙ types.integer, ap (sign_type (Some g)) right ∙ sign-typed g)
+      (integer_shape, ap shape known ∙ types.integer, ap (sign_type (Some g)) right ∙ sign-typed g, λ worth. sign-of g o.value)
 
   pub complemented-fits : (o : Operand T) (s : Shape) → shape o.of ≡ Some s → (complemented facts o).faults ≡ []
       → (shape (complemented facts o).known.of ≡ Some boolean_shape) × (complement_type s ≡ Some boolean_shape)

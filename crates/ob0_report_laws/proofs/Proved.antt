@@ -1,5 +1,5 @@
 -- The laws of what is told of expressions.
-use Rattle.std.proofs.Common.{◌≡◌, ℕ, Bool, true, false, [], Option, Some, None, option_map, if◌then◌else◌, refl, sym, ap, ◌∙◌}
+use Rattle.std.proofs.Common.{◌≡◌, ℕ, Bool, true, false, [], Option, Some, None, option_map, is_some, if◌then◌else◌, refl, sym, ap, ◌∙◌}
 use Rattle.ob0_tree.specs.declared.tree.Role.TheVariants as role
 use Rattle.ob0_tree.specs.Places.{value_at}
 use Rattle.ob0_tree.specs.Tree.{Tree, expression, identifiers, mapped}
@@ -17,7 +17,7 @@ use Rattle.ob0_report_laws.specs.ReportLaws.{ConstantsFit, ExpressionsFit, Lengt
 use Rattle.ob0_report_laws.proofs.FittingExpressions.{FitsExpression, expression-fits}
 use Rattle.ob0_report_laws.proofs.FittingNames.{only-tokens, tokens-fit}
 use Rattle.ob0_report_laws.proofs.FittingPlaces.{operand-fits}
-use Rattle.ob0_report_laws.proofs.Operands.{Scalar, asked-fits, is-known}
+use Rattle.ob0_report_laws.proofs.Operands.{IsOf, asked-fits, is-known}
 use Rattle.ob0_report_laws.proofs.Untold.{goes-on, none-told, not-true}
 
 only-once : {V P : Type 0} (o : Option (Object V P)) → option_map {U = Object Place (Unit {0})} a_constant (constant_of {V = Shape} {P = Unit {0}} (option_map a_constant (constant_of o))) ≡ option_map a_constant (constant_of o)
@@ -36,7 +36,7 @@ module _ {T N : Type 0} (facts : Facts T) (shape : T → Option Shape) (label : 
     pub of : Shape
     pub known : shape (told_expression facts e).known.of ≡ Some of
     pub given : (v : Value) → (told_expression facts e).known.value ≡ Some v → constant_value meaning (mapped label (value_at facts.source) e) ≡ Some v
-    pub scalar : Scalar (told_expression facts e).known.value
+    pub scalar : IsOf of (told_expression facts e).known.value
 
   pub constant-known : facts.only_constants ≡ true → (told_expression facts e).faults ≡ [] → IsConstant
   unfolding constant_value
@@ -74,7 +74,7 @@ constants_fit-holds p shapes label meaning e agrees h =
     let c = constant-known facts (shape_in shapes) label meaning e agrees refl parts.0 in
     let o : Operand _ = (told_expression facts e).known in
     let w = evaluated-there facts o (not-true (facts.types.same o.of facts.types.unknown) (is-known facts (shape_in shapes) agrees.types o.of c.of c.known)) parts.1 in
-    record { value = w.value; known = w.known; given = c.given w.value w.there; scalar = c.scalar w.value w.there }
+    record { value = w.value; known = w.known; given = c.given w.value w.there; scalar = ap is_some (c.scalar w.value w.there) }
 
 pub expressions_fit-holds : ExpressionsFit
 expressions_fit-holds p only shapes label meaning e agrees h = here-fits (facts_at p only) (shape_in shapes) label meaning e agrees only refl h

@@ -20,14 +20,14 @@ abbrev pub meaning_here : {N : Type 0} → Bool → Typed N → Typed N
 meaning_here true meaning = constants_only meaning
 meaning_here false meaning = meaning
 
--- What is known of an operand is so of its expression: its type; its value, which is that over the constants, and a scalar; and
--- where it may stand for a place, it is a variable or parameter with its selectors.
+-- What is known of an operand is so of its expression: its type; its value, where it is made of constants, which is of that
+-- type; and where it may stand for a place, it is a variable or parameter with its selectors.
 pub record OperandFits {T N P : Type 0} (shape : T → Option Shape) (meaning : Meanings N Shape P) (o : Operand T) (e : Tree N expression) : Type 0 where
   pub of : Shape
   pub known : shape o.of ≡ Some of
   pub typed : type_of meaning e ≡ Some of
   pub valued : o.value ≡ given_value (evaluate {P = Unit {0}} (constants_only meaning) [] e)
-  pub scalar : (v : Value) → o.value ≡ Some v → is_some (value_type v) ≡ true
+  pub scalar : (v : Value) → o.value ≡ Some v → value_type v ≡ Some of
   pub placed : o.is_place ≡ true → variable_type meaning (designated e) ≡ Some of
 
 -- an expression of which nothing is told
