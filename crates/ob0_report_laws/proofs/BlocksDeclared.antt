@@ -22,7 +22,7 @@ use Rattle.ob0_reports.specs.SoFar.{SoFar, Typed, define, define_all, facts_at}
 use Rattle.ob0_reports.specs.TypeFaults.{told_constant}
 use Rattle.ob0_reports.specs.WrittenTypeFaults.{told_type}
 use Rattle.ob0_report_laws.specs.Agreement.{FormalsAgree, StandsAlike, TableAgrees, shape_in}
-use Rattle.ob0_report_laws.specs.ModuleLaws.{PartsFit}
+use Rattle.ob0_report_laws.proofs.PartsFitting.{PartsFit}
 use Rattle.ob0_report_laws.specs.ReportLaws.{ConstantFits}
 use Rattle.ob0_report_laws.proofs.DeclaredNames.{AreSeen, ConstantsPlaced, NamesPlaced, Numbering, SectionsPlaced, TypesPlaced, VariablesPlaced, after_names-map, names_listed-mapped, scope_behind, section_names-mapped}
 use Rattle.ob0_report_laws.proofs.DeclaredShapes.{Longer}

@@ -20,7 +20,8 @@ use Rattle.ob0_reports.specs.DeclarationFaults.{Heading, behind_heading, told_bl
 use Rattle.ob0_reports.specs.Known.{Meaning, Told, a_procedure}
 use Rattle.ob0_symbols.specs.declared.types.TypeId.{TypeId}
 use Rattle.ob0_reports.specs.SoFar.{SoFar, at_first, define, facts_at, predeclared_meanings}
-use Rattle.ob0_report_laws.specs.ModuleLaws.{ModulesFitByParts, PartsFit}
+use Rattle.ob0_report_laws.proofs.PartsFitting.{PartsFit, parts_fit}
+use Rattle.ob0_report_laws.specs.ModuleLaws.{ModulesFit}
 use Rattle.ob0_report_laws.proofs.DeclaredModules.{module_placed, numbering_of}
 use Rattle.ob0_report_laws.proofs.DeclaredNames.{AreSeen, BlockPlaced, ConstantsPlaced, Numbering, ProcedurePlaced, ProceduresPlaced, TypesPlaced, VariablesPlaced, after_names-map, behind_constants, behind_procedure, behind_types, behind_variables, constants-mapped, formals-mapped, inside_procedure, types-mapped, variables-mapped}
 use Rattle.ob0_report_laws.proofs.DeclaredStanding.{Later, NamesStand, Stands, agrees_where_seen, defined, later_of, later_same, later_then, stands_defined, stands_later}
@@ -202,9 +203,9 @@ first_stands r = record {
   );
 }
 
-pub modules_fit_by_parts-holds : ModulesFitByParts
+pub modules_fit-holds : ModulesFit
 unfolding told_module fits_over
-modules_fit_by_parts-holds fit r is h =
+modules_fit-holds r is h =
     let m = r.module_read in
     let a = none_both (filter is_of_occurrences r.faults) (told_block (at_first r) (module_block (tree_of m))).faults h in
-    (block_told (numbering_of r) fit (module_block (tree_of m)) 0 7 (at_first r) [] (predeclared_scope as_names) (outermost as_names) (first_stands r) (module_placed r is a.0) a.1).right
+    (block_told (numbering_of r) parts_fit (module_block (tree_of m)) 0 7 (at_first r) [] (predeclared_scope as_names) (outermost as_names) (first_stands r) (module_placed r is a.0) a.1).right

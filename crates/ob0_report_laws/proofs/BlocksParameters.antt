@@ -20,7 +20,7 @@ use Rattle.ob0_reports.specs.Known.{Formal, Meaning, Told, a_variable}
 use Rattle.ob0_reports.specs.SoFar.{SoFar, Typed, define, define_all}
 use Rattle.ob0_reports.specs.WrittenTypeFaults.{told_type}
 use Rattle.ob0_report_laws.specs.Agreement.{FormalsAgree, StandsAlike, shape_in}
-use Rattle.ob0_report_laws.specs.ModuleLaws.{PartsFit}
+use Rattle.ob0_report_laws.proofs.PartsFitting.{PartsFit}
 use Rattle.ob0_report_laws.proofs.DeclaredNames.{AreSeen, NamesPlaced, Numbering, SectionsPlaced, after_names-map, names_listed-mapped, scope_behind}
 use Rattle.ob0_report_laws.proofs.DeclaredShapes.{Longer}
 use Rattle.ob0_report_laws.proofs.DeclaredStanding.{Later, NamesStand, Stands, all_defined, defined, formals_kept, later_same, later_then, names_later, stands_defined, stands_kept, stands_later}

@@ -18,7 +18,7 @@ use Rattle.ob0_values.specs.Values.{Shape}
 use Rattle.ob0_reports.specs.Known.{Formal, Meaning, a_constant, a_procedure, a_type, a_variable}
 use Rattle.ob0_reports.specs.SoFar.{SoFar, define, define_all, facts_at, with_declared}
 use Rattle.ob0_report_laws.specs.Agreement.{Agrees, FormalsAgree, MeaningAgrees, StandsAlike, TableAgrees, TokensAgree, shape_in}
-use Rattle.ob0_report_laws.specs.ModuleLaws.{PartsFit}
+use Rattle.ob0_report_laws.proofs.PartsFitting.{PartsFit}
 use Rattle.ob0_report_laws.proofs.DeclaredNames.{AreSeen, Each, IsPlaced, IsSeen, NamesPlaced, Numbering, scope_behind}
 use Rattle.ob0_report_laws.proofs.DeclaredShapes.{Longer, longer_same, longer_then}
 

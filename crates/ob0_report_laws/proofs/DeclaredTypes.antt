@@ -20,7 +20,7 @@ use Rattle.ob0_reports.specs.SoFar.{Parts, Size, SoFar, Typed, facts_at, is_with
 use Rattle.ob0_reports.specs.TypeFaults.{length_of, type_meant}
 use Rattle.ob0_reports.specs.WrittenTypeFaults.{Gathered, array_made, array_size, gathered_behind, nothing_gathered, record_made, record_size, record_word, told_fields, told_groups, told_type, with_name, with_names, word_before}
 use Rattle.ob0_report_laws.specs.Agreement.{MadeAgrees, PartsAgree, StandsAlike, TableAgrees, shape_in}
-use Rattle.ob0_report_laws.specs.ModuleLaws.{PartsFit}
+use Rattle.ob0_report_laws.proofs.PartsFitting.{PartsFit}
 use Rattle.ob0_report_laws.specs.ReportLaws.{LengthFits}
 use Rattle.ob0_report_laws.proofs.DeclaredNames.{AreSeen, IsSeen, Numbering, each_part, names_listed-mapped}
 use Rattle.ob0_report_laws.proofs.DeclaredShapes.{FieldsAgree, GatheredAgrees, Longer, SizeAgrees, array_sized, followed, followed-assoc, followed-nothing, gathered_kept, is_limited, last_array, last_record, longer_more, longer_then, names_put, record_sized, size_agrees, table_more, with_fields-followed}

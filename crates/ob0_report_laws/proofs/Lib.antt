@@ -1,6 +1,16 @@
+pub mod Untold
+pub mod Valued
+pub mod Operands
+pub mod FittingExpressions
+pub mod FittingNames
+pub mod FittingPlaces
+pub mod FittingStatements
+pub mod Tables
+pub mod Proved
 pub mod DeclaredNames
 pub mod DeclaredModules
 pub mod DeclaredShapes
+pub mod PartsFitting
 pub mod DeclaredStanding
 pub mod DeclaredTypes
 pub mod BlocksDeclared

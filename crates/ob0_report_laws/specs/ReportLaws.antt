@@ -1,6 +1,5 @@
--- Laws of what is told: expressions and statements of which nothing is told fit.
+-- Laws of what is told: expressions and statements of which nothing is told fit. N stands for names.
 use Rattle.std.specs.Prelude.{◌≡◌, ℕ, Bool, true, false, List, [], Option, Some, is_some}
-use Rattle.ob0_scope.specs.Names.{Label}
 use Rattle.ob0_tree.specs.Places.{value_at}
 use Rattle.ob0_tree.specs.Tree.{Tree, expression, mapped, sequence}
 use Rattle.ob0_typing.specs.Expressions.{Meanings, evaluate}
@@ -31,9 +30,9 @@ pub record OperandFits {T N P : Type 0} (shape : T → Option Shape) (meaning : 
   pub placed : o.is_place ≡ true → variable_type meaning (designated e) ≡ Some of
 
 -- an expression of which nothing is told
-abbrev pub ExpressionsFit : Type 0
-ExpressionsFit =
-    (p : SoFar) (only_constants : Bool) (shapes : List Shape) (label : ℕ → Label) (meaning : Typed Label) (e : Tree ℕ expression)
+abbrev pub ExpressionsFit : Type 0 → Type 0
+ExpressionsFit N =
+    (p : SoFar) (only_constants : Bool) (shapes : List Shape) (label : ℕ → N) (meaning : Typed N) (e : Tree ℕ expression)
     → Agrees (facts_at p only_constants) (shape_in shapes) label meaning e → (told_expression (facts_at p only_constants) e).faults ≡ []
     → OperandFits (shape_in shapes) (meaning_here only_constants meaning) (told_expression (facts_at p only_constants) e).known (mapped label (value_at p.source) e)
 
@@ -44,9 +43,9 @@ pub record ConstantFits {N : Type 0} (meaning : Typed N) (told : Option Value) (
   pub given : constant_value meaning e ≡ Some value
   pub scalar : is_some (value_type value) ≡ true
 
-abbrev pub ConstantsFit : Type 0
-ConstantsFit =
-    (p : SoFar) (shapes : List Shape) (label : ℕ → Label) (meaning : Typed Label) (e : Tree ℕ expression)
+abbrev pub ConstantsFit : Type 0 → Type 0
+ConstantsFit N =
+    (p : SoFar) (shapes : List Shape) (label : ℕ → N) (meaning : Typed N) (e : Tree ℕ expression)
     → Agrees (facts_at p true) (shape_in shapes) label meaning e → (told_constant (facts_at p true) e).faults ≡ []
     → ConstantFits meaning (told_constant (facts_at p true) e).known (mapped label (value_at p.source) e)
 
@@ -58,16 +57,16 @@ pub record LengthFits {N : Type 0} (meaning : Typed N) (told : Option ℕ) (e : 
   pub given : constant_value meaning e ≡ Some value
   pub counted : array_length value ≡ Some length
 
-abbrev pub LengthsFit : Type 0
-LengthsFit =
-    (p : SoFar) (shapes : List Shape) (label : ℕ → Label) (meaning : Typed Label) (e : Tree ℕ expression)
+abbrev pub LengthsFit : Type 0 → Type 0
+LengthsFit N =
+    (p : SoFar) (shapes : List Shape) (label : ℕ → N) (meaning : Typed N) (e : Tree ℕ expression)
     → Agrees (facts_at p true) (shape_in shapes) label meaning e → (told_expression (facts_at p true) e >>= length_of (facts_at p false)).faults ≡ []
     → LengthFits meaning (told_expression (facts_at p true) e >>= length_of (facts_at p false)).known (mapped label (value_at p.source) e)
 
 -- statements of which nothing is told
-abbrev pub StatementsFit : Type 0
-StatementsFit =
-    (p : SoFar) (shapes : List Shape) (label : ℕ → Label) (meaning : Typed Label) (statements : Tree ℕ sequence)
+abbrev pub StatementsFit : Type 0 → Type 0
+StatementsFit N =
+    (p : SoFar) (shapes : List Shape) (label : ℕ → N) (meaning : Typed N) (statements : Tree ℕ sequence)
     → Agrees (facts_at p false) (shape_in shapes) label meaning statements → told_sequence (facts_at p false) statements ≡ []
     → sequence_fits meaning (mapped label (value_at p.source) statements) ≡ true
 

@@ -1,4 +1,4 @@
-//! Laws of what is told of a module: where nothing is told, the module fits.
+//! Laws of the faults that are told of types: where nothing is told, all fits.
 #![tactic(auto)]
 
 pub mod laws;
