@@ -1,33 +1,27 @@
 -- Constants, types, variables and parameters of which nothing is told are declared.
-use Rattle.std.proofs.Common.{◌≡◌, ℕ, suc, ◌+◌, ◌<◌, ◌≤◌, Bool, true, false, List, [], ◌∷◌, ◌++◌, length, map, Option, Some, None, option_and_then, slice_index_or, refl, sym, ap, ◌∙◌, subst, subst₂, le_refl, le_of_lt, le_trans, append_assoc}
+use Rattle.std.proofs.Common.{◌≡◌, ℕ, suc, ◌+◌, ◌≤◌, true, List, [], ◌∷◌, ◌++◌, map, Option, Some, option_and_then, refl, sym, ap, ◌∙◌, subst, subst₂, le_refl, le_of_lt}
 use Rattle.std.proofs.lemmas.List.{map-append}
 use Rattle.ob0_tree.specs.Places.{named, text_at, value_at}
-use Rattle.ob0_tree.specs.Tree.{Tree, constant, declares_constant, declares_type, declares_variable, end, further_section, item, items, mapped, more, names, section, then_section, type_name, value_section, variable, variable_section, written_type}
+use Rattle.ob0_tree.specs.Tree.{Tree, constant, declares_constant, declares_type, declares_variable, end, items, mapped, more, type_name, variable}
 use Rattle.ob0_scope.specs.Names.{Name, as_names}
-use Rattle.ob0_scope.specs.Parts.{constant_names, formal_names, named_types, names_listed, section_names, section_type, variable_names}
+use Rattle.ob0_scope.specs.Parts.{constant_names, named_types, names_listed, variable_names}
 use Rattle.ob0_scope.specs.Scopes.{Scope, after_names, declare_names}
 use Rattle.ob0_scope.proofs.Ordinals.{after_names-append, declare_names-append, le-after_names}
-use Rattle.ob0_symbols.specs.declared.types.TypeId.{TypeId}
 use Rattle.ob0_typing.specs.Declarations.{declare_constants, declare_types}
 use Rattle.ob0_typing.specs.Environments.{meanings}
 use Rattle.ob0_typing.specs.Expressions as meant
 use Rattle.ob0_typing.specs.Typing.{constant_value, constructors, denoted}
-use Rattle.ob0_typing.specs.WellTyped as well
-use Rattle.ob0_typing.specs.WellTyped.{Mode, Signature, TypeEnvironment, TypedParameter, bind_names, bind_typed, by_place, by_value, declare_typed, typed_parameters}
+use Rattle.ob0_typing.specs.WellTyped.{TypeEnvironment, bind_names, declare_typed}
 use Rattle.ob0_values.specs.Values.{Shape, Value}
-use Rattle.ob0_symbols.specs.Tables.{mode_of}
-use Rattle.ob0_reports.specs.DeclarationFaults.{Heading, constant_declared, told_constants, told_parameters, told_section, told_sections, told_types, told_variables, type_declared, variables_declared, with_parameters}
-use Rattle.ob0_reports.specs.Known.{Formal, Meaning, Told, a_constant, a_type, a_variable}
+use Rattle.ob0_reports.specs.DeclarationFaults.{constant_declared, told_constants, told_types, told_variables, type_declared, variables_declared}
+use Rattle.ob0_reports.specs.Known.{Told, a_constant, a_type, a_variable}
 use Rattle.ob0_reports.specs.SoFar.{SoFar, Typed, define, define_all, facts_at}
 use Rattle.ob0_reports.specs.TypeFaults.{told_constant}
 use Rattle.ob0_reports.specs.WrittenTypeFaults.{told_type}
-use Rattle.ob0_report_laws.specs.Agreement.{FormalsAgree, StandsAlike, TableAgrees, shape_in}
 use Rattle.ob0_report_laws.proofs.PartsFitting.{PartsFit}
-use Rattle.ob0_report_laws.specs.ReportLaws.{ConstantFits}
-use Rattle.ob0_report_laws.proofs.DeclaredNames.{AreSeen, ConstantsPlaced, NamesPlaced, Numbering, SectionsPlaced, TypesPlaced, VariablesPlaced, after_names-map, names_listed-mapped, scope_behind, section_names-mapped}
-use Rattle.ob0_report_laws.proofs.DeclaredShapes.{Longer}
-use Rattle.ob0_report_laws.proofs.DeclaredStanding.{Later, NamesStand, Stands, agrees_where_seen, all_defined, defined, formals_kept, later_same, later_then, names_later, stands_defined, stands_kept, stands_later}
-use Rattle.ob0_report_laws.proofs.DeclaredTypes.{Denotes, none_both, type_denotes}
+use Rattle.ob0_report_laws.proofs.DeclaredNames.{ConstantsPlaced, Numbering, TypesPlaced, VariablesPlaced, after_names-map, names_listed-mapped, scope_behind}
+use Rattle.ob0_report_laws.proofs.DeclaredStanding.{Later, Stands, agrees_where_seen, all_defined, defined, later_same, later_then, stands_defined, stands_later}
+use Rattle.ob0_report_laws.proofs.DeclaredTypes.{none_both, type_denotes}
 
 -- declarations from the ordinal n on, up to m, give an environment
 pub record Declared (w : Numbering) (n m : ℕ) (p q : SoFar) (before : List Shape) (scope : Scope Name) (given : Option (TypeEnvironment Name)) : Type 0 where
@@ -108,8 +102,8 @@ module _ (w : Numbering) (fit : PartsFit) where
       let own : names_listed (named w.source ns) ≡ map (text_at w.source) xs = names_listed-mapped (text_at w.source) (value_at w.source) ns in
       let rest = variables_declare gs (k + constructors (named w.source t)) (after_names n xs) q s.after (scope_behind w n xs scope) (bind_names (map (text_at w.source) xs) (meant.a_variable s.shape) env) all.stands placed.2 a.1 in
       let whole = declared_then w n (after_names n xs) (after_names (after_names n xs) (variable_names gs)) p q (told_variables q gs).known before s.after (scope_behind w (after_names n xs) (variable_names gs) (scope_behind w n xs scope))
-          (denoted (meanings as_names env) k (named w.source t)) s.shape (λ s. declare_typed as_names (k + constructors (named w.source t)) (named w.source gs) (bind_names (names_listed (named w.source ns)) (meant.a_variable s) env)) (le-after_names n xs) s.given_is
-          (later_then n n p u.known.behind q before s.after s.after (le_refl n) s.later all.later)
-          (subst (λ ys. Declared w (after_names n xs) (after_names (after_names n xs) (variable_names gs)) q (told_variables q gs).known s.after (scope_behind w (after_names n xs) (variable_names gs) (scope_behind w n xs scope)) (declare_typed as_names (k + constructors (named w.source t)) (named w.source gs) (bind_names ys (meant.a_variable s.shape) env))) (sym own) rest) in
+      (denoted (meanings as_names env) k (named w.source t)) s.shape (λ s. declare_typed as_names (k + constructors (named w.source t)) (named w.source gs) (bind_names (names_listed (named w.source ns)) (meant.a_variable s) env)) (le-after_names n xs) s.given_is
+      (later_then n n p u.known.behind q before s.after s.after (le_refl n) s.later all.later)
+      (subst (λ ys. Declared w (after_names n xs) (after_names (after_names n xs) (variable_names gs)) q (told_variables q gs).known s.after (scope_behind w (after_names n xs) (variable_names gs) (scope_behind w n xs scope)) (declare_typed as_names (k + constructors (named w.source t)) (named w.source gs) (bind_names ys (meant.a_variable s.shape) env))) (sym own) rest) in
       subst₂ (λ m z. Declared w n m p (told_variables q gs).known before z (option_and_then (λ s. declare_typed as_names (k + constructors (named w.source t)) (named w.source gs) (bind_names (names_listed (named w.source ns)) (meant.a_variable s) env)) (denoted (meanings as_names env) k (named w.source t))))
       (sym (after_names-append n xs (variable_names gs))) (behind-append n xs (variable_names gs) scope) whole

@@ -1,16 +1,15 @@
 -- Blocks, procedures and modules of which nothing is told fit.
-use Rattle.std.proofs.Common.{◌≡◌, ◌≢◌, ℕ, suc, ◌+◌, ◌<◌, ◌≤◌, Bool, true, false, ◌&&◌, List, [], ◌∷◌, ◌++◌, length, map, Option, Some, None, option_and_then, slice_index_or, refl, sym, ap, ◌∙◌, subst, le_refl, le_of_lt, le_trans, arith, length-append, lit<}
+use Rattle.std.proofs.Common.{◌≡◌, ◌≢◌, ℕ, suc, ◌+◌, ◌<◌, ◌≤◌, Bool, true, false, ◌&&◌, List, [], ◌∷◌, ◌++◌, length, map, Option, Some, None, option_and_then, refl, sym, ap, ◌∙◌, subst, le_refl, le_trans, arith, length-append, lit<}
 use Rattle.std.proofs.lemmas.List.{length-map}
 use Rattle.std.specs.List.{filter}
-use Rattle.ob0_scan.specs.declared.fault.Fault.{Fault}
-use Rattle.ob0_tree.specs.Parsed.{named_tree_of, tree_of}
+use Rattle.ob0_tree.specs.Parsed.{tree_of}
 use Rattle.ob0_tree.specs.Places.{named, text_at, value_at}
 use Rattle.ob0_tree.specs.Tree.{Tree, begins, block, body, constants, declares, declares_procedure, end, has_body, item, items, mapped, maybe, more, none, one, procedure, type_names, variables}
 use Rattle.ob0_scope.specs.Names.{Name, as_names}
-use Rattle.ob0_scope.specs.Parts.{block_variables, constant_names, formal_names, formal_sections, module_block, named_types, procedure_formals, procedure_name, section_constants, section_types, section_variables, variable_names}
-use Rattle.ob0_scope.specs.Resolution.{IsResolution, Resolution, is_of_occurrences}
-use Rattle.ob0_scope.specs.Scopes.{Scope, after_names, after_procedure, declare_names, first_procedure, first_type, first_variable, predeclared_scope}
-use Rattle.ob0_scope.proofs.Ordinals.{le-after_block, le-after_names, le-after_procedure}
+use Rattle.ob0_scope.specs.Parts.{constant_names, formal_names, formal_sections, module_block, named_types, procedure_formals, procedure_name, section_constants, section_types, section_variables, variable_names}
+use Rattle.ob0_scope.specs.Resolution.{Resolution, is_of_occurrences}
+use Rattle.ob0_scope.specs.Scopes.{Scope, after_names, after_procedure, first_procedure, first_type, first_variable, predeclared_scope}
+use Rattle.ob0_scope.proofs.Ordinals.{le-after_names, le-after_procedure}
 use Rattle.ob0_typing.specs.Declarations.{after_types, after_variables, declare_constants, declare_first, declare_types, formals_constructors, procedure_constructors}
 use Rattle.ob0_typing.specs.Environments.{meanings, outermost}
 use Rattle.ob0_typing.specs.Expressions as meant
@@ -19,7 +18,7 @@ use Rattle.ob0_values.specs.Values.{Shape, boolean_shape, integer_shape, truth}
 use Rattle.ob0_reports.specs.DeclarationFaults.{Heading, behind_heading, told_block, told_body, told_constants, told_module, told_procedure, told_procedures, told_sections, told_types, told_variables}
 use Rattle.ob0_reports.specs.Known.{Meaning, Told, a_procedure}
 use Rattle.ob0_symbols.specs.declared.types.TypeId.{TypeId}
-use Rattle.ob0_reports.specs.SoFar.{SoFar, at_first, define, facts_at, predeclared_meanings}
+use Rattle.ob0_reports.specs.SoFar.{SoFar, at_first, predeclared_meanings}
 use Rattle.ob0_report_laws.proofs.PartsFitting.{PartsFit, parts_fit}
 use Rattle.ob0_report_laws.specs.ModuleLaws.{ModulesFit}
 use Rattle.ob0_report_laws.proofs.DeclaredModules.{module_placed, numbering_of}
@@ -84,9 +83,9 @@ module _ (w : Numbering) (fit : PartsFit) where
       let le₁ : n ≤ first_type n b = le-after_names n (constant_names (section_constants cs)) in
       let le₂ : n ≤ first_variable n b = le_trans le₁ (le-after_names (first_type n b) (named_types (section_types ts))) in
       let first : Declared w n (first_variable n b) p p₂ before (behind_types w scope n b) (declare_first as_names env k nb) =
-          declared_then w n (first_type n b) (first_variable n b) p p₁ p₂ before dc.after (behind_types w scope n b) (declare_constants as_names env (section_constants (named w.source cs))) dc.env (λ e. declare_types as_names e k (section_types (named w.source ts))) le₁
-          (ap (declare_constants as_names env) (constants-mapped text value cs) ∙ dc.given_is) dc.later
-          (subst (λ z. Declared w (first_type n b) (first_variable n b) p₁ p₂ dc.after (behind_types w scope n b) (declare_types as_names dc.env k z)) (sym (types-mapped text value ts)) dt) in
+      declared_then w n (first_type n b) (first_variable n b) p p₁ p₂ before dc.after (behind_types w scope n b) (declare_constants as_names env (section_constants (named w.source cs))) dc.env (λ e. declare_types as_names e k (section_types (named w.source ts))) le₁
+      (ap (declare_constants as_names env) (constants-mapped text value cs) ∙ dc.given_is) dc.later
+      (subst (λ z. Declared w (first_type n b) (first_variable n b) p₁ p₂ dc.after (behind_types w scope n b) (declare_types as_names dc.env k z)) (sym (types-mapped text value ts)) dt) in
       let dv = variables_declare w fit (section_variables vs) (after_types k nb) (first_variable n b) p₂ first.after (behind_types w scope n b) first.env first.stands placed₂ none₂ in
       declared_then w n (first_variable n b) (first_procedure n b) p p₂ p₃ before first.after (behind_variables w scope n b) (declare_first as_names env k nb) first.env (declare_typed as_names (after_types k nb) (section_variables (named w.source vs))) le₂ first.given_is first.later
       (subst (λ z. Declared w (first_variable n b) (first_procedure n b) p₂ p₃ first.after (behind_variables w scope n b) (declare_typed as_names (after_types k nb) z first.env)) (sym (variables-mapped text value vs)) dv)
@@ -193,13 +192,35 @@ first_stands r = record {
   room = room_first r.declarations;
   table = tt;
   names = (
-    lit< tt, refl, ([], refl, tt),
-    (lit< tt, refl, (record { mode = by_value; shape = integer_shape } ∷ [], refl, (refl, refl, tt)),
-    (lit< tt, refl, (record { mode = by_place; shape = integer_shape } ∷ [], refl, (refl, refl, tt)),
-    (lit< tt, refl, (truth false, refl, refl, refl),
-    (lit< tt, refl, (truth true, refl, refl, refl),
-    (lit< tt, refl, (boolean_shape, refl, refl),
-    (lit< tt, refl, (integer_shape, refl, refl), tt)))))),
+    lit< tt,
+    refl,
+    ([], refl, tt),
+    (
+      lit< tt,
+      refl,
+      (record { mode = by_value; shape = integer_shape } ∷ [], refl, (refl, refl, tt)),
+      (
+        lit< tt,
+        refl,
+        (record { mode = by_place; shape = integer_shape } ∷ [], refl, (refl, refl, tt)),
+        (
+          lit< tt,
+          refl,
+          (truth false, refl, refl, refl),
+          (
+            lit< tt,
+            refl,
+            (truth true, refl, refl, refl),
+            (
+              lit< tt,
+              refl,
+              (boolean_shape, refl, refl),
+              (lit< tt, refl, (integer_shape, refl, refl), tt),
+            ),
+          ),
+        ),
+      ),
+    ),
   );
 }
 

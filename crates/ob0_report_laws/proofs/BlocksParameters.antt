@@ -1,10 +1,10 @@
 -- Formal parameters of which nothing is told have the types of a signature.
-use Rattle.std.proofs.Common.{◌≡◌, ◌≢◌, ℕ, suc, ◌+◌, ◌<◌, ◌≤◌, Bool, true, false, List, [], ◌∷◌, ◌++◌, map, Option, Some, None, option_and_then, slice_index_or, refl, sym, ap, ◌∙◌, subst, subst₂, le_refl, le_of_lt, le_trans, append_assoc, append-nil}
+use Rattle.std.proofs.Common.{◌≡◌, ℕ, suc, ◌+◌, ◌<◌, ◌≤◌, Bool, true, false, List, [], ◌∷◌, ◌++◌, map, Option, Some, None, option_and_then, slice_index_or, refl, sym, ap, ◌∙◌, subst, le_refl, le_of_lt, le_trans, append_assoc, append-nil}
 use Rattle.std.proofs.lemmas.List.{map-append}
 use Rattle.ob0_tree.specs.Places.{named, text_at, value_at}
-use Rattle.ob0_tree.specs.Tree.{Tree, end, further_section, items, more, names, section, then_section, value_section, variable_section, written_type}
+use Rattle.ob0_tree.specs.Tree.{Tree, end, further_section, items, more, then_section, value_section, variable_section, written_type}
 use Rattle.ob0_scope.specs.Names.{Name, as_names}
-use Rattle.ob0_scope.specs.Parts.{formal_names, names_listed, section_names, section_type}
+use Rattle.ob0_scope.specs.Parts.{formal_names, names_listed}
 use Rattle.ob0_scope.specs.Scopes.{Scope, after_names, declare_names}
 use Rattle.ob0_scope.proofs.Ordinals.{le-after_names}
 use Rattle.ob0_symbols.specs.Tables.{mode_of}
@@ -12,8 +12,7 @@ use Rattle.ob0_symbols.specs.declared.types.TypeId.{TypeId}
 use Rattle.ob0_typing.specs.Environments.{meanings}
 use Rattle.ob0_typing.specs.Expressions as meant
 use Rattle.ob0_typing.specs.Typing.{constructors, denoted}
-use Rattle.ob0_typing.specs.WellTyped as well
-use Rattle.ob0_typing.specs.WellTyped.{Mode, Signature, TypeEnvironment, TypedParameter, bind_names, bind_typed, by_place, by_value, section_mode, typed_parameters}
+use Rattle.ob0_typing.specs.WellTyped.{Mode, Signature, TypeEnvironment, TypedParameter, bind_names, bind_typed, by_place, by_value, typed_parameters}
 use Rattle.ob0_values.specs.Values.{Shape}
 use Rattle.ob0_reports.specs.DeclarationFaults.{Heading, told_parameters, told_section, told_sections, with_parameters}
 use Rattle.ob0_reports.specs.Known.{Formal, Meaning, Told, a_variable}
@@ -24,7 +23,7 @@ use Rattle.ob0_report_laws.proofs.PartsFitting.{PartsFit}
 use Rattle.ob0_report_laws.proofs.DeclaredNames.{AreSeen, NamesPlaced, Numbering, SectionsPlaced, after_names-map, names_listed-mapped, scope_behind}
 use Rattle.ob0_report_laws.proofs.DeclaredShapes.{Longer}
 use Rattle.ob0_report_laws.proofs.DeclaredStanding.{Later, NamesStand, Stands, all_defined, defined, formals_kept, later_same, later_then, names_later, stands_defined, stands_kept, stands_later}
-use Rattle.ob0_report_laws.proofs.DeclaredTypes.{Denotes, none_both, type_denotes}
+use Rattle.ob0_report_laws.proofs.DeclaredTypes.{none_both, type_denotes}
 
 -- parameters from an ordinal on, each known as a variable
 abbrev pub ParametersStand : List Shape → List (Option (Meaning TypeId)) → ℕ → List Name → List (TypedParameter Name) → Type 0

@@ -1,14 +1,14 @@
 -- In a module where every name is bound, all names are placed.
-use Rattle.std.proofs.Common.{◌≡◌, ℕ, suc, ◌+◌, ◌≤◌, Option, Some, None, List, [], ◌∷◌, ◌++◌, map, length, refl, sym, ap, ◌∙◌, subst, arith, length-append, if◌then◌else◌}
+use Rattle.std.proofs.Common.{◌≡◌, ℕ, suc, ◌+◌, ◌≤◌, Option, Some, None, List, [], ◌∷◌, ◌++◌, map, length, refl, sym, ap, ◌∙◌, arith, length-append, if◌then◌else◌}
 use Rattle.std.specs.List.{filter}
 use Rattle.ob0_scan.specs.declared.fault.Code.TheVariants as code
 use Rattle.ob0_scan.specs.declared.fault.Fault.{Fault}
 use Rattle.ob0_tree.specs.declared.tree.Role.{Role}
 use Rattle.ob0_tree.specs.declared.tree.Role.TheVariants as role
-use Rattle.ob0_tree.specs.Parsed.{named_tree_of, tree_of}
+use Rattle.ob0_tree.specs.Parsed.{tree_of}
 use Rattle.ob0_tree.specs.Places.{text_at}
-use Rattle.ob0_tree.specs.Tree.{Tree, block, body, constant, constants, declares, declares_constant, declares_constants, declares_procedure, declares_type, declares_types, declares_variable, declares_variables, end, formals, further_name, further_section, has_body, identifiers, item, items, listed, maybe, more, names, no_formals, none, occurrences, one, procedure, section, some_formals, then_name, then_section, type_name, type_names, value_section, variable, variable_section, variables}
-use Rattle.ob0_scope.specs.Names.{Label, Name, as_names}
+use Rattle.ob0_tree.specs.Tree.{Tree, block, constant, constants, declares, declares_constant, declares_constants, declares_procedure, declares_type, declares_types, declares_variable, declares_variables, end, formals, further_name, further_section, has_body, identifiers, item, items, listed, maybe, more, names, no_formals, none, occurrences, one, procedure, section, some_formals, then_name, then_section, type_name, type_names, value_section, variable, variable_section, variables}
+use Rattle.ob0_scope.specs.Names.{as_names}
 use Rattle.ob0_scope.specs.Parts.{constant_names, formal_names, formal_sections, further_names, module_block, named_types, names_listed, section_constants, section_names, section_types, section_variables, variable_names}
 use Rattle.ob0_scope.specs.Resolution.{IsResolution, Resolution, declaring_only, is_of_occurrences, is_unbound, label_at, ordinal_in, span_at, unbound_at}
 use Rattle.ob0_scope.specs.Scopes.{after_block, after_names, after_procedure, after_procedures, as_label, predeclared_scope}
@@ -123,7 +123,7 @@ module_placed r is nothing =
     let b : Tree ℕ block = module_block (tree_of m) in
     let ids = identifiers role.Declaring b in
     let bound : unbound_at m.source (occurrences (tree_of m)) (map (label_at m.source r.ordinals) (occurrences (tree_of m))) ≡ [] =
-        ap (unbound_at m.source (occurrences (tree_of m))) (sym (bindings_by_table m r.ordinals is.numbering)) ∙ (sym is.told.undeclared ∙ nothing) in
+    ap (unbound_at m.source (occurrences (tree_of m))) (sym (bindings_by_table m r.ordinals is.numbering)) ∙ (sym is.told.undeclared ∙ nothing) in
     let declared : length (declaring_only ids) ≤ length r.declarations =
-        omega (arith, ap length is.declaring, ap length (declaring_only-append ids ((role.ModuleName, m.closing) ∷ [])), length-append (declaring_only ids) []) in
+    omega (arith, ap length is.declaring, ap length (declaring_only-append ids ((role.ModuleName, m.closing) ∷ [])), length-append (declaring_only ids) []) in
     block_placed n (predeclared_scope as_names) 7 b (ap module_block is.binding) (all_bound n (occurrences b) bound) (omega (arith, (counts_block 7 b).counts, declared))

@@ -1,5 +1,5 @@
 -- Each name of a module has its ordinal: one that is looked up that of the scope there, and one that declares that of its place.
-use Rattle.std.proofs.Common.{◌≡◌, ℕ, suc, ◌<◌, ◌≤◌, Option, Some, None, List, [], ◌∷◌, ◌++◌, map, refl, sym, ap, ◌∙◌, subst, le_trans, le_refl, arith}
+use Rattle.std.proofs.Common.{◌≡◌, ℕ, suc, ◌<◌, ◌≤◌, Option, Some, None, List, [], ◌∷◌, ◌++◌, map, refl, sym, ap, ◌∙◌, subst, le_trans}
 use Rattle.std.proofs.lemmas.List.{map-append}
 use Rattle.ob0_scan.specs.Scanned.{Scanned}
 use Rattle.ob0_tree.specs.Places.{named, text_at, value_at}
@@ -7,10 +7,10 @@ use Rattle.ob0_tree.specs.Tree.{Item, Sort, Tree, block, body, constant, constan
 use Rattle.ob0_scope.specs.Names.{Name, as_names}
 use Rattle.ob0_scope.specs.Parts.{block_constants, block_procedures, block_statements, block_types, block_variables, constant_names, formal_names, formal_sections, further_names, named_types, names_listed, procedure_block, procedure_formals, procedure_name, section_constants, section_names, section_type, section_types, section_variables, variable_names}
 use Rattle.ob0_scope.specs.Resolution.{bound_at, ordinal_in, with_ordinal}
-use Rattle.ob0_scope.specs.Scopes.{Scope, after_block, after_names, after_procedure, after_procedures, body_scope, declare_names, declare_procedure_names, first_procedure, first_type, first_variable, label_names, label_of, ordinal_of, procedures_scope, relabel_block, relabel_constants, relabel_formals, relabel_procedure, relabel_procedures, relabel_section, relabel_sections, relabel_types, relabel_uses, relabel_variables, types_scope, variables_scope}
+use Rattle.ob0_scope.specs.Scopes.{Scope, after_block, after_names, after_procedure, after_procedures, declare_names, declare_procedure_names, first_procedure, first_type, first_variable, label_names, label_of, ordinal_of, procedures_scope, relabel_block, relabel_constants, relabel_procedure, relabel_procedures, relabel_sections, relabel_types, relabel_uses, relabel_variables, types_scope, variables_scope}
 use Rattle.ob0_scope.proofs.OccurrenceNames.{occurrences-with_names}
 use Rattle.ob0_scope.proofs.OccurrencesMapped.{occurrences-mapped}
-use Rattle.ob0_scope.proofs.Ordinals.{after_names-append, declare_names-append, le-after_block, le-after_names, le-after_procedure, le-after_procedures}
+use Rattle.ob0_scope.proofs.Ordinals.{after_names-append, le-after_block, le-after_names, le-after_procedures}
 use Rattle.ob0_scope.proofs.Peeling.{heads}
 use Rattle.ob0_scope.proofs.Relabelled.{constants-section, formals-section, names-relabel, section_names-relabel, section_type-relabel, types-section, variables-section}
 
@@ -252,7 +252,7 @@ module _ (n : Numbering) where
       let text : ℕ → Name = text_at n.source in
       let bound : ℕ → Option ℕ × Name = bound_at n.source n.ordinals in
       let left : occurrences (relabel_uses as_names with_ordinal scope (named n.source t)) ≡ map (λ x. look (text x)) (occurrences t) =
-          occurrences-with_names look (with_ordinal None) (named n.source t) ∙ (ap (map look) (occurrences-mapped text (value_at n.source) t) ∙ map-twice look text (occurrences t)) in
+      occurrences-with_names look (with_ordinal None) (named n.source t) ∙ (ap (map look) (occurrences-mapped text (value_at n.source) t) ∙ map-twice look text (occurrences t)) in
       each_with (λ x. look (text x) ≡ bound x) (IsBound n) (IsSeen n scope) (seen scope) (occurrences t)
       (each_same (λ x. look (text x)) bound (occurrences t) (sym left ∙ (ap occurrences e ∙ occurrences-mapped bound (value_at n.source) t))) all
 
@@ -289,9 +289,9 @@ module _ (n : Numbering) where
       let own : names_listed (named n.source ns) ≡ map text (names_listed ns) = names_listed-mapped text (value_at n.source) ns in
       let behind : after_names (after_names k (names_listed ns)) (variable_names gs) ≤ n.room = subst (λ j. j ≤ n.room) (after_names-append k (names_listed ns) (variable_names gs)) room in
       let labels : label_names with_ordinal k (map text (names_listed ns)) ≡ map (bound_at n.source n.ordinals) (names_listed ns) =
-          sym (names-relabel with_ordinal k (named n.source ns) ∙ ap (label_names with_ordinal k) own) ∙ (ap variables_left first ∙ names_listed-mapped (bound_at n.source n.ordinals) (value_at n.source) ns) in
+      sym (names-relabel with_ordinal k (named n.source ns) ∙ ap (label_names with_ordinal k) own) ∙ (ap variables_left first ∙ names_listed-mapped (bound_at n.source n.ordinals) (value_at n.source) ns) in
       let rest : relabel_variables as_names with_ordinal (scope_behind n k (names_listed ns) scope) (after_names k (names_listed ns)) (named n.source gs) ≡ bound_by gs =
-          sym (λ i. relabel_variables as_names with_ordinal (declare_names k (own i) scope) (after-mapped text k k (names_listed ns) (names_listed (named n.source ns)) own refl i) (named n.source gs)) ∙ ap rest_of e in (
+      sym (λ i. relabel_variables as_names with_ordinal (declare_names k (own i) scope) (after-mapped text k k (names_listed ns) (names_listed (named n.source ns)) own refl i) (named n.source gs)) ∙ ap rest_of e in (
         names_placed k (names_listed ns) labels (le_trans (le-after_names (after_names k (names_listed ns)) (variable_names gs)) behind),
         uses_seen scope t (ap variables_side first) parts.0,
         variables_placed (scope_behind n k (names_listed ns) scope) (after_names k (names_listed ns)) gs rest parts.1 behind,
@@ -310,11 +310,11 @@ module _ (n : Numbering) where
       let own : section_names (named n.source f) ≡ map text (section_names f) = section_names-mapped text (value_at n.source) f in
       let behind : after_names (after_names k (section_names f)) (formal_names fs) ≤ n.room = subst (λ j. j ≤ n.room) (after_names-append k (section_names f) (formal_names fs)) room in
       let labels : label_names with_ordinal k (map text (section_names f)) ≡ map (bound_at n.source n.ordinals) (section_names f) =
-          sym (section_names-relabel as_names with_ordinal scope k (named n.source f) ∙ ap (label_names with_ordinal k) own) ∙ (ap section_names first ∙ section_names-mapped (bound_at n.source n.ordinals) (value_at n.source) f) in
+      sym (section_names-relabel as_names with_ordinal scope k (named n.source f) ∙ ap (label_names with_ordinal k) own) ∙ (ap section_names first ∙ section_names-mapped (bound_at n.source n.ordinals) (value_at n.source) f) in
       let sided : relabel_uses as_names with_ordinal scope (named n.source (section_type f)) ≡ bound_by (section_type f) =
-          sym (section_type-relabel as_names with_ordinal scope k (named n.source f) ∙ ap (relabel_uses as_names with_ordinal scope) (section_type-mapped text (value_at n.source) f)) ∙ (ap section_type first ∙ section_type-mapped (bound_at n.source n.ordinals) (value_at n.source) f) in
+      sym (section_type-relabel as_names with_ordinal scope k (named n.source f) ∙ ap (relabel_uses as_names with_ordinal scope) (section_type-mapped text (value_at n.source) f)) ∙ (ap section_type first ∙ section_type-mapped (bound_at n.source n.ordinals) (value_at n.source) f) in
       let rest : relabel_sections as_names with_ordinal (scope_behind n k (section_names f) scope) (after_names k (section_names f)) (named n.source fs) ≡ bound_by fs =
-          sym (λ i. relabel_sections as_names with_ordinal (declare_names k (own i) scope) (after-mapped text k k (section_names f) (section_names (named n.source f)) own refl i) (named n.source fs)) ∙ ap rest_of e in (
+      sym (λ i. relabel_sections as_names with_ordinal (declare_names k (own i) scope) (after-mapped text k k (section_names f) (section_names (named n.source f)) own refl i) (named n.source fs)) ∙ ap rest_of e in (
         names_placed k (section_names f) labels (le_trans (le-after_names (after_names k (section_names f)) (formal_names fs)) behind),
         uses_seen scope (section_type f) sided (subst (Each (IsBound n)) (section_occurrences f) parts.0),
         sections_placed (scope_behind n k (section_names f) scope) (after_names k (section_names f)) fs rest parts.1 behind,
@@ -358,15 +358,15 @@ module _ (n : Numbering) where
         let room₂ : first_variable k b ≤ n.room = le_trans (le-after_names (first_variable k b) (variable_names (section_variables vs))) room₃ in
         let room₁ : first_type k b ≤ n.room = le_trans (le-after_names (first_type k b) (named_types (section_types ts))) room₂ in
         let of_constants : relabel_constants as_names with_ordinal scope k (named n.source (section_constants cs)) ≡ bound_by (section_constants cs) =
-            sym (constants-section as_names with_ordinal scope k (named n.source cs) ∙ ap (relabel_constants as_names with_ordinal scope k) (constants-mapped text value cs)) ∙ (ap block_constants e ∙ constants-mapped bound value cs) in
+        sym (constants-section as_names with_ordinal scope k (named n.source cs) ∙ ap (relabel_constants as_names with_ordinal scope k) (constants-mapped text value cs)) ∙ (ap block_constants e ∙ constants-mapped bound value cs) in
         let of_types : relabel_types as_names with_ordinal (behind_constants n scope k b) (first_type k b) (named n.source (section_types ts)) ≡ bound_by (section_types ts) =
-            sym (types-section as_names with_ordinal (types_scope k (named n.source b) scope) (first_type k (named n.source b)) (named n.source ts) ∙ (λ i. relabel_types as_names with_ordinal (s₁ i) (k₁ i) (types-mapped text value ts i))) ∙ (ap block_types e ∙ types-mapped bound value ts) in
+        sym (types-section as_names with_ordinal (types_scope k (named n.source b) scope) (first_type k (named n.source b)) (named n.source ts) ∙ (λ i. relabel_types as_names with_ordinal (s₁ i) (k₁ i) (types-mapped text value ts i))) ∙ (ap block_types e ∙ types-mapped bound value ts) in
         let of_variables : relabel_variables as_names with_ordinal (behind_types n scope k b) (first_variable k b) (named n.source (section_variables vs)) ≡ bound_by (section_variables vs) =
-            sym (variables-section as_names with_ordinal (variables_scope k (named n.source b) scope) (first_variable k (named n.source b)) (named n.source vs) ∙ (λ i. relabel_variables as_names with_ordinal (s₂ i) (k₂ i) (variables-mapped text value vs i))) ∙ (ap block_variables e ∙ variables-mapped bound value vs) in
+        sym (variables-section as_names with_ordinal (variables_scope k (named n.source b) scope) (first_variable k (named n.source b)) (named n.source vs) ∙ (λ i. relabel_variables as_names with_ordinal (s₂ i) (k₂ i) (variables-mapped text value vs i))) ∙ (ap block_variables e ∙ variables-mapped bound value vs) in
         let of_procedures : relabel_procedures as_names with_ordinal (behind_variables n scope k b) (first_procedure k b) (named n.source ps) ≡ bound_by ps =
-            sym (λ i. relabel_procedures as_names with_ordinal (s₃ i) (k₃ i) (named n.source ps)) ∙ ap block_procedures e in
+        sym (λ i. relabel_procedures as_names with_ordinal (s₃ i) (k₃ i) (named n.source ps)) ∙ ap block_procedures e in
         let of_statements : relabel_uses as_names with_ordinal (declare_procedure_names (first_procedure k b) (named n.source ps) (behind_variables n scope k b)) (named n.source statements) ≡ bound_by statements =
-            sym (λ i. relabel_uses as_names with_ordinal (declare_procedure_names (k₃ i) (named n.source ps) (s₃ i)) (named n.source statements)) ∙ ap block_statements e in (
+        sym (λ i. relabel_uses as_names with_ordinal (declare_procedure_names (k₃ i) (named n.source ps) (s₃ i)) (named n.source statements)) ∙ ap block_statements e in (
           constants_placed scope k (section_constants cs) of_constants (subst (Each (IsBound n)) (constants_occurrences cs) first.0) room₁,
           types_placed (behind_constants n scope k b) (first_type k b) (section_types ts) of_types (subst (Each (IsBound n)) (types_occurrences ts) second.0) room₂,
           variables_placed (behind_types n scope k b) (first_variable k b) (section_variables vs) of_variables (subst (Each (IsBound n)) (variables_occurrences vs) third.0) room₃,
@@ -381,9 +381,9 @@ module _ (n : Numbering) where
         let next : after_procedure (suc k) (named n.source p) ≡ after_procedure (suc k) p = after_procedure-mapped (text_at n.source) (value_at n.source) (suc k) (suc k) refl p in
         let own : procedure_name (named n.source p) ≡ text_at n.source (procedure_name p) = procedure_name-mapped (text_at n.source) (value_at n.source) p in
         let others : relabel_procedures as_names with_ordinal (behind_procedure n scope k p) (after_procedure (suc k) p) (named n.source rest) ≡ bound_by rest =
-            sym (λ i. relabel_procedures as_names with_ordinal ((own i, k) ∷ scope) (next i) (named n.source rest)) ∙ ap rest_of e in
+        sym (λ i. relabel_procedures as_names with_ordinal ((own i, k) ∷ scope) (next i) (named n.source rest)) ∙ ap rest_of e in
         let final : relabel_uses as_names with_ordinal (declare_procedure_names (after_procedure (suc k) p) (named n.source rest) (behind_procedure n scope k p)) (named n.source statements) ≡ bound_by statements =
-            sym (λ i. relabel_uses as_names with_ordinal (declare_procedure_names (next i) (named n.source rest) ((own i, k) ∷ scope)) (named n.source statements)) ∙ last in (
+        sym (λ i. relabel_uses as_names with_ordinal (declare_procedure_names (next i) (named n.source rest) ((own i, k) ∷ scope)) (named n.source statements)) ∙ last in (
           procedure_placed scope k p (ap (first_of (bound_by p)) e) parts.0 (le_trans (le-after_procedures (after_procedure (suc k) p) rest) room),
           procedures_placed (behind_procedure n scope k p) (after_procedure (suc k) p) statements rest others final parts.1 behind room,
         )
@@ -398,9 +398,9 @@ module _ (n : Numbering) where
         let next : after_names (suc k) (formal_names (formal_sections (named n.source fs))) ≡ after_names (suc k) (formal_names (formal_sections fs)) = after-mapped text (suc k) (suc k) (formal_names (formal_sections fs)) (formal_names (formal_sections (named n.source fs))) own refl in
         let inner : after_names (suc k) (formal_names (formal_sections fs)) ≤ n.room = le_trans (le-after_block (after_names (suc k) (formal_names (formal_sections fs))) b) room in
         let of_formals : relabel_sections as_names with_ordinal scope (suc k) (named n.source (formal_sections fs)) ≡ bound_by (formal_sections fs) =
-            sym (formals-section as_names with_ordinal scope (suc k) (named n.source fs) ∙ ap (relabel_sections as_names with_ordinal scope (suc k)) (formals-mapped text value fs)) ∙ (ap procedure_formals e ∙ formals-mapped (bound_at n.source n.ordinals) value fs) in
+        sym (formals-section as_names with_ordinal scope (suc k) (named n.source fs) ∙ ap (relabel_sections as_names with_ordinal scope (suc k)) (formals-mapped text value fs)) ∙ (ap procedure_formals e ∙ formals-mapped (bound_at n.source n.ordinals) value fs) in
         let of_block : relabel_block as_names with_ordinal (inside_procedure n scope k p) (after_names (suc k) (formal_names (formal_sections fs))) (named n.source b) ≡ bound_by b =
-            sym (λ i. relabel_block as_names with_ordinal (declare_names (suc k) (own i) (behind_procedure n scope k p)) (next i) (named n.source b)) ∙ ap procedure_block e in (
+        sym (λ i. relabel_block as_names with_ordinal (declare_names (suc k) (own i) (behind_procedure n scope k p)) (next i) (named n.source b)) ∙ ap procedure_block e in (
           (ap (λ (q : Tree (Option ℕ × Name) (item procedure)). (procedure_name q).0) (sym e), le_trans (le-after_names (suc k) (formal_names (formal_sections fs))) inner),
           sections_placed scope (suc k) (formal_sections fs) of_formals (subst (Each (IsBound n)) (formals_occurrences fs) parts.0) inner,
           block_placed (inside_procedure n scope k p) (after_names (suc k) (formal_names (formal_sections fs))) b of_block parts.1 room,

@@ -7,14 +7,11 @@ use Rattle.ob0_tree.specs.Places.{text_at}
 use Rattle.ob0_scope.specs.Names.{Name, same_name}
 use Rattle.ob0_symbols.specs.declared.types.TypeId.{TypeId}
 use Rattle.ob0_symbols.specs.declared.types.TypeId.TheVariants as type
-use Rattle.ob0_typing.specs.Expressions as meant
 use Rattle.ob0_typing.specs.Typing.{depth, field_depth, field_scalars, scalars, shape_of_field, with_fields, within_limits}
-use Rattle.ob0_typing.specs.WellTyped.{Signature}
 use Rattle.ob0_values.specs.Values.{FieldShapes, Shape, array_shape, boolean_shape, integer_shape, next_field_shape, no_field_shape, record_shape}
-use Rattle.ob0_reports.specs.Known.{Formal, Meaning, a_constant, a_procedure, a_record, a_type, a_variable, an_array}
 use Rattle.ob0_reports.specs.SoFar.{Made, Parts, Size, is_within, of_elements, of_fields, one_scalar, size_at, size_made}
 use Rattle.ob0_reports.specs.WrittenTypeFaults.{Gathered, array_size, record_size, with_field, with_name, with_names}
-use Rattle.ob0_report_laws.specs.Agreement.{EachMade, FormalsAgree, MadeAgrees, MeaningAgrees, PartsAgree, StandsAlike, TableAgrees, as_array, as_record, shape_in}
+use Rattle.ob0_report_laws.specs.Agreement.{EachMade, MadeAgrees, PartsAgree, TableAgrees, as_array, as_record, shape_in}
 
 -- what has a shape keeps it
 abbrev pub Longer : List Shape → List Shape → Type 0

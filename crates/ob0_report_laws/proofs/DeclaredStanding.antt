@@ -1,19 +1,18 @@
 -- What is known at a place of a module, beside the scope and the environment there.
-use Rattle.std.proofs.Common.{map, ◌≡◌, ◌≢◌, ℕ, suc, ◌+◌, ◌<◌, ◌≤◌, Bool, true, false, List, [], ◌∷◌, ◌++◌, length, Option, Some, None, option_map, option_and_then, slice_index_or, slice_set, refl, sym, ap, ◌∙◌, subst, arith, le_trans, le_of_lt, le_refl, get_or-set_other, get_or-set_same}
+use Rattle.std.proofs.Common.{map, ◌≡◌, ◌≢◌, ℕ, suc, ◌<◌, ◌≤◌, Bool, true, false, List, [], ◌∷◌, length, Option, Some, None, option_and_then, slice_index_or, slice_set, refl, sym, ap, ◌∙◌, subst, arith, le_trans, le_of_lt, le_refl, get_or-set_other, get_or-set_same}
 use Rattle.std.proofs.lemmas.List.{length-set}
 use Rattle.ob0_tree.proofs.Occurring.{looked_up-occurrences, looked_up_only}
 use Rattle.ob0_tree.specs.Places.{text_at}
-use Rattle.ob0_tree.specs.Tree.{Sort, Tree, identifiers, occurrences}
+use Rattle.ob0_tree.specs.Tree.{Sort, Tree, identifiers}
 use Rattle.ob0_tree.specs.declared.tree.Role.{Role}
 use Rattle.ob0_tree.specs.declared.tree.Role.TheVariants as role
-use Rattle.ob0_scope.proofs.Ordinals.{le-after_names}
 use Rattle.ob0_scope.specs.Names.{Name, as_names, same_name}
 use Rattle.ob0_scope.specs.Resolution.{ordinal_in}
-use Rattle.ob0_scope.specs.Scopes.{Scope, after_names, declare_names, ordinal_of}
+use Rattle.ob0_scope.specs.Scopes.{Scope, after_names, ordinal_of}
 use Rattle.ob0_symbols.specs.declared.types.TypeId.{TypeId}
 use Rattle.ob0_typing.specs.Environments.{from_binding, meanings, newest}
 use Rattle.ob0_typing.specs.Expressions as meant
-use Rattle.ob0_typing.specs.WellTyped.{Signature, TypeEnvironment, TypedParameter, bind_names, bind_typed}
+use Rattle.ob0_typing.specs.WellTyped.{Signature, TypeEnvironment, bind_names}
 use Rattle.ob0_values.specs.Values.{Shape}
 use Rattle.ob0_reports.specs.Known.{Formal, Meaning, a_constant, a_procedure, a_type, a_variable}
 use Rattle.ob0_reports.specs.SoFar.{SoFar, define, define_all, facts_at, with_declared}

@@ -2,28 +2,26 @@
 use Rattle.std.proofs.Common.{◌≡◌, ℕ, suc, ◌+◌, Bool, true, false, List, [], ◌∷◌, ◌++◌, length, map, Option, Some, None, option_and_then, if◌then◌else◌, refl, sym, ap, ◌∙◌, subst, le_refl}
 use Rattle.ob0_scan.specs.declared.fault.Fault.{Fault}
 use Rattle.ob0_tree.specs.Places.{named, text_at, value_at}
-use Rattle.ob0_tree.specs.Tree.{Tree, array_type, end, expression, fields, further_fields, items, mapped, more, named_type, names, no_fields, occurrences, record_type, some_fields, then_fields, written_type}
+use Rattle.ob0_tree.specs.Tree.{Tree, array_type, end, fields, further_fields, items, mapped, more, named_type, no_fields, occurrences, record_type, some_fields, then_fields, written_type}
 use Rattle.ob0_scope.specs.Names.{Name, as_names}
 use Rattle.ob0_scope.specs.Parts.{names_listed}
 use Rattle.ob0_scope.specs.Scopes.{Scope}
 use Rattle.ob0_symbols.specs.declared.types.TypeId.{TypeId}
-use Rattle.ob0_symbols.specs.declared.types.TypeId.TheVariants as type
 use Rattle.ob0_typing.specs.Environments.{meanings}
 use Rattle.ob0_typing.specs.Expressions as meant
-use Rattle.ob0_typing.specs.Typing.{array_length, constant_value, constructors, denoted, denoted_group, denoted_groups, group_constructors, groups_constructors, type_of_name, with_fields, within_limits}
+use Rattle.ob0_typing.specs.Typing.{array_length, constant_value, denoted, denoted_group, denoted_groups, group_constructors, type_of_name, with_fields, within_limits}
 use Rattle.ob0_typing.specs.WellTyped.{Signature, TypeEnvironment}
 use Rattle.ob0_values.specs.Values.{FieldShapes, Shape, Value, array_shape, no_field_shape, record_shape}
 use Rattle.ob0_reports.specs.ExpressionFaults.{told_expression}
 use Rattle.ob0_reports.specs.Known.{Meaning, Operand, Told, a_constant, a_procedure, a_type, a_variable}
-use Rattle.ob0_reports.specs.Operations.{right, ◌>>=◌}
+use Rattle.ob0_reports.specs.Operations.{right}
 use Rattle.ob0_reports.specs.SoFar.{Parts, Size, SoFar, Typed, facts_at, is_within, made, make, of_elements, of_fields, size_at, too_large, type_with}
 use Rattle.ob0_reports.specs.TypeFaults.{length_of, type_meant}
 use Rattle.ob0_reports.specs.WrittenTypeFaults.{Gathered, array_made, array_size, gathered_behind, nothing_gathered, record_made, record_size, record_word, told_fields, told_groups, told_type, with_name, with_names, word_before}
-use Rattle.ob0_report_laws.specs.Agreement.{MadeAgrees, PartsAgree, StandsAlike, TableAgrees, shape_in}
+use Rattle.ob0_report_laws.specs.Agreement.{PartsAgree, StandsAlike, TableAgrees, shape_in}
 use Rattle.ob0_report_laws.proofs.PartsFitting.{PartsFit}
-use Rattle.ob0_report_laws.specs.ReportLaws.{LengthFits}
 use Rattle.ob0_report_laws.proofs.DeclaredNames.{AreSeen, IsSeen, Numbering, each_part, names_listed-mapped}
-use Rattle.ob0_report_laws.proofs.DeclaredShapes.{FieldsAgree, GatheredAgrees, Longer, SizeAgrees, array_sized, followed, followed-assoc, followed-nothing, gathered_kept, is_limited, last_array, last_record, longer_more, longer_then, names_put, record_sized, size_agrees, table_more, with_fields-followed}
+use Rattle.ob0_report_laws.proofs.DeclaredShapes.{GatheredAgrees, SizeAgrees, array_sized, followed, followed-assoc, followed-nothing, gathered_kept, is_limited, last_array, last_record, longer_more, longer_then, names_put, record_sized, size_agrees, table_more, with_fields-followed}
 use Rattle.ob0_report_laws.proofs.DeclaredStanding.{Later, Stands, agrees_where_seen, later_same, later_then, seen_stands, stands_later}
 
 -- where nothing is told of both, nothing is told of either
