@@ -1,5 +1,5 @@
 -- What is told of a module: nothing exactly where it is well-typed.
-use Rattle.std.proofs.Common.{◌≤◌, ◌≡◌, ◌+◌, ◌&&◌, ◌||◌, if◌then◌else◌, ◌==◌, Bool, true, false, not, List, [], ◌∷◌, ◌++◌, IfSome, is_some, Option, Some, None, length, refl, sym, ap, ◌∙◌, subst, true≢false, arith, length-append}
+use Rattle.std.proofs.Common.{◌≤◌, ◌≡◌, ◌↔◌, ◌+◌, ◌&&◌, ◌||◌, if◌then◌else◌, Bool, true, false, not, List, [], ◌∷◌, ◌++◌, IfSome, is_some, Option, Some, None, length, refl, sym, ap, ◌∙◌, subst, true≢false, arith, length-append}
 use Rattle.std.proofs.lemmas.List.{nil_from_length}
 use Rattle.std.specs.List.{filter, list_any}
 use Rattle.ob0_scan.specs.declared.fault.Fault.{Fault}
@@ -7,24 +7,22 @@ use Rattle.ob0_scope.specs.Names.{as_labels, as_names}
 use Rattle.ob0_scope.specs.DeclaredOnce.{declared_once}
 use Rattle.ob0_scope.specs.Resolution.{IsResolution, Resolution, is_of_declarations}
 use Rattle.ob0_tree.specs.Parsed.{named_tree_of, tree_of}
-use Rattle.ob0_types.specs.FaultOrder.{AreFirstFaults, at_its_name, faults_of_types, or_at_its_name}
+use Rattle.ob0_report_laws.specs.ModuleLaws.{ModulesFit}
+use Rattle.ob0_types.specs.FaultOrder.{AreFirstFaults, faults_of_types}
 use Rattle.ob0_types.specs.CheckedModules.{IsChecked, IsTold}
 use Rattle.ob0_checker.specs.Bindings.{module_bindings, object_bound}
 use Rattle.ob0_checker.specs.Checking.{Keeps}
 use Rattle.ob0_checker.specs.InLabels.{in_labels}
 use Rattle.ob0_symbols.specs.KnownTables.{Tables}
-use Rattle.std.proofs.lemmas.Bool.{eqb-true}
-use Rattle.ob0_reports.specs.DeclarationFaults.{told_module}
 use Rattle.ob0_typing.specs.Laws.{FitsByOrdinal}
 use Rattle.ob0_typing.specs.WellTyped.{WellTyped, fits_over}
 
 length-nil : (xs : List Fault) → xs ≡ [] → length xs ≡ 0
 length-nil xs e = ap length e
 
--- a list that is empty exactly where another is
-pub told_alike : (right : Bool) (xs ys : List Fault) → (length xs ≡ 0 → length ys ≡ 0) → (length ys ≡ 0 → length xs ≡ 0) → IsTold right xs → IsTold right ys
-told_alike right xs ys there back told =
-    ((λ e. told.0 (nil_from_length xs (back (length-nil ys e)))), (λ r. nil_from_length ys (there (length-nil xs (told.1 r)))))
+-- two lists that are empty alike
+pub empty_alike : (xs ys : List Fault) → (length xs ≡ 0 → length ys ≡ 0) → (length ys ≡ 0 → length xs ≡ 0) → (xs ≡ []) ↔ (ys ≡ [])
+empty_alike xs ys there back = ((λ e. nil_from_length ys (there (length-nil xs e))), (λ e. nil_from_length xs (back (length-nil ys e))))
 
 none_kept : (scopes : List Fault) → list_any is_of_declarations scopes ≡ false → length (filter is_of_declarations scopes) ≡ 0
 none_kept [] none = refl
@@ -51,7 +49,7 @@ second_right true false e = refl
 second_right false b e = absurd (true≢false (sym e))
 
 -- the faults of declarations are told too
-pub told_with : (right : Bool) (first scopes : List Fault) → IsTold right first → IsTold (right && not (list_any is_of_declarations scopes)) (first ++ filter is_of_declarations scopes)
+told_with : (right : Bool) (first scopes : List Fault) → IsTold right first → IsTold (right && not (list_any is_of_declarations scopes)) (first ++ filter is_of_declarations scopes)
 told_with right first scopes told = (
   (λ e.
       let all : length first + length (filter is_of_declarations scopes) ≡ 0 = sym (length-append first (filter is_of_declarations scopes)) ∙ length-nil (first ++ filter is_of_declarations scopes) e in
@@ -75,15 +73,22 @@ if_some : {A : Type 0} {P Q : A → Type 0} (o : Option A) → ((a : A) → P a 
 if_some None f h = tt
 if_some (Some a) f h = f a h
 
+-- a fault of types is told exactly of a module that doesn't fit
+types_told : ModulesFit → (fits : Bool) (r : Resolution) → IsResolution r → fits ≡ fits_over as_names (named_tree_of r.module_read) → IsTold fits (faults_of_types fits r)
+types_told law true r h e = (λ none. refl, λ right. refl)
+types_told law false r h e = (λ none. e ∙ law r h none, λ right. absurd (true≢false (sym right)))
+
 -- where nothing is told exactly of a module that fits and declares each name once, it is told exactly of a well-typed one
-pub checked_told : (r : Resolution) (fits : Bool) (faults : List Fault) → FitsByOrdinal → IsResolution r → fits ≡ fits_over as_labels (in_labels r (tree_of r.module_read))
-    → IsTold (fits && not (list_any is_of_declarations r.faults)) faults
+pub checked_told : (r : Resolution) (fits : Bool) (faults : List Fault) → FitsByOrdinal → ModulesFit → IsResolution r → fits ≡ fits_over as_labels (in_labels r (tree_of r.module_read))
+    → ((faults ≡ []) ↔ (faults_of_types fits r ++ filter is_of_declarations r.faults ≡ []))
     → (known : Option Tables) → fits ≡ is_some known → IfSome known (Keeps (module_bindings as_labels (in_labels r (tree_of r.module_read)))) → length faults ≤ 100 → AreFirstFaults fits r faults → IsChecked (record { names = r; faults = faults; known = known })
 unfolding WellTyped
-checked_told r fits faults law h e told known some keeps few first =
+checked_told r fits faults law told_law h e alike known some keeps few first =
     let m = named_tree_of r.module_read in
     let any = list_any is_of_declarations r.faults in
     let by_names : fits ≡ fits_over as_names m = e ∙ ap (fits_over as_labels) (sym h.numbering) ∙ sym (law m) in
+    let whole : IsTold (fits && not any) (faults_of_types fits r ++ filter is_of_declarations r.faults) = told_with fits (faults_of_types fits r) r.faults (types_told told_law fits r h by_names) in
+    let told : IsTold (fits && not any) faults = ((λ none. whole.0 (alike.0 none)), (λ right. alike.1 (whole.1 right))) in
     record {
       resolved = h;
       told = (
@@ -98,20 +103,3 @@ checked_told r fits faults law h e told known some keeps few first =
       first = subst (λ b. AreFirstFaults b r faults) by_names first;
     }
 
--- what is told of a module that doesn't fit
-pub told_itself : (r : Resolution) (faults : List Fault) → (length faults == 0) ≡ false → or_at_its_name r faults ≡ faults
-told_itself r [] some = absurd (true≢false some)
-told_itself r (fault ∷ faults) some = refl
-
-pub told_at_its_name : (r : Resolution) (faults : List Fault) → (length faults == 0) ≡ true → or_at_its_name r faults ≡ faults ++ at_its_name r ∷ []
-told_at_its_name r [] none = refl
-told_at_its_name r (fault ∷ faults) none = absurd (omega (arith, eqb-true (length (fault ∷ faults)) 0 none))
-
-some_told : (r : Resolution) (faults : List Fault) → length (or_at_its_name r faults) ≡ 0 → ⊥
-some_told r [] e = omega (arith, e)
-some_told r (fault ∷ faults) e = omega (arith, e)
-
--- a fault of types is told exactly of a module that doesn't fit
-pub types_told : (fits : Bool) (r : Resolution) → IsTold fits (faults_of_types fits r)
-types_told true r = (λ e. refl, λ e. refl)
-types_told false r = (λ e. absurd (some_told r (told_module r) (ap length e)), λ e. absurd (true≢false (sym e)))

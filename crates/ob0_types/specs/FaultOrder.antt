@@ -1,5 +1,5 @@
 -- The order in which faults are reported.
-use Rattle.std.specs.Prelude.{◌≡◌, ℕ, Bool, List, [], ◌∷◌, ◌++◌, take, if◌then◌else◌}
+use Rattle.std.specs.Prelude.{◌≡◌, ℕ, Bool, List, [], ◌++◌, take, if◌then◌else◌}
 use Rattle.std.specs.List.{filter}
 use Rattle.std.specs.List.Sorted.{IsPermutation, IsSorted}
 use Rattle.std.specs.Ordering.{nat_cmp, ordering_then}
@@ -7,7 +7,7 @@ use Rattle.std.specs.declared.cmp.Ordering.{Ordering}
 use Rattle.ob0_scan.specs.declared.fault.Code.{Code}
 use Rattle.ob0_scan.specs.declared.fault.Code.TheVariants as code
 use Rattle.ob0_scan.specs.declared.fault.Fault.{Fault}
-use Rattle.ob0_scope.specs.Resolution.{Resolution, is_of_declarations, span_at}
+use Rattle.ob0_scope.specs.Resolution.{Resolution, is_of_declarations}
 use Rattle.ob0_reports.specs.DeclarationFaults.{told_module}
 
 -- the numbers of the codes: of lexemes, of scopes, of types
@@ -40,18 +40,10 @@ place_cmp x y = ordering_then (nat_cmp x.span.start y.span.start) (nat_cmp x.spa
 abbrev pub fault_cmp : Fault → Fault → Ordering
 fault_cmp x y = ordering_then (place_cmp x y) (nat_cmp (code_number x.code) (code_number y.code))
 
--- the fault of a module that doesn't fit and of which nothing else is told: at its name
-abbrev pub at_its_name : Resolution → Fault
-at_its_name r = record { code = code.TypeMismatch; span = span_at r.module_read.source r.module_read.name }
-
-abbrev pub or_at_its_name : Resolution → List Fault → List Fault
-or_at_its_name r [] = at_its_name r ∷ []
-or_at_its_name r (fault ∷ faults) = fault ∷ faults
-
 -- The faults of types: none where the types of the module fit, else its names that nothing binds, and then what is wrong with its
 -- declarations and its statements.
 abbrev pub faults_of_types : Bool → Resolution → List Fault
-faults_of_types fits r = if fits then [] else or_at_its_name r (told_module r)
+faults_of_types fits r = if fits then [] else told_module r
 
 -- These are the first 100, in that order, of the faults of types and of names that are declared twice or close what another
 -- name opened.

@@ -1,17 +1,18 @@
 //! Checking a module, and what is known of a well-typed one.
 
 ghost use Rattle.ob0_scope.specs.Resolution.{is_of_declarations};
-ghost use Rattle.ob0_types.specs.CheckedModules.{IsChecked, IsTold};
-ghost use Rattle.ob0_types.specs.FaultOrder.{AreFirstFaults, at_its_name, faults_of_types, or_at_its_name};
-ghost use Rattle.std.specs.List.{filter, list_any};
-ghost use Rattle.std.specs.Prelude.{◌≡◌, ◌≤◌, ◌&&◌, ◌++◌, [], length, not, IfOk, IfSome, OnOk, MatchOption};
+ghost use Rattle.ob0_types.specs.CheckedModules.{IsChecked};
+ghost use Rattle.ob0_types.specs.FaultOrder.{AreFirstFaults, faults_of_types};
+ghost use Rattle.std.specs.List.{filter};
+ghost use Rattle.std.specs.Prelude.{◌≡◌, ◌≤◌, ◌↔◌, ◌++◌, [], length, IfOk, IfSome, OnOk, MatchOption};
 ghost use Rattle.ob0_fields.specs.Listed.{listed_by};
 
 use ob0_checker::decide;
 use ob0_fields::FieldList;
+use ob0_report_laws::laws::modules_fit;
 use ob0_reports::tell;
 use ob0_scan::{Code, Fault};
-use ob0_scope::{PREDECLARED, Resolved, token_span};
+use ob0_scope::{PREDECLARED, Resolved};
 use ob0_symbols::{Known, Parts, TypeId};
 use ob0_typing::laws::fits_by_ordinal;
 use ob0_values::Scalar;
@@ -86,6 +87,7 @@ pub fn check<'t>(alloc: Global, resolved: &'t Resolved<'t>) -> Result<Checked<'t
     ensures checked { IfOk result IsChecked }
 {
     fits_by_ordinal();
+    modules_fit();
     let _module = resolved.module();
     let known = decide(alloc, resolved)?;
     let fields = known_fields(alloc, resolved, &known)?;
@@ -120,7 +122,7 @@ fn faults_of<'t>(
     resolved: &'t Resolved<'t>,
     fits: bool,
 ) -> Result<Vec<Fault>, AllocError>
-    ensures told { IfOk result (λ faults. IsTold (fits && not (list_any is_of_declarations resolved.now.faults)) faults.items) }
+    ensures none { IfOk result (λ faults. (faults.items ≡ []) ↔ (faults_of_types fits resolved.now ++ filter is_of_declarations resolved.now.faults ≡ [])) }
     ensures few { IfOk result (λ faults. length faults.items ≤ 100) }
     ensures first { IfOk result (λ faults. AreFirstFaults fits resolved.now faults.items) }
 {
@@ -131,7 +133,7 @@ fn faults_of<'t>(
     Ok(faults)
 }
 
-/// The faults of types. A module that doesn't fit has one.
+/// The faults of types: those that are told of a module that doesn't fit.
 fn of_types<'t>(
     alloc: Global,
     resolved: &'t Resolved<'t>,
@@ -142,19 +144,7 @@ fn of_types<'t>(
     if fits {
         return Ok(Vec::new(alloc));
     }
-    let told = tell(alloc, resolved)?;
-    or_at_its_name(resolved, told)
-}
-
-/// The faults that were told, or where there are none, one at the module's name.
-fn or_at_its_name(resolved: &Resolved, mut told: Vec<Fault>) -> Result<Vec<Fault>, AllocError>
-    ensures { IfOk result (λ faults. faults.items ≡ or_at_its_name resolved.now told.items) }
-{
-    if !told.is_empty() {
-        return Ok(told);
-    }
-    told.push(at_its_name(resolved))?;
-    Ok(told)
+    tell(alloc, resolved)
 }
 
 /// Adds names that are declared twice, and closing names that differ.
@@ -173,16 +163,6 @@ fn is_of_declarations(fault: &Fault) -> bool
     ensures { result ≡ is_of_declarations fault.now }
 {
     fault.code == Code::Duplicate || fault.code == Code::EndName
-}
-
-/// The fault of a module that doesn't fit, at its name.
-fn at_its_name(resolved: &Resolved) -> Fault
-    ensures { result ≡ at_its_name resolved.now }
-{
-    Fault {
-        code: Code::TypeMismatch,
-        span: token_span(resolved.tokens(), resolved.module().name()),
-    }
 }
 
 impl<'t> Checked<'t> {

@@ -1,30 +1,29 @@
-use Rattle.std.proofs.Common.{rules, refl, ◌≡◌, ◌&&◌, ◌++◌, length, not, arith, subst, sym, ap, ◌∙◌, ◌+◌, ◌-◌}
+use Rattle.std.proofs.Common.{rules, refl, ◌≡◌, ◌↔◌, ◌++◌, [], length, arith, subst, sym, ap, ◌∙◌, ◌+◌, ◌-◌}
 use Rattle.std.proofs.lemmas.List.Sorted.{answers_always}
-use Rattle.std.specs.List.{filter, list_any}
+use Rattle.std.specs.List.{filter}
 use Rattle.std.specs.List.Sorted.{IsPermutation}
 use Rattle.ob0_scope.specs.Resolution.{is_of_declarations}
-use Rattle.ob0_types.specs.CheckedModules.{IsTold}
-use Rattle.ob0_types.proofs.AllTold.{told_alike, told_with, types_told}
+use Rattle.ob0_types.proofs.AllTold.{empty_alike}
+use Rattle.ob0_types.specs.FaultOrder.{faults_of_types}
 use Rattle.ob0_types.proofs.FaultNumbers.{sorted_by_key}
 use Rattle.ob0_types.proofs.checked.faults_of.Tie as tie
 use Rattle.ob0_types.proofs.checked.faults_of.Goals as goal
 
-pub returns-clause-told : goal.returns-clause-told
-returns-clause-told c =
-    let right = c.args.fits && not (list_any is_of_declarations c.args.resolved.now.faults) in
+pub returns-clause-none : goal.returns-clause-none
+returns-clause-none c =
     let first = c.in_ok-faults.faults.items in
+    let scopes = filter is_of_declarations c.args.resolved.now.faults in
     let added = c.add_declarations.new.faults in
     let sorted = c.sort_by_key.new.self in
     let kept = c.truncate.new.self in
     let all = c.in_ok-add_declarations.ensures ∙ ap (λ fs. first ++ filter is_of_declarations fs) c.faults.ensures in
-    let of_types = subst (IsTold c.args.fits) (sym c.in_ok-faults.ensures) (types_told c.args.fits c.args.resolved.now) in
-    let told = subst (IsTold right) (sym all) (told_with c.args.fits first c.args.resolved.now.faults of_types) in
+    let joined : added.items ≡ faults_of_types c.args.fits c.args.resolved.now ++ scopes = all ∙ ap (λ fs. fs ++ scopes) c.in_ok-faults.ensures in
     let a = added.ok.0 in
     let s = sorted.ok.0 in
     let k = kept.ok.0 in
     let same : length sorted.items ≡ length added.items = omega (arith, c.sort_by_key.ensures.len, a, s) in
     let cut : length kept.items + (length sorted.items - 100) ≡ length sorted.items = omega (arith, c.truncate.ensures.len, k, s) in
-    told_alike right added.items kept.items (λ e. omega (arith, e, same, cut)) (λ e. omega (arith, e, same, cut)) told
+    subst (λ fs. (kept.items ≡ []) ↔ (fs ≡ [])) joined (empty_alike kept.items added.items (λ e. omega (arith, e, same, cut)) (λ e. omega (arith, e, same, cut)))
 
 pub returns-clause-few : goal.returns-clause-few
 returns-clause-few c =
