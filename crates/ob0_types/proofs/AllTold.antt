@@ -102,4 +102,3 @@ checked_told r fits faults law told_law h e alike known some keeps few first =
       few = few;
       first = subst (λ b. AreFirstFaults b r faults) by_names first;
     }
-
