@@ -36,7 +36,7 @@ use Rattle.ob0_inline.proofs.UsesStand.{one_place}
 use Rattle.ob0_answers.specs.Actions.{InlinesIn, IsNotInlinedIn}
 use Rattle.ob0_answers.specs.declared.actions.Inlining.{Inlining}
 use Rattle.ob0_answers.specs.declared.actions.Inlining.TheVariants.{Here, Everywhere}
-use Rattle.ob0_analysis.specs.Texts.{utf8}
+use Rattle.ob0_answers.specs.Texts.{utf8}
 use Rattle.ob0_ends.specs.Edited.{replacements}
 use Rattle.ob0_ends.proofs.OneModule.{Same, same_module, one_named_tree, one_name, same_parts}
 

@@ -10,11 +10,11 @@ use Rattle.ob0_text.specs.declared.refusals.EditRefusal.{EditRefusal}
 use Rattle.ob0_text.specs.OpenDocuments.{Document, InStep, OutOfStep}
 use Rattle.ob0_text.specs.Texts.{offset_of}
 use Rattle.ob0_text.specs.Units.{width_of}
-use Rattle.ob0_rename.specs.InTexts.{RenamesIn, IsRefusedIn}
+use Rattle.ob0_answers.specs.InTexts.{RenamesIn, IsRefusedIn}
 use Rattle.ob0_answers.specs.Actions.{InlinesIn, IsNotInlinedIn}
 use Rattle.ob0_answers.specs.Formatted.{LaysOut, IsTooLongLaidOut}
-use Rattle.ob0_answers.specs.declared.actions.Inlining.{Inlining}
-use Rattle.ob0_answers.specs.declared.actions.Inlining.TheVariants.{Here, Everywhere}
+pub use Rattle.ob0_answers.specs.declared.actions.Inlining.{Inlining}
+pub use Rattle.ob0_answers.specs.declared.actions.Inlining.TheVariants.{Here, Everywhere}
 use Rattle.ob0_ends.specs.Language.{WellTypedText}
 use Rattle.ob0_ends.specs.Edited.{Replacement, replacements}
 
