@@ -1,3 +1,2 @@
 pub mod Values
 pub mod Scalars
-pub mod Stored

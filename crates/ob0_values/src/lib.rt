@@ -2,7 +2,5 @@
 #![tactic(auto)]
 
 pub mod scalar;
-pub mod value;
 
 pub use scalar::{Fault, Scalar};
-pub use value::{Member, Place, Step, Value};
