@@ -40,10 +40,12 @@ def stream(words, timer, **named):
 
 
 def at_once():
-    """How many checks the gate makes side by side: one a processor, and one for each 3.5 GB of memory. A check takes 1 to
-    3 GB; left to itself `rt ci` reckons three times that, and lets large crates wait for each other's edits."""
+    """How many checks the gate makes side by side: one more than there are processors, and one for each 3.5 GB of memory. A
+    check takes 1 to 3 GB; left to itself `rt ci` reckons three times that, and lets large crates wait for each other's edits.
+    The one more is for what `rt` does between two checks: its sums over sources are made by one process, so of two checks
+    that are summed up at a time one waits."""
     memory = os.sysconf("SC_PAGE_SIZE") * os.sysconf("SC_PHYS_PAGES")
-    return max(1, min(len(os.sched_getaffinity(0)), memory // 3_500_000_000))
+    return max(1, min(len(os.sched_getaffinity(0)) + 1, memory // 3_500_000_000))
 
 
 def gate(timer):
