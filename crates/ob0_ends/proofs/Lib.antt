@@ -12,3 +12,4 @@ pub mod OneRun
 mod Keeping
 pub mod Interleavings
 pub mod MadeFor
+pub mod MadeInOrder

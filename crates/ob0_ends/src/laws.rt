@@ -1,7 +1,7 @@
 //! What holds of the definitions that the contracts cite.
 ghost use Rattle.ob0_ends.specs.Headline.{EditsKeepTheRun, InEveryInterleaving};
 ghost use Rattle.ob0_ends.specs.OneRun.{AnswersAreOne, OneRun};
-ghost use Rattle.ob0_ends.specs.Played.{MadeForTheEditor};
+ghost use Rattle.ob0_ends.specs.Played.{MadeForTheEditor, MadeInOrder};
 
 /// Whatever the order of the events, every applied edit keeps the run, and diagnostics are right.
 pub fn in_every_interleaving()
@@ -26,4 +26,10 @@ pub fn one_run()
 /// Each publication with a version was made for a text that the editor's document had at that version.
 pub fn made_for_the_editor()
     ensures { MadeForTheEditor }
+{}
+
+/// The n-th publication with a version was made for the n-th document that the editor told the server of: an opened, changed
+/// or edited one, in that opening, with its version and text.
+pub fn made_in_order()
+    ensures { MadeInOrder }
 {}

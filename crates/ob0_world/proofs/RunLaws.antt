@@ -8,9 +8,10 @@ use Rattle.ob0_world.specs.declared.played.Played as played
 use Rattle.ob0_editor.specs.Ends.{Ends, start}
 use Rattle.ob0_editor.specs.Happens.{Event, Seen, Happens, Run}
 use Rattle.ob0_editor.specs.Headline.{KeepsTheRun, IsRight, AreUpToDate}
-use Rattle.ob0_editor.specs.Played.{AreApplied, ArePublished, AreLatest, MirrorsInTheEnd, WasMadeFor}
+use Rattle.ob0_editor.specs.Played.{AreApplied, ArePublished, AreLatest, MirrorsInTheEnd, WasMadeFor, AreMadeInOrder}
 use Rattle.ob0_editor.proofs.Interleavings.{in_every_interleaving}
 use Rattle.ob0_editor.proofs.MadeFor.{made_for, run_push}
+use Rattle.ob0_editor.proofs.MadeInOrder.{made_in_order}
 use Rattle.ob0_editor.proofs.OneRun.{one_run}
 use Rattle.ob0_world.specs.Code.{event_of, all_applied, all_made}
 use Rattle.ob0_world.specs.Worlds.{HasCome, Plays, SameHistory}
@@ -47,6 +48,7 @@ module _ (unit : Unit) (events : List event.Event) (p : played.Played) (plays : 
         exactly = same_made;
         right = subst (All IsRight) (sym plays.has_come.1) plays.holds.made;
         made_for = subst (All (WasMadeFor unit (map event_of events))) (sym plays.has_come.1) (made_for unit (map event_of events) plays.end plays.run);
+        in_order = subst (AreMadeInOrder unit (map event_of events)) (sym plays.has_come.1) (made_in_order unit (map event_of events) plays.end plays.run);
       }
 
   pub are_latest : AreLatest unit (map event_of events) (all_made p)
