@@ -8,6 +8,7 @@ A test that wants an editor or another program that isn't here is left out, by n
 'N passed, M failed'."""
 import glob
 import importlib
+import multiprocessing
 import os
 import sys
 import time
@@ -27,45 +28,50 @@ def load():
     assert len({*names}) == len(names), "two tests have one name"
 
 
-def passes(name, function):
-    """Whether a test passes, or None where it is left out."""
+def tried(at):
+    """Runs the test at this place of the table: whether it passes (None where it is left out), what is to be said of it, and
+    the tools that it wanted and that aren't here."""
+    name, function = harness.TESTS[at]
     start = time.monotonic()
     try:
         function()
     except harness.Skipped as why:
-        print(f"left out {name}: {why}", flush=True)
-        return None
+        return None, f"left out {name}: {why}", harness.MISSING
     except harness.Failed as why:
-        print(f"FAILED   {name}\n    {why}", flush=True)
-        return False
+        return False, f"FAILED   {name}\n    {why}", {}
     except Exception:  # pylint: disable=broad-except
-        print(f"FAILED   {name}\n{traceback.format_exc()}", flush=True)
-        return False
+        return False, f"FAILED   {name}\n{traceback.format_exc()}", {}
     took = time.monotonic() - start
-    print(f"ok       {name}{f' ({took:.1f} s)' if took >= 1 else ''}", flush=True)
-    return True
+    return True, f"ok       {name}{f' ({took:.1f} s)' if took >= 1 else ''}", {}
+
+
+def all_tried(places):
+    """What `tried` gives for each place, as they end: as many tests side by side as there are processors."""
+    with multiprocessing.get_context("fork").Pool(min(len(os.sched_getaffinity(0)), len(places) or 1)) as pool:
+        yield from pool.imap_unordered(tried, places, chunksize=1)
 
 
 def main(words):
     load()
-    chosen = [it for it in harness.TESTS if all(word in it[0] for word in words if word != "--list")]
+    chosen = [at for at, (name, _) in enumerate(harness.TESTS) if all(word in name for word in words if word != "--list")]
     if "--list" in words:
-        for name, _ in chosen:
-            print(name)
+        for at in chosen:
+            print(harness.TESTS[at][0])
         return 0
     if not os.access(harness.BINARY, os.X_OK):
         print(f"there is no program {os.path.relpath(harness.BINARY)}: make it with `make build`", file=sys.stderr)
         print("0 passed, 1 failed")
         return 1
-    passed, failed, left_out = 0, 0, 0
-    for name, function in chosen:
-        well = passes(name, function)
+    passed, failed, left_out, wanted = 0, 0, 0, {}
+    for well, line, lacking in all_tried(chosen):
+        print(line, flush=True)
+        wanted.update(lacking)
         if well is None:
             left_out += 1
         else:
             passed, failed = passed + well, failed + (not well)
     if left_out:
-        missing = "; ".join(f"{name} ({', '.join(packages)})" for name, packages in sorted(harness.MISSING.items()))
+        missing = "; ".join(f"{name} ({', '.join(packages)})" for name, packages in sorted(wanted.items()))
         print(f"{left_out} left out, each named above" + (f". Missing: {missing}. `make editors` installs them" if missing else ""))
     print(f"{passed} passed, {failed} failed")
     return 1 if failed else 0
