@@ -6,7 +6,7 @@ ghost use Rattle.ob0_scope.specs.Resolution.{IsResolution, ordinal_in};
 
 use crate::numbering::number;
 use crate::resolved::Resolved;
-use crate::table::{ordinal_at, table};
+use crate::table::ordinal_at;
 use crate::writing::Writing;
 use std::alloc::{AllocError, Global};
 
@@ -27,8 +27,8 @@ pub(crate) fn renumber(
         new,
     };
     let numbering = number(alloc, names.module(), writing)?;
-    let (_declarations, _occurrences, marks) = numbering.into_parts();
-    table(alloc, names.tokens().tokens().len(), &marks)
+    let (_declarations, _occurrences, ordinals) = numbering.into_parts();
+    Ok(ordinals)
 }
 
 /// The ordinals that a table has at these tokens.

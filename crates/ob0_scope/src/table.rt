@@ -1,29 +1,10 @@
 //! Tables of ordinals by token, and what is wrong with the names.
 
-ghost use Rattle.std.specs.Prelude.{◌≡◌, ◌++◌, IfOk, OnOk, replicate};
-ghost use Rattle.ob0_scope.specs.Visiting.{with_marks};
+ghost use Rattle.std.specs.Prelude.{◌≡◌, ◌++◌, OnOk};
 ghost use Rattle.ob0_scope.specs.Resolution.{ordinal_in, span_at, undeclared_at};
 
-use crate::numbering::Mark;
 use ob0_scan::{Code, Fault, Span, Tokens};
-use std::alloc::{AllocError, Global};
-
-/// The ordinal at each of so many tokens.
-pub(crate) fn table(
-    alloc: Global,
-    len: usize,
-    marks: &[Mark],
-) -> Result<Vec<Option<usize>>, AllocError>
-    ensures { IfOk result (λ t. t.items ≡ with_marks (replicate len None) marks.now) }
-{
-    let mut table = vec![in alloc; None; len]?;
-    for mark in marks {
-        if mark.token < table.len() {
-            table[mark.token] = mark.ordinal;
-        }
-    }
-    Ok(table)
-}
+use std::alloc::AllocError;
 
 /// The ordinal that a table has at a token.
 pub(crate) fn ordinal_at(ordinals: &[Option<usize>], token: usize) -> Option<usize>
