@@ -29,7 +29,7 @@ pub(crate) struct Numbering<'t> {
     visible: Visible<'t>,
     declarations: Vec<usize>,
     occurrences: Vec<usize>,
-    table: Vec<Option<usize>>,
+    table: Vec<Option<u32>>,
     found: Found,
 }
 
@@ -39,6 +39,17 @@ impl<'t> Model for Numbering<'t> {
     ghost Value = { Visit };
 
     ghost view = { λ n. record { writing = n.writing; scope = n.visible; declarations = n.declarations.items; uses = n.occurrences.items; marks = n.table.items } };
+}
+
+/// The ordinal of a declaration by its index. Ordinals are kept as `u32`: a text has far fewer tokens.
+fn ordinal_of(index: usize) -> Result<u32, AllocError>
+    ensures { IfOk result (λ ordinal. ordinal ≡ 7 + index) }
+{
+    if index <= u32::MAX as usize - PREDECLARED {
+        Ok((PREDECLARED + index) as u32)
+    } else {
+        Err(AllocError)
+    }
 }
 
 /// The predeclared names, visible.
@@ -82,7 +93,7 @@ pub(crate) fn number<'t>(
 
 impl<'t> Numbering<'t> {
     /// The declaring tokens, the tokens of the occurrences, and the table.
-    pub(crate) fn into_parts(self) -> (Vec<usize>, Vec<usize>, Vec<Option<usize>>)
+    pub(crate) fn into_parts(self) -> (Vec<usize>, Vec<usize>, Vec<Option<u32>>)
         ensures declarations { result.0.items ≡ self.entry.declarations }
         ensures uses { result.1.items ≡ self.entry.uses }
         ensures table { result.2.items ≡ self.entry.marks }
@@ -113,7 +124,7 @@ impl<'t> Numbering<'t> {
         self.visible.len()
     }
 
-    fn mark(&mut self, token: usize, ordinal: Option<usize>)
+    fn mark(&mut self, token: usize, ordinal: Option<u32>)
         ensures { self.new ≡ marked token ordinal self.old }
     {
         if token < self.table.len() {
@@ -122,18 +133,18 @@ impl<'t> Numbering<'t> {
     }
 
     /// Gives a declaring name the next ordinal.
-    fn number(&mut self, token: usize) -> Result<usize, AllocError>
+    fn number(&mut self, token: usize) -> Result<u32, AllocError>
         ensures next { IfOk result (λ ordinal. ordinal ≡ 7 + length self.old.declarations) }
         ensures numbered { OnOk result (self.new ≡ numbered_at token self.old) }
     {
-        let ordinal = PREDECLARED + self.declarations.len();
+        let ordinal = ordinal_of(self.declarations.len())?;
         self.declarations.push(token)?;
         self.mark(token, Some(ordinal));
         Ok(ordinal)
     }
 
     /// Makes the name of a declaration visible.
-    fn show(&mut self, token: usize, ordinal: usize) -> Result<(), AllocError>
+    fn show(&mut self, token: usize, ordinal: u32) -> Result<(), AllocError>
         ensures { OnOk result (self.new ≡ shown token ordinal self.old) }
     {
         let name = self.writing.name(token);
@@ -146,7 +157,7 @@ impl<'t> Numbering<'t> {
     {
         for index in first..self.declarations.len() {
             let token = self.declarations[index];
-            self.show(token, PREDECLARED + index)?;
+            self.show(token, ordinal_of(index)?)?;
         }
         Ok(())
     }

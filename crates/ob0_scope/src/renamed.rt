@@ -16,7 +16,7 @@ pub(crate) fn renumber(
     names: &Resolved,
     declaration: usize,
     new: &str,
-) -> Result<Vec<Option<usize>>, AllocError>
+) -> Result<Vec<Option<u32>>, AllocError>
     ensures renumbered { IfOk result (λ ordinals. IsRenumbering names.now declaration new.now ordinals.items) }
     ensures resolved { IsResolution names.now }
 {
@@ -34,7 +34,7 @@ pub(crate) fn renumber(
 /// The ordinals that a table has at these tokens.
 pub(crate) fn ordinals_of(
     alloc: Global,
-    ordinals: &[Option<usize>],
+    ordinals: &[Option<u32>],
     tokens: &[usize],
 ) -> Result<Vec<Option<usize>>, AllocError>
     ensures { IfOk result (λ found. found.items ≡ map (ordinal_in ordinals.now) tokens.now) }

@@ -7,11 +7,20 @@ use ob0_scan::{Code, Fault, Span, Tokens};
 use std::alloc::AllocError;
 
 /// The ordinal that a table has at a token.
-pub(crate) fn ordinal_at(ordinals: &[Option<usize>], token: usize) -> Option<usize>
+pub(crate) fn ordinal_at(ordinals: &[Option<u32>], token: usize) -> Option<usize>
     ensures { result ≡ ordinal_in ordinals.now token }
 {
     match ordinals.get(token) {
-        Some(ordinal) => *ordinal,
+        Some(ordinal) => widened(*ordinal),
+        None => None,
+    }
+}
+
+fn widened(ordinal: Option<u32>) -> Option<usize>
+    ensures { result ≡ ordinal }
+{
+    match ordinal {
+        Some(ordinal) => Some(ordinal as usize),
         None => None,
     }
 }
@@ -30,7 +39,7 @@ pub fn token_span(tokens: &Tokens, token: usize) -> Span
 pub(crate) fn undeclared(
     faults: &mut Vec<Fault>,
     tokens: &Tokens,
-    ordinals: &[Option<usize>],
+    ordinals: &[Option<u32>],
     occurrences: &[usize],
 ) -> Result<(), AllocError>
     ensures { OnOk result (faults.new.items ≡ faults.old.items ++ undeclared_at tokens.now ordinals.now occurrences.now) }
