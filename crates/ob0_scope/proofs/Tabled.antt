@@ -1,5 +1,5 @@
 -- A module gone through with a table has what a table made of the listed identifiers has.
-use Rattle.std.proofs.Common.{◌≡◌, ℕ, ◌+◌, Option, Some, None, List, [], ◌∷◌, ◌++◌, length, replicate, set, refl, sym, ap, ◌∙◌}
+use Rattle.std.proofs.Common.{◌≡◌, ℕ, ◌+◌, Option, Some, None, List, [], ◌∷◌, ◌++◌, length, replicate, set, refl, ap, ◌∙◌}
 use Rattle.ob0_tree.specs.declared.tree.Role.{Role}
 use Rattle.ob0_tree.specs.declared.tree.Role.TheVariants as role
 use Rattle.ob0_tree.specs.Tree.{Sort, Tree, block, constant, constants, declares, declares_constant, declares_constants, declares_procedure, declares_type, declares_types, declares_variable, declares_variables, end, formals, further_section, has_body, identifiers, is_module, item, items, maybe, module_text, more, no_formals, none, one, procedure, section, some_formals, then_section, type_name, type_names, value_section, variable, variable_section, variables}

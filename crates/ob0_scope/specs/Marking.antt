@@ -81,9 +81,6 @@ visit_procedure = visit.visit_procedure put
 abbrev pub visit_module : Tree ℕ module_text → Visit → Visit
 visit_module = visit.visit_module put
 
-abbrev pub shown : ℕ → ℕ → Visit → Visit
-shown = visit.shown
-
 abbrev pub shown_from : ℕ → Visit → Visit
 shown_from = visit.shown_from
 

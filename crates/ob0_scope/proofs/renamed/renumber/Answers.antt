@@ -1,4 +1,4 @@
-use Rattle.std.proofs.Common.{Some, ap, ◌∙◌}
+use Rattle.std.proofs.Common.{Some, refl, ap, ◌∙◌}
 use Rattle.ob0_tree.specs.Parsed.{tree_of}
 use Rattle.ob0_scope.specs.Marking as listing
 use Rattle.ob0_scope.specs.Renames.{renamed_in}
@@ -11,7 +11,7 @@ use Rattle.ob0_scope.proofs.renamed.renumber.Goals as goal
 pub returns-clause-renumbered : goal.returns-clause-renumbered
 returns-clause-renumbered c =
     let r = c.args.names.now in
-    let parts = c.into_parts-_declarations in
+    let parts = c.into_parts-declarations in
     let written = renamed_in r c.args.declaration c.args.new.now in
     let ordinals = c.as_slice.ensures.value ∙ ap (λ (r : Resolution). r.ordinals) c.names.view_is in
     let gone = c.in_ok-numbering.ensures
