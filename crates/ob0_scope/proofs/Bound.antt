@@ -18,7 +18,8 @@ use Rattle.ob0_scope.specs.Names.{Name, as_names}
 use Rattle.ob0_scope.specs.Occurrences.{bindings, binds, label_ordinal}
 use Rattle.ob0_scope.specs.Resolution.{AreFaultsOf, IsNumbering, IsResolution, Resolution, is_of_declarations, is_of_occurrences, is_unbound, label_at, ordinal_in, span_at, unbound_at, undeclared_at, with_ordinal}
 use Rattle.ob0_scope.specs.Scopes.{as_label}
-use Rattle.ob0_scope.specs.Visiting.{Visit, started, visit_module, with_marks}
+use Rattle.ob0_scope.specs.Marks.{with_marks}
+use Rattle.ob0_scope.specs.Marking.{Visit, started, visit_module}
 use Rattle.ob0_scope.specs.Written.{as_in}
 use Rattle.ob0_scope.proofs.OccurrencesMapped.{occurrences-mapped}
 use Rattle.ob0_scope.proofs.Passing.{HasMarks, module_passed}

@@ -7,7 +7,7 @@ use Rattle.ob0_tree.specs.declared.tree.Section.{Section}
 use Rattle.ob0_tree.specs.View.{items_of, formals_listed, further_section_of}
 use Rattle.ob0_scope.specs.Parts.{further_names}
 use Rattle.ob0_scope.specs.Scopes.{declare_names}
-use Rattle.ob0_scope.specs.Visiting.{Visit, shown, shown_from, visit_formals, visit_sections}
+use Rattle.ob0_scope.specs.Tabling.{Visit, shown, shown_from, visit_formals, visit_sections}
 
 -- gone through the first items of a list, and with the others still to go through, as with all of them at first
 pub record Going {A S : Type 0} (go : List A → S → S) (xs : List A) (start : S) (done : ℕ) (now : S) : Type 0 where

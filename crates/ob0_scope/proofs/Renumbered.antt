@@ -12,7 +12,8 @@ use Rattle.ob0_scope.specs.Occurrences.{bindings, first_difference, same_binding
 use Rattle.ob0_scope.specs.Renames.{IsRenumbering, is_bound_alike, renamed_in}
 use Rattle.ob0_scope.specs.Resolution.{IsResolution, Resolution, bound_at, label_at, ordinal_in, with_ordinal}
 use Rattle.ob0_scope.specs.Scopes.{as_label, numbered, renamed, same_ordinal}
-use Rattle.ob0_scope.specs.Visiting.{Visit, started, visit_module, with_marks}
+use Rattle.ob0_scope.specs.Marks.{with_marks}
+use Rattle.ob0_scope.specs.Marking.{Visit, started, visit_module}
 use Rattle.ob0_scope.specs.Written.{Writing, name_at, spelled_by}
 use Rattle.ob0_scope.proofs.Bound.{bindings_by_table}
 use Rattle.ob0_scope.proofs.FirstCaptures.{same_binding-refl}

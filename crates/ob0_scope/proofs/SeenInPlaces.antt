@@ -19,7 +19,8 @@ use Rattle.ob0_scope.specs.Parts.{constant_names, formal_names, formal_sections,
 use Rattle.ob0_scope.specs.Resolution.{IsResolution, Resolution, ordinal_in}
 use Rattle.ob0_scope.specs.Scopes.{Labels, Scope, after_block, after_names, after_procedure, after_procedures, as_label, declare_names, declare_procedure_names, label_of, ordinal_of, predeclared_scope, relabel_block, relabel_constant_section, relabel_constants, relabel_formals, relabel_procedure, relabel_procedures, relabel_section, relabel_sections, relabel_type_section, relabel_types, relabel_uses, relabel_variable_section, relabel_variables, relabelled, same_ordinal}
 use Rattle.ob0_scope.specs.SeenNames.{first_at, looking_for, ordinals_seen, sees}
-use Rattle.ob0_scope.specs.Visiting.{Visit, started, visit_module, with_marks}
+use Rattle.ob0_scope.specs.Marks.{with_marks}
+use Rattle.ob0_scope.specs.Marking.{Visit, started, visit_module}
 use Rattle.ob0_scope.specs.Written.{Writing, name_at}
 use Rattle.ob0_scope.proofs.Fused.{relabelled-mapped}
 use Rattle.ob0_scope.proofs.OccurrenceNames.{occurrences-with_names}

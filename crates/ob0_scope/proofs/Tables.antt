@@ -2,9 +2,8 @@
 use Rattle.std.proofs.Common.{◌≡◌, ◌≢◌, ℕ, ◌+◌, ◌<◌, ◌≤◌, Option, None, List, [], ◌∷◌, length, set, refl, sym, ◌∙◌, subst, arith, get_or-set_other, get_or-set_same}
 use Rattle.std.proofs.Math.ListN.{length-set}
 use Rattle.ob0_tree.specs.Order.{Ascending}
-use Rattle.ob0_scope.specs.declared.numbering.Mark.{Mark}
+use Rattle.ob0_scope.specs.Marks.{Mark, with_marks}
 use Rattle.ob0_scope.specs.Resolution.{ordinal_in}
-use Rattle.ob0_scope.specs.Visiting.{with_marks}
 use Rattle.ob0_scope.proofs.Passing.{HasMarks, tokens_of}
 
 ascends_to : (low : ℕ) (xs : List ℕ) (high : ℕ) → Ascending low xs high → low ≤ high

@@ -1,6 +1,6 @@
 -- What another name would be bound to in the place of an occurrence.
 use Rattle.std.specs.Prelude.{List, Option, Some, map, option_and_then, slice_get, ℕ}
-use Rattle.ob0_scope.specs.declared.numbering.Mark.{Mark}
+use Rattle.ob0_scope.specs.Marks.{Mark}
 use Rattle.ob0_tree.specs.Tree.{Tree, module_text, occurrences}
 use Rattle.ob0_scope.specs.Names.{Name, Naming, predeclared_name, same_name}
 use Rattle.ob0_scope.specs.Occurrences.{label_ordinal}

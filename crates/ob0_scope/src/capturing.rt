@@ -66,7 +66,7 @@ fn first_capture(
 }
 
 /// The number of the first occurrence to which a table gives another ordinal.
-fn first_changed(names: &Resolved, ordinals: &[Option<usize>]) -> Option<usize>
+fn first_changed(names: &Resolved, ordinals: &[Option<u32>]) -> Option<usize>
     ensures { result ≡ position_from (λ token. not (is_bound_alike (ordinal_in ordinals.now token) (ordinal_in names.now.ordinals token))) 0 names.now.uses }
 {
     names.occurrences().iter().position(|token| !is_bound_alike(
@@ -109,7 +109,7 @@ fn namesake(
 #[derive(Drop)]
 struct Sought<'t> {
     tokens: &'t Tokens,
-    ordinals: &'t [Option<usize>],
+    ordinals: &'t [Option<u32>],
     declaration: usize,
     new: &'t str,
 }

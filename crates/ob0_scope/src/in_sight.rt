@@ -4,12 +4,11 @@ ghost use Rattle.std.specs.Prelude.{◌≡◌, IfOk, map, length, replicate, Non
 ghost use Rattle.ob0_tree.specs.Parsed.{named_tree_of};
 ghost use Rattle.ob0_scope.specs.Resolution.{IsResolution, ordinal_in};
 ghost use Rattle.ob0_scope.specs.SeenNames.{first_at, ordinals_seen};
-ghost use Rattle.ob0_scope.specs.Visiting.{with_marks};
+ghost use Rattle.ob0_scope.specs.Marks.{with_marks};
 
-use crate::numbering::{Mark, number};
+use crate::numbering::number;
 use crate::renamed::ordinals_of;
 use crate::resolved::Resolved;
-use crate::table::table;
 use crate::writing::Writing;
 use std::alloc::{AllocError, Global};
 
@@ -27,7 +26,7 @@ fn ordinals_in_place(
     alloc: Global,
     names: &Resolved,
     name: &str,
-) -> Result<Vec<Option<usize>>, AllocError>
+) -> Result<Vec<Option<u32>>, AllocError>
     ensures { IfOk result (λ ordinals. map (ordinal_in ordinals.items) names.now.uses ≡ ordinals_seen (named_tree_of names.now.module_read) name.now) }
 {
     let sought = occurring(alloc, names)?;
@@ -38,20 +37,19 @@ fn ordinals_in_place(
         new: name,
     };
     let numbering = number(alloc, names.module(), writing)?;
-    let (_declarations, _occurrences, marks) = numbering.into_parts();
-    table(alloc, names.tokens().tokens().len(), &marks)
+    let (_declarations, _occurrences, ordinals) = numbering.into_parts();
+    Ok(ordinals)
 }
 
 /// A table that has 0 at each occurrence, and nothing at the other tokens.
-fn occurring(alloc: Global, names: &Resolved) -> Result<Vec<Option<usize>>, AllocError>
+fn occurring(alloc: Global, names: &Resolved) -> Result<Vec<Option<u32>>, AllocError>
     ensures { IfOk result (λ t. t.items ≡ with_marks (replicate (length names.now.module_read.source.tokens) None) (map first_at names.now.uses)) }
 {
-    let mut marks = Vec::new(alloc);
+    let mut table = vec![in alloc; None; names.tokens().tokens().len()]?;
     for token in names.occurrences() {
-        marks.push(Mark {
-            token: *token,
-            ordinal: Some(0),
-        })?;
+        if *token < table.len() {
+            table[*token] = Some(0);
+        }
     }
-    table(alloc, names.tokens().tokens().len(), &marks)
+    Ok(table)
 }

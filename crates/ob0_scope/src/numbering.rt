@@ -7,7 +7,7 @@ ghost use Rattle.ob0_tree.specs.View.{expression_of, body_of, type_of, names_of,
 ghost use Rattle.ob0_scope.specs.Names.{as_names};
 ghost use Rattle.ob0_scope.specs.Parts.{names_listed};
 ghost use Rattle.ob0_scope.specs.Scopes.{predeclared_scope};
-ghost use Rattle.ob0_scope.specs.Visiting.{marked, numbered_at, numbered_all, shown, shown_from, left_to, found, found_all, used, visit_constant, visit_constant_section, visit_type, visit_type_section, visit_variable, visit_variable_section, visit_section, visit_formals, visit_procedure, visit_block, visit_module, started};
+ghost use Rattle.ob0_scope.specs.Tabling.{marked, numbered_at, numbered_all, shown, shown_from, left_to, found, found_all, used, visit_constant, visit_constant_section, visit_type, visit_type_section, visit_variable, visit_variable_section, visit_section, visit_formals, visit_procedure, visit_block, visit_module, started};
 
 use crate::resolved::PREDECLARED;
 use crate::visible::Visible;
@@ -21,14 +21,7 @@ use std::alloc::{AllocError, Global};
 use std::marker::Model;
 use std::mem::replace;
 
-/// An identifier's token, and the ordinal of its declaration.
-#[derive(Clone, Copy)]
-pub(crate) struct Mark {
-    pub(crate) token: usize,
-    pub(crate) ordinal: Option<usize>,
-}
-
-/// What is known in the middle of a module.
+/// What is known in the middle of a module. The table has the ordinal of each identifier so far at its token.
 #[derive(Drop)]
 pub(crate) struct Numbering<'t> {
     alloc: Global,
@@ -36,16 +29,27 @@ pub(crate) struct Numbering<'t> {
     visible: Visible<'t>,
     declarations: Vec<usize>,
     occurrences: Vec<usize>,
-    marks: Vec<Mark>,
+    table: Vec<Option<u32>>,
     found: Found,
 }
 
 impl<'t> Model for Numbering<'t> {
-    ghost use Rattle.ob0_scope.specs.Visiting.{Visit};
+    ghost use Rattle.ob0_scope.specs.Tabling.{Visit};
 
     ghost Value = { Visit };
 
-    ghost view = { λ n. record { writing = n.writing; scope = n.visible; declarations = n.declarations.items; uses = n.occurrences.items; marks = n.marks.items } };
+    ghost view = { λ n. record { writing = n.writing; scope = n.visible; declarations = n.declarations.items; uses = n.occurrences.items; marks = n.table.items } };
+}
+
+/// The ordinal of a declaration by its index. Ordinals are kept as `u32`: a text has far fewer tokens.
+fn ordinal_of(index: usize) -> Result<u32, AllocError>
+    ensures { IfOk result (λ ordinal. ordinal ≡ 7 + index) }
+{
+    if index <= u32::MAX as usize - PREDECLARED {
+        Ok((PREDECLARED + index) as u32)
+    } else {
+        Err(AllocError)
+    }
 }
 
 /// The predeclared names, visible.
@@ -71,27 +75,28 @@ pub(crate) fn number<'t>(
 ) -> Result<Numbering<'t>, AllocError>
     ensures { IfOk result (λ n. n ≡ visit_module (tree_of read.now) (started writing.entry)) }
 {
+    let table = vec![in alloc; None; writing.tokens.tokens().len()]?;
     let mut numbering = Numbering {
         alloc,
         writing,
         visible: predeclared(alloc)?,
         declarations: Vec::new(alloc),
         occurrences: Vec::new(alloc),
-        marks: Vec::new(alloc),
+        table,
         found: Vec::new(alloc),
     };
-    numbering.mark(read.name(), None)?;
+    numbering.mark(read.name(), None);
     numbering.block(read.block())?;
-    numbering.mark(read.closing(), None)?;
+    numbering.mark(read.closing(), None);
     Ok(numbering)
 }
 
 impl<'t> Numbering<'t> {
-    /// The declaring tokens, the tokens of the occurrences, and the marks.
-    pub(crate) fn into_parts(self) -> (Vec<usize>, Vec<usize>, Vec<Mark>)
+    /// The declaring tokens, the tokens of the occurrences, and the table.
+    pub(crate) fn into_parts(self) -> (Vec<usize>, Vec<usize>, Vec<Option<u32>>)
         ensures declarations { result.0.items ≡ self.entry.declarations }
         ensures uses { result.1.items ≡ self.entry.uses }
-        ensures marks { result.2.items ≡ self.entry.marks }
+        ensures table { result.2.items ≡ self.entry.marks }
     {
         let Numbering {
             alloc: _,
@@ -99,10 +104,10 @@ impl<'t> Numbering<'t> {
             visible: _,
             declarations,
             occurrences,
-            marks,
+            table,
             found: _,
         } = self;
-        (declarations, occurrences, marks)
+        (declarations, occurrences, table)
     }
 
     /// How many declarations there are so far, the predeclared ones not counted.
@@ -119,26 +124,27 @@ impl<'t> Numbering<'t> {
         self.visible.len()
     }
 
-    fn mark(&mut self, token: usize, ordinal: Option<usize>) -> Result<(), AllocError>
-        ensures { OnOk result (self.new ≡ marked token ordinal self.old) }
+    fn mark(&mut self, token: usize, ordinal: Option<u32>)
+        ensures { self.new ≡ marked token ordinal self.old }
     {
-        self.marks.push(Mark { token, ordinal })?;
-        Ok(())
+        if token < self.table.len() {
+            self.table[token] = ordinal;
+        }
     }
 
     /// Gives a declaring name the next ordinal.
-    fn number(&mut self, token: usize) -> Result<usize, AllocError>
+    fn number(&mut self, token: usize) -> Result<u32, AllocError>
         ensures next { IfOk result (λ ordinal. ordinal ≡ 7 + length self.old.declarations) }
         ensures numbered { OnOk result (self.new ≡ numbered_at token self.old) }
     {
-        let ordinal = PREDECLARED + self.declarations.len();
+        let ordinal = ordinal_of(self.declarations.len())?;
         self.declarations.push(token)?;
-        self.mark(token, Some(ordinal))?;
+        self.mark(token, Some(ordinal));
         Ok(ordinal)
     }
 
     /// Makes the name of a declaration visible.
-    fn show(&mut self, token: usize, ordinal: usize) -> Result<(), AllocError>
+    fn show(&mut self, token: usize, ordinal: u32) -> Result<(), AllocError>
         ensures { OnOk result (self.new ≡ shown token ordinal self.old) }
     {
         let name = self.writing.name(token);
@@ -151,7 +157,7 @@ impl<'t> Numbering<'t> {
     {
         for index in first..self.declarations.len() {
             let token = self.declarations[index];
-            self.show(token, PREDECLARED + index)?;
+            self.show(token, ordinal_of(index)?)?;
         }
         Ok(())
     }
@@ -170,7 +176,8 @@ impl<'t> Numbering<'t> {
         let name = self.writing.name(token);
         let ordinal = self.visible.look_up(name);
         self.occurrences.push(token)?;
-        self.mark(token, ordinal)
+        self.mark(token, ordinal);
+        Ok(())
     }
 
     /// An identifier of a part that declares nothing.
@@ -178,12 +185,13 @@ impl<'t> Numbering<'t> {
         ensures { OnOk result (self.new ≡ found role token self.old) }
     {
         match role {
-            Role::LookedUp => self.look_up(token),
+            Role::LookedUp => self.look_up(token)?,
             Role::Declaring => self.mark(token, None),
             Role::ClosingName => self.mark(token, None),
             Role::FieldName => self.mark(token, None),
             Role::ModuleName => self.mark(token, None),
         }
+        Ok(())
     }
 
     /// An empty list for identifiers, with the room of the one that was used before.
@@ -342,7 +350,8 @@ impl<'t> Numbering<'t> {
         self.block(&p.block)?;
         self.leave_to(outside);
         self.show(p.name, ordinal)?;
-        self.mark(p.closing, Some(ordinal))
+        self.mark(p.closing, Some(ordinal));
+        Ok(())
     }
 
     #[cycle(blocks)]

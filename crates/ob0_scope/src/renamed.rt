@@ -6,7 +6,7 @@ ghost use Rattle.ob0_scope.specs.Resolution.{IsResolution, ordinal_in};
 
 use crate::numbering::number;
 use crate::resolved::Resolved;
-use crate::table::{ordinal_at, table};
+use crate::table::ordinal_at;
 use crate::writing::Writing;
 use std::alloc::{AllocError, Global};
 
@@ -16,7 +16,7 @@ pub(crate) fn renumber(
     names: &Resolved,
     declaration: usize,
     new: &str,
-) -> Result<Vec<Option<usize>>, AllocError>
+) -> Result<Vec<Option<u32>>, AllocError>
     ensures renumbered { IfOk result (λ ordinals. IsRenumbering names.now declaration new.now ordinals.items) }
     ensures resolved { IsResolution names.now }
 {
@@ -27,14 +27,14 @@ pub(crate) fn renumber(
         new,
     };
     let numbering = number(alloc, names.module(), writing)?;
-    let (_declarations, _occurrences, marks) = numbering.into_parts();
-    table(alloc, names.tokens().tokens().len(), &marks)
+    let (_declarations, _occurrences, ordinals) = numbering.into_parts();
+    Ok(ordinals)
 }
 
 /// The ordinals that a table has at these tokens.
 pub(crate) fn ordinals_of(
     alloc: Global,
-    ordinals: &[Option<usize>],
+    ordinals: &[Option<u32>],
     tokens: &[usize],
 ) -> Result<Vec<Option<usize>>, AllocError>
     ensures { IfOk result (λ found. found.items ≡ map (ordinal_in ordinals.now) tokens.now) }

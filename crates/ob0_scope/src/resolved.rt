@@ -18,7 +18,7 @@ pub const PREDECLARED: usize = 7;
 #[derive(Drop)]
 pub struct Resolved<'t> {
     pub(crate) module: &'t Module<'t>,
-    pub(crate) ordinals: Vec<Option<usize>>,
+    pub(crate) ordinals: Vec<Option<u32>>,
     pub(crate) declarations: Vec<usize>,
     pub(crate) occurrences: Vec<usize>,
     pub(crate) faults: Vec<Fault>,

@@ -6,7 +6,7 @@ ghost use Rattle.ob0_scope.specs.Resolution.{IsResolution};
 use crate::checks::check;
 use crate::numbering::number;
 use crate::resolved::Resolved;
-use crate::table::{table, undeclared};
+use crate::table::undeclared;
 use crate::writing::Writing;
 use ob0_tree::Module;
 use std::alloc::{AllocError, Global};
@@ -18,8 +18,7 @@ pub fn resolve<'t>(alloc: Global, module: &'t Module<'t>) -> Result<Resolved<'t>
 {
     let tokens = module.tokens();
     let numbering = number(alloc, module, Writing::as_in(tokens))?;
-    let (declarations, occurrences, marks) = numbering.into_parts();
-    let ordinals = table(alloc, tokens.tokens().len(), &marks)?;
+    let (declarations, occurrences, ordinals) = numbering.into_parts();
     let mut faults = check(alloc, module)?;
     undeclared(&mut faults, tokens, &ordinals, &occurrences)?;
     Ok(Resolved {

@@ -1,36 +1,26 @@
 //! Tables of ordinals by token, and what is wrong with the names.
 
-ghost use Rattle.std.specs.Prelude.{◌≡◌, ◌++◌, IfOk, OnOk, replicate};
-ghost use Rattle.ob0_scope.specs.Visiting.{with_marks};
+ghost use Rattle.std.specs.Prelude.{◌≡◌, ◌++◌, OnOk};
 ghost use Rattle.ob0_scope.specs.Resolution.{ordinal_in, span_at, undeclared_at};
 
-use crate::numbering::Mark;
 use ob0_scan::{Code, Fault, Span, Tokens};
-use std::alloc::{AllocError, Global};
-
-/// The ordinal at each of so many tokens.
-pub(crate) fn table(
-    alloc: Global,
-    len: usize,
-    marks: &[Mark],
-) -> Result<Vec<Option<usize>>, AllocError>
-    ensures { IfOk result (λ t. t.items ≡ with_marks (replicate len None) marks.now) }
-{
-    let mut table = vec![in alloc; None; len]?;
-    for mark in marks {
-        if mark.token < table.len() {
-            table[mark.token] = mark.ordinal;
-        }
-    }
-    Ok(table)
-}
+use std::alloc::AllocError;
 
 /// The ordinal that a table has at a token.
-pub(crate) fn ordinal_at(ordinals: &[Option<usize>], token: usize) -> Option<usize>
+pub(crate) fn ordinal_at(ordinals: &[Option<u32>], token: usize) -> Option<usize>
     ensures { result ≡ ordinal_in ordinals.now token }
 {
     match ordinals.get(token) {
-        Some(ordinal) => *ordinal,
+        Some(ordinal) => widened(*ordinal),
+        None => None,
+    }
+}
+
+fn widened(ordinal: Option<u32>) -> Option<usize>
+    ensures { result ≡ ordinal }
+{
+    match ordinal {
+        Some(ordinal) => Some(ordinal as usize),
         None => None,
     }
 }
@@ -49,7 +39,7 @@ pub fn token_span(tokens: &Tokens, token: usize) -> Span
 pub(crate) fn undeclared(
     faults: &mut Vec<Fault>,
     tokens: &Tokens,
-    ordinals: &[Option<usize>],
+    ordinals: &[Option<u32>],
     occurrences: &[usize],
 ) -> Result<(), AllocError>
     ensures { OnOk result (faults.new.items ≡ faults.old.items ++ undeclared_at tokens.now ordinals.now occurrences.now) }

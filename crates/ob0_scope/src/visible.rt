@@ -12,7 +12,7 @@ use std::marker::Model;
 #[derive(Drop)]
 pub(crate) struct Binding<'t> {
     name: &'t str,
-    ordinal: usize,
+    ordinal: u32,
     hidden: Option<usize>,
 }
 
@@ -53,7 +53,7 @@ impl<'t> Visible<'t> {
     }
 
     /// The ordinal of the declaration to which a name is bound.
-    pub(crate) fn look_up(&mut self, name: &'t str) -> Option<usize>
+    pub(crate) fn look_up(&mut self, name: &'t str) -> Option<u32>
         ensures found { result ≡ ordinal_of as_names self.old name.now }
         ensures same { self.new ≡ self.old }
     {
@@ -65,7 +65,7 @@ impl<'t> Visible<'t> {
     }
 
     /// Binds a name anew.
-    pub(crate) fn declare(&mut self, name: &'t str, ordinal: usize) -> Result<(), AllocError>
+    pub(crate) fn declare(&mut self, name: &'t str, ordinal: u32) -> Result<(), AllocError>
         ensures { OnOk result (self.new ≡ (name.entry.now, ordinal) ∷ self.old) }
     {
         self.bindings.reserve(1)?;

@@ -12,7 +12,7 @@ use std::marker::Model;
 #[derive(Drop)]
 pub(crate) struct Writing<'t> {
     pub(crate) tokens: &'t Tokens,
-    pub(crate) ordinals: &'t [Option<usize>],
+    pub(crate) ordinals: &'t [Option<u32>],
     pub(crate) declaration: Option<usize>,
     pub(crate) new: &'t str,
 }

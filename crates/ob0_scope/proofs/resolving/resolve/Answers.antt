@@ -1,9 +1,11 @@
-use Rattle.std.proofs.Common.{◌++◌, None, length, replicate, refl, ap, ◌∙◌}
+use Rattle.std.proofs.Common.{◌++◌, refl, ap, ◌∙◌}
+use Rattle.ob0_scope.specs.Marking as listing
 use Rattle.ob0_scope.specs.Resolution.{undeclared_at}
 use Rattle.ob0_tree.specs.Parsed.{tree_of}
-use Rattle.ob0_scope.specs.Visiting.{started, visit_module, with_marks}
+use Rattle.ob0_scope.specs.Tabling.{Visit, started, visit_module}
 use Rattle.ob0_scope.specs.Written.{as_in}
 use Rattle.ob0_scope.proofs.Bound.{resolution_made}
+use Rattle.ob0_scope.proofs.Tabled.{module_tabled}
 use Rattle.ob0_scope.proofs.resolving.resolve.Goals as goal
 
 pub invariant_of-result : goal.invariant_of-result
@@ -12,14 +14,13 @@ invariant_of-result c =
     let parts = c.into_parts-declarations in
     let faults = c.undeclared.new.faults.items in
     let once = c.in_ok-faults.faults.items in
-    let tabled = c.in_ok-ordinals.ensures
-    ∙ ((λ i. with_marks (replicate (length (c.tokens.ensures i)) None) (c.deref.ensures.value i))
-    ∙ (λ i. with_marks (replicate (length (c.tokens-tokens.ensures.source i).tokens) None) (parts.ensures.marks i))) in
-    let gone = c.in_ok-numbering.ensures ∙ ap (λ w. visit_module (tree_of m) (started w)) (c.as_in.ensures ∙ ap as_in c.tokens-tokens.ensures.source) in
-    let all = c.in_ok-undeclared.ensures ∙ (λ i. once ++ undeclared_at (c.tokens-tokens.ensures.source i) (c.deref-2.ensures.value i) (c.deref-3.ensures.value i)) in
-    resolution_made m c.in_ok-numbering.numbering c.in_ok-ordinals.ordinals.items parts.result.0.items parts.result.1.items once faults
-    c.tokens-tokens.ensures.parsed gone tabled parts.ensures.declarations parts.ensures.uses c.in_ok-faults.ensures
-    all
+    let written = as_in m.source in
+    let gone = c.in_ok-numbering.ensures
+    ∙ (ap (λ w. visit_module (tree_of m) (started w)) (c.as_in.ensures ∙ ap as_in c.tokens-tokens.ensures.source) ∙ module_tabled (tree_of m) written) in
+    let all = c.in_ok-undeclared.ensures ∙ (λ i. once ++ undeclared_at (c.tokens-tokens.ensures.source i) (c.deref.ensures.value i) (c.deref-2.ensures.value i)) in
+    resolution_made m (listing.visit_module (tree_of m) (listing.started written)) parts.result.2.items parts.result.0.items parts.result.1.items once faults
+    c.tokens-tokens.ensures.parsed refl (parts.ensures.table ∙ ap (λ (v : Visit). v.marks) gone) (parts.ensures.declarations ∙ ap (λ (v : Visit). v.declarations) gone)
+    (parts.ensures.uses ∙ ap (λ (v : Visit). v.uses) gone) c.in_ok-faults.ensures all
 
 pub returns : goal.returns
 returns c =
@@ -27,13 +28,12 @@ returns c =
     let parts = c.into_parts-declarations in
     let faults = c.undeclared.new.faults.items in
     let once = c.in_ok-faults.faults.items in
-    let tabled = c.in_ok-ordinals.ensures
-    ∙ ((λ i. with_marks (replicate (length (c.tokens.ensures i)) None) (c.deref.ensures.value i))
-    ∙ (λ i. with_marks (replicate (length (c.tokens-tokens.ensures.source i).tokens) None) (parts.ensures.marks i))) in
-    let gone = c.in_ok-numbering.ensures ∙ ap (λ w. visit_module (tree_of m) (started w)) (c.as_in.ensures ∙ ap as_in c.tokens-tokens.ensures.source) in
-    let all = c.in_ok-undeclared.ensures ∙ (λ i. once ++ undeclared_at (c.tokens-tokens.ensures.source i) (c.deref-2.ensures.value i) (c.deref-3.ensures.value i)) in (
+    let written = as_in m.source in
+    let gone = c.in_ok-numbering.ensures
+    ∙ (ap (λ w. visit_module (tree_of m) (started w)) (c.as_in.ensures ∙ ap as_in c.tokens-tokens.ensures.source) ∙ module_tabled (tree_of m) written) in
+    let all = c.in_ok-undeclared.ensures ∙ (λ i. once ++ undeclared_at (c.tokens-tokens.ensures.source i) (c.deref.ensures.value i) (c.deref-2.ensures.value i)) in (
       refl,
-      resolution_made m c.in_ok-numbering.numbering c.in_ok-ordinals.ordinals.items parts.result.0.items parts.result.1.items once faults
-          c.tokens-tokens.ensures.parsed gone tabled parts.ensures.declarations parts.ensures.uses c.in_ok-faults.ensures
-          all,
+      resolution_made m (listing.visit_module (tree_of m) (listing.started written)) parts.result.2.items parts.result.0.items parts.result.1.items once faults
+          c.tokens-tokens.ensures.parsed refl (parts.ensures.table ∙ ap (λ (v : Visit). v.marks) gone) (parts.ensures.declarations ∙ ap (λ (v : Visit). v.declarations) gone)
+          (parts.ensures.uses ∙ ap (λ (v : Visit). v.uses) gone) c.in_ok-faults.ensures all,
     )

@@ -2,7 +2,7 @@ use Rattle.std.proofs.Common.{◌≡◌, OnOk, sym, ap, ◌∙◌, subst}
 use Rattle.ob0_tree.specs.View.{items_of, procedure_of, body_of, types_of, variables_of}
 use Rattle.ob0_tree.proofs.Viewed.{block_parts}
 use Rattle.ob0_tree.specs.declared.tree.Block.{out-Block}
-use Rattle.ob0_scope.specs.Visiting.{used, visit_block, visit_procedures, visit_type_section, visit_variable_section}
+use Rattle.ob0_scope.specs.Tabling.{used, visit_block, visit_procedures, visit_type_section, visit_variable_section}
 use Rattle.ob0_scope.proofs.Going.{gone_through}
 use Rattle.ob0_scope.proofs.numbering.Numbering.+blocks.Goals as goal
 

@@ -1,5 +1,5 @@
 use Rattle.ob0_tree.specs.View.{items_of, procedure_of}
-use Rattle.ob0_scope.specs.Visiting.{visit_procedures}
+use Rattle.ob0_scope.specs.Tabling.{visit_procedures}
 use Rattle.ob0_scope.proofs.Going.{Going}
 use Rattle.ob0_scope.proofs.numbering.Numbering.+blocks.Given as goal
 

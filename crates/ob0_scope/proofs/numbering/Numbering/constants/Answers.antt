@@ -1,6 +1,6 @@
 use Rattle.std.proofs.Common.{sym, ap, ◌∙◌}
 use Rattle.ob0_tree.specs.View.{items_of, constants_of, constant_of}
-use Rattle.ob0_scope.specs.Visiting.{visit_constant_section, visit_constants}
+use Rattle.ob0_scope.specs.Tabling.{visit_constant_section, visit_constants}
 use Rattle.ob0_scope.proofs.Going.{gone_through}
 use Rattle.ob0_scope.proofs.numbering.Numbering.constants.Goals as goal
 

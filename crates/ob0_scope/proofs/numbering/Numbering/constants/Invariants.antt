@@ -1,5 +1,5 @@
 use Rattle.ob0_tree.specs.View.{items_of, constant_of}
-use Rattle.ob0_scope.specs.Visiting.{visit_constants}
+use Rattle.ob0_scope.specs.Tabling.{visit_constants}
 use Rattle.ob0_scope.proofs.Going.{Going}
 use Rattle.ob0_scope.proofs.numbering.Numbering.constants.Given as goal
 

@@ -1,4 +1,4 @@
-use Rattle.ob0_scope.specs.Visiting.{found_all}
+use Rattle.ob0_scope.specs.Tabling.{found_all}
 use Rattle.ob0_scope.proofs.Going.{Going}
 use Rattle.ob0_scope.proofs.numbering.Numbering.find.Given as goal
 

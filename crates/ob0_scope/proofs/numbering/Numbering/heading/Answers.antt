@@ -1,6 +1,6 @@
 use Rattle.std.proofs.Common.{sym, ap, ◌∙◌}
 use Rattle.ob0_tree.specs.View.{formals_of, items_of, further_section_of}
-use Rattle.ob0_scope.specs.Visiting.{visit_formals, visit_sections}
+use Rattle.ob0_scope.specs.Tabling.{visit_formals, visit_sections}
 use Rattle.ob0_scope.proofs.Going.{gone_through, sections_first}
 use Rattle.ob0_scope.proofs.numbering.Numbering.heading.Goals as goal
 

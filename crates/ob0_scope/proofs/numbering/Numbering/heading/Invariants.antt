@@ -1,5 +1,5 @@
 use Rattle.ob0_tree.specs.View.{items_of, further_section_of}
-use Rattle.ob0_scope.specs.Visiting.{visit_sections}
+use Rattle.ob0_scope.specs.Tabling.{visit_sections}
 use Rattle.ob0_scope.proofs.Going.{Going}
 use Rattle.ob0_scope.proofs.numbering.Numbering.heading.Given as goal
 

@@ -1,5 +1,5 @@
 use Rattle.std.proofs.Common.{◌∷◌, sym, ap, ◌∙◌}
-use Rattle.ob0_scope.specs.Visiting.{numbered_all}
+use Rattle.ob0_scope.specs.Tabling.{numbered_all}
 use Rattle.ob0_scope.proofs.Going.{gone_through, names_further}
 use Rattle.ob0_scope.proofs.numbering.Numbering.names.Goals as goal
 

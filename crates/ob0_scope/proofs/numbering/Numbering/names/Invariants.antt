@@ -1,4 +1,4 @@
-use Rattle.ob0_scope.specs.Visiting.{numbered_all}
+use Rattle.ob0_scope.specs.Tabling.{numbered_all}
 use Rattle.ob0_scope.proofs.Going.{Going}
 use Rattle.ob0_scope.proofs.numbering.Numbering.names.Given as goal
 

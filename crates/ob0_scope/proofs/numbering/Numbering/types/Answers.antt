@@ -1,6 +1,6 @@
 use Rattle.std.proofs.Common.{sym, ap, ◌∙◌}
 use Rattle.ob0_tree.specs.View.{items_of, types_of, type_declaration_of}
-use Rattle.ob0_scope.specs.Visiting.{visit_type_section, visit_types}
+use Rattle.ob0_scope.specs.Tabling.{visit_type_section, visit_types}
 use Rattle.ob0_scope.proofs.Going.{gone_through}
 use Rattle.ob0_scope.proofs.numbering.Numbering.types.Goals as goal
 

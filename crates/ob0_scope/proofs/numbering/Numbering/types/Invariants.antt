@@ -1,5 +1,5 @@
 use Rattle.ob0_tree.specs.View.{items_of, type_declaration_of}
-use Rattle.ob0_scope.specs.Visiting.{visit_types}
+use Rattle.ob0_scope.specs.Tabling.{visit_types}
 use Rattle.ob0_scope.proofs.Going.{Going}
 use Rattle.ob0_scope.proofs.numbering.Numbering.types.Given as goal
 

@@ -1,5 +1,5 @@
 use Rattle.ob0_tree.specs.View.{items_of, variable_of}
-use Rattle.ob0_scope.specs.Visiting.{visit_variables}
+use Rattle.ob0_scope.specs.Tabling.{visit_variables}
 use Rattle.ob0_scope.proofs.Going.{Going}
 use Rattle.ob0_scope.proofs.numbering.Numbering.variable_section.Given as goal
 

@@ -1,0 +1,98 @@
+-- A module's identifiers, gone through in text order, and listed with their ordinals.
+use Rattle.std.specs.Prelude.{ℕ, List, [], ◌∷◌, ◌++◌, Option}
+use Rattle.ob0_scope.specs.Marks.{Mark}
+use Rattle.ob0_tree.specs.declared.tree.Role.{Role}
+use Rattle.ob0_tree.specs.Tree.{Sort, Tree, block, constant, constants, formals, further_section, item, items, maybe, module_text, procedure, section, type_name, type_names, variable, variables}
+use Rattle.ob0_scope.specs.Names.{as_names}
+use Rattle.ob0_scope.specs.Scopes.{predeclared_scope}
+use Rattle.ob0_scope.specs.Visiting as visit
+use Rattle.ob0_scope.specs.Written.{Writing}
+
+abbrev pub Visit : Type 0
+Visit = visit.Visit (List Mark)
+
+-- behind the others
+abbrev pub put : ℕ → Option ℕ → List Mark → List Mark
+put i ordinal ms = ms ++ (record { token = i; ordinal = ordinal } ∷ [])
+
+abbrev pub marked : ℕ → Option ℕ → Visit → Visit
+marked = visit.marked put
+
+abbrev pub numbered_at : ℕ → Visit → Visit
+numbered_at = visit.numbered_at put
+
+abbrev pub numbered_all : List ℕ → Visit → Visit
+numbered_all = visit.numbered_all put
+
+abbrev pub found : Role → ℕ → Visit → Visit
+found = visit.found put
+
+abbrev pub found_all : List (Role × ℕ) → Visit → Visit
+found_all = visit.found_all put
+
+abbrev pub used : {s : Sort} → Tree ℕ s → Visit → Visit
+used = visit.used put
+
+abbrev pub visit_constant : Tree ℕ (item constant) → Visit → Visit
+visit_constant = visit.visit_constant put
+
+abbrev pub visit_constants : Tree ℕ (items constant) → Visit → Visit
+visit_constants = visit.visit_constants put
+
+abbrev pub visit_type : Tree ℕ (item type_name) → Visit → Visit
+visit_type = visit.visit_type put
+
+abbrev pub visit_types : Tree ℕ (items type_name) → Visit → Visit
+visit_types = visit.visit_types put
+
+abbrev pub visit_variable : Tree ℕ (item variable) → Visit → Visit
+visit_variable = visit.visit_variable put
+
+abbrev pub visit_variables : Tree ℕ (items variable) → Visit → Visit
+visit_variables = visit.visit_variables put
+
+abbrev pub visit_section : Tree ℕ section → Visit → Visit
+visit_section = visit.visit_section put
+
+abbrev pub visit_sections : Tree ℕ (items further_section) → Visit → Visit
+visit_sections = visit.visit_sections put
+
+abbrev pub visit_formals : Tree ℕ (maybe formals) → Visit → Visit
+visit_formals = visit.visit_formals put
+
+abbrev pub visit_constant_section : Tree ℕ (maybe constants) → Visit → Visit
+visit_constant_section = visit.visit_constant_section put
+
+abbrev pub visit_type_section : Tree ℕ (maybe type_names) → Visit → Visit
+visit_type_section = visit.visit_type_section put
+
+abbrev pub visit_variable_section : Tree ℕ (maybe variables) → Visit → Visit
+visit_variable_section = visit.visit_variable_section put
+
+abbrev pub visit_block : Tree ℕ block → Visit → Visit
+visit_block = visit.visit_block put
+
+abbrev pub visit_procedures : Tree ℕ (items procedure) → Visit → Visit
+visit_procedures = visit.visit_procedures put
+
+abbrev pub visit_procedure : Tree ℕ (item procedure) → Visit → Visit
+visit_procedure = visit.visit_procedure put
+
+abbrev pub visit_module : Tree ℕ module_text → Visit → Visit
+visit_module = visit.visit_module put
+
+abbrev pub shown_from : ℕ → Visit → Visit
+shown_from = visit.shown_from
+
+abbrev pub left_to : ℕ → Visit → Visit
+left_to = visit.left_to
+
+abbrev pub behind_heading : ℕ → ℕ → Visit → Visit
+behind_heading = visit.behind_heading
+
+abbrev pub behind_block : ℕ → ℕ → ℕ → Visit → Visit
+behind_block = visit.behind_block
+
+-- before the first identifier
+abbrev pub started : Writing → Visit
+started writing = record { writing = writing; scope = predeclared_scope as_names; declarations = []; uses = []; marks = [] }

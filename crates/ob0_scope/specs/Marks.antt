@@ -1,0 +1,12 @@
+-- Identifiers with the ordinals of their declarations.
+use Rattle.std.specs.Prelude.{ℕ, List, [], ◌∷◌, Option, slice_set}
+
+-- an identifier's token, and the ordinal of its declaration
+pub record Mark : Type 0 where
+  pub token : ℕ
+  pub ordinal : Option ℕ
+
+-- a table with the ordinal of each mark at its token
+abbrev pub with_marks : List (Option ℕ) → List Mark → List (Option ℕ)
+with_marks table [] = table
+with_marks table (m ∷ ms) = with_marks (slice_set table m.token m.ordinal) ms
