@@ -1,9 +1,9 @@
 //! The command line.
 
 ghost use Rattle.std.specs.Prelude.{◌≡◌, ◌≤◌, Some, false, IfOk, IfErr, codes, map};
-ghost use Rattle.clap.specs.Words.{app_of, first_of, found_of, rows_of, rule_of, subcommand_rows_of};
+ghost use Rattle.clap.specs.Words.{app_of, first_of, found_of, new_app, rows_of, rule_of, subcommand_rows_of};
 ghost use Rattle.ob0_cli.specs.Given.{Gives, HasNeeded, HasBounded, HasPlace, HasText, HoldsValues, IsNumber, IsReadFrom, NeedsAt, Refuses, most_of};
-ghost use Rattle.ob0_cli.specs.Lines.{ob0_app, calls_rule, check as check_lines, number_rule, rename as rename_lines, run as run_lines, turns_rule, word_rule};
+ghost use Rattle.ob0_cli.specs.Lines.{ob0_alone, ob0_app, calls_rule, check as check_lines, number_rule, rename as rename_lines, run as run_lines, turns_rule, word_rule};
 
 use clap::error::ErrorKind;
 use clap::{Arg, ArgAction, ArgMatches, Command, Error, value_parser};
@@ -151,15 +151,13 @@ fn place_at(given: &ArgMatches<'_>, id: &str) -> u64
 fn definition<'a>(alloc: Global) -> Result<Command<'a>, AllocError>
     ensures { IfOk result (λ c. app_of c ≡ ob0_app) }
 {
-    let serve = Command::new(alloc, "serve")
-        .about("Serves one conversation over standard input and output")
-        .after_help(NOTES);
-    let with_serve = Command::new(alloc, "ob0")
-        .about("A language server for Oberon-0")
-        .version(VERSION)
-        .after_help(NOTES)
-        .subcommand_required(true)
-        .subcommand(serve)?;
+    let alone = program(alloc);
+    let serve = bare(
+        alloc,
+        "serve",
+        "Serves one conversation over standard input and output",
+    );
+    let with_serve = alone.subcommand(serve)?;
     let check = check_definition(alloc)?;
     let with_check = with_serve.subcommand(check)?;
     let run = run_definition(alloc)?;
@@ -168,24 +166,39 @@ fn definition<'a>(alloc: Global) -> Result<Command<'a>, AllocError>
     with_run.subcommand(rename)
 }
 
+/// The program, as yet without its subcommands.
+fn program<'a>(alloc: Global) -> Command<'a>
+    ensures { app_of result ≡ ob0_alone }
+{
+    bare(alloc, "ob0", "A language server for Oberon-0")
+        .version(VERSION)
+        .subcommand_required(true)
+}
+
+/// A command that takes no words yet, and what help says of it.
+fn bare<'a>(alloc: Global, name: &'a str, about: &'a str) -> Command<'a>
+    ensures { app_of result ≡ new_app name.entry.now }
+{
+    Command::new(alloc, name).about(about).after_help(NOTES)
+}
+
 fn check_definition<'a>(alloc: Global) -> Result<Command<'a>, AllocError>
     ensures { IfOk result (λ c. app_of c ≡ check_lines) }
 {
     let file = word(alloc, "file", "FILE", "The file with the module");
-    Command::new(alloc, "check")
-        .about("Prints what is wrong with a module")
-        .after_help(NOTES)
-        .arg(file)
+    bare(alloc, "check", "Prints what is wrong with a module").arg(file)
 }
 
 fn run_definition<'a>(alloc: Global) -> Result<Command<'a>, AllocError>
     ensures { IfOk result (λ c. app_of c ≡ run_lines) }
 {
     let file = word(alloc, "file", "FILE", "The file with the module");
-    let with_file = Command::new(alloc, "run")
-        .about("Runs a module on the numbers of standard input")
-        .after_help(NOTES)
-        .arg(file)?;
+    let alone = bare(
+        alloc,
+        "run",
+        "Runs a module on the numbers of standard input",
+    );
+    let with_file = alone.arg(file)?;
     let calls = calls_argument(alloc);
     let with_calls = with_file.arg(calls)?;
     let turns = turns_argument(alloc);
@@ -196,10 +209,12 @@ fn rename_definition<'a>(alloc: Global) -> Result<Command<'a>, AllocError>
     ensures { IfOk result (λ c. app_of c ≡ rename_lines) }
 {
     let file = word(alloc, "file", "FILE", "The file with the module");
-    let with_file = Command::new(alloc, "rename")
-        .about("Prints a module with another name for one of its names")
-        .after_help(NOTES)
-        .arg(file)?;
+    let alone = bare(
+        alloc,
+        "rename",
+        "Prints a module with another name for one of its names",
+    );
+    let with_file = alone.arg(file)?;
     let line = number(
         alloc,
         "line",

@@ -233,6 +233,19 @@ sited_at_start s scan ss = record {
   same = refl;
 }
 
+-- what can't be next at once; cited below, where many facts are at hand
+none_not_some : {A : Type 0} {a : A} → None ≡ Some a → ⊥
+none_not_some e = cc
+
+comment_not_token : {span : Span} {token : Token} → Some (next.Comment span) ≡ Some (next.Token token) → ⊥
+comment_not_token e = cc
+
+same_comment : {a b : Span} → Some (next.Comment a) ≡ Some (next.Comment b) → a ≡ b
+same_comment e = cc
+
+same_token : {a b : Token} → Some (next.Token a) ≡ Some (next.Token b) → a ≡ b
+same_token e = cc
+
 module _ (text : List ℕ) (whole : List Site) (left : List Token) (comments : List Span) (ss : List Standing) (before : Option Solid) (level start : ℕ) (out : List Site) (h : Sited text whole left comments ss before level start out) where
   found_is : next_of left comments ≡ next_of (tokens_from start h.rest) (comments_from start h.rest)
   found_is = λ i. next_of (h.left_is i) (h.comments_is i)
@@ -244,8 +257,8 @@ module _ (text : List ℕ) (whole : List Site) (left : List Token) (comments : L
   sited_ends e = elim ways [
     | inl n ↦ (n.up, ap (λ gs. out ++ gs) (sym n.gaps) ∙ h.same)
     | inr m ↦ elim m [
-      | inl n ↦ absurd (let f = token_next text before level ss start start (is_none before) h.rest n in let g : None ≡ Some _ = sym e ∙ found_is ∙ f in cc)
-      | inr n ↦ absurd (let f = comment_next text before level ss start start (is_none before) h.rest n in let g : None ≡ Some _ = sym e ∙ found_is ∙ f in cc)
+      | inl n ↦ absurd (none_not_some (sym e ∙ found_is ∙ token_next text before level ss start start (is_none before) h.rest n))
+      | inr n ↦ absurd (none_not_some (sym e ∙ found_is ∙ comment_next text before level ss start start (is_none before) h.rest n))
     ]
   ]
 
@@ -298,27 +311,27 @@ module _ (text : List ℕ) (whole : List Site) (left : List Token) (comments : L
 
   pub comment_step : (span : Span) → next_of left comments ≡ Some (next.Comment span) → CommentStep span
   comment_step span e = elim ways [
-    | inl n ↦ absurd (let f = no_next text before level ss start start (is_none before) h.rest n in let g : Some (next.Comment span) ≡ None = sym e ∙ found_is ∙ f in cc)
+    | inl n ↦ absurd (none_not_some (sym (no_next text before level ss start start (is_none before) h.rest n) ∙ (sym found_is ∙ e)))
     | inr m ↦ elim m [
-      | inl n ↦ absurd (let f = token_next text before level ss start start (is_none before) h.rest n in let g : Some (next.Comment span) ≡ Some (next.Token (make_token n.kind n.place n.size)) = sym e ∙ found_is ∙ f in cc)
+      | inl n ↦ absurd (comment_not_token (sym e ∙ found_is ∙ token_next text before level ss start start (is_none before) h.rest n))
       | inr n ↦
           let f = comment_next text before level ss start start (is_none before) h.rest n in
           let g : Some (next.Comment (span_from n.place n.size)) ≡ Some (next.Comment span) = sym (sym e ∙ found_is ∙ f) in
-          let same : span_from n.place n.size ≡ span = cc in
+          let same : span_from n.place n.size ≡ span = same_comment g in
           subst CommentStep same (over_comment n)
     ]
   ]
 
   pub token_step : (token : Token) → next_of left comments ≡ Some (next.Token token) → TokenStep token
   token_step token e = elim ways [
-    | inl n ↦ absurd (let f = no_next text before level ss start start (is_none before) h.rest n in let g : Some (next.Token token) ≡ None = sym e ∙ found_is ∙ f in cc)
+    | inl n ↦ absurd (none_not_some (sym (no_next text before level ss start start (is_none before) h.rest n) ∙ (sym found_is ∙ e)))
     | inr m ↦ elim m [
       | inl n ↦
           let f = token_next text before level ss start start (is_none before) h.rest n in
           let g : Some (next.Token (make_token n.kind n.place n.size)) ≡ Some (next.Token token) = sym (sym e ∙ found_is ∙ f) in
-          let same : make_token n.kind n.place n.size ≡ token = cc in
+          let same : make_token n.kind n.place n.size ≡ token = same_token g in
           subst TokenStep same (over_token n)
-      | inr n ↦ absurd (let f = comment_next text before level ss start start (is_none before) h.rest n in let g : Some (next.Token token) ≡ Some (next.Comment (span_from n.place n.size)) = sym e ∙ found_is ∙ f in cc)
+      | inr n ↦ absurd (comment_not_token (sym (comment_next text before level ss start start (is_none before) h.rest n) ∙ (sym found_is ∙ e)))
     ]
   ]
 

@@ -30,3 +30,17 @@ IsValueOf code.Nothing a = Unit {0}
 abbrev pub IsPlaceOf : Option Located → Located → Type 0
 IsPlaceOf (Some m) l = m ≡ l
 IsPlaceOf None l = Unit {0}
+
+-- the number that an operand is, where it is one
+abbrev pub number_in : Lowered → Option Number
+number_in (code.Number n) = Some n
+number_in (code.Truth t) = None
+number_in (code.Block q k) = None
+number_in code.Nothing = None
+
+-- the truth that it is, where it is one
+abbrev pub truth_in : Lowered → Option Truth
+truth_in (code.Number n) = None
+truth_in (code.Truth t) = Some t
+truth_in (code.Block q k) = None
+truth_in code.Nothing = None

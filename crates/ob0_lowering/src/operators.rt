@@ -7,6 +7,7 @@ ghost use Rattle.ob0_machine.specs.View.{number_of, operator_of, truth_of};
 ghost use Rattle.ob0_cells.specs.Lowering.{relation_of};
 ghost use Rattle.ob0_machine.specs.View as view;
 ghost use Rattle.ob0_lowering.specs.Codes as codes;
+ghost use Rattle.ob0_lowering.specs.Parts.{number_in, truth_in};
 ghost use Rattle.ob0_lowering.specs.Trees.{code_of};
 
 use crate::chains::{both, either, operation};
@@ -16,6 +17,30 @@ use ob0_machine::code::{Number, Operands, Operator, Truth, Truths};
 use ob0_tree::{AddOperator, MultiplyOperator, Relation, Sign};
 use std::alloc::{AllocError, Global};
 
+/// The number that an operand is, where it is one.
+fn number_in(operand: Lowered) -> Option<Number>
+    ensures { result ≡ number_in operand }
+{
+    match operand {
+        Lowered::Number(number) => Some(number),
+        Lowered::Truth(_) => None,
+        Lowered::Block(_, _) => None,
+        Lowered::Nothing => None,
+    }
+}
+
+/// The truth that an operand is, where it is one.
+fn truth_in(operand: Lowered) -> Option<Truth>
+    ensures { result ≡ truth_in operand }
+{
+    match operand {
+        Lowered::Truth(truth) => Some(truth),
+        Lowered::Number(_) => None,
+        Lowered::Block(_, _) => None,
+        Lowered::Nothing => None,
+    }
+}
+
 fn operated(
     alloc: Global,
     operator: Operator,
@@ -24,51 +49,40 @@ fn operated(
 ) -> Result<Lowered, AllocError>
     ensures { IfOk result (λ l. code_of l ≡ codes.operated (operator_of operator) (code_of left) (code_of right)) }
 {
-    match left {
-        Lowered::Number(left) => match right {
-            Lowered::Number(right) => {
-                Ok(Lowered::Number(operation(alloc, operator, left, right)?))
-            }
-            Lowered::Truth(_) => Ok(Lowered::Nothing),
-            Lowered::Block(_, _) => Ok(Lowered::Nothing),
-            Lowered::Nothing => Ok(Lowered::Nothing),
-        },
-        Lowered::Truth(_) => Ok(Lowered::Nothing),
-        Lowered::Block(_, _) => Ok(Lowered::Nothing),
-        Lowered::Nothing => Ok(Lowered::Nothing),
-    }
+    let Some(first) = number_in(left) else {
+        return Ok(Lowered::Nothing);
+    };
+    let Some(second) = number_in(right) else {
+        return Ok(Lowered::Nothing);
+    };
+    let number = operation(alloc, operator, first, second)?;
+    Ok(Lowered::Number(number))
 }
 
 fn conjunction(alloc: Global, left: Lowered, right: Lowered) -> Result<Lowered, AllocError>
     ensures { IfOk result (λ l. code_of l ≡ codes.combined machine.both (code_of left) (code_of right)) }
 {
-    match left {
-        Lowered::Truth(left) => match right {
-            Lowered::Truth(right) => Ok(Lowered::Truth(both(alloc, left, right)?)),
-            Lowered::Number(_) => Ok(Lowered::Nothing),
-            Lowered::Block(_, _) => Ok(Lowered::Nothing),
-            Lowered::Nothing => Ok(Lowered::Nothing),
-        },
-        Lowered::Number(_) => Ok(Lowered::Nothing),
-        Lowered::Block(_, _) => Ok(Lowered::Nothing),
-        Lowered::Nothing => Ok(Lowered::Nothing),
-    }
+    let Some(first) = truth_in(left) else {
+        return Ok(Lowered::Nothing);
+    };
+    let Some(second) = truth_in(right) else {
+        return Ok(Lowered::Nothing);
+    };
+    let truth = both(alloc, first, second)?;
+    Ok(Lowered::Truth(truth))
 }
 
 fn disjunction(alloc: Global, left: Lowered, right: Lowered) -> Result<Lowered, AllocError>
     ensures { IfOk result (λ l. code_of l ≡ codes.combined machine.either (code_of left) (code_of right)) }
 {
-    match left {
-        Lowered::Truth(left) => match right {
-            Lowered::Truth(right) => Ok(Lowered::Truth(either(alloc, left, right)?)),
-            Lowered::Number(_) => Ok(Lowered::Nothing),
-            Lowered::Block(_, _) => Ok(Lowered::Nothing),
-            Lowered::Nothing => Ok(Lowered::Nothing),
-        },
-        Lowered::Number(_) => Ok(Lowered::Nothing),
-        Lowered::Block(_, _) => Ok(Lowered::Nothing),
-        Lowered::Nothing => Ok(Lowered::Nothing),
-    }
+    let Some(first) = truth_in(left) else {
+        return Ok(Lowered::Nothing);
+    };
+    let Some(second) = truth_in(right) else {
+        return Ok(Lowered::Nothing);
+    };
+    let truth = either(alloc, first, second)?;
+    Ok(Lowered::Truth(truth))
 }
 
 pub(crate) fn added(
@@ -189,13 +203,14 @@ fn alike(
 ) -> Result<Lowered, AllocError>
     ensures { IfOk result (λ l. code_of l ≡ codes.related relation (codes.a_truth (truth_of left)) (codes.a_truth (truth_of right))) }
 {
+    let truths = Truths { left, right };
     match relation {
         Relation::Equal => {
-            let sides = Box::new(alloc, Truths { left, right })?;
+            let sides = Box::new(alloc, truths)?;
             Ok(Lowered::Truth(Truth::Same(sides)))
         }
         Relation::NotEqual => {
-            let sides = Box::new(alloc, Truths { left, right })?;
+            let sides = Box::new(alloc, truths)?;
             Ok(Lowered::Truth(Truth::Different(sides)))
         }
         Relation::Less => Ok(Lowered::Nothing),
@@ -203,6 +218,37 @@ fn alike(
         Relation::Greater => Ok(Lowered::Nothing),
         Relation::GreaterEqual => Ok(Lowered::Nothing),
     }
+}
+
+/// A relation of a number with what should be one.
+fn number_related(
+    alloc: Global,
+    relation: Relation,
+    left: Number,
+    right: Lowered,
+) -> Result<Lowered, AllocError>
+    ensures { IfOk result (λ l. code_of l ≡ codes.related relation (codes.a_number (number_of left)) (code_of right)) }
+{
+    let Some(second) = number_in(right) else {
+        return Ok(Lowered::Nothing);
+    };
+    let truth = compared(alloc, relation, left, second)?;
+    Ok(Lowered::Truth(truth))
+}
+
+/// A relation of a truth with what should be one.
+fn truth_related(
+    alloc: Global,
+    relation: Relation,
+    left: Truth,
+    right: Lowered,
+) -> Result<Lowered, AllocError>
+    ensures { IfOk result (λ l. code_of l ≡ codes.related relation (codes.a_truth (truth_of left)) (code_of right)) }
+{
+    let Some(second) = truth_in(right) else {
+        return Ok(Lowered::Nothing);
+    };
+    alike(alloc, relation, left, second)
 }
 
 pub(crate) fn related(
@@ -214,20 +260,8 @@ pub(crate) fn related(
     ensures { IfOk result (λ l. code_of l ≡ codes.related relation (code_of left) (code_of right)) }
 {
     match left {
-        Lowered::Number(left) => match right {
-            Lowered::Number(right) => {
-                Ok(Lowered::Truth(compared(alloc, relation, left, right)?))
-            }
-            Lowered::Truth(_) => Ok(Lowered::Nothing),
-            Lowered::Block(_, _) => Ok(Lowered::Nothing),
-            Lowered::Nothing => Ok(Lowered::Nothing),
-        },
-        Lowered::Truth(left) => match right {
-            Lowered::Truth(right) => alike(alloc, relation, left, right),
-            Lowered::Number(_) => Ok(Lowered::Nothing),
-            Lowered::Block(_, _) => Ok(Lowered::Nothing),
-            Lowered::Nothing => Ok(Lowered::Nothing),
-        },
+        Lowered::Number(number) => number_related(alloc, relation, number, right),
+        Lowered::Truth(truth) => truth_related(alloc, relation, truth, right),
         Lowered::Block(_, _) => Ok(Lowered::Nothing),
         Lowered::Nothing => Ok(Lowered::Nothing),
     }
