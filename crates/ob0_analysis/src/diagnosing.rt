@@ -87,5 +87,6 @@ fn diagnose_module(alloc: Global, module: &Module<'_>) -> Result<Vec<Diagnosis>,
     let _text = module.tokens().text();
     let resolved = resolve(alloc, module)?;
     let faults = faults_in(alloc, &resolved)?;
-    of_faults(alloc, faults.as_slice())
+    let told = of_faults(alloc, faults.as_slice())?;
+    Ok(told)
 }

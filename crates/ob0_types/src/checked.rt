@@ -111,7 +111,8 @@ pub fn faults_in<'t>(
     modules_fit();
     let _module = resolved.module();
     let known = decide(alloc, resolved)?;
-    faults_of(alloc, resolved, known.is_some())
+    let faults = faults_of(alloc, resolved, known.is_some())?;
+    Ok(faults)
 }
 
 /// The fields of a module that fits.
