@@ -101,10 +101,7 @@ pub fn check<'t>(alloc: Global, resolved: &'t Resolved<'t>) -> Result<Checked<'t
 }
 
 /// The faults of a module alone: those that `check` finds.
-pub fn faults_in<'t>(
-    alloc: Global,
-    resolved: &'t Resolved<'t>,
-) -> Result<Vec<Fault>, AllocError>
+pub fn faults_in<'t>(alloc: Global, resolved: &'t Resolved<'t>) -> Result<Vec<Fault>, AllocError>
     ensures { IfOk result (λ faults. AreFaultsOf resolved.now faults.items) }
 {
     fits_by_ordinal();
