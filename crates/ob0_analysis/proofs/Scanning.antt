@@ -1,5 +1,5 @@
 -- What scanner and parser say of a text.
-use Rattle.std.proofs.Common.{◌≡◌, ◌<◌, ◌∙◌, ◌+◌, ◌++◌, ◌∷◌, ℕ, List, [], length, drop, map, encode_utf8_all, inl, inr, refl, sym, ap, subst, arith}
+use Rattle.std.proofs.Common.{◌≡◌, ◌⊎◌, ◌<◌, ◌∙◌, ◌+◌, ◌++◌, ◌∷◌, ℕ, List, [], length, drop, map, encode_utf8_all, inl, inr, refl, sym, ap, subst, arith}
 use Rattle.std.proofs.lemmas.List.{take-append-drop}
 use Rattle.std.specs.Str.{chars, IsUtf8}
 use Rattle.std.proofs.lemmas.Str.{encodes-chars}
@@ -17,7 +17,7 @@ use Rattle.ob0_tree.specs.Parsed.{Parsed, named_tree_of}
 use Rattle.ob0_types.specs.CheckedModules.{CheckedModule, IsChecked, IsWellTyped}
 use Rattle.ob0_typing.specs.WellTyped.{WellTyped}
 use Rattle.ob0_analysis.specs.Analysed.{IsModuleIn}
-use Rattle.ob0_analysis.specs.Diagnosed.{Complaint, IsTextOf, IsWellTypedModule, IsRefusalAt, TellsFaults, complaint_of}
+use Rattle.ob0_analysis.specs.Diagnosed.{Complaint, IsTextOf, IsWellTypedModule, IsRefusalAt, Tells, TellsFaults, complaint_of}
 use Rattle.ob0_analysis.specs.Texts.{utf8}
 
 -- the bytes of a text's characters are its bytes
@@ -96,3 +96,19 @@ module_in m names is scan w =
 abbrev pub is_module : (text : List ℕ) (names : Resolution) → IsModuleIn text names → IsWellTypedModule text
 is_module text names h =
     record { tree = named_tree_of names.module_read; text_of = record { scanned = names.module_read.source; scan = h.scan; module_of = h.well_typed.resolved.parsed.module_of }; well_typed = h.well_typed.well_typed }
+
+some_or_none : (faults : List Fault) → (faults ≡ []) ⊎ (faults ≡ [] → ⊥)
+some_or_none [] = inl refl
+some_or_none (f ∷ fs) = inr (λ e. absurd (omega (arith, ap length e)))
+
+-- what is told of a module with a tree is nothing exactly where it is well-typed
+pub tells_module : (c : CheckedModule) (told : List Complaint) → OneScan → OneTree → IsScan c.names.module_read.source → IsChecked c → told ≡ map complaint_of c.faults
+    → Tells c.names.module_read.source.text told
+tells_module c told one only scan checked is =
+    let m : Parsed = c.names.module_read in
+    elim (some_or_none c.faults) [
+      | inl none ↦
+          let fits : IsWellTyped c.names = record { resolved = checked.resolved; well_typed = checked.told.0 none } in
+          inl (is_module m.source.text c.names (module_in m c.names refl scan fits), is ∙ ap (map complaint_of) none)
+      | inr some ↦ inr (finds_types c told one only scan checked some is)
+    ]

@@ -71,7 +71,7 @@ fn ask_text<Q: Question>(
     }
 }
 
-pub(crate) fn ask_tokens<Q: Question>(
+fn ask_tokens<Q: Question>(
     alloc: Global,
     tokens: &Tokens,
     question: &Q,

@@ -1,30 +1,19 @@
 //! What is wrong with a text.
 
-ghost use Rattle.std.specs.Prelude.{◌≡◌, ⊤, IfOk, IfErr, OnOk, map};
+ghost use Rattle.std.specs.Prelude.{IfOk, IfErr, OnOk, map};
 ghost use Rattle.ob0_scan.specs.Scanned.{IsScanOf};
 ghost use Rattle.ob0_scan.specs.Refused.{IsRightRefusal};
 ghost use Rattle.ob0_analysis.specs.Diagnosed.{Keeps, Tells, complaint_in};
 
-use crate::analysis::{Asked, Question, ask_tokens};
-use crate::diagnoses::{Diagnosis, of_faults};
+use crate::diagnoses::{Diagnosis, of_faults, of_refusal};
 use crate::differences::Difference;
+use ob0_parse::{one_tree, parse};
+use ob0_scan::laws::one_scan;
 use ob0_scan::{ScanRefusal, Tokens, rescan, scan};
-use ob0_types::WellTyped;
+use ob0_scope::resolve;
+use ob0_tree::Module;
+use ob0_types::faults_in;
 use std::alloc::{AllocError, Global};
-
-/// Asks nothing but whether the text is a well-typed module.
-#[derive(Drop)]
-struct IsModule;
-
-impl Question for IsModule {
-    type Answer = ();
-
-    ghost answers = { λ _ _ _. ⊤ };
-
-    fn answer(&self, _alloc: Global, _module: &WellTyped<'_, '_>) -> Result<(), AllocError> {
-        Ok(())
-    }
-}
 
 /// What is wrong with a text, which is nothing exactly for a well-typed module. Faults of its lexemes are told in text order, the
 /// first hundred, and then nothing else; a text that has lexemes and no tree is told by the one place at which the parser
@@ -77,8 +66,27 @@ fn scan_again(alloc: Global, text: &str, kept: Option<&Tokens>) -> Result<Tokens
 fn diagnose_tokens(alloc: Global, tokens: &Tokens) -> Result<Vec<Diagnosis>, AllocError>
     ensures { IfOk result (λ list. Tells tokens.now.text (map complaint_in list.items)) }
 {
-    match ask_tokens(alloc, tokens, &IsModule)? {
-        Asked::Answered(_) => Ok(Vec::new(alloc)),
-        Asked::IllTyped(told) => Ok(told),
+    one_scan();
+    let _text = tokens.text();
+    match parse(alloc, tokens) {
+        Ok(module) => diagnose_module(alloc, &module),
+        Err(refusal) => {
+            let mut told = Vec::new(alloc);
+            told.push(of_refusal(alloc, tokens, refusal)?)?;
+            Ok(told)
+        }
     }
+}
+
+/// What is wrong with the names and types of a text that has a tree.
+fn diagnose_module(alloc: Global, module: &Module<'_>) -> Result<Vec<Diagnosis>, AllocError>
+    ensures { IfOk result (λ list. Tells «module».now.source.text (map complaint_in list.items)) }
+{
+    one_scan();
+    one_tree();
+    let _text = module.tokens().text();
+    let resolved = resolve(alloc, module)?;
+    let faults = faults_in(alloc, &resolved)?;
+    let told = of_faults(alloc, faults.as_slice())?;
+    Ok(told)
 }

@@ -33,6 +33,10 @@ pub record IsChecked (c : CheckedModule) : Type 0 where
   pub few : length c.faults ≤ 100
   pub first : AreFirstFaults (fits_over as_names (named_tree_of c.names.module_read)) c.names c.faults
 
+-- these are the faults of a module that was checked, whatever is known of it
+abbrev pub AreFaultsOf : Resolution → List Fault → Type 0
+AreFaultsOf names faults = (known : Option Tables) × IsChecked (record { names = names; faults = faults; known = known })
+
 -- a module that is well-typed
 pub record IsWellTyped (names : Resolution) : Type 0 where
   pub resolved : IsResolution names

@@ -1,7 +1,7 @@
 //! Checking a module, and what is known of a well-typed one.
 
 ghost use Rattle.ob0_scope.specs.Resolution.{is_of_declarations};
-ghost use Rattle.ob0_types.specs.CheckedModules.{IsChecked};
+ghost use Rattle.ob0_types.specs.CheckedModules.{AreFaultsOf, IsChecked};
 ghost use Rattle.ob0_types.specs.FaultOrder.{AreFirstFaults, faults_of_types};
 ghost use Rattle.std.specs.List.{filter};
 ghost use Rattle.std.specs.Prelude.{◌≡◌, ◌≤◌, ◌↔◌, ◌++◌, [], length, IfOk, IfSome, OnOk, MatchOption};
@@ -98,6 +98,18 @@ pub fn check<'t>(alloc: Global, resolved: &'t Resolved<'t>) -> Result<Checked<'t
         fields,
         faults,
     })
+}
+
+/// The faults of a module alone: those that `check` finds.
+pub fn faults_in<'t>(alloc: Global, resolved: &'t Resolved<'t>) -> Result<Vec<Fault>, AllocError>
+    ensures { IfOk result (λ faults. AreFaultsOf resolved.now faults.items) }
+{
+    fits_by_ordinal();
+    modules_fit();
+    let _module = resolved.module();
+    let known = decide(alloc, resolved)?;
+    let faults = faults_of(alloc, resolved, known.is_some())?;
+    Ok(faults)
 }
 
 /// The fields of a module that fits.
