@@ -108,8 +108,8 @@ pub fn faults_in<'t>(alloc: Global, resolved: &'t Resolved<'t>) -> Result<Vec<Fa
     modules_fit();
     let _module = resolved.module();
     let known = decide(alloc, resolved)?;
-    let faults = faults_of(alloc, resolved, known.is_some())?;
-    Ok(faults)
+    let found = faults_of(alloc, resolved, known.is_some())?;
+    Ok(found)
 }
 
 /// The fields of a module that fits.
