@@ -40,17 +40,13 @@ def stream(words, timer, **named):
 
 
 def at_once():
-    """How many checks the gate makes side by side, or None where `rt ci` shares the processors out itself. With four processors
-    and the memory for four large checks it does so best: where fewer checks are ready than there are processors, a check gets
-    several jobs, which shortens the long chain of crates that stand one on the other. With fewer it is one check more than
-    there are processors, and one for each 3.5 GB of memory: a check takes 1 to 3 GB, where `rt ci` reckons up to 5. The one
-    more is for what `rt` does between two checks: its sums over sources are made by one process, so of two checks that are
-    summed up at a time one waits."""
+    """How many checks the gate makes side by side: one more than there are processors, and one for each 3.5 GB of memory. A
+    check takes 1 to 3 GB; left to itself `rt ci` reckons up to 5, and lets large crates wait for each other's edits. (It
+    would give a check several jobs where few are ready, but it counts a crate's tests and edits among these, also where there
+    are none, and so gives one.) The one more is for what `rt` does between two checks: its sums over sources are made by one
+    process, so of two checks that are summed up at a time one waits."""
     memory = os.sysconf("SC_PAGE_SIZE") * os.sysconf("SC_PHYS_PAGES")
-    processors = len(os.sched_getaffinity(0))
-    if processors >= 4 and memory >= 20_000_000_000:
-        return None
-    return max(1, min(processors + 1, memory // 3_500_000_000))
+    return max(1, min(len(os.sched_getaffinity(0)) + 1, memory // 3_500_000_000))
 
 
 def gate(timer):
@@ -59,8 +55,7 @@ def gate(timer):
     for old in (linked, common.BINARY):
         if os.path.exists(old):
             os.remove(old)
-    lanes = os.environ.get("RT_JOBS") or at_once()
-    counts = stream(["rt", "ci"], timer, **({"RT_JOBS": str(lanes)} if lanes else {}))
+    counts = stream(["rt", "ci"], timer, RT_JOBS=os.environ.get("RT_JOBS") or str(at_once()))
     if os.path.isfile(linked):
         common.keep(linked)
     return counts
