@@ -38,29 +38,42 @@ def reasons():
 OF_STD = set("get len new next position read write flush replace to_string push insert find as_slice count".split())
 
 
-def is_use(words, at, function):
+def passed_on(crate, name, sources):
+    """The crates by which a name of a crate is had: the crate itself, and those above that pass the name on."""
+    found = [crate]
+    for it in sources:
+        if any(words[0] in found and name in words for _, words in sources[it].brought_out):
+            found.append(it)
+    return found
+
+
+def is_use(words, at, function, crates):
     """Whether the word at a place, a function's name, calls it by a path or as a method."""
     before = words[at - 1].text if at else ""
     behind = words[at + 1].text if at + 1 < len(words) else ""
     holder = words[at - 3].text if before == ":" and at > 2 else ""
     if not function.owner:
-        return holder in (function.crate, *function.module[-1:]) and behind != ":"
+        return holder in (*crates, *function.module[-1:]) and behind not in (":", ";")
     if before == "." and function.takes_self:
         return behind in ("(", ":")
     return holder == function.owner or bool(holder and function.trait)
 
 
-def uses_in(function, source):
-    """Whether a crate's code uses a function, and whether its tests do. A method with a name of std's is taken for used
-    only where the crate names its type; other methods of one name are not told apart."""
+def uses_in(function, source, crates):
+    """Whether a crate's code uses a function, and whether its tests do; to pass it on is no use. A method with a name of
+    std's is taken for used only where the crate names its type; other methods of one name are not told apart."""
+    if not names(source, *crates):
+        return False, False
     if function.owner and function.name in OF_STD and not names(source, function.owner, function.trait):
         return False, False
     found = set()
     if not function.owner:
-        found = {is_test for words, is_test in source.imports if function.crate in words and function.name in words}
+        shown = [words for _, words in source.brought_out]
+        takes = [it for it in source.imports if function.name in it[0] and it[0] not in shown]
+        found = {is_test for words, is_test in takes if words[0] in crates}
     for words in source.words.values():
         for at, it in enumerate(words):
-            if it.text == function.name and is_use(words, at, function):
+            if it.text == function.name and is_use(words, at, function, crates):
                 found.add(it.is_test)
     return False in found, True in found
 
@@ -72,7 +85,8 @@ def names(source, *wanted):
 
 def users(function, sources, above):
     """The crates whose code uses a function, and those of which only tests do."""
-    found = {it: uses_in(function, sources[it]) for it in above}
+    crates = passed_on(function.crate, function.owner or function.name, sources)
+    found = {it: uses_in(function, sources[it], crates) for it in above}
     return [it for it in above if found[it][0]], [it for it in above if found[it] == (False, True)]
 
 
@@ -98,7 +112,7 @@ class Row:
 def rows_of(crate, sources, named):
     """A row for each public function of a crate, in the order of the sources."""
     source = sources[crate]
-    above = [it for it in sources if it != crate and crate in common.below(it, named) and names(sources[it], crate)]
+    above = [it for it in sources if it != crate and crate in common.below(it, named)]
     all_edits = edits.edits_of(crate, source)
     found = []
     for it in source.public_functions():

@@ -15,7 +15,7 @@ use Rattle.ob0_parse.specs.declared.refusal.ParseRefusal.TheVariants.{Syntax, To
 use Rattle.ob0_scope.specs.Resolution.{Resolution}
 use Rattle.ob0_tree.specs.Parsed.{Parsed, named_tree_of}
 use Rattle.ob0_types.specs.CheckedModules.{CheckedModule, IsChecked, IsWellTyped}
-use Rattle.ob0_typing.specs.WellTyped.{WellTyped}
+use Rattle.ob0_types.specs.WellTyped.{WellTyped}
 use Rattle.ob0_analysis.specs.Analysed.{IsModuleIn}
 use Rattle.ob0_analysis.specs.Diagnosed.{Complaint, IsTextOf, IsWellTypedModule, IsRefusalAt, TellsFaults, complaint_of}
 use Rattle.ob0_analysis.specs.Texts.{utf8}

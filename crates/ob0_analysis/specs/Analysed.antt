@@ -3,11 +3,11 @@ use Rattle.std.specs.Prelude.{ℕ, List, map}
 use Rattle.ob0_scan.specs.Scanned.{IsScanOf}
 use Rattle.ob0_tree.specs.Parsed.{Parsed, IsParsed, named_tree_of}
 use Rattle.ob0_scope.specs.Resolution.{Resolution}
-use Rattle.ob0_typing.specs.WellTyped.{WellTyped}
+use Rattle.ob0_types.specs.WellTyped.{WellTyped}
 use Rattle.ob0_types.specs.CheckedModules.{IsWellTyped}
 use Rattle.ob0_analysis.specs.Diagnosed.{IsWellTypedModule, TellsFaults, complaint_in}
-use Rattle.ob0_analysis.specs.declared.analysis.Asked.{Asked}
-use Rattle.ob0_analysis.specs.declared.analysis.Asked.TheVariants.{Answered, IllTyped}
+pub use Rattle.ob0_analysis.specs.declared.analysis.Asked.{Asked}
+pub use Rattle.ob0_analysis.specs.declared.analysis.Asked.TheVariants.{Answered, IllTyped}
 
 -- the text is this module, which is well-typed
 pub record IsModuleIn (text : List ℕ) (names : Resolution) : Type 0 where

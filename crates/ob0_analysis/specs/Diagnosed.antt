@@ -11,12 +11,12 @@ use Rattle.ob0_tree.specs.Tree.{Tree, module_text}
 use Rattle.ob0_tree.specs.Parsed.{named_tree_of}
 use Rattle.ob0_scope.specs.Names.{Name, as_names}
 use Rattle.ob0_scope.specs.Resolution.{IsResolution, Resolution}
-use Rattle.ob0_typing.specs.WellTyped.{WellTyped, fits_over}
+use Rattle.ob0_types.specs.WellTyped.{WellTyped, fits_over}
 use Rattle.ob0_types.specs.FaultOrder.{AreFirstFaults}
 use Rattle.ob0_parse.specs.RefusedBy.{NoneBegins}
 use Rattle.ob0_parse.specs.declared.refusal.ParseRefusal.{ParseRefusal}
 use Rattle.ob0_parse.specs.declared.refusal.ParseRefusal.TheVariants.{Syntax, TooDeep, Memory}
-use Rattle.ob0_analysis.specs.declared.diagnoses.Diagnosis.{Diagnosis}
+pub use Rattle.ob0_analysis.specs.declared.diagnoses.Diagnosis.{Diagnosis}
 
 -- The text is here the list of its bytes in UTF-8, and spans count these.
 

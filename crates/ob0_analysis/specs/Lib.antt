@@ -3,3 +3,12 @@ pub mod Diagnosed
 pub mod RunsKept
 pub mod Texts
 pub mod Pieces
+pub use Rattle.ob0_types.specs.CheckedModules
+pub use Rattle.ob0_types.specs.EditLaws
+pub use Rattle.ob0_types.specs.FieldLaws
+pub use Rattle.ob0_types.specs.Fields
+pub use Rattle.ob0_types.specs.Identifiers
+pub use Rattle.ob0_types.specs.Owned
+pub use Rattle.ob0_types.specs.Owners
+pub use Rattle.ob0_types.specs.Renaming
+pub use Rattle.ob0_types.specs.WellTyped

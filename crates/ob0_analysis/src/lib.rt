@@ -9,3 +9,7 @@ mod differences;
 pub use analysis::{Asked, Question, ask};
 pub use diagnoses::Diagnosis;
 pub use diagnosing::{diagnose, diagnose_again};
+pub use ob0_types::{
+    WellTyped, declaring_field, duplicate_by_token, field_at, field_tokens,
+    free_field_keeps_modules, free_keeps_modules, renamed_at_tokens, text_at,
+};

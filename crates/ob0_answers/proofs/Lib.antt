@@ -4,3 +4,6 @@ pub mod Lists
 pub mod Naming
 pub mod Plain
 pub mod Diagnosing
+pub use Rattle.ob0_inline.proofs.UsesStand
+pub use Rattle.ob0_rename.proofs.OwnedModules
+pub use Rattle.ob0_rename.proofs.OwnedTokens

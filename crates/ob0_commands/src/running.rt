@@ -4,8 +4,8 @@ ghost use Rattle.std.specs.Prelude.{◌≡◌, ◌≤◌, ◌++◌, [], true, If
 ghost use Rattle.std.specs.Io.KnownBytes.{Appends};
 ghost use Rattle.ob0_tree.specs.Parsed.{named_tree_of};
 ghost use Rattle.ob0_run.specs.Outcomes.{run_of};
-ghost use Rattle.ob0_semantics.specs.Runs.{run};
-ghost use Rattle.ob0_analysis.specs.Diagnosed.{Tells};
+ghost use Rattle.ob0_run.specs.Runs.{run};
+ghost use Rattle.ob0_rename.specs.Diagnosed.{Tells};
 ghost use Rattle.ob0_run.specs.States.{item_of, items_out};
 ghost use Rattle.ob0_commands.specs.Printed.{end_line, output_text, written_text};
 ghost use Rattle.ob0_commands.specs.Statuses.{StopsPrinting, status_at};
@@ -15,9 +15,8 @@ use crate::checking::check;
 use crate::faults::{Fault, tell_fault};
 use crate::numbers::read_numbers;
 use crate::printing::{Output, print};
-use ob0_analysis::{Asked, Question, ask};
+use ob0_rename::{Asked, Question, WellTyped, ask};
 use ob0_run::{End, Item, Outcome, run};
-use ob0_types::WellTyped;
 use std::alloc::{AllocError, Global};
 use std::io::Read;
 

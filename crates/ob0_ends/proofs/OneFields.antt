@@ -13,12 +13,12 @@ use Rattle.ob0_tree.proofs.Mapped.{spell_mapped}
 use Rattle.ob0_scope.specs.Names as written
 use Rattle.ob0_scope.specs.Resolution.{Resolution, ordinal_in}
 use Rattle.ob0_answers.specs.CheckedModules.{IsWellTyped}
-use Rattle.ob0_field_laws.specs.Fields.{refielded}
-use Rattle.ob0_field_laws.specs.Owners.{AreOwners, of_records}
-use Rattle.ob0_fields.specs.Identifiers.{field_identifiers}
-use Rattle.ob0_fields.specs.Owned.{HasOwners, fields_among, owned_tokens, with_fields_at}
-use Rattle.ob0_fields.proofs.OwnedModules.{owners_by_declaration-holds}
-use Rattle.ob0_fields.proofs.OwnedTokens.{module-tokens, tokens}
+use Rattle.ob0_answers.specs.Fields.{refielded}
+use Rattle.ob0_answers.specs.Owners.{AreOwners, of_records}
+use Rattle.ob0_answers.specs.Identifiers.{field_identifiers}
+use Rattle.ob0_answers.specs.Owned.{HasOwners, fields_among, owned_tokens, with_fields_at}
+use Rattle.ob0_answers.proofs.OwnedModules.{owners_by_declaration-holds}
+use Rattle.ob0_answers.proofs.OwnedTokens.{module-tokens, tokens}
 use Rattle.ob0_ends.proofs.OneModule.{Same, one_named_tree}
 
 -- ---- the table of a module's fields

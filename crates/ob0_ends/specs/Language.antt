@@ -3,7 +3,7 @@ use Rattle.std.specs.Prelude.{◌≡◌, ℕ, List}
 use Rattle.ob0_tree.specs.Tree.{Tree, module_text}
 use Rattle.ob0_scope.specs.Names.{Name}
 use Rattle.ob0_typing.specs.WellTyped.{WellTyped}
-use Rattle.ob0_semantics.specs.EditLaws.{SameRuns}
+use Rattle.ob0_answers.specs.EditLaws.{SameRuns}
 use Rattle.ob0_answers.specs.Diagnosed.{IsTextOf}
 use Rattle.ob0_answers.specs.Texts.{utf8}
 

@@ -16,3 +16,6 @@ pub mod AgreeingModules
 pub mod Exchange
 pub mod WorkedFields
 pub mod ByToken
+pub use Rattle.ob0_semantics.proofs.Sound
+pub use Rattle.ob0_semantics.proofs.SoundCalls
+pub use Rattle.ob0_semantics.proofs.SoundStatements

@@ -2,3 +2,5 @@
 #![tactic(auto)]
 
 pub mod laws;
+
+pub use ob0_semantics::laws::free_keeps_modules;

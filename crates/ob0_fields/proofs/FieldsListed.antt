@@ -19,9 +19,9 @@ use Rattle.ob0_typing.specs.Expressions.{Meanings, Object, a_constant, a_procedu
 use Rattle.ob0_typing.specs.Typing.{add_type, array_length, complement_type, constant_of, constant_value, constants_only, constructors, denoted, denoted_group, denoted_groups, element_type, field_type, given_value, group_constructors, multiply_type, object_type, relation_type, sign_type, type_at, type_of, type_of_addends, type_of_factor, type_of_multipliers, type_of_simple, type_of_term, value_type, with_fields, within_limits}
 use Rattle.ob0_typing.specs.WellTyped.{Mode, Signature, TypeEnvironment, Typed, TypedParameter, WellTyped, bind_names, bind_typed, block_fits, declare_typed, fits_over, heading, procedure_fits, procedures_fit, section_mode, typed_parameters}
 use Rattle.ob0_values.specs.Values.{FieldShapes, Shape, Value, array_shape, boolean_shape, elements, integer_shape, members, number, record_shape, truth}
-use Rattle.ob0_semantics.proofs.Sound.{of_some, some-gives}
-use Rattle.ob0_semantics.proofs.SoundCalls.{hold-true}
-use Rattle.ob0_semantics.proofs.SoundStatements.{both_true}
+use Rattle.ob0_field_laws.proofs.Sound.{of_some, some-gives}
+use Rattle.ob0_field_laws.proofs.SoundCalls.{hold-true}
+use Rattle.ob0_field_laws.proofs.SoundStatements.{both_true}
 use Rattle.ob0_field_laws.specs.Fields.{FieldNames, behind, behind_heading, behind_procedures, parameters_of, refield, refield_block, refield_formals, refield_group, refield_groups, refield_procedure, refield_procedures, refield_section, refield_sections, refield_type, refield_type_section, refield_types, refield_variable_section, refield_variables, refielded}
 use Rattle.ob0_field_laws.specs.Owners.{of_records}
 use Rattle.ob0_field_laws.specs.Renaming.{RecordFields, records}

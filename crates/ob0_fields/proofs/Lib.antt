@@ -17,3 +17,6 @@ pub mod DuplicateFields
 pub mod FieldsDeclared
 pub mod MappedIdentifiers
 pub mod FieldsListed
+pub use Rattle.ob0_checker.proofs.ConstantsDeclared
+pub use Rattle.ob0_checker.proofs.KeptProcedures
+pub use Rattle.ob0_checker.proofs.Procedures

@@ -9,8 +9,8 @@ use Rattle.ob0_symbols.specs.FieldPlaces.{place_of_field}
 use Rattle.ob0_typing.specs.Typing.{add_type, complement_type, designated, element_type, field_type, multiply_type, object_type, relation_type, shape_of_field, sign_type, type_at, type_of, type_of_addends, type_of_factor, type_of_multipliers, type_of_simple, type_of_term}
 use Rattle.ob0_typing.specs.WellTyped.{Formal, Mode, Signature, TypeEnvironment, agree, argument_fits, arguments_fit, body_fits, by_place, by_value, condition_fits, else_fits, elsifs_fit, sequence_fits, signature_of, statement_fits, statements_fit, variable_type}
 use Rattle.ob0_values.specs.Values.{FieldShapes, Shape, array_shape, boolean_shape, integer_shape, next_field_shape, no_field_shape, record_shape}
-use Rattle.ob0_semantics.proofs.Sound.{some-gives}
-use Rattle.ob0_semantics.proofs.SoundStatements.{agree-true, both_true, call-typed, variable-typed}
+use Rattle.ob0_field_laws.proofs.Sound.{some-gives}
+use Rattle.ob0_field_laws.proofs.SoundStatements.{agree-true, both_true, call-typed, variable-typed}
 use Rattle.ob0_field_laws.specs.Fields.{record_of}
 use Rattle.ob0_fields.specs.Owned.{owned, owner}
 use Rattle.ob0_field_laws.proofs.AgreeingFields.{designated-typed}

@@ -12,8 +12,8 @@ use Rattle.ob0_scope.specs.Standing.{is_on, name_on}
 use Rattle.ob0_scope.specs.declared.naming.Named as named
 use Rattle.ob0_types.specs.CheckedModules.{IsWellTyped}
 use Rattle.ob0_typing.proofs.Literals.{some_inverse}
-use Rattle.ob0_fields.specs.Identifiers.{declaring_field, field_at, field_identifiers, field_on, field_tokens, is_field, tokens_among}
-use Rattle.ob0_fields.proofs.FieldsDeclared.{fields_declared-holds}
+use Rattle.ob0_types.specs.Identifiers.{declaring_field, field_at, field_identifiers, field_on, field_tokens, is_field, tokens_among}
+use Rattle.ob0_types.proofs.FieldsDeclared.{fields_declared-holds}
 use Rattle.ob0_refs.specs.Answered.{at_name}
 use Rattle.ob0_refs.specs.Laws.{FieldsAreDefined, FieldsAreRenamedThere, IsOnField, IsRenamedThere}
 use Rattle.ob0_refs.specs.Questions.{at_field, declared, definition_at, field_declared, named_at, or_else, references_at, stands}

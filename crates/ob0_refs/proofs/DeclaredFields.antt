@@ -11,7 +11,7 @@ use Rattle.ob0_scope.specs.Names.{Label, Name, as_labels, as_names, as_written, 
 use Rattle.ob0_scope.specs.Parts.{formal_names, formal_sections, further_names, module_block, names_listed, section_type, section_types, section_variables}
 use Rattle.ob0_scope.specs.Resolution.{Resolution, ordinal_in}
 use Rattle.ob0_scope.specs.Scopes.{as_label, numbered}
-use Rattle.ob0_checker.specs.InLabels.{in_labels, label_in}
+use Rattle.ob0_types.specs.InLabels.{in_labels, label_in}
 use Rattle.ob0_symbols.specs.FieldPlaces.{field_selected, place_of_field}
 use Rattle.ob0_symbols.specs.declared.known.FieldOf.{FieldOf}
 use Rattle.ob0_typing.specs.Declarations.{after_formals, after_types, after_variables, procedure_constructors}
@@ -22,8 +22,8 @@ use Rattle.ob0_typing.proofs.Literals.{some_inverse}
 use Rattle.ob0_typing.proofs.TypedElsewhere.{then_some}
 use Rattle.ob0_values.specs.Values.{FieldShapes, Shape, array_shape, next_field_shape, no_field_shape, record_shape}
 use Rattle.ob0_types.specs.CheckedModules.{IsWellTyped}
-use Rattle.ob0_fields.specs.Identifiers.{declared_fields, declared_in, declared_in_procedure, declared_in_procedures}
-use Rattle.ob0_fields.specs.Owned.{marked_group, marked_groups, marked_sections, marked_type, marked_types, marked_variables}
+use Rattle.ob0_types.specs.Identifiers.{declared_fields, declared_in, declared_in_procedure, declared_in_procedures}
+use Rattle.ob0_types.specs.Owned.{marked_group, marked_groups, marked_sections, marked_type, marked_types, marked_variables}
 use Rattle.ob0_refs.specs.FieldTypes.{field_named, fields_named, first_listed, module_typed, type_of_elements, typed_fields}
 use Rattle.ob0_refs.specs.Selections.{Selected, noted}
 use Rattle.ob0_refs.proofs.DeclaredTypes.{BlockStands, Denotes, FormalsStand, ProcedureStands, ProceduresStand, TypesStand, VariablesStand, meaning, module-stands}

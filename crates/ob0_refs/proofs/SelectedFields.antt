@@ -8,7 +8,7 @@ use Rattle.ob0_scope.specs.Names.{Name, same_name}
 use Rattle.ob0_scope.specs.Parts.{formal_sections, module_block, section_types, section_variables}
 use Rattle.ob0_scope.specs.Resolution.{Resolution, span_at}
 use Rattle.ob0_scope.specs.Standing.{is_on}
-use Rattle.ob0_checker.specs.Bindings.{declared_object}
+use Rattle.ob0_types.specs.Bindings.{declared_object}
 use Rattle.ob0_symbols.specs.FieldPlaces.{field_selected, place_of_field}
 use Rattle.ob0_symbols.specs.declared.known.FieldOf.{FieldOf}
 use Rattle.ob0_typing.specs.Declarations.{after_formals, after_types, after_variables, procedure_constructors}
@@ -16,9 +16,9 @@ use Rattle.ob0_typing.specs.Expressions.{Meanings}
 use Rattle.ob0_typing.specs.Typing.{element_type, field_type, object_type, shape_of_field}
 use Rattle.ob0_typing.specs.WellTyped.{Signature}
 use Rattle.ob0_values.specs.Values.{FieldShapes, Shape, array_shape, boolean_shape, integer_shape, next_field_shape, no_field_shape, record_shape}
-use Rattle.ob0_fields.specs.Identifiers.{declared_fields, declared_in, declared_in_procedure, declared_in_procedures, field_identifiers, field_on}
-use Rattle.ob0_fields.specs.Owned.{mark, marked, marked_block, marked_module, marked_path, marked_procedure, marked_procedures, marked_sections, marked_types, marked_variables, owner, token_objects}
-use Rattle.ob0_fields.proofs.MarkedFields.{module-fields}
+use Rattle.ob0_types.specs.Identifiers.{declared_fields, declared_in, declared_in_procedure, declared_in_procedures, field_identifiers, field_on}
+use Rattle.ob0_types.specs.Owned.{mark, marked, marked_block, marked_module, marked_path, marked_procedure, marked_procedures, marked_sections, marked_types, marked_variables, owner, token_objects}
+use Rattle.ob0_types.proofs.MarkedFields.{module-fields}
 use Rattle.ob0_refs.specs.Questions.{selected_on}
 use Rattle.ob0_refs.specs.Selections.{Selected, module_selections, noted, path_selections, selected_by, selections, token_meaning, type_behind}
 

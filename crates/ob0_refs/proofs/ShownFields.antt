@@ -4,7 +4,7 @@ use Rattle.ob0_scan.specs.declared.lexeme.Span.{Span}
 use Rattle.ob0_tree.specs.Parsed.{Parsed}
 use Rattle.ob0_scope.specs.Resolution.{Resolution}
 use Rattle.ob0_types.specs.CheckedModules.{IsWellTyped}
-use Rattle.ob0_fields.specs.Identifiers.{declared_fields}
+use Rattle.ob0_types.specs.Identifiers.{declared_fields}
 use Rattle.ob0_refs.specs.FieldTypes.{module_typed}
 use Rattle.ob0_refs.specs.Laws.{FieldsAreShown, IsOnField}
 use Rattle.ob0_refs.specs.Questions.{field_shown, or_else, selected_on, selected_shown, selection_shown}

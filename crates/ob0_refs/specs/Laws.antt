@@ -9,7 +9,7 @@ use Rattle.ob0_tree.specs.Tree.{Tree, block, declares, declares_procedure, end, 
 use Rattle.ob0_scope.specs.Parts.{formal_names, formal_sections, module_block}
 use Rattle.ob0_scope.specs.Resolution.{Resolution, declaring_only, span_at, token_declaring}
 use Rattle.ob0_scope.specs.Standing.{name_on}
-use Rattle.ob0_fields.specs.Identifiers.{field_at, field_tokens}
+use Rattle.ob0_types.specs.Identifiers.{field_at, field_tokens}
 use Rattle.ob0_types.specs.CheckedModules.{IsWellTyped}
 use Rattle.ob0_refs.specs.Questions.{all_shown_at, definition_at, references_at, stands_at}
 use Rattle.ob0_refs.specs.Shown.{names_behind}

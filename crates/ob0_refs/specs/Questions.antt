@@ -8,7 +8,7 @@ use Rattle.ob0_tree.specs.Places.{text_at}
 use Rattle.ob0_scope.specs.Resolution.{Resolution, span_at}
 use Rattle.ob0_scope.specs.Standing.{is_on, name_on}
 use Rattle.ob0_scope.specs.declared.naming.Named as named
-use Rattle.ob0_fields.specs.Identifiers.{declaring_field, field_at, field_place, field_tokens}
+use Rattle.ob0_types.specs.Identifiers.{declaring_field, field_at, field_place, field_tokens}
 use Rattle.ob0_refs.specs.Answered.{at_name, declared_at, references_to}
 use Rattle.ob0_refs.specs.FieldTypes.{module_typed}
 use Rattle.ob0_refs.specs.Hovers.{type_text}

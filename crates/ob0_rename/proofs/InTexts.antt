@@ -1,7 +1,7 @@
 -- The edits of a renaming leave a text whose module runs as before.
 use Rattle.std.proofs.Common.{◌≡◌, ◌⊎◌, ℕ, List, Result, Ok, Err, Vec, Global, inl, inr, map, refl, subst}
 use Rattle.std.specs.Str.{chars, IsUtf8}
-use Rattle.ob0_field_laws.specs.Renaming.{field_renamed}
+use Rattle.ob0_analysis.specs.Renaming.{field_renamed}
 use Rattle.ob0_rename.specs.Answers.{AreEdits, IsRefused, Writes}
 use Rattle.ob0_rename.specs.Renaming.{Renaming, field_tokens_renamed, tokens_renamed}
 use Rattle.ob0_scope.specs.Names.{Name}

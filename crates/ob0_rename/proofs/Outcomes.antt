@@ -21,16 +21,16 @@ use Rattle.ob0_scope.specs.Resolution.{IsResolution, Resolution}
 use Rattle.ob0_scope.specs.Scopes.{renamed}
 use Rattle.ob0_scope.specs.declared.capturing.Capture as told
 use Rattle.ob0_scope.specs.declared.capturing.Capture.TheVariants as tells
-use Rattle.ob0_types.specs.CheckedModules.{IsWellTyped}
-use Rattle.ob0_typing.specs.WellTyped.{WellTyped}
-use Rattle.ob0_semantics.specs.EditLaws.{FreeKeepsModules, SameRuns}
+use Rattle.ob0_analysis.specs.CheckedModules.{IsWellTyped}
+use Rattle.ob0_analysis.specs.WellTyped.{WellTyped}
+use Rattle.ob0_analysis.specs.EditLaws.{FreeKeepsModules, SameRuns}
 use Rattle.ob0_edits.specs.Changed.{at_each, changed, words_of}
 use Rattle.ob0_edits.specs.OfTrees.{RenamedWordsSpell}
 use Rattle.ob0_edits.specs.Replaced.{AreNames, LeavesWords, StandsForName, edit_at, parts, with_text_at}
 use Rattle.ob0_edits.specs.Written.{name_word}
 use Rattle.ob0_scope.specs.Standing.{name_on, tokens_bound}
 use Rattle.ob0_scope.specs.declared.naming.Named as named
-use Rattle.ob0_fields.specs.Identifiers.{field_at}
+use Rattle.ob0_analysis.specs.Identifiers.{field_at}
 use Rattle.ob0_scope.proofs.Written.{renamed_there}
 use Rattle.ob0_tree.specs.Module.{ModuleOf}
 use Rattle.ob0_rename.specs.Answers.{Answers, AnswersFor, IsRefused, IsRefusedTo, OnlyMemory, TakesOwnName, Writes}

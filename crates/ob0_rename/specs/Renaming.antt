@@ -18,7 +18,7 @@ use Rattle.ob0_edits.specs.Replaced.{with_text_at}
 use Rattle.ob0_edits.specs.Ranges.{range_of}
 use Rattle.ob0_scope.specs.Standing.{name_on, tokens_bound}
 use Rattle.ob0_scope.specs.declared.naming.Named as named
-use Rattle.ob0_fields.specs.Identifiers.{declaring_field, field_at, field_tokens}
+use Rattle.ob0_analysis.specs.Identifiers.{declaring_field, field_at, field_tokens}
 
 -- A module's text, by characters, whose positions are counted in a unit; a place of it, and the new name.
 pub record Renaming : Type 0 where

@@ -8,19 +8,19 @@ ghost use Rattle.ob0_text.specs.declared.refusals.EditRefusal.TheVariants as ref
 ghost use Rattle.ob0_tree.specs.Places.{text_at};
 ghost use Rattle.ob0_scope.specs.Names.{same_name};
 ghost use Rattle.ob0_edits.specs.Replaced.{AreNames};
-ghost use Rattle.ob0_fields.specs.Identifiers.{declaring_field, field_at};
+ghost use Rattle.ob0_analysis.specs.Identifiers.{declaring_field, field_at};
 ghost use Rattle.ob0_rename.specs.Answers.{AnswersForField, OnlyMemory};
 ghost use Rattle.ob0_rename.specs.Renaming.{field_tokens_renamed};
 
 use crate::places::token_range;
+use ob0_analysis::{
+    WellTyped, declaring_field, duplicate_by_token, field_at, field_tokens,
+    free_field_keeps_modules, renamed_at_tokens, text_at,
+};
 use ob0_edits::edits_for;
 use ob0_edits::laws::{names_stand_for_names, renamed_words_spell};
-use ob0_field_laws::laws::free_field_keeps_modules;
-use ob0_fields::laws::{duplicate_by_token, renamed_at_tokens};
 use ob0_scan::is_identifier;
-use ob0_symbols::text_at;
 use ob0_text::{Edit, EditRefusal, TextStore};
-use ob0_types::{WellTyped, declaring_field, field_at, field_tokens};
 use std::alloc::{AllocError, Global};
 
 /// The field that a place is on: the identifier's token, and the ordinal of the field's record.

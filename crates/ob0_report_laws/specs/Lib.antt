@@ -1,3 +1,4 @@
 pub mod Agreement
 pub mod ReportLaws
 pub mod ModuleLaws
+pub use Rattle.ob0_reports.specs.DeclarationFaults

@@ -2,7 +2,7 @@
 use Rattle.std.specs.Prelude.{List, map}
 use Rattle.ob0_machine.specs.declared.machine.Item.{Item}
 use Rattle.ob0_machine.specs.declared.machine.Item.TheVariants as item
-use Rattle.ob0_semantics.specs.Runs.{Written, line_out, number_out}
+use Rattle.ob0_types.specs.Runs.{Written, line_out, number_out}
 
 abbrev pub item_of : Item → Written
 item_of (item.Number n) = number_out n

@@ -2,7 +2,7 @@
 
 ghost use Rattle.std.specs.Prelude.{◌≡◌, IfOk};
 ghost use Rattle.ob0_tree.specs.Parsed.{named_tree_of};
-ghost use Rattle.ob0_semantics.specs.Runs.{run};
+ghost use Rattle.ob0_types.specs.Runs.{run};
 ghost use Rattle.ob0_machine.specs.Outcomes as machine;
 ghost use Rattle.ob0_cells.specs.Lowering.{end_of};
 ghost use Rattle.ob0_cells.specs.LoweredStatements.{HaveNumbers};

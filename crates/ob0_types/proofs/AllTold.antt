@@ -10,12 +10,12 @@ use Rattle.ob0_tree.specs.Parsed.{named_tree_of, tree_of}
 use Rattle.ob0_report_laws.specs.ModuleLaws.{ModulesFit}
 use Rattle.ob0_types.specs.FaultOrder.{AreFirstFaults, faults_of_types}
 use Rattle.ob0_types.specs.CheckedModules.{IsChecked, IsTold}
-use Rattle.ob0_checker.specs.Bindings.{module_bindings, object_bound}
-use Rattle.ob0_checker.specs.Checking.{Keeps}
-use Rattle.ob0_checker.specs.InLabels.{in_labels}
-use Rattle.ob0_symbols.specs.KnownTables.{Tables}
-use Rattle.ob0_typing.specs.Laws.{FitsByOrdinal}
-use Rattle.ob0_typing.specs.WellTyped.{WellTyped, fits_over}
+use Rattle.ob0_fields.specs.Bindings.{module_bindings, object_bound}
+use Rattle.ob0_fields.specs.Checking.{Keeps}
+use Rattle.ob0_fields.specs.InLabels.{in_labels}
+use Rattle.ob0_fields.specs.KnownTables.{Tables}
+use Rattle.ob0_fields.specs.Laws.{FitsByOrdinal}
+use Rattle.ob0_fields.specs.WellTyped.{WellTyped, fits_over}
 
 length-nil : (xs : List Fault) → xs ≡ [] → length xs ≡ 0
 length-nil xs e = ap length e

@@ -1,8 +1,8 @@
 -- The type of a declaration.
-use Rattle.ob0_symbols.specs.KnownTables.{shapes_of}
-use Rattle.ob0_symbols.specs.Tables.{type_shape}
+use Rattle.ob0_fields.specs.KnownTables.{shapes_of}
+use Rattle.ob0_fields.specs.Tables.{type_shape}
 use Rattle.ob0_types.specs.declared.checked.Shape as declared
-use Rattle.ob0_values.specs.Values.{Shape}
+use Rattle.ob0_fields.specs.Values.{Shape}
 
 -- what a type of a table stands for, with the types of its parts
 abbrev pub shape_of : declared.Shape → Shape

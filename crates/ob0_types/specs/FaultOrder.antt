@@ -8,7 +8,7 @@ use Rattle.ob0_scan.specs.declared.fault.Code.{Code}
 use Rattle.ob0_scan.specs.declared.fault.Code.TheVariants as code
 use Rattle.ob0_scan.specs.declared.fault.Fault.{Fault}
 use Rattle.ob0_scope.specs.Resolution.{Resolution, is_of_declarations}
-use Rattle.ob0_reports.specs.DeclarationFaults.{told_module}
+use Rattle.ob0_report_laws.specs.DeclarationFaults.{told_module}
 
 -- the numbers of the codes: of lexemes, of scopes, of types
 abbrev pub code_number : Code → ℕ

@@ -7,15 +7,11 @@ ghost use Rattle.std.specs.List.{filter};
 ghost use Rattle.std.specs.Prelude.{◌≡◌, ◌≤◌, ◌↔◌, ◌++◌, [], length, IfOk, IfSome, OnOk, MatchOption};
 ghost use Rattle.ob0_fields.specs.Listed.{listed_by};
 
-use ob0_checker::decide;
-use ob0_fields::FieldList;
+use ob0_fields::{FieldList, Known, Parts, Scalar, TypeId, decide, fits_by_ordinal};
 use ob0_report_laws::laws::modules_fit;
-use ob0_reports::tell;
+use ob0_report_laws::tell;
 use ob0_scan::{Code, Fault};
 use ob0_scope::{PREDECLARED, Resolved};
-use ob0_symbols::{Known, Parts, TypeId};
-use ob0_typing::laws::fits_by_ordinal;
-use ob0_values::Scalar;
 use std::alloc::{AllocError, Global};
 use std::marker::Model;
 
@@ -209,11 +205,11 @@ impl<'c, 't> WellTyped<'c, 't> {
     ghost use Rattle.ob0_tree.specs.Parsed.{named_tree_of};
     ghost use Rattle.ob0_types.specs.CheckedModules.{HoldsDeclarations, IsWellTyped};
     ghost use Rattle.ob0_fields.specs.Listed.{AreFields};
-    ghost use Rattle.ob0_typing.specs.ConstantValues.{value_of_constant};
-    ghost use Rattle.ob0_checker.specs.Bindings.{declared_object};
+    ghost use Rattle.ob0_fields.specs.ConstantValues.{value_of_constant};
+    ghost use Rattle.ob0_fields.specs.Bindings.{declared_object};
     ghost use Rattle.ob0_types.specs.DeclaredShapes.{shape_of};
-    ghost use Rattle.ob0_typing.specs.Typing.{type_declared};
-    ghost use Rattle.ob0_values.specs.Scalars.{scalar_value};
+    ghost use Rattle.ob0_fields.specs.Typing.{type_declared};
+    ghost use Rattle.ob0_fields.specs.Scalars.{scalar_value};
 
     /// The module with its names bound.
     pub fn resolved(&self) -> &'t Resolved<'t>
@@ -263,8 +259,8 @@ impl<'c, 't> WellTyped<'c, 't> {
 }
 
 impl<'c, 't> Shape<'c, 't> {
-    ghost use Rattle.ob0_symbols.specs.KnownTables.{shapes_of};
-    ghost use Rattle.ob0_symbols.specs.Parts.{parts_shape};
+    ghost use Rattle.ob0_fields.specs.KnownTables.{shapes_of};
+    ghost use Rattle.ob0_fields.specs.Parts.{parts_shape};
     ghost use Rattle.ob0_types.specs.DeclaredShapes.{shape_of};
 
     /// What the type is made of; the types of its parts are in the same table.
