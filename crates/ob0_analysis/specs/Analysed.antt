@@ -6,8 +6,8 @@ use Rattle.ob0_scope.specs.Resolution.{Resolution}
 use Rattle.ob0_types.specs.WellTyped.{WellTyped}
 use Rattle.ob0_types.specs.CheckedModules.{IsWellTyped}
 use Rattle.ob0_analysis.specs.Diagnosed.{IsWellTypedModule, TellsFaults, complaint_in}
-pub use Rattle.ob0_analysis.specs.declared.analysis.Asked.{Asked}
-pub use Rattle.ob0_analysis.specs.declared.analysis.Asked.TheVariants.{Answered, IllTyped}
+use Rattle.ob0_analysis.specs.declared.analysis.Asked.{Asked}
+use Rattle.ob0_analysis.specs.declared.analysis.Asked.TheVariants.{Answered, IllTyped}
 
 -- the text is this module, which is well-typed
 pub record IsModuleIn (text : List ℕ) (names : Resolution) : Type 0 where

@@ -16,7 +16,7 @@ use Rattle.ob0_types.specs.FaultOrder.{AreFirstFaults}
 use Rattle.ob0_parse.specs.RefusedBy.{NoneBegins}
 use Rattle.ob0_parse.specs.declared.refusal.ParseRefusal.{ParseRefusal}
 use Rattle.ob0_parse.specs.declared.refusal.ParseRefusal.TheVariants.{Syntax, TooDeep, Memory}
-pub use Rattle.ob0_analysis.specs.declared.diagnoses.Diagnosis.{Diagnosis}
+use Rattle.ob0_analysis.specs.declared.diagnoses.Diagnosis.{Diagnosis}
 
 -- The text is here the list of its bytes in UTF-8, and spans count these.
 

@@ -4,7 +4,7 @@ use Rattle.std.specs.Str.{chars, IsUtf8}
 use Rattle.ob0_inline.specs.Everywhere.{inlined_all}
 use Rattle.ob0_inline.specs.Inlined.{LeavesModule}
 use Rattle.ob0_inline.specs.Uses.{inlined_here}
-use Rattle.ob0_rename.specs.EditLaws.{SameRuns}
+use Rattle.ob0_analysis.specs.EditLaws.{SameRuns}
 use Rattle.ob0_scope.specs.Names.{Name}
 use Rattle.ob0_scope.specs.Resolution.{Resolution}
 use Rattle.ob0_text.specs.declared.edits.Edit.{Edit}
@@ -12,16 +12,18 @@ use Rattle.ob0_text.specs.declared.positions.Unit.{Unit}
 use Rattle.ob0_text.specs.declared.refusals.EditRefusal.{EditRefusal}
 use Rattle.ob0_tree.specs.Parsed.{Parsed, named_tree_of}
 use Rattle.ob0_tree.specs.Tree.{Tree, module_text}
-use Rattle.ob0_rename.specs.WellTyped.{WellTyped}
+use Rattle.ob0_analysis.specs.WellTyped.{WellTyped}
 use Rattle.ob0_answers.specs.Actions.{AnswersInlining, FindsInlinings, Inlines, InlinesIn, IsOffered, Offers}
-use Rattle.ob0_rename.specs.Analysed.{Finds, IsModuleIn, Asked, Answered, IllTyped}
-use Rattle.ob0_rename.specs.Diagnosed.{IsTextOf, IsWellTypedModule}
-use Rattle.ob0_rename.specs.Texts.{utf8}
+use Rattle.ob0_analysis.specs.Analysed.{Finds, IsModuleIn}
+use Rattle.ob0_analysis.specs.Diagnosed.{IsTextOf, IsWellTypedModule}
+use Rattle.ob0_analysis.specs.Texts.{utf8}
 use Rattle.ob0_answers.specs.declared.actions.Inlining.{Inlining}
 use Rattle.ob0_answers.specs.declared.actions.Inlining.TheVariants.{Here, Everywhere}
 use Rattle.ob0_answers.specs.declared.actions.Inlinings.{Inlinings}
+use Rattle.ob0_analysis.specs.declared.analysis.Asked.{Asked}
+use Rattle.ob0_analysis.specs.declared.analysis.Asked.TheVariants.{Answered, IllTyped}
 use Rattle.ob0_answers.proofs.Naming.{read_as}
-use Rattle.ob0_rename.proofs.Scanning.{is_module, utf8_of}
+use Rattle.ob0_analysis.proofs.Scanning.{is_module, utf8_of}
 
 -- ---- what is offered of an answer
 

@@ -18,11 +18,13 @@ use Rattle.ob0_layout.specs.Sites.{said, edit_of, changed_sites, all_sites}
 use Rattle.ob0_layout.specs.Standings.{standings}
 use Rattle.ob0_text.specs.declared.refusals.EditRefusal.{EditRefusal}
 use Rattle.ob0_text.specs.declared.refusals.EditRefusal.TheVariants.{TooLong, Memory}
-use Rattle.ob0_rename.specs.Analysed.{Finds, IsModuleIn, Asked, Answered, IllTyped}
-use Rattle.ob0_rename.specs.Diagnosed.{IsTextOf, IsWellTypedModule}
-use Rattle.ob0_rename.specs.Texts.{utf8}
+use Rattle.ob0_analysis.specs.Analysed.{Finds, IsModuleIn}
+use Rattle.ob0_analysis.specs.Diagnosed.{IsTextOf, IsWellTypedModule}
+use Rattle.ob0_analysis.specs.Texts.{utf8}
 use Rattle.ob0_answers.specs.Formatted.{Formats, IsTooLongLaidOut, LaysOut, changes_of, layout_of}
-use Rattle.ob0_rename.proofs.Scanning.{is_module, utf8_of}
+use Rattle.ob0_analysis.specs.declared.analysis.Asked.{Asked}
+use Rattle.ob0_analysis.specs.declared.analysis.Asked.TheVariants.{Answered, IllTyped}
+use Rattle.ob0_analysis.proofs.Scanning.{is_module, utf8_of}
 
 abbrev pub ModuleStays : Type 0
 ModuleStays =

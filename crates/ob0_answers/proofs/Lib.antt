@@ -4,6 +4,5 @@ pub mod Lists
 pub mod Naming
 pub mod Plain
 pub mod Diagnosing
-pub use Rattle.ob0_inline.proofs.UsesStand
-pub use Rattle.ob0_rename.proofs.OwnedModules
-pub use Rattle.ob0_rename.proofs.OwnedTokens
+pub use Rattle.ob0_analysis.proofs.OwnedModules
+pub use Rattle.ob0_analysis.proofs.OwnedTokens

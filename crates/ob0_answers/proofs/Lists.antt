@@ -6,7 +6,8 @@ use Rattle.std.proofs.Math.Seq.{take-suc}
 use Rattle.serde_json.specs.Data.{Data}
 use Rattle.serde_json.specs.View.{view, items_of}
 use Rattle.serde_json.specs.declared.value.Value.{Value}
-use Rattle.ob0_rename.specs.Diagnosed.{Diagnosis, Complaint, complaint_in}
+use Rattle.ob0_analysis.specs.declared.diagnoses.Diagnosis.{Diagnosis}
+use Rattle.ob0_analysis.specs.Diagnosed.{Complaint, complaint_in}
 use Rattle.ob0_answers.specs.Diagnostics.{DiagnosticsAre}
 use Rattle.ob0_answers.specs.Shapes.{Diagnostic, diagnostic_value}
 

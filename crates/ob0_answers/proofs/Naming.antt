@@ -12,13 +12,15 @@ use Rattle.ob0_refs.specs.Questions.{all_shown_at, definition_at}
 use Rattle.ob0_scan.specs.declared.lexeme.Span.{Span}
 use Rattle.ob0_scope.specs.Resolution.{Resolution}
 use Rattle.ob0_text.specs.declared.positions.Unit.{Unit}
-use Rattle.ob0_rename.specs.Analysed.{Finds, IsModuleIn, IsReadAs, Asked, Answered, IllTyped}
-use Rattle.ob0_rename.specs.Diagnosed.{IsWellTypedModule}
-use Rattle.ob0_rename.specs.Texts.{utf8}
+use Rattle.ob0_analysis.specs.Analysed.{Finds, IsModuleIn, IsReadAs}
+use Rattle.ob0_analysis.specs.Diagnosed.{IsWellTypedModule}
+use Rattle.ob0_analysis.specs.Texts.{utf8}
 use Rattle.ob0_answers.specs.Questions.{AnswersName, AnswersIn, no_answer, place_in, renamable_in, hover_at, location_at, range_at, or_null}
+use Rattle.ob0_analysis.specs.declared.analysis.Asked.{Asked}
+use Rattle.ob0_analysis.specs.declared.analysis.Asked.TheVariants.{Answered, IllTyped}
 use Rattle.ob0_answers.specs.declared.questions.NameQuestion.{NameQuestion}
 use Rattle.ob0_answers.specs.declared.questions.NameQuestion.TheVariants.{Hover, Definition, References, PrepareRename}
-use Rattle.ob0_rename.proofs.Scanning.{utf8_of}
+use Rattle.ob0_analysis.proofs.Scanning.{utf8_of}
 
 pub read_as : (text : List ℕ) (names : Resolution) → IsModuleIn text names → IsReadAs text names.module_read
 read_as text names h = record { scan = h.scan; parsed = h.well_typed.resolved.parsed; well_typed = h.well_typed.well_typed }

@@ -19,11 +19,13 @@ use Rattle.ob0_text.specs.declared.refusals.EditRefusal.TheVariants.{Memory}
 use Rattle.ob0_tree.specs.Parsed.{Parsed}
 use Rattle.ob0_inline.specs.Everywhere.{AnswersEverywhere}
 use Rattle.ob0_inline.specs.Uses.{AnswersHere}
-use Rattle.ob0_rename.specs.Diagnosed.{IsWellTypedModule}
-use Rattle.ob0_rename.specs.Texts.{utf8}
-use Rattle.ob0_rename.specs.Analysed.{IsReadAs, Asked, Answered, IllTyped}
-use Rattle.ob0_rename.specs.RunsKept.{RunsAsBefore}
+use Rattle.ob0_analysis.specs.Diagnosed.{IsWellTypedModule}
+use Rattle.ob0_analysis.specs.Texts.{utf8}
+use Rattle.ob0_analysis.specs.Analysed.{IsReadAs}
+use Rattle.ob0_analysis.specs.RunsKept.{RunsAsBefore}
 use Rattle.ob0_answers.specs.Shapes.{action_value, workspace_edit}
+use Rattle.ob0_analysis.specs.declared.analysis.Asked.{Asked}
+use Rattle.ob0_analysis.specs.declared.analysis.Asked.TheVariants.{Answered, IllTyped}
 use Rattle.ob0_answers.specs.declared.actions.ActionsRequest.{ActionsRequest}
 use Rattle.ob0_answers.specs.declared.actions.Inlinings.{Inlinings}
 use Rattle.ob0_answers.specs.declared.actions.Inlining.{Inlining}

@@ -5,8 +5,8 @@ use Rattle.serde_json.specs.declared.value.Value.{Value}
 use Rattle.ob0_text.specs.Texts.{position_of}
 use Rattle.ob0_text.specs.Units.{width_of}
 use Rattle.ob0_text.specs.declared.positions.Unit.{Unit}
-use Rattle.ob0_rename.specs.Diagnosed.{Complaint, Tells}
-use Rattle.ob0_rename.specs.Texts.{utf8}
+use Rattle.ob0_analysis.specs.Diagnosed.{Complaint, Tells}
+use Rattle.ob0_analysis.specs.Texts.{utf8}
 use Rattle.ob0_answers.specs.Shapes.{Diagnostic, diagnostic_value}
 
 -- a complaint is shown at the positions of its ends

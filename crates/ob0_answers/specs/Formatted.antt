@@ -15,9 +15,9 @@ use Rattle.ob0_text.specs.declared.refusals.EditRefusal.TheVariants.{TooLong}
 use Rattle.ob0_layout.specs.Layout.{layout}
 use Rattle.ob0_layout.specs.Sites.{Said, said, edit_of, changed_sites, all_sites}
 use Rattle.ob0_layout.specs.Standings.{standings}
-use Rattle.ob0_rename.specs.Diagnosed.{IsTextOf, IsWellTypedModule}
-use Rattle.ob0_rename.specs.Texts.{utf8}
-use Rattle.ob0_rename.specs.RunsKept.{RunsAsBefore}
+use Rattle.ob0_analysis.specs.Diagnosed.{IsTextOf, IsWellTypedModule}
+use Rattle.ob0_analysis.specs.Texts.{utf8}
+use Rattle.ob0_analysis.specs.RunsKept.{RunsAsBefore}
 use Rattle.ob0_answers.specs.Shapes.{edits_value, edit_refused}
 
 -- the layout of a module's text

@@ -16,9 +16,9 @@ use Rattle.ob0_refs.specs.declared.answers.Of as of
 use Rattle.ob0_refs.specs.declared.answers.Of.TheVariants as tells
 use Rattle.ob0_rpc.specs.Asks.{At}
 use Rattle.ob0_rpc.specs.Shapes.{range_value}
-use Rattle.ob0_rename.specs.Analysed.{IsModuleIn}
-use Rattle.ob0_rename.specs.Diagnosed.{IsWellTypedModule}
-use Rattle.ob0_rename.specs.Texts.{utf8}
+use Rattle.ob0_analysis.specs.Analysed.{IsModuleIn}
+use Rattle.ob0_analysis.specs.Diagnosed.{IsWellTypedModule}
+use Rattle.ob0_analysis.specs.Texts.{utf8}
 use Rattle.ob0_answers.specs.Shapes.{hover_value, location_value}
 use Rattle.ob0_answers.specs.declared.questions.NameQuestion.{NameQuestion}
 use Rattle.ob0_answers.specs.declared.questions.NameQuestion.TheVariants.{Hover, Definition, References, PrepareRename}

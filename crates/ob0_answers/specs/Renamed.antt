@@ -10,8 +10,8 @@ use Rattle.ob0_text.specs.declared.edits.Edit.{Edit}
 use Rattle.ob0_text.specs.declared.positions.Unit.{Unit}
 use Rattle.ob0_text.specs.declared.refusals.EditRefusal.{EditRefusal}
 use Rattle.ob0_rename.specs.InTexts.{IsRefusedIn, RenamesIn}
-use Rattle.ob0_rename.specs.Diagnosed.{IsWellTypedModule}
-use Rattle.ob0_rename.specs.Texts.{utf8}
+use Rattle.ob0_analysis.specs.Diagnosed.{IsWellTypedModule}
+use Rattle.ob0_analysis.specs.Texts.{utf8}
 use Rattle.ob0_answers.specs.Shapes.{edit_refused, workspace_edit}
 use Rattle.ob0_answers.specs.declared.renaming.RenameRequest.{RenameRequest}
 

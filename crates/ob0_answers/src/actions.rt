@@ -15,8 +15,8 @@ ghost use Rattle.ob0_answers.specs.Actions.{AnswersActions, FindsInlinings, Inli
 ghost use Rattle.ob0_answers.specs.declared.actions.Inlining.TheVariants as how;
 
 use crate::writing::{DocumentEdits, write_action};
+use ob0_analysis::{Asked, Question, WellTyped, ask};
 use ob0_inline::{inline_all, inline_here};
-use ob0_rename::{Asked, Question, WellTyped, ask};
 use ob0_rpc::{Client, Id, Written, result, result_of, write_comma, write_piece};
 use ob0_scan::Tokens;
 use ob0_text::{Edit, EditRefusal, Position, Range, TextStore};

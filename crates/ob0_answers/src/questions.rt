@@ -13,9 +13,9 @@ ghost use Rattle.ob0_answers.specs.declared.questions.NameQuestion.TheVariants.{
 
 use crate::results::{hover_value, location_value, range_value};
 use crate::writing::Locations;
+use ob0_analysis::{Asked, Question, WellTyped, ask};
 use ob0_edits::ranges;
 use ob0_refs::{Of, at, definition, hover, references};
-use ob0_rename::{Asked, Question, WellTyped, ask};
 use ob0_rpc::{Id, Place, result, result_of};
 use ob0_scan::{Span, Tokens};
 use ob0_text::TextStore;

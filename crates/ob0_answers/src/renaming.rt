@@ -9,7 +9,8 @@ ghost use Rattle.ob0_answers.specs.Renamed.{AnswersRenaming, asked_of, edits_for
 
 use crate::results::{refused_because, refused_ill_typed};
 use crate::writing::DocumentEdits;
-use ob0_rename::{Asked, rename_in};
+use ob0_analysis::Asked;
+use ob0_rename::rename_in;
 use ob0_rpc::{Client, Id, Place, result_of};
 use ob0_scan::Tokens;
 use ob0_text::{Edit, TextStore};

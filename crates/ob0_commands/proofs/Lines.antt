@@ -5,7 +5,8 @@ use Rattle.ob0_text.specs.Texts.{position_of}
 use Rattle.ob0_text.specs.Units.{width_of}
 use Rattle.ob0_text.specs.declared.positions.Position.{Position}
 use Rattle.ob0_text.specs.declared.positions.Unit.TheVariants.{Utf16}
-use Rattle.ob0_rename.specs.Diagnosed.{complaint_in, Diagnosis}
+use Rattle.ob0_analysis.specs.Diagnosed.{complaint_in}
+use Rattle.ob0_analysis.specs.declared.diagnoses.Diagnosis.{Diagnosis}
 use Rattle.ob0_commands.specs.Printed.{complaint_lines, line_at, lines_at}
 
 -- the lines so far and those that are left are all

@@ -7,7 +7,8 @@ use Rattle.ob0_text.specs.declared.positions.Unit.{Unit}
 use Rattle.ob0_text.specs.declared.positions.Unit.TheVariants.{Utf16}
 use Rattle.ob0_text.specs.declared.refusals.EditRefusal.{EditRefusal}
 use Rattle.ob0_rename.specs.InTexts.{FindsNewName}
-use Rattle.ob0_rename.specs.Analysed.{Asked, Answered}
+use Rattle.ob0_analysis.specs.declared.analysis.Asked.{Asked}
+use Rattle.ob0_analysis.specs.declared.analysis.Asked.TheVariants.{Answered}
 use Rattle.ob0_commands.specs.Renamed.{IsRefusal, PrintsEdited, PrintsRenamed, RefusesName}
 
 -- what was found in a store that holds the text

@@ -3,9 +3,11 @@ use Rattle.std.proofs.Common.{◌≡◌, ◌∙◌, ℕ, List, [], ◌∷◌, Op
 use Rattle.std.proofs.lemmas.Str.{encodes-chars}
 use Rattle.std.specs.Io.KnownBytes.{Appends}
 use Rattle.std.specs.Str.{chars, IsUtf8}
-use Rattle.ob0_rename.specs.Diagnosed.{IsWellTypedModule, Tells, TellsFaults, complaint_in, Diagnosis}
+use Rattle.ob0_analysis.specs.Diagnosed.{IsWellTypedModule, Tells, TellsFaults, complaint_in}
 use Rattle.ob0_rename.specs.InTexts.{FindsNewName}
-use Rattle.ob0_rename.specs.Analysed.{Asked, IllTyped}
+use Rattle.ob0_analysis.specs.declared.analysis.Asked.{Asked}
+use Rattle.ob0_analysis.specs.declared.analysis.Asked.TheVariants.{IllTyped}
+use Rattle.ob0_analysis.specs.declared.diagnoses.Diagnosis.{Diagnosis}
 use Rattle.ob0_text.specs.declared.edits.Edit.{Edit}
 use Rattle.ob0_text.specs.declared.positions.Position.{Position}
 use Rattle.ob0_text.specs.declared.positions.Unit.{Unit}

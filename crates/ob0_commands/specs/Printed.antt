@@ -7,7 +7,7 @@ use Rattle.ob0_run.specs.Runs.{Written, line_out, number_out}
 use Rattle.ob0_run.specs.declared.running.End.{End}
 use Rattle.ob0_run.specs.declared.running.End.TheVariants as end
 use Rattle.ob0_scan.specs.Scanned.{max_text}
-use Rattle.ob0_rename.specs.Diagnosed.{Complaint, IsWellTypedModule, TellsFaults}
+use Rattle.ob0_analysis.specs.Diagnosed.{Complaint, IsWellTypedModule, TellsFaults}
 use Rattle.ob0_text.specs.Texts.{position_of}
 use Rattle.ob0_text.specs.Units.{width_of}
 use Rattle.ob0_text.specs.declared.positions.Position.{Position}

@@ -3,9 +3,9 @@ use Rattle.std.specs.Prelude.{◌≡◌, ◌≢◌, ◌⊎◌, ℕ, ℤ, List, O
 use Rattle.std.specs.Io.KnownBytes.{Appends}
 use Rattle.ob0_tree.specs.Tree.{Tree, module_text}
 use Rattle.ob0_scope.specs.Names.{Name}
-use Rattle.ob0_rename.specs.WellTyped.{WellTyped}
+use Rattle.ob0_analysis.specs.WellTyped.{WellTyped}
 use Rattle.ob0_run.specs.Runs.{Run, run}
-use Rattle.ob0_rename.specs.Diagnosed.{IsTextOf}
+use Rattle.ob0_analysis.specs.Diagnosed.{IsTextOf}
 use Rattle.ob0_run.specs.Outcomes.{end_in}
 use Rattle.ob0_run.specs.declared.running.End.TheVariants as end
 use Rattle.ob0_commands.specs.Numbers.{WritesNumbers}

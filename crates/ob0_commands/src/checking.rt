@@ -5,12 +5,12 @@ ghost use Rattle.std.specs.Io.KnownBytes.{Appends};
 ghost use Rattle.ob0_commands.specs.Printed.{TellsWrong, complaint_lines, line_at, lines_at};
 ghost use Rattle.ob0_commands.specs.Statuses.{StopsPrinting, StopsTelling};
 ghost use Rattle.ob0_scan.specs.Scanned.{max_text};
-ghost use Rattle.ob0_rename.specs.Diagnosed.{Tells, complaint_in};
+ghost use Rattle.ob0_analysis.specs.Diagnosed.{Tells, complaint_in};
 
 use crate::faults::{Fault, tell_fault};
 use crate::printing::{Output, print};
 use crate::reading::MAX_FILE;
-use ob0_rename::{Diagnosis, diagnose};
+use ob0_analysis::{Diagnosis, diagnose};
 use ob0_text::{Lines, Position, TextStore};
 use std::alloc::{AllocError, Global};
 

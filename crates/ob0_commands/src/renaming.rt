@@ -8,7 +8,8 @@ ghost use Rattle.ob0_commands.specs.Statuses.{StopsPrinting};
 use crate::checking::{print_diagnoses, text_of};
 use crate::faults::{Fault, tell_fault};
 use crate::printing::{Output, print};
-use ob0_rename::{Asked, rename_in};
+use ob0_analysis::Asked;
+use ob0_rename::rename_in;
 use ob0_text::{Edit, EditRefusal, Lines, Position, TextStore, patch};
 use std::alloc::Global;
 

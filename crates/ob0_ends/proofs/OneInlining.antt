@@ -26,11 +26,13 @@ use Rattle.ob0_values.specs.declared.scalar.Scalar.TheVariants as scalar
 use Rattle.ob0_values.specs.Scalars.{scalar_value}
 use Rattle.ob0_scope.specs.declared.naming.Named.{Named}
 use Rattle.ob0_typing.specs.ConstantValues.{value_of_constant}
-use Rattle.ob0_answers.specs.Everywhere.{Constant, AnswersEverywhere, IsConstantAt, any_hidden, refusal_everywhere}
-use Rattle.ob0_answers.specs.Uses.{Use, AnswersHere, IsUseAt, is_shown, refusal_here}
-use Rattle.ob0_answers.specs.Declarations.{is_inside, is_semicolon}
-use Rattle.ob0_answers.specs.Values.{value_factor, value_text}
-use Rattle.ob0_answers.proofs.UsesStand.{one_place}
+use Rattle.ob0_inline.specs.declared.constants.Constant.{Constant}
+use Rattle.ob0_inline.specs.declared.uses.Use.{Use}
+use Rattle.ob0_inline.specs.Declarations.{is_inside, is_semicolon}
+use Rattle.ob0_inline.specs.Everywhere.{AnswersEverywhere, IsConstantAt, any_hidden, refusal_everywhere}
+use Rattle.ob0_inline.specs.Uses.{AnswersHere, IsUseAt, is_shown, refusal_here}
+use Rattle.ob0_inline.specs.Values.{value_factor, value_text}
+use Rattle.ob0_inline.proofs.UsesStand.{one_place}
 use Rattle.ob0_answers.specs.Actions.{InlinesIn, IsNotInlinedIn}
 use Rattle.ob0_answers.specs.declared.actions.Inlining.{Inlining}
 use Rattle.ob0_answers.specs.declared.actions.Inlining.TheVariants.{Here, Everywhere}

@@ -26,7 +26,7 @@ use Rattle.ob0_scope.specs.Standing.{name_on}
 use Rattle.ob0_typing.specs.ConstantValues.{value_of_constant}
 use Rattle.ob0_typing.specs.WellTyped.{WellTyped}
 use Rattle.ob0_semantics.specs.EditLaws.{SameRuns}
-pub use Rattle.ob0_inline.specs.declared.constants.Constant.{Constant}
+use Rattle.ob0_inline.specs.declared.constants.Constant.{Constant}
 use Rattle.ob0_inline.specs.Declarations.{is_inside, is_semicolon}
 use Rattle.ob0_inline.specs.Inlined.{LeavesModule}
 use Rattle.ob0_inline.specs.Uses.{is_shown}

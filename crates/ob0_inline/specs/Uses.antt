@@ -22,7 +22,7 @@ use Rattle.ob0_scope.specs.Standing.{name_on}
 use Rattle.ob0_typing.specs.ConstantValues.{value_of_constant}
 use Rattle.ob0_typing.specs.WellTyped.{WellTyped}
 use Rattle.ob0_semantics.specs.EditLaws.{SameRuns}
-pub use Rattle.ob0_inline.specs.declared.uses.Use.{Use}
+use Rattle.ob0_inline.specs.declared.uses.Use.{Use}
 use Rattle.ob0_inline.specs.Inlined.{LeavesModule}
 use Rattle.ob0_inline.specs.Values.{value_factor, value_text}
 

@@ -9,6 +9,3 @@ pub mod Spelled
 pub mod Outcomes
 pub mod FieldOutcomes
 pub mod InTexts
-pub use Rattle.ob0_analysis.proofs.OwnedModules
-pub use Rattle.ob0_analysis.proofs.OwnedTokens
-pub use Rattle.ob0_analysis.proofs.Scanning

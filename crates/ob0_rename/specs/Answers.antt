@@ -17,8 +17,7 @@ use Rattle.ob0_scope.specs.Scopes.{renamed}
 use Rattle.ob0_analysis.specs.WellTyped.{WellTyped}
 use Rattle.ob0_analysis.specs.EditLaws.{SameRuns}
 use Rattle.ob0_edits.specs.Replaced.{edit_at, parts}
-use Rattle.ob0_analysis.specs.Renaming.{FieldFree, field_renamed}
-pub use Rattle.ob0_analysis.specs.Renaming.{is_duplicate_field}
+use Rattle.ob0_analysis.specs.Renaming.{FieldFree, field_renamed, is_duplicate_field}
 use Rattle.ob0_rename.specs.Renaming.{Means, MeansField, Renaming, field_tokens_renamed, is_declared_as, meant, module_of, nothing, occurrence_range, other_field_range, other_range, predeclared, text_with, tokens_renamed, tree_of}
 
 -- The edits write the new name at these tokens, and nothing else. Made at once they leave a text of this tree, which is

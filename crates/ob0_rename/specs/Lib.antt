@@ -1,14 +1,3 @@
 pub mod Renaming
 pub mod Answers
 pub mod InTexts
-pub use Rattle.ob0_analysis.specs.Analysed
-pub use Rattle.ob0_analysis.specs.CheckedModules
-pub use Rattle.ob0_analysis.specs.Diagnosed
-pub use Rattle.ob0_analysis.specs.EditLaws
-pub use Rattle.ob0_analysis.specs.Fields
-pub use Rattle.ob0_analysis.specs.Identifiers
-pub use Rattle.ob0_analysis.specs.Owned
-pub use Rattle.ob0_analysis.specs.Owners
-pub use Rattle.ob0_analysis.specs.RunsKept
-pub use Rattle.ob0_analysis.specs.Texts
-pub use Rattle.ob0_analysis.specs.WellTyped

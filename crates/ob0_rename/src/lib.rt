@@ -6,6 +6,5 @@ mod places;
 mod renaming;
 mod texts;
 
-pub use ob0_analysis::{Asked, Diagnosis, Question, WellTyped, ask, diagnose, diagnose_again};
 pub use renaming::rename;
 pub use texts::rename_in;

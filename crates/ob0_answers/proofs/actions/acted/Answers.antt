@@ -2,7 +2,7 @@ use Rattle.std.proofs.Common.{◌∙◌, ℕ, List, inl, inr, refl, subst, sym}
 use Rattle.std.proofs.lemmas.Result.{IfOk-weaker}
 use Rattle.ob0_answers.specs.Actions.{FindsInlinings, actions_asked, place_of}
 use Rattle.ob0_answers.specs.declared.actions.Inlinings.{Inlinings}
-use Rattle.ob0_rename.specs.Analysed.{Asked}
+use Rattle.ob0_analysis.specs.declared.analysis.Asked.{Asked}
 use Rattle.ob0_answers.proofs.actions.acted.Goals as goal
 
 pub returns-then-not-wants_inlining : goal.returns-then-not-wants_inlining

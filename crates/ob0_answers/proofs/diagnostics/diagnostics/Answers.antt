@@ -1,7 +1,7 @@
 use Rattle.std.proofs.Common.{map, subst}
 use Rattle.std.proofs.lemmas.Result.{IfOk-weaker}
-use Rattle.ob0_rename.specs.Diagnosed.{Keeps, complaint_in}
-use Rattle.ob0_rename.proofs.Scanning.{utf8_of}
+use Rattle.ob0_analysis.specs.Diagnosed.{Keeps, complaint_in}
+use Rattle.ob0_analysis.proofs.Scanning.{utf8_of}
 use Rattle.ob0_answers.proofs.Lists.{diagnostics_of_all}
 use Rattle.ob0_answers.proofs.Diagnosing.{diagnosed}
 use Rattle.ob0_answers.proofs.diagnostics.diagnostics.Goals as goal

@@ -1,5 +1,5 @@
 use Rattle.std.proofs.Common.{map, take}
-use Rattle.ob0_rename.specs.Diagnosed.{complaint_in}
+use Rattle.ob0_analysis.specs.Diagnosed.{complaint_in}
 use Rattle.ob0_answers.specs.Diagnostics.{DiagnosticsAre, diagnostic_of}
 use Rattle.ob0_answers.proofs.diagnostics.listed.Given as goal
 

@@ -5,7 +5,7 @@ use Rattle.ob0_scan.specs.declared.lexeme.Span.{Span}
 use Rattle.ob0_refs.specs.Questions.{definition_at}
 use Rattle.ob0_scope.specs.Resolution.{Resolution}
 use Rattle.ob0_answers.specs.Questions.{location_at, or_null}
-use Rattle.ob0_rename.specs.Analysed.{Asked}
+use Rattle.ob0_analysis.specs.declared.analysis.Asked.{Asked}
 use Rattle.ob0_answers.proofs.Naming.{FoundOf, found_of, view-Null}
 use Rattle.ob0_answers.proofs.questions.definition_value.Goals as goal
 

@@ -10,7 +10,7 @@ use Rattle.ob0_scan.specs.declared.lexeme.Span.{Span}
 use Rattle.ob0_refs.specs.Questions.{AreReferencesAt}
 use Rattle.ob0_scope.specs.Resolution.{Resolution}
 use Rattle.ob0_answers.specs.Questions.{location_at}
-use Rattle.ob0_rename.specs.Analysed.{Asked}
+use Rattle.ob0_analysis.specs.declared.analysis.Asked.{Asked}
 use Rattle.ob0_answers.proofs.Naming.{FoundOf, found_of, view-Array}
 use Rattle.ob0_answers.proofs.questions.references_answer.Goals as goal
 

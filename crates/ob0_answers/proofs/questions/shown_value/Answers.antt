@@ -6,7 +6,7 @@ use Rattle.ob0_refs.specs.declared.answers.Hover.{Hover}
 use Rattle.ob0_refs.specs.Questions.{all_shown_at}
 use Rattle.ob0_scope.specs.Resolution.{Resolution}
 use Rattle.ob0_answers.specs.Questions.{hover_at, or_null}
-use Rattle.ob0_rename.specs.Analysed.{Asked}
+use Rattle.ob0_analysis.specs.declared.analysis.Asked.{Asked}
 use Rattle.ob0_answers.proofs.Naming.{FoundOf, found_of, view-Null}
 use Rattle.ob0_answers.proofs.questions.shown_value.Goals as goal
 

@@ -1,6 +1,6 @@
 use Rattle.std.proofs.Common.{◌≡◌, suc, [], ◌∷◌, ◌++◌, length, length-append, string_bytes, rules, ◌∙◌, subst, sym, arith}
 use Rattle.std.proofs.lemmas.Slice.Zip.{zip_end, zip_turn}
-use Rattle.ob0_rename.specs.Diagnosed.{complaint_in}
+use Rattle.ob0_analysis.specs.Diagnosed.{complaint_in}
 use Rattle.ob0_commands.proofs.Lines.{Gathered, gathered_all, gathered_further}
 use Rattle.ob0_commands.specs.Printed.{line_at}
 use Rattle.ob0_commands.proofs.checking.lines_at.Goals as goal
