@@ -41,7 +41,8 @@ impl<'t> Model for Numbering<'t> {
     ghost view = { λ n. record { writing = n.writing; scope = n.visible; declarations = n.declarations.items; uses = n.occurrences.items; marks = n.table.items } };
 }
 
-/// The ordinal of a declaration by its index. Ordinals are kept as `u32`: a text has far fewer tokens.
+/// The ordinal of a declaration by its index. Ordinals are kept as `u32`, and a text has far fewer tokens; one that had more
+/// would be refused as too large for memory.
 fn ordinal_of(index: usize) -> Result<u32, AllocError>
     ensures { IfOk result (λ ordinal. ordinal ≡ 7 + index) }
 {
