@@ -8,7 +8,7 @@ use Rattle.ob0_scope.specs.Resolution.{Resolution}
 use Rattle.ob0_symbols.specs.declared.known.Field.{Field}
 use Rattle.ob0_symbols.specs.declared.types.TypeId.{TypeId}
 use Rattle.ob0_checker.specs.DenotedTables.{AreAdded, fields_named, joined}
-use Rattle.ob0_checker.specs.InLabels.{label_in}
+use Rattle.ob0_bindings.specs.InLabels.{label_in}
 use Rattle.ob0_symbols.specs.Tables.{IsMade, fields_shape, type_shape}
 
 pub joined-assoc : (a b c : FieldShapes) → joined (joined a b) c ≡ joined a (joined b c)

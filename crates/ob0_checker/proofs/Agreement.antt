@@ -7,7 +7,7 @@ use Rattle.std.proofs.Math.Seq.{get_or-append_seam}
 use Rattle.ob0_tree.specs.Places.{text_at}
 use Rattle.ob0_scope.specs.Resolution.{Resolution, ordinal_in}
 use Rattle.ob0_scope.specs.Scopes.{as_label}
-use Rattle.ob0_checker.specs.InLabels.{label_in}
+use Rattle.ob0_bindings.specs.InLabels.{label_in}
 use Rattle.ob0_scope.specs.Names.{Label, Name, as_labels, as_names, as_written, declared, label_text}
 use Rattle.ob0_values.specs.Values.{Shape, boolean_shape, integer_shape, truth}
 use Rattle.ob0_symbols.specs.declared.known.Entry.{Entry}
@@ -23,6 +23,7 @@ use Rattle.ob0_typing.specs.Expressions.{Object, a_constant, a_procedure, a_stan
 use Rattle.ob0_symbols.specs.KnownTables.{AreTables, CanBePutBack, EntryIsMade, SightIsMade, Tables, before_all, in_sight_of, label_object, object_seen, predeclared, put_at, seen_entry, seen_in, seen_object, shapes_of}
 use Rattle.ob0_symbols.specs.Tables.{IsMade, ObjectIsMade, formal_in, mode_of, object_in}
 use Rattle.ob0_typing.specs.WellTyped.{Signature, TypeEnvironment}
+use Rattle.ob0_bindings.proofs.Bound.{newest-if}
 use Rattle.ob0_symbols.proofs.Sighted.{before_all-append, last_of}
 use Rattle.ob0_symbols.proofs.Tables.{ObjectIsMade-more, length-table, type_shape-more}
 
@@ -93,10 +94,6 @@ agrees_unbound env t x o agrees = agrees_by_label ((as_written x, o) ∷ env) t 
     by_label : (y : Label) → newest (from_binding as_labels ((as_written x, o) ∷ env) y) ≡ label_object t y
     by_label (declared k) = agrees_at env t agrees (declared k)
     by_label (as_written y) = agrees_at env t agrees (as_written y)
-
-pub newest-if : (b : Bool) (x : Label) (o : Object Shape Signature) (env rest : TypeEnvironment Label) → newest (elim b [ true ↦ (x, o) ∷ env | false ↦ rest ]) ≡ cond b (Some o) (newest rest)
-newest-if true x o env rest = refl
-newest-if false x o env rest = refl
 
 seen-if : (shapes : List Shape) (b : Bool) (object : declaration.Object) (other : Option declaration.Object) → option_and_then (object_in shapes) (cond b (Some object) other) ≡ cond b (object_in shapes object) (option_and_then (object_in shapes) other)
 seen-if shapes true object other = refl

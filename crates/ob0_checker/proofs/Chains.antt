@@ -5,7 +5,7 @@ use Rattle.ob0_tree.specs.Tree.{Tree, Item, item, items, end, more}
 use Rattle.ob0_tree.specs.View.{items_of}
 use Rattle.ob0_scope.specs.Names.{Label}
 use Rattle.ob0_scope.specs.Resolution.{Resolution}
-use Rattle.ob0_checker.specs.InLabels.{in_labels}
+use Rattle.ob0_bindings.specs.InLabels.{in_labels}
 
 -- a chain is evaluated item by item
 pub record IsChain {X : Type 0} {i : Item} (chain : X → Tree Label (items i) → Option X) (step : X → Tree Label (item i) → Option X) : Type 0 where

@@ -16,7 +16,7 @@ use Rattle.ob0_checker.specs.Checking.{Agrees, Declares, Follows, Keeps, Walking
 use Rattle.ob0_typing.specs.Declarations.{declare_constants, declare_types}
 use Rattle.ob0_typing.specs.Environments.{meanings}
 use Rattle.ob0_typing.specs.Expressions.{Object, a_constant, a_type, a_variable}
-use Rattle.ob0_checker.specs.InLabels.{in_labels, label_in}
+use Rattle.ob0_bindings.specs.InLabels.{in_labels, label_in}
 use Rattle.ob0_symbols.specs.KnownTables.{Tables, known_meaning, shapes_of}
 use Rattle.ob0_symbols.specs.Tables.{IsMade, object_in, type_shape}
 use Rattle.ob0_typing.specs.Typing.{constant_value, constructors, denoted}
@@ -25,7 +25,7 @@ use Rattle.ob0_values.specs.declared.scalar.Scalar.{Scalar}
 use Rattle.ob0_values.specs.Scalars.{scalar_value}
 use Rattle.ob0_values.specs.Values.{Shape}
 use Rattle.ob0_checker.proofs.Agreement.{follows_itself, follows_on}
-use Rattle.ob0_checker.proofs.Counted.{labels_listed}
+use Rattle.ob0_bindings.proofs.Counted.{labels_listed}
 use Rattle.ob0_checker.proofs.Walked.{constant_is, type_is, variable_is}
 
 -- what binding a declaration at a token gives

@@ -13,7 +13,7 @@ use Rattle.ob0_scope.specs.Resolution.{Resolution}
 use Rattle.ob0_symbols.specs.declared.known.Field.{Field}
 use Rattle.ob0_symbols.specs.declared.types.TypeId.{TypeId}
 use Rattle.ob0_checker.specs.DenotedTables.{AreAdded, Denotes, Grown, IsFound, array_in}
-use Rattle.ob0_checker.specs.InLabels.{in_labels, label_in}
+use Rattle.ob0_bindings.specs.InLabels.{in_labels, label_in}
 use Rattle.ob0_symbols.specs.KnownTables.{Tables, known_meaning, label_object, shapes_of}
 use Rattle.ob0_symbols.specs.Tables.{IsMade, fields_shape, type_shape}
 use Rattle.ob0_typing.specs.Typing.{array_length, constant_value, constructors, denoted, denoted_group, denoted_groups, depth, group_constructors, scalars, type_of_name, within_limits}

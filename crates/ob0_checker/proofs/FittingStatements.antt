@@ -2,17 +2,18 @@
 use Rattle.std.proofs.Common.{◌≡◌, true, false, Bool, ◌&&◌, List, [], ◌∷◌, map, Some, None, Option, option_and_then, refl, sym, ap, ◌∙◌, length, nat_eq, ne_eqb, arith}
 use Rattle.ob0_tree.specs.Tree.{Tree, assigns, branches, calls, elsif_branch, elsif_part, else_branch, else_part, empty, end, expression, items, maybe, more, none, one, arguments, repeat_loop, selector, sequence, while_loop}
 use Rattle.ob0_tree.specs.View as view
-use Rattle.ob0_tree.specs.View.{arguments_of, elsif_of, elsifs_in, expression_of, further_argument_of, further_statement_of, items_of, sequence_listed, statement_of}
+use Rattle.ob0_tree.specs.View.{elsif_of, expression_of, further_statement_of, items_of, sequence_listed, statement_of}
 use Rattle.ob0_tree.specs.declared.tree.Expression.{Expression}
 use Rattle.ob0_tree.specs.declared.tree.Statement.{Statement}
 use Rattle.ob0_scope.specs.Names.{Label}
 use Rattle.ob0_scope.specs.Resolution.{Resolution}
 use Rattle.ob0_symbols.specs.declared.known.Formal as formal
-use Rattle.ob0_typing.specs.Arguments.{arguments_listed, further_arguments}
-use Rattle.ob0_checker.specs.Constants.{variable_of}
+use Rattle.ob0_typing.specs.Arguments.{arguments_listed}
+use Rattle.ob0_bindings.specs.Bindings.{variable_of}
 use Rattle.ob0_typing.specs.Expressions.{Object, a_constant, a_procedure, a_standard, a_type, a_variable}
-use Rattle.ob0_checker.specs.FittingParts.{all_in_labels}
-use Rattle.ob0_checker.specs.InLabels.{in_labels, meaning_in, where_only}
+use Rattle.ob0_bindings.specs.Designators.{all_in_labels}
+use Rattle.ob0_bindings.specs.InLabels.{in_labels}
+use Rattle.ob0_checker.specs.Constants.{meaning_in, where_only}
 use Rattle.ob0_symbols.specs.KnownTables.{Tables, label_object}
 use Rattle.ob0_symbols.specs.Tables.{formal_in, mode_of, type_shape}
 use Rattle.ob0_typing.specs.Typing.{designated, type_at, type_of}
@@ -96,14 +97,6 @@ module _ (meaning : Typed Label) (shapes : List Shape) (r : Resolution) where
   pub argument_pairs : IsPairwise (λ (fs : List formal.Formal) (es : List Expression). arguments_fit meaning (map (formal_in shapes) fs) (all_in_labels r es)) (λ f e. argument_fits meaning (formal_in shapes f) (in_labels r (expression_of e)))
   unfolding arguments_fit
   argument_pairs = record { ended = refl; stepped = λ f e fs es. refl; fewer = λ f fs. refl; further = λ e es. refl }
-
-further_listed : (r : Resolution) (es : List Expression) → further_arguments (in_labels r (items_of further_argument_of es)) ≡ all_in_labels r es
-further_listed r [] = refl
-further_listed r (e ∷ es) = ap (λ z. in_labels r (expression_of e) ∷ z) (further_listed r es)
-
-pub all_listed : (r : Resolution) (es : List Expression) → arguments_listed (in_labels r (one (view.arguments_listed es))) ≡ all_in_labels r es
-all_listed r [] = refl
-all_listed r (e ∷ es) = ap (λ z. in_labels r (expression_of e) ∷ z) (further_listed r es)
 
 -- two tests, the second only where the first is true
 pub both_fit : {a b x y : Bool} → x ≡ a → x ≡ true → y ≡ b → y ≡ (a && b)

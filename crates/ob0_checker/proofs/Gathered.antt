@@ -13,7 +13,7 @@ use Rattle.ob0_scope.specs.Resolution.{Resolution}
 use Rattle.ob0_symbols.specs.declared.known.Field.{Field}
 use Rattle.ob0_symbols.specs.declared.types.TypeId.{TypeId}
 use Rattle.ob0_checker.specs.DenotedTables.{AreAdded, Grown, fields_named, joined}
-use Rattle.ob0_checker.specs.InLabels.{in_labels, label_in}
+use Rattle.ob0_bindings.specs.InLabels.{in_labels, label_in}
 use Rattle.ob0_symbols.specs.KnownTables.{Tables, known_meaning, shapes_of}
 use Rattle.ob0_symbols.specs.Tables.{IsMade, fields_shape, type_shape}
 use Rattle.ob0_typing.specs.Typing.{constructors, denoted, denoted_group, denoted_groups, depth, field_depth, group_constructors, groups_constructors, with_fields, within_limits}

@@ -11,11 +11,12 @@ use Rattle.ob0_symbols.specs.declared.known.Entry.{Entry}
 use Rattle.ob0_symbols.specs.declared.known.Object as declaration
 use Rattle.ob0_symbols.specs.declared.known.Object.TheVariants as kind
 use Rattle.ob0_checker.specs.declared.walk.Typed.{Typed}
-use Rattle.ob0_checker.specs.Checking.{Agrees, Declares, Grows, Keeps, Leaves, Walking, declare_block}
+use Rattle.ob0_checker.specs.Checking.{Agrees, Declares, Grows, Keeps, Leaves, Walking}
+use Rattle.ob0_bindings.specs.Declaring.{declare_block}
 use Rattle.ob0_typing.specs.Declarations.{declare_constants, declare_types, types_constructors}
 use Rattle.ob0_typing.specs.Environments.{from_binding}
 use Rattle.ob0_typing.specs.Expressions.{Object, a_constant, a_type, a_variable}
-use Rattle.ob0_checker.specs.InLabels.{in_labels, label_in}
+use Rattle.ob0_bindings.specs.InLabels.{in_labels, label_in}
 use Rattle.ob0_symbols.specs.KnownTables.{AreTables, EntryIsMade, Tables, declared_in, known_meaning, put_at, shapes_of}
 use Rattle.ob0_symbols.specs.Tables.{object_in, type_shape}
 use Rattle.ob0_typing.specs.Typing.{constant_value}
@@ -23,11 +24,13 @@ use Rattle.ob0_typing.specs.WellTyped.{Signature, TypeEnvironment, bind_names, d
 use Rattle.ob0_values.specs.declared.scalar.Scalar.{Scalar}
 use Rattle.ob0_values.specs.Scalars.{scalar_value}
 use Rattle.ob0_values.specs.Values.{Shape}
-use Rattle.ob0_checker.proofs.Agreement.{newest-if, object_in-more}
+use Rattle.ob0_bindings.proofs.Bound.{newest-if}
+use Rattle.ob0_checker.proofs.Agreement.{object_in-more}
 use Rattle.ob0_checker.proofs.Declared.{Behind, Binding, value_of}
 use Rattle.ob0_checker.proofs.Procedures.{declared_parts}
 use Rattle.ob0_symbols.proofs.Tables.{length-table}
-use Rattle.ob0_checker.proofs.Walked.{Giving, IsWalk, constant_is, split, type_is, variable_is}
+use Rattle.ob0_checker.proofs.Walked.{Giving, IsWalk, constant_is, type_is, variable_is}
+use Rattle.ob0_bindings.proofs.Parts.{split}
 
 -- a declaration at its ordinal
 pub keeps_bound : (all : TypeEnvironment Label) (t u : Tables) (k : ℕ) (object : declaration.Object) (o : Object Shape Signature)

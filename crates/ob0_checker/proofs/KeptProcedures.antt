@@ -1,7 +1,6 @@
 -- What procedures declare: their parameters, their names, and all of their blocks.
-use Rattle.std.proofs.Common.{◌≡◌, ℕ, zero, suc, ◌+◌, ◌<◌, ◌≤◌, Bool, true, false, cond, List, [], ◌∷◌, ◌++◌, All, length, map, get_or, drop, take, Some, None, Option, refl, sym, ap, ◌∙◌, subst, arith, append_assoc, length-append}
+use Rattle.std.proofs.Common.{◌≡◌, ℕ, zero, suc, ◌+◌, ◌<◌, ◌≤◌, List, [], ◌∷◌, ◌++◌, All, length, map, get_or, drop, Some, None, Option, refl, sym, ap, ◌∙◌, subst, arith, append_assoc}
 use Rattle.std.proofs.lemmas.List.{drop_all, map-append}
-use Rattle.std.proofs.Math.Seq.{take-append_seam}
 use Rattle.std.specs.declared.vec.Vec.{Vec}
 use Rattle.std.specs.declared.alloc.Global.{Global}
 use Rattle.ob0_tree.specs.declared.tree.Procedure.{Procedure, out-Procedure}
@@ -18,23 +17,25 @@ use Rattle.ob0_symbols.specs.declared.known.Formal as formal
 use Rattle.ob0_symbols.specs.declared.known.Object.TheVariants as kind
 use Rattle.ob0_checker.specs.declared.walk.Parameter.{Parameter}
 use Rattle.ob0_checker.specs.declared.walk.Typed.{Typed}
-use Rattle.ob0_checker.specs.Checking.{Agrees, Declares, DeclaresHeading, Follows, Grows, Heading, Keeps, KeepsAll, KeepsHeading, KeepsParameters, Walking, declare_block, parameter_in, parameters_in, parameters_of}
-use Rattle.ob0_checker.specs.Bindings.{block_bindings, for_some, procedure_bindings, procedures_bindings, since}
+use Rattle.ob0_checker.specs.Checking.{Agrees, Declares, DeclaresHeading, Follows, Grows, Heading, Keeps, KeepsAll, KeepsHeading, KeepsParameters, Walking, parameter_in, parameters_in, parameters_of}
+use Rattle.ob0_bindings.specs.Declaring.{declare_block}
+use Rattle.ob0_bindings.specs.Bindings.{block_bindings, for_some, procedure_bindings, procedures_bindings, since}
 use Rattle.ob0_typing.specs.Declarations.{after_variables, formals_constructors, procedure_constructors, types_constructors, variables_constructors}
 use Rattle.ob0_typing.specs.Environments.{from_binding, newest, outermost}
 use Rattle.ob0_typing.specs.Expressions.{Object, a_procedure, a_variable}
-use Rattle.ob0_checker.specs.InLabels.{in_labels, label_in}
+use Rattle.ob0_bindings.specs.InLabels.{in_labels, label_in}
 use Rattle.ob0_symbols.specs.KnownTables.{Tables, declared_in, predeclared, shapes_of}
 use Rattle.ob0_symbols.specs.Tables.{IsMade, formal_in, type_shape}
-use Rattle.ob0_typing.specs.WellTyped.{Formal, Signature, TypeEnvironment, TypedParameter, bind_names, bind_typed, heading, typed_parameters}
+use Rattle.ob0_typing.specs.WellTyped.{Formal, Signature, TypeEnvironment, TypedParameter, bind_names, bind_typed, heading}
 use Rattle.ob0_values.specs.Values.{Shape}
-use Rattle.ob0_checker.proofs.Agreement.{follows_on, newest-if, past}
-use Rattle.ob0_checker.proofs.Counted.{counted_procedure, counted_types, counted_variables, labels_listed, types_mapped, variables_mapped}
+use Rattle.ob0_checker.proofs.Agreement.{follows_on, past}
+use Rattle.ob0_bindings.proofs.Counted.{counted_procedure, counted_types, counted_variables, labels_listed, types_mapped, variables_mapped}
+use Rattle.ob0_bindings.proofs.Bound.{bind_typed-append, headed_bindings, newest-append, or_else, since-append}
 use Rattle.ob0_checker.proofs.Declared.{Behind, Binding}
 use Rattle.ob0_checker.proofs.Kept.{keeps_same}
-use Rattle.ob0_checker.proofs.Procedures.{DeclaresBlock, procedure_given, procedure_parts, signature-formals}
+use Rattle.ob0_checker.proofs.Procedures.{DeclaresBlock, procedure_given, signature-formals}
+use Rattle.ob0_bindings.proofs.Parts.{procedure_parts, split}
 use Rattle.ob0_checker.proofs.Sections.{listed-parameters, parameters-follow}
-use Rattle.ob0_checker.proofs.Walked.{split}
 
 bind_typed-names : (xs : List Label) (f : Formal) (env : TypeEnvironment Label) → bind_typed (map (λ x. record { name = x; formal = f }) xs) env ≡ bind_names xs (a_variable f.shape) env
 bind_typed-names [] f env = refl
@@ -88,22 +89,6 @@ heading_keeps w h v u p signature from_w signed as_before shapes back bound sect
     (bound.keeps (bind_typed (parameters_of h) all) (a_procedure (map (formal_in (shapes_of v.known)) signature.items)) refl (keeps_same (bind_typed (parameters_of h) all) h.walk.known v.known as_before (sections all keeps))))
 
 -- parameters that are bound twice
-abbrev pub or_else : {A : Type 0} → Option A → Option A → Option A
-or_else None b = b
-or_else (Some a) b = Some a
-
-or-if : {A : Type 0} (b : Bool) (o : A) (p q : Option A) → cond b (Some o) (or_else p q) ≡ or_else (cond b (Some o) p) q
-or-if true o p q = refl
-or-if false o p q = refl
-
-pub newest-append : (xs ys : TypeEnvironment Label) (z : Label) → newest (from_binding as_labels (xs ++ ys) z) ≡ or_else (newest (from_binding as_labels xs z)) (newest (from_binding as_labels ys z))
-newest-append [] ys z = refl
-newest-append ((y, o) ∷ xs) ys z =
-    newest-if (as_labels.same z y) y o (xs ++ ys) (from_binding as_labels (xs ++ ys) z)
-    ∙ ap (cond (as_labels.same z y) (Some o)) (newest-append xs ys z)
-    ∙ or-if (as_labels.same z y) o (newest (from_binding as_labels xs z)) (newest (from_binding as_labels ys z))
-    ∙ ap (λ s. or_else s (newest (from_binding as_labels ys z))) (sym (newest-if (as_labels.same z y) y o xs (from_binding as_labels xs z)))
-
 or_else-twice : {A : Type 0} (p q r : Option A) → or_else p (or_else q (or_else p r)) ≡ or_else p (or_else q r)
 or_else-twice None q r = refl
 or_else-twice (Some a) q r = refl
@@ -118,10 +103,6 @@ twice xs ys zs z =
     ∙ ap (or_else p) (sym (newest-append ys zs z))
     ∙ sym (newest-append xs (ys ++ zs) z)
 
-pub bind_typed-append : (ps : List (TypedParameter Label)) (first env : TypeEnvironment Label) → bind_typed ps (first ++ env) ≡ bind_typed ps first ++ env
-bind_typed-append [] first env = refl
-bind_typed-append (p ∷ ps) first env = bind_typed-append ps ((p.name, a_variable p.formal.shape) ∷ first) env
-
 keeps_once : (ps : List (TypedParameter Label)) (y : Label) (all : TypeEnvironment Label) (t : Tables) → Keeps (bind_typed ps (heading y ps (bind_typed ps all))) t → Keeps (bind_typed ps (heading y ps all)) t
 keeps_once ps y all t keeps = λ k.
     let xs = bind_typed ps [] in
@@ -132,11 +113,6 @@ keeps_once ps y all t keeps = λ k.
     ∙ keeps k
 
 -- a procedure
-pub headed_bindings : (env : TypeEnvironment Label) (k : ℕ) (x closing : Label) (fs : Tree Label (maybe formals)) (b : Tree Label block) (qs : List (TypedParameter Label)) → typed_parameters as_labels env k (formal_sections fs) ≡ Some qs
-    → procedure_bindings as_labels env k (declares_procedure x fs b closing) ≡ block_bindings as_labels (bind_typed qs (heading x qs env)) (k + formals_constructors (formal_sections fs)) b ++ bind_typed qs (heading x qs [])
-unfolding procedure_bindings
-headed_bindings env k x closing fs b qs e = ap (λ o. for_some o (λ ps. block_bindings as_labels (bind_typed ps (heading x ps env)) (k + formals_constructors (formal_sections fs)) b ++ bind_typed ps (heading x ps []))) e
-
 kept_procedure : (w v u z : Walking) (h : Heading) (x closing : ℕ) (fs : Tree ℕ (maybe formals)) (b : Tree ℕ block)
     → DeclaresHeading w (in_labels w.resolved (declares_procedure x fs b closing)) (Some h) → KeepsHeading w.known (label_in w.resolved x) h
     → ((env : TypeEnvironment Label) → Agrees env h.walk.known → Agrees (bind_typed (parameters_of h) env) v.known)
@@ -209,11 +185,6 @@ procedures_keep_on {xs = xs} {v = v} {l = l} {done = done} u x g less here d kep
     }
 
 -- a block
-pub since-append : {A : Type 0} (first before : List A) → since before (first ++ before) ≡ first
-since-append first before =
-    ap (λ n. take n (first ++ before)) (omega (arith, length-append first before))
-    ∙ take-append_seam first before
-
 no_procedures : (env : TypeEnvironment Label) (k : ℕ) → procedures_bindings as_labels env k end ≡ []
 unfolding procedures_bindings
 no_procedures env k = refl

@@ -2,12 +2,9 @@ pub mod Chains
 pub mod Judged
 pub mod Kept
 pub mod KeptProcedures
-pub mod ConstantsDeclared
-pub mod DeclaredPlaces
 pub mod Evaluated
 pub mod ConstantValues
 pub mod Agreement
-pub mod Counted
 pub mod Walked
 pub mod Declared
 pub mod Sections
@@ -15,5 +12,4 @@ pub mod Procedures
 pub mod Added
 pub mod Gathered
 pub mod DenotedParts
-pub mod DesignatedAlone
 pub mod FittingStatements

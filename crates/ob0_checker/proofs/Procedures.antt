@@ -1,14 +1,14 @@
 -- Blocks and procedures: back behind a procedure what was in sight is in sight again.
-use Rattle.std.proofs.Common.{◌≡◌, ℕ, ◌+◌, ◌<◌, ◌≤◌, Bool, true, false, ◌&&◌, cond, List, [], ◌∷◌, ◌++◌, map, length, get_or, Result, Ok, Err, IfOk, is_some, Some, None, Option, option_and_then, refl, sym, ap, ◌∙◌, subst, arith}
+use Rattle.std.proofs.Common.{◌≡◌, ℕ, ◌+◌, ◌<◌, ◌≤◌, Bool, true, false, ◌&&◌, cond, List, [], ◌∷◌, ◌++◌, map, length, get_or, is_some, Some, None, Option, option_and_then, refl, sym, ap, ◌∙◌, subst, arith}
 use Rattle.std.proofs.lemmas.List.{drop_all}
 use Rattle.std.specs.declared.vec.Vec.{Vec}
 use Rattle.std.specs.declared.alloc.Global.{Global}
-use Rattle.ob0_tree.specs.declared.tree.Procedure.{Procedure, out-Procedure, roll-out-Procedure}
+use Rattle.ob0_tree.specs.declared.tree.Procedure.{Procedure, out-Procedure}
 use Rattle.ob0_tree.specs.Places.{value_at}
 use Rattle.ob0_tree.specs.Tree.{Tree, block, body, constants, declares, declares_procedure, end, formals, has_body, item, items, maybe, more, procedure, type_names, variables}
 use Rattle.ob0_tree.specs.View.{block_of, body_of, constants_of, formals_of, items_of, procedure_of, types_of, variables_of}
 use Rattle.ob0_tree.specs.declared.tree.Block.{Block, out-Block}
-use Rattle.ob0_tree.proofs.Viewed.{block_parts, procedure_made}
+use Rattle.ob0_tree.proofs.Viewed.{block_parts}
 use Rattle.ob0_scope.specs.Names.{Label, as_labels}
 use Rattle.ob0_scope.specs.Parts.{block_types, block_variables, formal_sections, procedure_formals, procedure_name, section_constants, section_types, section_variables}
 use Rattle.ob0_scope.specs.Resolution.{Resolution}
@@ -16,22 +16,20 @@ use Rattle.ob0_symbols.specs.declared.known.Formal as formal
 use Rattle.ob0_symbols.specs.declared.known.Object.TheVariants as kind
 use Rattle.ob0_symbols.specs.declared.known.Shadowed.{Shadowed}
 use Rattle.ob0_checker.specs.declared.walk.Parameter.{Parameter}
-use Rattle.ob0_checker.specs.Checking.{Agrees, Decides, Declares, DeclaresHeading, DeclaresSections, Follows, Heading, Walking, declare_block, declare_procedure, parameter_in, parameters_of}
+use Rattle.ob0_checker.specs.Checking.{Agrees, Decides, Declares, DeclaresHeading, DeclaresSections, Follows, Heading, Walking, parameter_in, parameters_of}
+use Rattle.ob0_bindings.specs.Declaring.{declare_block, declare_procedure}
 use Rattle.ob0_typing.specs.Declarations.{block_constructors, declare_constants, declare_first, declare_types, formals_constructors, procedure_constructors, procedures_constructors, types_constructors, variables_constructors}
 use Rattle.ob0_typing.specs.Expressions.{a_procedure}
-use Rattle.ob0_checker.specs.InLabels.{in_labels, label_in}
+use Rattle.ob0_bindings.specs.InLabels.{in_labels, label_in}
 use Rattle.ob0_symbols.specs.KnownTables.{AreTables, before_all, seen_object, shapes_of}
 use Rattle.ob0_symbols.specs.Tables.{formal_in}
 use Rattle.ob0_typing.specs.WellTyped.{TypeEnvironment, TypedParameter, bind_typed, block_fits, body_fits, declare_typed, heading, hold, procedure_fits, procedures_fit, typed_parameters}
 use Rattle.ob0_values.specs.Values.{Shape}
 use Rattle.ob0_checker.proofs.Agreement.{agrees_same, follows_more, follows_on}
-use Rattle.ob0_checker.proofs.Counted.{counted_formals, counted_procedure, counted_types, counted_variables, sections_mapped, types_mapped, variables_mapped}
+use Rattle.ob0_bindings.proofs.Counted.{counted_formals, counted_procedure, counted_types, counted_variables, sections_mapped, types_mapped, variables_mapped}
+use Rattle.ob0_bindings.proofs.Parts.{procedure_parts}
 use Rattle.ob0_checker.proofs.Declared.{Binding}
 use Rattle.ob0_checker.proofs.Walked.{Giving, IsWalk, Walked, declared_none, declared_then, walked_ends, walked_stops}
-
-pub ifok_map : {A E : Type 0} (P Q : A → Type 0) (res : Result A E) → ((x : A) → P x → Q x) → IfOk res P → IfOk res Q
-ifok_map P Q (Ok x) f h = f x h
-ifok_map P Q (Err e) f h = tt
 
 -- the declarations of a block, part by part
 pub declared_parts : (r : Resolution) (k : ℕ) (cs : Tree ℕ (maybe constants)) (ts : Tree ℕ (maybe type_names)) (vs : Tree ℕ (maybe variables)) (ps : Tree ℕ (items procedure)) (st : Tree ℕ (maybe body)) (env : TypeEnvironment Label)
@@ -82,10 +80,6 @@ block_declared w v u cs ts vs ps st r a b c =
     (λ e. option_and_then (declare_typed as_labels (w.next + types_constructors (section_types ts)) (section_variables (in_labels w.resolved vs))) (declare_types as_labels e w.next (section_types (in_labels w.resolved ts)))) r b c refl
     (λ env i. option_and_then (declare_typed as_labels (sym after i) (section_variables (in_labels (sym same i) vs))) (declare_types as_labels env (sym next i) (section_types (in_labels (sym a.follows.same i) ts)))))
     (omega arith) (declared_parts w.resolved w.next cs ts vs ps st)
-
--- a procedure's parts
-pub procedure_parts : (p : Procedure) → procedure_of p ≡ declares_procedure (out-Procedure p).name (formals_of (out-Procedure p).formals) (block_of (out-Procedure p).block) (out-Procedure p).closing
-procedure_parts p = sym (ap procedure_of (roll-out-Procedure p)) ∙ procedure_made (out-Procedure p)
 
 -- back where the walk was
 pub record Returns (w v u : Walking) : Type 0 where

@@ -1,9 +1,9 @@
 -- The sections of a heading: what was typed so far, with what is left, is the whole.
-use Rattle.std.proofs.Common.{◌≡◌, ℕ, ◌+◌, ◌<◌, ◌≤◌, Bool, true, false, cond, List, [], ◌∷◌, ◌++◌, map, length, get_or, drop, All, Some, None, Option, option_and_then, option_map, refl, sym, ap, ◌∙◌, subst, arith, append_assoc, append-nil}
+use Rattle.std.proofs.Common.{◌≡◌, ℕ, ◌+◌, ◌<◌, ◌≤◌, List, [], ◌∷◌, ◌++◌, map, length, get_or, drop, All, Some, None, Option, option_and_then, option_map, refl, sym, ap, ◌∙◌, subst, arith, append_assoc, append-nil}
 use Rattle.std.proofs.lemmas.List.{drop_all, drop_more, map-append}
 use Rattle.std.proofs.lemmas.List.Elements.{All-append, All-head, All-map, All-tail}
 use Rattle.ob0_tree.specs.declared.tree.Section.{Section}
-use Rattle.ob0_tree.specs.Tree.{Tree, end, further_section, items, more, one, section, then_section, value_section, variable_section}
+use Rattle.ob0_tree.specs.Tree.{Tree, end, further_section, items, more, one, section, then_section}
 use Rattle.ob0_tree.specs.View.{formals_listed, further_section_of, items_of, names_of, section_of, type_of}
 use Rattle.ob0_tree.specs.Places.{value_at}
 use Rattle.ob0_scope.specs.Names.{Label, as_labels}
@@ -16,14 +16,15 @@ use Rattle.ob0_checker.specs.Checking.{Agrees, DeclaresSection, DeclaresSections
 use Rattle.ob0_typing.specs.Declarations.{formals_constructors}
 use Rattle.ob0_typing.specs.Environments.{meanings}
 use Rattle.ob0_typing.specs.Expressions.{a_variable}
-use Rattle.ob0_checker.specs.InLabels.{in_labels, label_in}
+use Rattle.ob0_bindings.specs.InLabels.{in_labels, label_in}
 use Rattle.ob0_symbols.specs.KnownTables.{shapes_of}
 use Rattle.ob0_symbols.specs.Tables.{IsMade, formal_in, mode_of, type_shape}
 use Rattle.ob0_typing.specs.Typing.{constructors, denoted}
-use Rattle.ob0_typing.specs.WellTyped.{TypeEnvironment, TypedParameter, bind_names, section_mode, typed_parameters}
+use Rattle.ob0_typing.specs.WellTyped.{TypeEnvironment, TypedParameter, bind_names, typed_parameters}
 use Rattle.ob0_values.specs.Values.{Shape}
 use Rattle.ob0_checker.proofs.Agreement.{follows_itself, follows_on}
-use Rattle.ob0_checker.proofs.Counted.{counted_formals, counted_section, labels_listed}
+use Rattle.ob0_bindings.proofs.Counted.{counted_formals, counted_section, labels_listed}
+use Rattle.ob0_bindings.proofs.Parts.{section-constructors, section-mode, section-names, section-type}
 use Rattle.ob0_checker.proofs.Declared.{Behind}
 use Rattle.ob0_symbols.proofs.Tables.{IsMade-more, length-table, type_shape-more}
 
@@ -38,35 +39,6 @@ pub parameters-follow : (w v : Walking) (ps : List Parameter) → Follows w v �
 parameters-follow w v ps f made =
     (λ i. map (parameter_in (f.same i) (f.shapes.1 i)) ps)
     ∙ parameters-more w.resolved (shapes_of w.known) f.shapes.0 ps (subst (λ n. All (λ (p : Parameter). IsMade n p.formal.of) ps) (sym (length-table w.known.shapes)) made)
-
--- a section's parts
-pub section-type : (r : Resolution) (s : Section) → section_type (in_labels r (section_of s)) ≡ in_labels r (type_of s.written)
-section-type r s = by_mode s.by_reference
-  where
-    by_mode : (b : Bool) → section_type (in_labels r (cond b (variable_section (names_of s.names) (type_of s.written)) (value_section (names_of s.names) (type_of s.written)))) ≡ in_labels r (type_of s.written)
-    by_mode true = refl
-    by_mode false = refl
-
-pub section-names : (r : Resolution) (s : Section) → section_names (in_labels r (section_of s)) ≡ names_listed (in_labels r (names_of s.names))
-section-names r s = by_mode s.by_reference
-  where
-    by_mode : (b : Bool) → section_names (in_labels r (cond b (variable_section (names_of s.names) (type_of s.written)) (value_section (names_of s.names) (type_of s.written)))) ≡ names_listed (in_labels r (names_of s.names))
-    by_mode true = refl
-    by_mode false = refl
-
-pub section-mode : (r : Resolution) (s : Section) → section_mode (in_labels r (section_of s)) ≡ mode_of s.by_reference
-section-mode r s = by_mode s.by_reference
-  where
-    by_mode : (b : Bool) → section_mode (in_labels r (cond b (variable_section (names_of s.names) (type_of s.written)) (value_section (names_of s.names) (type_of s.written)))) ≡ mode_of b
-    by_mode true = refl
-    by_mode false = refl
-
-pub section-constructors : (r : Resolution) (s : Section) → constructors (section_type (in_labels r (section_of s))) ≡ constructors (type_of s.written)
-section-constructors r s = counted_section (label_in r) (value_at r.module_read.source) (section_of s) ∙ by_mode s.by_reference
-  where
-    by_mode : (b : Bool) → constructors (section_type (cond b (variable_section (names_of s.names) (type_of s.written)) (value_section (names_of s.names) (type_of s.written)))) ≡ constructors (type_of s.written)
-    by_mode true = refl
-    by_mode false = refl
 
 -- the parameters that are put behind
 pub listed-parameters : (r : Resolution) (shapes : List Shape) (f : formal.Formal) (xs : List ℕ) → map (parameter_in r shapes) (map (λ n. record { name = n; formal = f }) xs) ≡ map (λ x. record { name = x; formal = formal_in shapes f }) (map (label_in r) xs)
@@ -101,7 +73,7 @@ section_some h g s d made b bound follows next shapes listed =
             ∙ (λ i. parameters-follow h.walk g.walk h.parameters all made i
             ++ ((λ j. map (parameter_in (all.same j) (same j)) (map (λ n. record { name = n; formal = f }) (s.names.first ∷ s.names.more.items)))
             ∙ listed-parameters r (shapes_of d.walk.known) f (s.names.first ∷ s.names.more.items)
-            ∙ (λ j. map (λ x. record { name = x; formal = record { mode = sym (section-mode r s) j; shape = t } }) ((sym (labels_listed r s.names) ∙ sym (section-names r s)) j))) i),
+            ∙ (λ j. map (λ x. record { name = x; formal = record { mode = sym (section-mode mode_of refl refl r s) j; shape = t } }) ((sym (labels_listed r s.names) ∙ sym (section-names r s)) j))) i),
       );
       follows = all;
       next = omega (arith, b.next, next, section-constructors r s);

@@ -1,6 +1,6 @@
 -- Loops of the walk over declarations: what is left, in the environment that agrees with what is in sight, gives what the whole gives.
 use Rattle.std.proofs.Common.{◌≡◌, ℕ, ◌+◌, ◌<◌, ◌≤◌, List, ◌∷◌, length, get_or, drop, Some, None, Option, option_and_then, option_map, refl, sym, ap, ◌∙◌, subst, arith}
-use Rattle.std.proofs.lemmas.List.{drop_all, drop_more}
+use Rattle.std.proofs.lemmas.List.{drop_all}
 use Rattle.ob0_tree.specs.Tree.{Tree, Item, constant, declares_constant, declares_type, declares_variable, end, expression, item, items, more, names, type_name, variable, written_type}
 use Rattle.ob0_tree.specs.View.{items_of}
 use Rattle.ob0_scope.specs.Names.{Label, as_labels}
@@ -9,13 +9,14 @@ use Rattle.ob0_checker.specs.Checking.{Agrees, Declares, Follows, Walking}
 use Rattle.ob0_typing.specs.Declarations.{declare_constants, declare_types, types_constructors, variables_constructors}
 use Rattle.ob0_typing.specs.Environments.{meanings}
 use Rattle.ob0_typing.specs.Expressions.{a_constant, a_type, a_variable}
-use Rattle.ob0_checker.specs.InLabels.{in_labels, label_in}
+use Rattle.ob0_bindings.specs.InLabels.{in_labels, label_in}
 use Rattle.ob0_typing.specs.Typing.{constant_value, constructors, denoted}
 use Rattle.ob0_typing.specs.WellTyped.{TypeEnvironment, bind_names, declare_typed}
 use Rattle.ob0_scope.specs.Parts.{names_listed}
 use Rattle.ob0_values.specs.Values.{Shape, Value}
 use Rattle.ob0_checker.proofs.Agreement.{follows_itself, follows_on}
-use Rattle.ob0_checker.proofs.Counted.{counted_type}
+use Rattle.ob0_bindings.proofs.Counted.{counted_type}
+use Rattle.ob0_bindings.proofs.Parts.{split}
 
 abbrev pub Giving : Type 0 → Type 0
 Giving T = Resolution → ℕ → T → TypeEnvironment Label → Option (TypeEnvironment Label)
@@ -33,9 +34,6 @@ pub record Walked {R A : Type 0} {i : Item} (D : Resolution → ℕ → Tree ℕ
 
 pub walked_begins : {R A : Type 0} {i : Item} (D : Resolution → ℕ → Tree ℕ (items i) → TypeEnvironment Label → R) (N : Tree ℕ (items i) → ℕ) (f : A → Tree ℕ (item i)) (xs : List A) (w : Walking) → Walked D N f xs w w 0
 walked_begins D N f xs w = record { on = λ env agrees. (env, agrees, refl); follows = follows_itself w; next = refl }
-
-pub split : {A : Type 0} (done : ℕ) (xs : List A) (x : A) → done < length xs → x ≡ get_or xs done x → drop done xs ≡ x ∷ drop (done + 1) xs
-split done xs x less here = drop_more xs done x less ∙ ap (λ y. y ∷ drop (done + 1) xs) (sym here)
 
 pub walked_on : {R A : Type 0} {i : Item} {D : Resolution → ℕ → Tree ℕ (items i) → TypeEnvironment Label → R} {S : Giving (Tree ℕ (item i))} {n : Tree ℕ (item i) → ℕ} {N : Tree ℕ (items i) → ℕ} {stopped : R} {f : A → Tree ℕ (item i)} {xs : List A} {w v : Walking} {done : ℕ} (u : Walking) (x : A)
     → IsWalk D S n N stopped → Walked D N f xs w v done → done < length xs → x ≡ get_or xs done x → Declares v (n (f x)) (S v.resolved v.next (f x)) (Some u) → Walked D N f xs w u (done + 1)

@@ -1,19 +1,19 @@
 -- The walk over declarations: what is in sight at each place of a module is what its environment there says.
-use Rattle.std.specs.Prelude.{◌≡◌, ℕ, ◌+◌, ◌≤◌, Bool, List, ◌++◌, map, length, if◌then◌else◌, IfSome, is_some, Some, None, Option, option_map}
-use Rattle.ob0_tree.specs.Tree.{Tree, block, further_section, item, items, procedure, section}
-use Rattle.ob0_scope.specs.Names.{Label, Naming, as_labels, declared}
-use Rattle.ob0_scope.specs.Parts.{block_variables, procedure_formals, procedure_name, section_names, section_type}
+use Rattle.std.specs.Prelude.{◌≡◌, ℕ, ◌+◌, ◌≤◌, Bool, List, ◌++◌, map, length, IfSome, is_some, Some, None, Option, option_map}
+use Rattle.ob0_tree.specs.Tree.{Tree, further_section, item, items, procedure, section}
+use Rattle.ob0_scope.specs.Names.{Label, as_labels, declared}
+use Rattle.ob0_scope.specs.Parts.{procedure_formals, procedure_name, section_names, section_type}
 use Rattle.ob0_scope.specs.Resolution.{Resolution}
 use Rattle.ob0_symbols.specs.declared.known.Shadowed.{Shadowed}
 use Rattle.ob0_checker.specs.declared.walk.Parameter.{Parameter}
-use Rattle.ob0_typing.specs.Declarations.{after_types, declare_first, formals_constructors}
+use Rattle.ob0_typing.specs.Declarations.{formals_constructors}
 use Rattle.ob0_typing.specs.Environments.{from_binding, meanings, newest}
 use Rattle.ob0_typing.specs.Expressions.{a_variable}
-use Rattle.ob0_checker.specs.InLabels.{label_in}
+use Rattle.ob0_bindings.specs.InLabels.{label_in}
 use Rattle.ob0_symbols.specs.KnownTables.{Tables, before_all, declared_in, known_meaning, seen_object, shapes_of}
 use Rattle.ob0_symbols.specs.Tables.{formal_in}
-use Rattle.ob0_typing.specs.Typing.{constructors, denoted, ◌>>=◌}
-use Rattle.ob0_typing.specs.WellTyped.{TypeEnvironment, TypedParameter, bind_names, bind_typed, declare_typed, heading, procedure_fits, section_mode, typed_parameters}
+use Rattle.ob0_typing.specs.Typing.{constructors, denoted}
+use Rattle.ob0_typing.specs.WellTyped.{TypeEnvironment, TypedParameter, bind_names, bind_typed, heading, section_mode, typed_parameters}
 use Rattle.ob0_values.specs.Values.{Shape}
 
 -- what names stand for in an environment is what is in sight
@@ -113,14 +113,3 @@ pub record DeclaresHeading (w : Walking) (p : Tree Label (item procedure)) (r : 
   pub leaves : (env : TypeEnvironment Label) → Agrees env w.known → IfSome r (λ g. Agrees (heading (procedure_name p) (parameters_of g) env) g.walk.known)
   pub follows : IfSome r (λ g. Follows w g.walk)
   pub next : IfSome r (λ g. g.walk.next ≡ w.next + formals_constructors (procedure_formals p))
-
--- the environment behind a procedure that fits
-unfoldable pub declare_procedure : {N : Type 0} → Naming N → TypeEnvironment N → ℕ → Tree N (item procedure) → Option (TypeEnvironment N)
-unfolding typed_parameters procedure_fits
-declare_procedure naming env k p = do
-  ps ← typed_parameters naming env k (procedure_formals p)
-  if procedure_fits naming (bind_typed ps (heading (procedure_name p) ps env)) k p then Some (heading (procedure_name p) ps env) else None
-
--- the environment behind a block's constants, types and variables
-abbrev pub declare_block : {N : Type 0} → Naming N → TypeEnvironment N → ℕ → Tree N block → Option (TypeEnvironment N)
-declare_block naming env k b = declare_first naming env k b >>= declare_typed naming (after_types k b) (block_variables b)

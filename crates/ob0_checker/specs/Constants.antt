@@ -1,19 +1,21 @@
--- The types of variables, and the steps of a constant's evaluation.
-use Rattle.std.specs.Prelude.{cond, [], Some, None, Option, option_and_then}
-use Rattle.ob0_tree.specs.declared.tree.AddOperator.{AddOperator}
-use Rattle.ob0_tree.specs.declared.tree.MultiplyOperator.{MultiplyOperator}
+-- What labels stand for, everywhere or in constant expressions alone, and the steps of a constant's evaluation.
+use Rattle.std.specs.Prelude.{Bool, true, false, [], Option, option_map}
 use Rattle.ob0_tree.specs.Tree.{Tree, addend, adds, item, multiplier, multiplies}
-use Rattle.ob0_scope.specs.Names.{Label}
-use Rattle.ob0_typing.specs.Expressions.{Meanings, Object, a_variable, evaluate_factor, evaluate_term}
+use Rattle.ob0_scope.specs.Names.{Label, label_text}
+use Rattle.ob0_typing.specs.Expressions.{Meanings, Object, a_constant, evaluate_factor, evaluate_term}
 use Rattle.ob0_symbols.specs.Operators.{product_value, sum_value}
-use Rattle.ob0_symbols.specs.KnownTables.{Tables, known_meaning}
-use Rattle.ob0_typing.specs.Typing.{constants_only, given_value}
-use Rattle.ob0_values.specs.Values.{Place, Shape, Value, add, add_is_settled, multiply, multiply_is_settled}
+use Rattle.ob0_symbols.specs.KnownTables.{Tables, known_meaning, label_object}
+use Rattle.ob0_typing.specs.Typing.{constant_of, constants_only, given_value}
+use Rattle.ob0_typing.specs.WellTyped.{Signature, Typed}
+use Rattle.ob0_values.specs.Values.{Place, Shape, Value}
 
--- the type of a variable or parameter
-abbrev pub variable_of : {P : Type 0} → Option (Object Shape P) → Option Shape
-variable_of (Some (a_variable s)) = Some s
-variable_of _ = None
+-- in a constant expression names stand for constants alone
+abbrev pub where_only : Bool → Option (Object Shape Signature) → Option (Object Shape Signature)
+where_only true o = option_map a_constant (constant_of o)
+where_only false o = o
+
+abbrev pub meaning_in : Tables → Bool → Typed Label
+meaning_in t only_constants = record { stands_for = λ x. where_only only_constants (label_object t x); written = label_text }
 
 -- what names stand for where a constant expression is evaluated
 abbrev pub constants_in : Tables → Meanings Label Place (Unit {0})

@@ -5,7 +5,7 @@ ghost use Rattle.std.specs.Prelude.{◌≡◌, ℕ, ◌+◌, ◌<◌, ◌≤◌,
 ghost use Rattle.ob0_tree.specs.Tree.{named_type};
 ghost use Rattle.ob0_tree.specs.View.{expression_of, record_in, type_of};
 ghost use Rattle.ob0_checker.specs.DenotedTables.{AreAdded, Denotes, array_in};
-ghost use Rattle.ob0_checker.specs.InLabels.{in_labels};
+ghost use Rattle.ob0_bindings.specs.InLabels.{in_labels};
 ghost use Rattle.ob0_symbols.specs.KnownTables.{known_meaning, shapes_of};
 ghost use Rattle.ob0_symbols.specs.Tables.{IsMade, type_shape};
 ghost use Rattle.ob0_typing.specs.Typing.{array_length, constant_value, constructors, denoted};

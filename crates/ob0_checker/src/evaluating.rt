@@ -16,7 +16,7 @@ use ob0_values::Scalar;
 
 impl<'a, 't> Names<'a, 't> {
     ghost use Rattle.ob0_symbols.specs.KnownTables.{known_meaning};
-    ghost use Rattle.ob0_checker.specs.InLabels.{in_labels};
+    ghost use Rattle.ob0_bindings.specs.InLabels.{in_labels};
     ghost use Rattle.ob0_checker.specs.Constants.{constants_in};
     ghost use Rattle.ob0_typing.specs.Expressions.{evaluate, evaluate_factor, evaluate_simple, evaluate_term};
     ghost use Rattle.ob0_typing.specs.Typing.{constant_value};

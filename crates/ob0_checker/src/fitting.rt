@@ -2,17 +2,18 @@
 
 ghost use Rattle.std.specs.Prelude.{◌≡◌, List, Some, map, option_map};
 ghost use Rattle.ob0_tree.specs.View.{assignment_of, call_of, elsifs_in, expression_of, if_of, sequence_in, statement_of};
-ghost use Rattle.ob0_checker.specs.FittingParts.{all_in_labels, designator_in};
+ghost use Rattle.ob0_bindings.specs.Designators.{all_in_labels, designator_in};
 ghost use Rattle.ob0_typing.specs.Expressions.{a_standard};
-ghost use Rattle.ob0_checker.specs.InLabels.{in_labels, label_in, meaning_in};
+ghost use Rattle.ob0_bindings.specs.InLabels.{in_labels, label_in};
+ghost use Rattle.ob0_checker.specs.Constants.{meaning_in};
 ghost use Rattle.ob0_symbols.specs.KnownTables.{shapes_of};
 ghost use Rattle.ob0_symbols.specs.Tables.{formal_in, standard_of, type_shape};
 ghost use Rattle.ob0_typing.specs.Typing.{designated};
 ghost use Rattle.ob0_typing.specs.WellTyped.{agree, argument_fits, arguments_fit, condition_fits, elsifs_fit, sequence_fits, signature_of, statement_fits, variable_type};
 ghost use Rattle.ob0_values.specs.Values.{Shape};
 
-use crate::designated::designated;
 use crate::names::Names;
+use ob0_bindings::designated::designated;
 use ob0_symbols::{Formal, Object, Standard, TypeId};
 use ob0_tree::{Assignment, Call, Designator, Elsif, Expression, If, Statement};
 

@@ -9,9 +9,10 @@ use ob0_tree::{Comparison, Designator, Expression, Factor, Selector, Simple, Ter
 
 impl<'a, 't> Names<'a, 't> {
     ghost use Rattle.ob0_symbols.specs.KnownTables.{label_object, shapes_of};
-    ghost use Rattle.ob0_checker.specs.Constants.{variable_of};
+    ghost use Rattle.ob0_bindings.specs.Bindings.{variable_of};
     ghost use Rattle.ob0_tree.specs.declared.tree.Designator.{out-Designator};
-    ghost use Rattle.ob0_checker.specs.InLabels.{in_labels, label_in, meaning_in};
+    ghost use Rattle.ob0_bindings.specs.InLabels.{in_labels, label_in};
+    ghost use Rattle.ob0_checker.specs.Constants.{meaning_in};
     ghost use Rattle.ob0_symbols.specs.Tables.{type_shape};
     ghost use Rattle.ob0_typing.specs.Typing.{element_type, field_type, type_at, type_of, type_of_factor, type_of_simple, type_of_term};
     ghost use Rattle.ob0_typing.specs.Selected.{both, selectors_in, type_selected};

@@ -4,11 +4,9 @@
 
 mod deciding;
 mod denoting;
-pub mod designated;
 mod evaluating;
 mod fitting;
 mod judging;
-pub mod laws;
 mod names;
 mod walk;
 

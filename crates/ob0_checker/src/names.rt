@@ -20,10 +20,11 @@ impl<'a, 't> Names<'a, 't> {
     ghost use Rattle.ob0_scope.specs.Names.{label_text};
     ghost use Rattle.ob0_typing.specs.Expressions.{a_constant, a_type, a_variable};
     ghost use Rattle.ob0_symbols.specs.KnownTables.{label_object, shapes_of};
-    ghost use Rattle.ob0_checker.specs.InLabels.{label_in, meaning_in, where_only};
+    ghost use Rattle.ob0_bindings.specs.InLabels.{label_in};
+    ghost use Rattle.ob0_checker.specs.Constants.{meaning_in, where_only};
     ghost use Rattle.ob0_symbols.specs.Tables.{object_in, type_shape, ObjectIsMade, IsMade};
     ghost use Rattle.ob0_typing.specs.Typing.{constant_of, object_type, type_of_name};
-    ghost use Rattle.ob0_checker.specs.Constants.{variable_of};
+    ghost use Rattle.ob0_bindings.specs.Bindings.{variable_of};
     ghost use Rattle.ob0_values.specs.Scalars.{scalar_value};
 
     /// What a name stands for.

@@ -52,7 +52,7 @@ impl<'t> Walk<'t> {
     ghost use Rattle.ob0_checker.specs.Checking.{Agrees, Follows, Keeps};
     ghost use Rattle.ob0_typing.specs.Environments.{meanings};
     ghost use Rattle.ob0_typing.specs.Expressions as meaning;
-    ghost use Rattle.ob0_checker.specs.InLabels.{in_labels, label_in};
+    ghost use Rattle.ob0_bindings.specs.InLabels.{in_labels, label_in};
     ghost use Rattle.ob0_symbols.specs.KnownTables.{AreTables, before_all, declared_in, predeclared, seen_object, shapes_of};
     ghost use Rattle.ob0_symbols.specs.Tables.{IsMade, ObjectIsMade, object_in, type_shape};
     ghost use Rattle.ob0_typing.specs.Typing.{constructors, denoted};

@@ -5,10 +5,10 @@ use Rattle.ob0_scope.specs.Names.{as_labels}
 use Rattle.ob0_checker.specs.Checking.{Agrees, Decides, Keeps, KeepsAll}
 use Rattle.ob0_typing.specs.Declarations.{block_constructors}
 use Rattle.ob0_typing.specs.Environments.{outermost}
-use Rattle.ob0_checker.specs.InLabels.{in_labels}
+use Rattle.ob0_bindings.specs.InLabels.{in_labels}
 use Rattle.ob0_typing.specs.WellTyped.{block_fits, fits_over}
 use Rattle.ob0_checker.proofs.Agreement.{agrees_outermost}
-use Rattle.ob0_checker.specs.Bindings.{block_bindings}
+use Rattle.ob0_bindings.specs.Bindings.{block_bindings}
 use Rattle.ob0_checker.proofs.KeptProcedures.{keeps_outermost}
 use Rattle.ob0_checker.proofs.deciding.decide.Goals as goal
 

@@ -1,7 +1,7 @@
 use Rattle.std.proofs.Common.{◌∷◌, length, Some, None, sym, ap, subst, arith}
 use Rattle.ob0_tree.specs.View.{section_of, type_of}
 use Rattle.ob0_checker.specs.Checking.{DeclaresSection, Heading, Keeps, parameters_of}
-use Rattle.ob0_checker.specs.InLabels.{in_labels}
+use Rattle.ob0_bindings.specs.InLabels.{in_labels}
 use Rattle.ob0_symbols.specs.Tables.{IsMade}
 use Rattle.ob0_checker.proofs.Declared.{Behind}
 use Rattle.ob0_checker.proofs.Sections.{section_made, section_none, section_some}

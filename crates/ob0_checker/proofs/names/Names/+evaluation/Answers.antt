@@ -10,7 +10,7 @@ use Rattle.ob0_tree.specs.View.{items_of, addend_of, multiplier_of, term_of, fac
 use Rattle.ob0_checker.specs.Constants.{constants_in, value_added}
 use Rattle.ob0_symbols.specs.Operators.{product_value, sum_value}
 use Rattle.ob0_typing.specs.Expressions.{evaluate, evaluate_addends, evaluate_factor, evaluate_multipliers, evaluate_simple, evaluate_term}
-use Rattle.ob0_checker.specs.InLabels.{in_labels}
+use Rattle.ob0_bindings.specs.InLabels.{in_labels}
 use Rattle.ob0_typing.specs.Selected.{both}
 use Rattle.ob0_typing.specs.Typing.{given_value}
 use Rattle.ob0_checker.proofs.Chains.{chain_ends, chain_goes_on}

@@ -1,6 +1,6 @@
 use Rattle.std.proofs.Common.{option_map}
 use Rattle.ob0_tree.specs.View.{addend_of, multiplier_of, selector_of}
-use Rattle.ob0_checker.specs.InLabels.{meaning_in}
+use Rattle.ob0_checker.specs.Constants.{meaning_in}
 use Rattle.ob0_symbols.specs.KnownTables.{shapes_of}
 use Rattle.ob0_symbols.specs.Tables.{type_shape}
 use Rattle.ob0_typing.specs.Typing.{type_at, type_of_addends, type_of_multipliers}

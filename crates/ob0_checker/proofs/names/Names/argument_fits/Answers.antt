@@ -1,6 +1,7 @@
 use Rattle.std.proofs.Common.{Some, sym, ap, ◌∙◌}
 use Rattle.ob0_tree.specs.View.{expression_of}
-use Rattle.ob0_checker.specs.InLabels.{in_labels, meaning_in}
+use Rattle.ob0_bindings.specs.InLabels.{in_labels}
+use Rattle.ob0_checker.specs.Constants.{meaning_in}
 use Rattle.ob0_symbols.specs.KnownTables.{shapes_of}
 use Rattle.ob0_symbols.specs.Tables.{type_shape}
 use Rattle.ob0_typing.specs.WellTyped.{agree}

@@ -1,7 +1,7 @@
 use Rattle.std.proofs.Common.{◌≡◌, ◌+◌, [], ◌∷◌, ◌++◌, length, length-append, map, min, rules, sym, ◌∙◌, subst, arith}
 use Rattle.std.proofs.lemmas.Slice.Zip.{zip_end, zip_turn}
-use Rattle.ob0_checker.specs.FittingParts.{all_in_labels}
-use Rattle.ob0_checker.specs.InLabels.{meaning_in}
+use Rattle.ob0_bindings.specs.Designators.{all_in_labels}
+use Rattle.ob0_checker.specs.Constants.{meaning_in}
 use Rattle.ob0_symbols.specs.KnownTables.{shapes_of}
 use Rattle.ob0_symbols.specs.Tables.{formal_in}
 use Rattle.ob0_typing.specs.WellTyped.{arguments_fit}

@@ -1,6 +1,6 @@
 use Rattle.std.proofs.Common.{length, map}
-use Rattle.ob0_checker.specs.FittingParts.{all_in_labels}
-use Rattle.ob0_checker.specs.InLabels.{meaning_in}
+use Rattle.ob0_bindings.specs.Designators.{all_in_labels}
+use Rattle.ob0_checker.specs.Constants.{meaning_in}
 use Rattle.ob0_symbols.specs.KnownTables.{shapes_of}
 use Rattle.ob0_symbols.specs.Tables.{formal_in}
 use Rattle.ob0_typing.specs.WellTyped.{arguments_fit}

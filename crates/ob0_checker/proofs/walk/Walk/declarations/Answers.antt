@@ -5,11 +5,13 @@ use Rattle.ob0_tree.specs.Tree.{declares, has_body}
 use Rattle.ob0_tree.specs.View.{body_of, constants_of, items_of, procedure_of, types_of, variables_of}
 use Rattle.ob0_scope.specs.Names.{as_labels}
 use Rattle.ob0_scope.specs.Parts.{block_types, block_variables, section_constants, section_types, section_variables}
-use Rattle.ob0_checker.specs.Checking.{Declares, Grows, declare_block}
+use Rattle.ob0_checker.specs.Checking.{Declares, Grows}
+use Rattle.ob0_bindings.specs.Declaring.{declare_block}
 use Rattle.ob0_typing.specs.Declarations.{declare_constants, declare_types, types_constructors, variables_constructors}
-use Rattle.ob0_checker.specs.InLabels.{in_labels}
+use Rattle.ob0_bindings.specs.InLabels.{in_labels}
 use Rattle.ob0_typing.specs.WellTyped.{declare_typed}
-use Rattle.ob0_checker.proofs.Procedures.{block_declared, block_without_constants, block_without_types, ifok_map}
+use Rattle.ob0_checker.proofs.Procedures.{block_declared, block_without_constants, block_without_types}
+use Rattle.ob0_bindings.proofs.Parts.{ifok_map}
 use Rattle.ob0_checker.proofs.Kept.{block_grows, some_map}
 use Rattle.ob0_checker.proofs.walk.Walk.declarations.Goals as goal
 

@@ -1,6 +1,6 @@
 use Rattle.std.proofs.Common.{option_map, sym, ap, ◌∙◌, subst}
 use Rattle.ob0_tree.specs.View.{type_of}
-use Rattle.ob0_checker.specs.InLabels.{in_labels}
+use Rattle.ob0_bindings.specs.InLabels.{in_labels}
 use Rattle.ob0_symbols.specs.KnownTables.{known_meaning, shapes_of}
 use Rattle.ob0_symbols.specs.Tables.{type_shape}
 use Rattle.ob0_typing.specs.Typing.{denoted}

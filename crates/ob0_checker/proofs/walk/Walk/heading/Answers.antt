@@ -6,7 +6,7 @@ use Rattle.ob0_scope.specs.Parts.{formal_sections}
 use Rattle.ob0_symbols.specs.declared.known.Formal as formal
 use Rattle.ob0_checker.specs.declared.walk.Parameter.{Parameter}
 use Rattle.ob0_checker.specs.Checking.{DeclaresSections, Heading, KeepsParameters}
-use Rattle.ob0_checker.specs.InLabels.{in_labels}
+use Rattle.ob0_bindings.specs.InLabels.{in_labels}
 use Rattle.ob0_symbols.specs.Tables.{IsMade}
 use Rattle.ob0_checker.proofs.Procedures.{heading_none, heading_some, returns_to}
 use Rattle.ob0_checker.proofs.KeptProcedures.{heading_keeps}

@@ -4,7 +4,7 @@ use Rattle.ob0_scope.specs.Names.{as_labels}
 use Rattle.ob0_scope.specs.Parts.{section_types}
 use Rattle.ob0_checker.specs.Checking.{Declares, Grows}
 use Rattle.ob0_typing.specs.Declarations.{declare_types, types_constructors}
-use Rattle.ob0_checker.specs.InLabels.{in_labels}
+use Rattle.ob0_bindings.specs.InLabels.{in_labels}
 use Rattle.ob0_checker.proofs.Declared.{declared_nothing}
 use Rattle.ob0_checker.proofs.Walked.{types_ended}
 use Rattle.ob0_checker.proofs.Kept.{grows_nothing}

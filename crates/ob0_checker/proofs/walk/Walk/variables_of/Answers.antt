@@ -4,7 +4,7 @@ use Rattle.ob0_scope.specs.Names.{as_labels}
 use Rattle.ob0_scope.specs.Parts.{section_variables}
 use Rattle.ob0_checker.specs.Checking.{Declares, Grows}
 use Rattle.ob0_typing.specs.Declarations.{variables_constructors}
-use Rattle.ob0_checker.specs.InLabels.{in_labels}
+use Rattle.ob0_bindings.specs.InLabels.{in_labels}
 use Rattle.ob0_typing.specs.WellTyped.{declare_typed}
 use Rattle.ob0_checker.proofs.Declared.{declared_nothing}
 use Rattle.ob0_checker.proofs.Walked.{variables_ended}

@@ -8,8 +8,8 @@ use Rattle.ob0_scope.specs.Parts.{block_constants, block_procedures, block_state
 use Rattle.ob0_scope.specs.Scopes.{Scope, after_block, after_names, after_procedure, after_procedures, as_label, declare_names, first_procedure, first_type, first_variable, numbered, procedures_scope, relabel_block, relabel_constants, relabel_formals, relabel_names, relabel_procedures, relabel_sections, relabel_types, relabel_uses, relabel_variables, types_scope, variables_scope}
 use Rattle.ob0_scope.proofs.Ordinals.{after_names-append, declare_names-append, le-after_names, le-after_block, le-after_procedure, le-after_procedures}
 use Rattle.ob0_scope.proofs.Relabelled.{constants-section, formals-section, names-relabel, types-section, variables-section}
-use Rattle.ob0_checker.specs.Bindings.{block_bindings, declared_object, for_some, object_bound, procedure_bindings, procedures_bindings, since}
-use Rattle.ob0_checker.specs.Checking.{declare_block, declare_procedure}
+use Rattle.ob0_bindings.specs.Bindings.{block_bindings, declared_object, for_some, object_bound, procedure_bindings, procedures_bindings, since}
+use Rattle.ob0_bindings.specs.Declaring.{declare_block, declare_procedure}
 use Rattle.ob0_typing.specs.ConstantValues.{Known, known_object, no_constant, predeclared_known, value_among, value_in_block, value_in_procedure, value_in_procedures, value_of_constant}
 use Rattle.ob0_typing.specs.Declarations.{after_types, after_variables, declare_constants, declare_first, declare_types, formals_constructors, procedure_constructors}
 use Rattle.ob0_typing.specs.Environments.{from_binding, meanings, newest, outermost}
@@ -18,9 +18,8 @@ use Rattle.ob0_typing.specs.Typing.{constant_of, constant_value, constructors, d
 use Rattle.ob0_typing.specs.WellTyped.{Signature, TypeEnvironment, TypedParameter, WellTyped, bind_names, bind_typed, block_fits, declare_typed, fits_over, heading, hold, procedure_fits, procedures_fit, typed_parameters}
 use Rattle.ob0_values.specs.Values.{Shape, Value}
 use Rattle.ob0_typing.proofs.Agreeing.{Agree, HoldsOf}
-use Rattle.ob0_checker.proofs.Agreement.{newest-if}
+use Rattle.ob0_bindings.proofs.Bound.{headed_bindings, newest-append, newest-if, or_else, since-append}
 use Rattle.ob0_typing.proofs.EditedParts.{bind_names-append}
-use Rattle.ob0_checker.proofs.KeptProcedures.{headed_bindings, newest-append, or_else, since-append}
 use Rattle.ob0_typing.proofs.Literals.{some_inverse}
 use Rattle.ob0_typing.proofs.Proved.{fits_by_ordinal-holds}
 use Rattle.ob0_typing.proofs.TypedElsewhere.{then_some}

@@ -3,9 +3,9 @@ use Rattle.std.proofs.lemmas.Bool.Decides.{nat_tests}
 use Rattle.ob0_tree.proofs.Viewed.{designator_made, term_parts}
 use Rattle.ob0_tree.specs.declared.tree.Term.{out-Term}
 use Rattle.ob0_tree.specs.View.{factor_of}
-use Rattle.ob0_checker.specs.FittingParts.{designated_factor, designated_term}
-use Rattle.ob0_checker.proofs.DesignatedAlone.{factor_designated, multiplied_designated}
-use Rattle.ob0_checker.proofs.designated.designated_term.Goals as goal
+use Rattle.ob0_bindings.specs.Designators.{designated_factor, designated_term}
+use Rattle.ob0_bindings.proofs.DesignatedAlone.{factor_designated, multiplied_designated}
+use Rattle.ob0_bindings.proofs.designated.designated_term.Goals as goal
 
 pub returns-then-not-is_empty : goal.returns-then-not-is_empty
 returns-then-not-is_empty c =

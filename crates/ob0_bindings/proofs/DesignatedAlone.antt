@@ -9,8 +9,8 @@ use Rattle.ob0_tree.specs.declared.tree.Sign.{Sign}
 use Rattle.ob0_scope.specs.Names.{Label}
 use Rattle.ob0_scope.specs.Resolution.{Resolution}
 use Rattle.ob0_typing.specs.Typing.{designated}
-use Rattle.ob0_checker.specs.FittingParts.{designated_factor, designated_simple, designated_term}
-use Rattle.ob0_checker.specs.InLabels.{in_labels, label_in}
+use Rattle.ob0_bindings.specs.Designators.{designated_factor, designated_simple, designated_term}
+use Rattle.ob0_bindings.specs.InLabels.{in_labels, label_in}
 
 module _ {N : Type 0} where
   pub alone_designated : (a : Tree N simple) → designated (compares a none) ≡ designated_simple a

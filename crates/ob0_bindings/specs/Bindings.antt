@@ -4,7 +4,7 @@ use Rattle.ob0_tree.specs.Tree.{Tree, block, declares, declares_procedure, end, 
 use Rattle.ob0_scope.specs.Names.{Label, Name, Naming, as_labels, declared}
 use Rattle.ob0_scope.specs.Parts.{formal_sections, module_block}
 use Rattle.ob0_scope.specs.Scopes.{numbered}
-use Rattle.ob0_checker.specs.Checking.{declare_block, declare_procedure}
+use Rattle.ob0_bindings.specs.Declaring.{declare_block, declare_procedure}
 use Rattle.ob0_typing.specs.Declarations.{after_variables, formals_constructors, procedure_constructors}
 use Rattle.ob0_typing.specs.Environments.{from_binding, newest, outermost}
 use Rattle.ob0_typing.specs.Expressions.{Object, a_constant, a_type, a_variable}
@@ -52,3 +52,8 @@ object_bound bindings k = newest (from_binding as_labels bindings (declared k))
 -- what the declaration of an ordinal is: in the numbered tree its name is the ordinal, and this is what it is bound to
 abbrev pub declared_object : Tree Name module_text → ℕ → Option (Object Shape Signature)
 declared_object m k = object_bound (module_bindings as_labels (numbered m)) k
+
+-- the type of a variable or parameter
+abbrev pub variable_of : {P : Type 0} → Option (Object Shape P) → Option Shape
+variable_of (Some (a_variable s)) = Some s
+variable_of _ = None

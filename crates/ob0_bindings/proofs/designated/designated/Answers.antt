@@ -4,9 +4,9 @@ use Rattle.ob0_tree.specs.declared.tree.Comparison.{out-Comparison}
 use Rattle.ob0_tree.specs.Tree.{relates}
 use Rattle.ob0_tree.specs.View.{simple_of}
 use Rattle.ob0_typing.specs.Typing.{designated}
-use Rattle.ob0_checker.proofs.DesignatedAlone.{alone_designated, compared_designated}
+use Rattle.ob0_bindings.proofs.DesignatedAlone.{alone_designated, compared_designated}
 use Rattle.ob0_typing.proofs.TreeParts.{expression_alone, expression_related}
-use Rattle.ob0_checker.proofs.designated.designated.Goals as goal
+use Rattle.ob0_bindings.proofs.designated.designated.Goals as goal
 
 pub returns-in-None : goal.returns-in-None
 returns-in-None c =

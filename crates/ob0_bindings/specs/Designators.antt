@@ -1,4 +1,4 @@
--- What the statements of the checker are asked for: designators and lists of expressions in labels, and types with their parts.
+-- Designators and lists of expressions in labels, and which expressions are a designator alone.
 use Rattle.std.specs.Prelude.{ℕ, List, map, Some, None, Option}
 use Rattle.ob0_tree.specs.Tree.{Tree, designator, end, expression, factor, items, product, selector, simple, sum, term}
 use Rattle.ob0_tree.specs.View.{expression_of}
@@ -6,13 +6,8 @@ use Rattle.ob0_tree.specs.declared.tree.Designator.{Designator, out-Designator}
 use Rattle.ob0_tree.specs.declared.tree.Expression.{Expression}
 use Rattle.ob0_scope.specs.Names.{Label}
 use Rattle.ob0_scope.specs.Resolution.{Resolution}
-use Rattle.ob0_checker.specs.InLabels.{in_labels, label_in}
+use Rattle.ob0_bindings.specs.InLabels.{in_labels, label_in}
 use Rattle.ob0_typing.specs.Selected.{selectors_in}
-use Rattle.ob0_symbols.specs.Tables.{made_shape, no_shape}
-use Rattle.ob0_symbols.specs.declared.known.Shape.TheVariants as made
-use Rattle.ob0_symbols.specs.declared.sameness.Parts.{Parts}
-use Rattle.ob0_symbols.specs.declared.sameness.Parts.TheVariants as parts
-use Rattle.ob0_values.specs.Values.{Shape, boolean_shape, integer_shape}
 
 -- a designator's name and its selectors
 abbrev pub designator_parts : Designator → ℕ × Tree ℕ (items selector)

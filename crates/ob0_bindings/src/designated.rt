@@ -2,7 +2,7 @@
 
 ghost use Rattle.std.specs.Prelude.{◌≡◌, option_map};
 ghost use Rattle.ob0_tree.specs.View.{expression_of, simple_of, term_of};
-ghost use Rattle.ob0_checker.specs.FittingParts.{designated_simple, designated_term, designator_parts};
+ghost use Rattle.ob0_bindings.specs.Designators.{designated_simple, designated_term, designator_parts};
 ghost use Rattle.ob0_typing.specs.Typing.{designated};
 
 use ob0_tree::{Designator, Expression, Factor, Simple, Term};

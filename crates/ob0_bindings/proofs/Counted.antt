@@ -7,7 +7,7 @@ use Rattle.ob0_scope.specs.Names.{Label}
 use Rattle.ob0_scope.specs.Parts.{formal_sections, further_names, names_listed, section_constants, section_type, section_types, section_variables}
 use Rattle.ob0_scope.specs.Resolution.{Resolution}
 use Rattle.ob0_typing.specs.Declarations.{block_constructors, formals_constructors, procedure_constructors, procedures_constructors, types_constructors, variables_constructors}
-use Rattle.ob0_checker.specs.InLabels.{in_labels, label_in}
+use Rattle.ob0_bindings.specs.InLabels.{in_labels, label_in}
 use Rattle.ob0_typing.specs.Typing.{constructors, group_constructors, groups_constructors}
 
 module _ (f : ℕ → Label) (g : ℕ → ℕ) where

@@ -4,8 +4,8 @@ use Rattle.ob0_tree.specs.Tree.{Tree, block, body, declares, declares_procedure,
 use Rattle.ob0_scope.specs.Names.{Name, Naming, as_labels}
 use Rattle.ob0_scope.specs.Parts.{formal_sections, module_block, procedure_formals, procedure_name}
 use Rattle.ob0_scope.specs.Scopes.{numbered}
-use Rattle.ob0_checker.specs.Bindings.{declared_object, for_some, object_bound}
-use Rattle.ob0_checker.specs.Checking.{declare_block}
+use Rattle.ob0_bindings.specs.Bindings.{declared_object, for_some, object_bound}
+use Rattle.ob0_bindings.specs.Declaring.{declare_block}
 use Rattle.ob0_typing.specs.Declarations.{after_variables, formals_constructors, procedure_constructors}
 use Rattle.ob0_typing.specs.Environments.{outermost}
 use Rattle.ob0_typing.specs.Expressions.{Object}

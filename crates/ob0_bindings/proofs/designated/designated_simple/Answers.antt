@@ -3,9 +3,9 @@ use Rattle.std.proofs.lemmas.Bool.Decides.{nat_tests}
 use Rattle.ob0_tree.proofs.Viewed.{simple_parts}
 use Rattle.ob0_tree.specs.declared.tree.Simple.{out-Simple}
 use Rattle.ob0_tree.specs.View.{addend_of, items_of, term_of}
-use Rattle.ob0_checker.specs.FittingParts.{designated_simple}
-use Rattle.ob0_checker.proofs.DesignatedAlone.{added_designated, signed_designated, term_designated}
-use Rattle.ob0_checker.proofs.designated.designated_simple.Goals as goal
+use Rattle.ob0_bindings.specs.Designators.{designated_simple}
+use Rattle.ob0_bindings.proofs.DesignatedAlone.{added_designated, signed_designated, term_designated}
+use Rattle.ob0_bindings.proofs.designated.designated_simple.Goals as goal
 
 pub returns-then-is_empty : goal.returns-then-is_empty
 returns-then-is_empty c =

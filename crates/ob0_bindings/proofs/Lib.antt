@@ -1,0 +1,6 @@
+pub mod Bound
+pub mod Counted
+pub mod Parts
+pub mod DesignatedAlone
+pub mod ConstantsDeclared
+pub mod DeclaredPlaces
