@@ -7,16 +7,15 @@ use Rattle.ob0_scope.specs.Names.{Label, Name, as_labels, as_names, declared}
 use Rattle.ob0_scope.specs.Parts.{block_procedures, block_statements, formal_names, formal_sections, module_block, named_types, section_types, section_variables, variable_names}
 use Rattle.ob0_scope.specs.Scopes.{Scope, after_block, after_names, after_procedure, after_procedures, as_label, declare_names, first_procedure, numbered, relabel_block, relabel_formals, relabel_procedures}
 use Rattle.ob0_scope.proofs.Ordinals.{le-after_names, le-after_block, le-after_procedure, le-after_procedures}
-use Rattle.ob0_checker.specs.Bindings.{block_bindings, module_bindings, object_bound, procedures_bindings}
+use Rattle.ob0_bindings.specs.Bindings.{block_bindings, module_bindings, object_bound, procedures_bindings}
 use Rattle.ob0_typing.specs.ConstantValues.{Known, no_constant}
 use Rattle.ob0_typing.specs.Declarations.{after_variables, formals_constructors, procedure_constructors}
 use Rattle.ob0_typing.specs.Environments.{from_binding, outermost}
 use Rattle.ob0_typing.specs.Expressions.{Object}
 use Rattle.ob0_typing.specs.WellTyped.{Signature, TypeEnvironment, TypedParameter, WellTyped, bind_names, bind_typed, block_fits, fits_over, heading, procedures_fit}
 use Rattle.ob0_values.specs.Values.{Shape}
-use Rattle.ob0_checker.proofs.Agreement.{newest-if}
-use Rattle.ob0_checker.proofs.ConstantsDeclared.{Binds, Entered, FitParts, Knows, Opened, all_known, binds-append, binds-wider, block-listed, block-opened, block-parts, block-worths, bound-elsewhere, bound-first, knows-all, opened-above, opened-binds, opened-grown, opened-since, outermost-binds, predeclared-below, procedure-entered, procedure-parts, procedures-listed, procedures-worths}
-use Rattle.ob0_checker.proofs.KeptProcedures.{bind_typed-append}
+use Rattle.ob0_bindings.proofs.Bound.{bind_typed-append, newest-if}
+use Rattle.ob0_bindings.proofs.ConstantsDeclared.{Binds, Entered, FitParts, Knows, Opened, all_known, binds-append, binds-wider, block-listed, block-opened, block-parts, block-worths, bound-elsewhere, bound-first, knows-all, opened-above, opened-binds, opened-grown, opened-since, outermost-binds, predeclared-below, procedure-entered, procedure-parts, procedures-listed, procedures-worths}
 use Rattle.ob0_typing.proofs.Literals.{some_inverse}
 use Rattle.ob0_typing.proofs.Proved.{fits_by_ordinal-holds}
 use Rattle.ob0_typing.proofs.TypesByOrdinal.{TypeNoted, TypedBelow, TypedBelow-weaken, typed_by_ordinal, typed_outermost, typed_scope}

@@ -10,16 +10,15 @@ use Rattle.ob0_tree.specs.View.{procedure_of as tree_procedure_of}
 use Rattle.ob0_tree.specs.declared.tree.Block as tree_block
 use Rattle.ob0_tree.specs.declared.tree.Procedure as tree
 use Rattle.ob0_tree.proofs.Viewed.{block_parts}
-use Rattle.ob0_checker.specs.InLabels.{in_labels, label_in}
-use Rattle.ob0_checker.proofs.Procedures.{procedure_parts}
-use Rattle.ob0_checker.proofs.Walked.{split}
+use Rattle.ob0_bindings.specs.InLabels.{in_labels, label_in}
+use Rattle.ob0_bindings.proofs.Parts.{procedure_parts, split}
 use Rattle.ob0_scope.specs.Resolution.{Resolution, ordinal_in}
 use Rattle.ob0_scope.specs.Names.{Label, Name, as_labels, as_names}
 use Rattle.ob0_scope.specs.Parts.{constant_names, formal_sections, module_block, named_types, section_constants, section_types, section_variables}
 use Rattle.ob0_scope.specs.Scopes.{as_label, numbered}
 use Rattle.ob0_symbols.specs.KnownTables.{Tables, declared_in}
-use Rattle.ob0_checker.specs.Bindings.{declared_object}
-use Rattle.ob0_checker.proofs.ConstantsDeclared.{FitParts, block-parts, procedure-parts}
+use Rattle.ob0_bindings.specs.Bindings.{declared_object}
+use Rattle.ob0_bindings.proofs.ConstantsDeclared.{FitParts, block-parts, procedure-parts}
 use Rattle.ob0_typing.specs.Declarations.{after_types, after_variables, declare_first, formals_constructors, procedure_constructors}
 use Rattle.ob0_typing.specs.Environments.{outermost}
 use Rattle.ob0_typing.specs.WellTyped.{TypeEnvironment, TypedParameter, WellTyped, bind_typed, block_fits, body_fits, declare_typed, fits_over, heading, procedures_fit}

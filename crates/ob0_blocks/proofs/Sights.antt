@@ -11,8 +11,8 @@ use Rattle.ob0_lowering.specs.declared.scene.Site.TheVariants as site
 use Rattle.ob0_tree.specs.Tree.{Tree, further_section, items, more, then_section}
 use Rattle.ob0_tree.specs.View.{names_of, section_of}
 use Rattle.ob0_tree.specs.declared.tree.Section.{Section}
-use Rattle.ob0_checker.specs.InLabels.{in_labels}
-use Rattle.ob0_checker.proofs.Sections.{section-mode, section-names}
+use Rattle.ob0_bindings.specs.InLabels.{in_labels}
+use Rattle.ob0_bindings.proofs.Parts.{section-mode, section-names}
 use Rattle.ob0_scope.specs.Parts.{names_listed}
 use Rattle.ob0_scope.specs.Resolution.{Resolution}
 use Rattle.ob0_symbols.specs.Tables.{mode_of}
@@ -245,4 +245,4 @@ as_deep w v f g m n step same a = subst (λ k. Places w v f (step k) g) same a
 -- the names of a section, by how it is written
 pub section_step : (r : Resolution) (at : ℕ → Slot) (size_of : Label → ℕ) (s : Section) (fs : Tree Label (items further_section)) (p : Placed Label)
     → place_sections at size_of (more (then_section (in_labels r (section_of s))) fs) p ≡ place_sections at size_of fs (place_each at size_of (mode_of s.by_reference) (names_listed (in_labels r (names_of s.names))) p)
-section_step r at size_of s fs p = λ i. place_sections at size_of fs (place_each at size_of (section-mode r s i) (section-names r s i) p)
+section_step r at size_of s fs p = λ i. place_sections at size_of fs (place_each at size_of (section-mode mode_of refl refl r s i) (section-names r s i) p)

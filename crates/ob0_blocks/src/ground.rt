@@ -17,7 +17,7 @@ pub(crate) struct Ground<'g, 'k, 't> {
 
 impl<'g, 'k, 't> Ground<'g, 'k, 't> {
     ghost use Rattle.std.specs.Prelude.{option_map};
-    ghost use Rattle.ob0_checker.specs.InLabels.{label_in};
+    ghost use Rattle.ob0_bindings.specs.InLabels.{label_in};
     ghost use Rattle.ob0_symbols.specs.KnownTables.{shapes_of};
     ghost use Rattle.ob0_symbols.specs.Tables.{type_shape};
     ghost use Rattle.ob0_typing.specs.Typing.{type_declared};

@@ -4,7 +4,7 @@ use Rattle.ob0_tree.specs.Tree.{Tree, assigns, expression, items, selector}
 use Rattle.ob0_tree.specs.View.{expression_of}
 use Rattle.ob0_tree.specs.declared.tree.Expression.{Expression}
 use Rattle.ob0_scope.specs.Names.{Label}
-use Rattle.ob0_checker.specs.InLabels.{in_labels, label_in}
+use Rattle.ob0_bindings.specs.InLabels.{in_labels, label_in}
 use Rattle.ob0_typing.specs.Typing.{type_of}
 use Rattle.ob0_typing.specs.WellTyped.{Typed, statement_fits, variable_type}
 use Rattle.ob0_values.specs.Values.{Shape, array_shape, boolean_shape, integer_shape, record_shape}

@@ -11,9 +11,9 @@ use Rattle.ob0_scope.specs.Resolution.{Resolution}
 use Rattle.ob0_symbols.specs.KnownTables.{shapes_of}
 use Rattle.ob0_symbols.specs.Tables.{formal_in}
 use Rattle.ob0_symbols.specs.declared.known.Formal as formal
-use Rattle.ob0_checker.specs.FittingParts.{all_in_labels}
-use Rattle.ob0_checker.specs.InLabels.{in_labels}
-use Rattle.ob0_checker.proofs.FittingStatements.{all_listed}
+use Rattle.ob0_bindings.specs.Designators.{all_in_labels}
+use Rattle.ob0_bindings.specs.InLabels.{in_labels}
+use Rattle.ob0_bindings.proofs.Parts.{all_listed}
 use Rattle.ob0_typing.specs.Arguments.{arguments_listed}
 use Rattle.ob0_typing.specs.Expressions.{Object, a_procedure, a_standard, reads, writes, writes_line}
 use Rattle.ob0_typing.specs.Typing.{designated, type_of}

@@ -4,7 +4,7 @@ use Rattle.ob0_tree.specs.Tree.{Tree, begins, branches, else_branch, else_part, 
 use Rattle.ob0_tree.specs.View.{expression_of}
 use Rattle.ob0_tree.specs.declared.tree.Expression.{Expression}
 use Rattle.ob0_scope.specs.Names.{Label, as_labels}
-use Rattle.ob0_checker.specs.InLabels.{in_labels}
+use Rattle.ob0_bindings.specs.InLabels.{in_labels}
 use Rattle.ob0_typing.specs.Environments.{meanings}
 use Rattle.ob0_typing.specs.Typing.{type_of}
 use Rattle.ob0_typing.specs.WellTyped.{body_fits, condition_fits, else_fits, elsifs_fit, sequence_fits, statement_fits, statements_fit}

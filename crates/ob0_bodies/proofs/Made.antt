@@ -10,7 +10,7 @@ use Rattle.ob0_tree.specs.declared.tree.Elsif.{Elsif}
 use Rattle.ob0_tree.specs.declared.tree.Statement.{Statement}
 use Rattle.ob0_scope.specs.Names.{Label}
 use Rattle.ob0_scope.specs.Resolution.{Resolution}
-use Rattle.ob0_checker.specs.InLabels.{in_labels}
+use Rattle.ob0_bindings.specs.InLabels.{in_labels}
 use Rattle.ob0_machine.specs.declared.code.Branch as branch
 use Rattle.ob0_machine.specs.declared.code.If.{out-roll-If, roll-If}
 use Rattle.ob0_machine.specs.declared.code.Statement as code

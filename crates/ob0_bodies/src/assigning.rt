@@ -2,7 +2,7 @@
 
 ghost use Rattle.std.specs.Prelude.{IfOk};
 ghost use Rattle.ob0_tree.specs.View.{assignment_of};
-ghost use Rattle.ob0_checker.specs.InLabels.{in_labels};
+ghost use Rattle.ob0_bindings.specs.InLabels.{in_labels};
 ghost use Rattle.ob0_machine.specs.View.{statement_of};
 ghost use Rattle.ob0_bodies.specs.LoweredBodies.{StatementLowers};
 

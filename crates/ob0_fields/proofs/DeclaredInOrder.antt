@@ -7,15 +7,15 @@ use Rattle.ob0_scope.specs.Parts.{block_constants, block_types, block_variables,
 use Rattle.ob0_scope.specs.Scopes.{Scope, after_names, as_label, declare_names, first_procedure, first_type, first_variable, label_names, relabel_block, relabel_constants, relabel_names, relabel_types, relabel_uses, relabel_variables, types_scope, variables_scope}
 use Rattle.ob0_scope.proofs.Ordinals.{after_names-append}
 use Rattle.ob0_scope.proofs.Relabelled.{constants-section, names-relabel, types-section, variables-section}
-use Rattle.ob0_checker.specs.Bindings.{object_bound}
-use Rattle.ob0_checker.specs.Checking.{declare_block}
+use Rattle.ob0_bindings.specs.Bindings.{object_bound}
+use Rattle.ob0_bindings.specs.Declaring.{declare_block}
 use Rattle.ob0_typing.specs.Declarations.{after_types, declare_constants, declare_first, declare_types}
 use Rattle.ob0_typing.specs.Environments.{from_binding, meanings}
 use Rattle.ob0_typing.specs.Expressions.{Object, a_constant, a_type, a_variable}
 use Rattle.ob0_typing.specs.Typing.{constant_value, constructors, denoted}
 use Rattle.ob0_typing.specs.WellTyped.{Signature, TypeEnvironment, TypedParameter, bind_names, bind_typed, declare_typed, heading}
 use Rattle.ob0_values.specs.Values.{Shape}
-use Rattle.ob0_checker.proofs.Agreement.{newest-if}
+use Rattle.ob0_bindings.proofs.Bound.{newest-if}
 use Rattle.ob0_typing.proofs.Literals.{some_inverse}
 use Rattle.ob0_typing.proofs.TypedElsewhere.{then_some}
 use Rattle.ob0_typing.proofs.TypesByOrdinal.{label_typed, typed_names}

@@ -16,7 +16,7 @@ use Rattle.ob0_tree.proofs.Mapped.{spell_mapped}
 use Rattle.ob0_scope.specs.Names as written
 use Rattle.ob0_scope.specs.Names.{same_name}
 use Rattle.ob0_scope.specs.Resolution.{IsResolution, Resolution}
-use Rattle.ob0_checker.specs.Bindings.{declared_object}
+use Rattle.ob0_bindings.specs.Bindings.{declared_object}
 use Rattle.ob0_typing.specs.WellTyped.{WellTyped}
 use Rattle.ob0_field_laws.specs.Renaming.{RecordFields, is_duplicate_field, names_another_field, one_renamed, records}
 use Rattle.ob0_field_laws.proofs.AgreeingFields.{NamesAgree, RecordsAgree}

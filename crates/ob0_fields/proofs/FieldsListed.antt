@@ -28,7 +28,7 @@ use Rattle.ob0_field_laws.specs.Renaming.{RecordFields, records}
 use Rattle.ob0_field_laws.proofs.AgreeingFields.{NamesAgree, RecordsAgree}
 use Rattle.ob0_field_laws.proofs.AgreeingModules.{module-alike}
 use Rattle.ob0_field_laws.proofs.RefieldedModules.{parameter_of}
-use Rattle.ob0_checker.specs.Bindings.{declared_object}
+use Rattle.ob0_bindings.specs.Bindings.{declared_object}
 use Rattle.ob0_fields.specs.Identifiers.{FieldsListed, field_identifiers, written_fields}
 use Rattle.ob0_fields.specs.Owned.{HasOwners, fields_among, owned_tokens, token_objects}
 use Rattle.ob0_fields.proofs.MappedIdentifiers.{beside_role, both, identifiers-mapped}

@@ -15,8 +15,8 @@ use Rattle.ob0_scope.proofs.OccurrencesMapped.{occurrences-mapped}
 use Rattle.ob0_scope.proofs.Ordinals.{le-after_procedure}
 use Rattle.ob0_scope.proofs.Peeling.{heads}
 use Rattle.ob0_scope.proofs.Relabelled.{formals-section, types-section, variables-section}
-use Rattle.ob0_checker.specs.Bindings.{block_bindings, declared_object, for_some, module_bindings, procedure_bindings, procedures_bindings, since}
-use Rattle.ob0_checker.specs.Checking.{declare_block, declare_procedure}
+use Rattle.ob0_bindings.specs.Bindings.{block_bindings, declared_object, for_some, module_bindings, procedure_bindings, procedures_bindings, since}
+use Rattle.ob0_bindings.specs.Declaring.{declare_block, declare_procedure}
 use Rattle.ob0_typing.specs.Declarations.{after_formals, after_types, after_variables, declare_first, formals_constructors, procedure_constructors, types_constructors, variables_constructors}
 use Rattle.ob0_typing.specs.Environments.{from_binding, meanings, newest, outermost}
 use Rattle.ob0_typing.specs.Expressions.{Meanings, Object, a_procedure, a_variable}
@@ -25,7 +25,7 @@ use Rattle.ob0_typing.specs.WellTyped.{Signature, TypeEnvironment, Typed, TypedP
 use Rattle.ob0_values.specs.Values.{Shape}
 use Rattle.ob0_typing.proofs.Agreeing.{Agree, HoldsOf}
 use Rattle.ob0_typing.proofs.Constructors.{formals_constructors-relabel, procedure_constructors-relabel, types_constructors-relabel, variables_constructors-relabel}
-use Rattle.ob0_checker.proofs.KeptProcedures.{headed_bindings, since-append}
+use Rattle.ob0_bindings.proofs.Bound.{headed_bindings, since-append}
 use Rattle.ob0_typing.proofs.Literals.{some_inverse}
 use Rattle.ob0_typing.proofs.Proved.{fits_by_ordinal-holds}
 use Rattle.ob0_typing.proofs.TypesByOrdinal.{TypeNoted, TypedBelow, TypedBelow-weaken, TypedWithin, bind_typed-by_name, bind_typed-by_ordinal, body_fits-agrees, declarations_typed, label_typed, label_typed-formals, noted_parameters, noted_parameters-within, parameters_typed, typed_by_name, typed_by_ordinal, typed_names, typed_outermost, typed_scope}

@@ -8,7 +8,7 @@ use Rattle.ob0_tree.specs.Places.{text_at}
 use Rattle.ob0_scope.specs.Names.{Name}
 use Rattle.ob0_scope.specs.Parts.{formal_sections, names_listed, section_type, section_types, section_variables}
 use Rattle.ob0_scope.specs.Resolution.{IsResolution, Resolution, ordinal_in}
-use Rattle.ob0_checker.specs.Bindings.{declared_object}
+use Rattle.ob0_bindings.specs.Bindings.{declared_object}
 use Rattle.ob0_typing.specs.Declarations.{after_formals, after_types, after_variables, procedure_constructors}
 use Rattle.ob0_typing.specs.Expressions.{Meanings, Object}
 use Rattle.ob0_symbols.specs.FieldPlaces.{field_selected}

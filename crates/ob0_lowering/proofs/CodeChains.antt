@@ -6,7 +6,7 @@ use Rattle.ob0_tree.specs.Tree.{Tree, Item, addend, adds, item, items, end, fiel
 use Rattle.ob0_tree.specs.View.{items_of}
 use Rattle.ob0_scope.specs.Names.{Label}
 use Rattle.ob0_scope.specs.Resolution.{Resolution}
-use Rattle.ob0_checker.specs.InLabels.{in_labels}
+use Rattle.ob0_bindings.specs.InLabels.{in_labels}
 use Rattle.ob0_lowering.specs.Codes.{Code, Found, added, multiplied}
 use Rattle.ob0_lowering.specs.Trees.{addends_code, factor_code, multipliers_code, selected_once, selected_place, term_code}
 use Rattle.ob0_lowering.specs.declared.scene.Scene.{Scene}

@@ -9,7 +9,7 @@ use Rattle.ob0_scope.specs.Names.{Label, as_written, declared}
 use Rattle.ob0_symbols.specs.KnownTables.{Tables, declared_in, shapes_of}
 use Rattle.ob0_symbols.specs.Tables.{formal_in, mode_of, type_shape}
 use Rattle.ob0_symbols.specs.declared.known.Formal.{Formal}
-use Rattle.ob0_checker.specs.InLabels.{in_labels, label_in}
+use Rattle.ob0_bindings.specs.InLabels.{in_labels, label_in}
 use Rattle.ob0_typing.proofs.Numbers.{small_number}
 use Rattle.ob0_typing.specs.Expressions.{Object, a_constant, a_procedure, a_standard, a_type, a_variable}
 use Rattle.ob0_typing.specs.Typing.{designated, type_at, type_of}

@@ -5,7 +5,7 @@ use Rattle.ob0_scope.specs.Names.{Label}
 use Rattle.ob0_symbols.specs.KnownTables.{shapes_of}
 use Rattle.ob0_symbols.specs.Tables.{formal_in, type_shape}
 use Rattle.ob0_symbols.specs.declared.known.Formal.{Formal}
-use Rattle.ob0_checker.specs.InLabels.{in_labels, label_in}
+use Rattle.ob0_bindings.specs.InLabels.{in_labels, label_in}
 use Rattle.ob0_typing.specs.Typing.{designated, type_of}
 use Rattle.ob0_typing.specs.WellTyped.{Typed, argument_fits, variable_type}
 use Rattle.ob0_values.specs.Values.{Place, Shape, Value, array_shape, boolean_shape, integer_shape, record_shape}

@@ -10,7 +10,7 @@ ghost use Rattle.ob0_lowering.specs.Scenes.{HasSmall};
 
 use crate::lowered::{Located, Lowered};
 use crate::scene::Scene;
-use ob0_checker::designated::designated;
+use ob0_bindings::designated::designated;
 use ob0_machine::code::{Argument, Number, Place, Truth};
 use ob0_symbols::{Formal, TypeId};
 use ob0_tree::{Designator, Expression};

@@ -38,7 +38,7 @@ pub struct Scene<'s, 'k, 't> {
 
 impl<'s, 'k, 't> Scene<'s, 'k, 't> {
     ghost use Rattle.std.specs.Prelude.{option_and_then};
-    ghost use Rattle.ob0_checker.specs.InLabels.{label_in};
+    ghost use Rattle.ob0_bindings.specs.InLabels.{label_in};
     ghost use Rattle.ob0_symbols.specs.KnownTables.{shapes_of};
     ghost use Rattle.ob0_symbols.specs.Tables.{object_in};
     ghost use Rattle.ob0_lowering.specs.Scenes.{object_at, seen_from, slot_at, target_at, whereabouts};

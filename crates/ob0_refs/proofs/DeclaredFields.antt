@@ -11,7 +11,7 @@ use Rattle.ob0_scope.specs.Names.{Label, Name, as_labels, as_names, as_written, 
 use Rattle.ob0_scope.specs.Parts.{formal_names, formal_sections, further_names, module_block, names_listed, section_type, section_types, section_variables}
 use Rattle.ob0_scope.specs.Resolution.{Resolution, ordinal_in}
 use Rattle.ob0_scope.specs.Scopes.{as_label, numbered}
-use Rattle.ob0_checker.specs.InLabels.{in_labels, label_in}
+use Rattle.ob0_bindings.specs.InLabels.{in_labels, label_in}
 use Rattle.ob0_symbols.specs.FieldPlaces.{field_selected, place_of_field}
 use Rattle.ob0_symbols.specs.declared.known.FieldOf.{FieldOf}
 use Rattle.ob0_typing.specs.Declarations.{after_formals, after_types, after_variables, procedure_constructors}

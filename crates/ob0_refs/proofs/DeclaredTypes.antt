@@ -8,10 +8,10 @@ use Rattle.ob0_scope.specs.Names.{Label, Name, as_labels, as_names}
 use Rattle.ob0_scope.specs.Parts.{block_constants, block_procedures, block_statements, block_types, block_variables, formal_sections, further_names, module_block, names_listed, section_names, section_type, section_types, section_variables}
 use Rattle.ob0_scope.specs.Resolution.{Resolution, ordinal_in}
 use Rattle.ob0_scope.specs.Scopes.{as_label, numbered}
-use Rattle.ob0_checker.specs.Bindings.{block_bindings, declared_object, module_bindings, procedures_bindings, since}
-use Rattle.ob0_checker.specs.Checking.{declare_block}
-use Rattle.ob0_checker.specs.InLabels.{in_labels, label_in}
-use Rattle.ob0_checker.proofs.KeptProcedures.{since-append}
+use Rattle.ob0_bindings.specs.Bindings.{block_bindings, declared_object, module_bindings, procedures_bindings, since}
+use Rattle.ob0_bindings.specs.Declaring.{declare_block}
+use Rattle.ob0_bindings.specs.InLabels.{in_labels, label_in}
+use Rattle.ob0_bindings.proofs.Bound.{since-append}
 use Rattle.ob0_typing.specs.Declarations.{after_types, after_variables, declare_constants, declare_first, declare_types, formals_constructors, procedure_constructors}
 use Rattle.ob0_typing.specs.Environments.{meanings, outermost}
 use Rattle.ob0_typing.specs.Expressions.{Meanings, Object, a_constant, a_procedure, a_type, a_variable}

@@ -5,7 +5,7 @@ use Rattle.ob0_scope.specs.Standing.{is_on}
 use Rattle.ob0_scan.specs.Scanned.{Scanned}
 use Rattle.ob0_scope.specs.Resolution.{Resolution, span_at}
 use Rattle.ob0_tree.specs.Parsed.{named_tree_of, tree_of}
-use Rattle.ob0_checker.specs.Bindings.{declared_object}
+use Rattle.ob0_bindings.specs.Bindings.{declared_object}
 use Rattle.ob0_typing.specs.Expressions.{Object}
 use Rattle.ob0_typing.specs.WellTyped.{Signature}
 use Rattle.ob0_refs.specs.declared.selecting.Selection.{Selection}

@@ -8,7 +8,7 @@ use Rattle.ob0_scope.specs.Names.{Name, same_name}
 use Rattle.ob0_scope.specs.Parts.{formal_sections, module_block, section_types, section_variables}
 use Rattle.ob0_scope.specs.Resolution.{Resolution, span_at}
 use Rattle.ob0_scope.specs.Standing.{is_on}
-use Rattle.ob0_checker.specs.Bindings.{declared_object}
+use Rattle.ob0_bindings.specs.Bindings.{declared_object}
 use Rattle.ob0_symbols.specs.FieldPlaces.{field_selected, place_of_field}
 use Rattle.ob0_symbols.specs.declared.known.FieldOf.{FieldOf}
 use Rattle.ob0_typing.specs.Declarations.{after_formals, after_types, after_variables, procedure_constructors}

@@ -10,7 +10,7 @@ use Rattle.ob0_scope.specs.Resolution.{declaring_only, span_at}
 use Rattle.ob0_refs.specs.Hovers.{Parameter, constant_text, named_type_text, predeclared_text, procedure_text, type_text, variable_text}
 use Rattle.ob0_scope.specs.Standing.{name_on}
 use Rattle.ob0_scope.specs.declared.naming.Named as named
-use Rattle.ob0_checker.specs.Bindings.{declared_object}
+use Rattle.ob0_bindings.specs.Bindings.{declared_object}
 use Rattle.ob0_typing.specs.Expressions.{Object, a_constant, a_procedure, a_standard, a_type, a_variable}
 use Rattle.ob0_typing.specs.WellTyped.{Formal, Mode, Signature, by_place, by_value}
 use Rattle.ob0_values.specs.Values.{Shape, Value, elements, members, number, truth}

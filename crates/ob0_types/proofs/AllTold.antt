@@ -10,9 +10,9 @@ use Rattle.ob0_tree.specs.Parsed.{named_tree_of, tree_of}
 use Rattle.ob0_report_laws.specs.ModuleLaws.{ModulesFit}
 use Rattle.ob0_types.specs.FaultOrder.{AreFirstFaults, faults_of_types}
 use Rattle.ob0_types.specs.CheckedModules.{IsChecked, IsTold}
-use Rattle.ob0_checker.specs.Bindings.{module_bindings, object_bound}
+use Rattle.ob0_bindings.specs.Bindings.{module_bindings, object_bound}
 use Rattle.ob0_checker.specs.Checking.{Keeps}
-use Rattle.ob0_checker.specs.InLabels.{in_labels}
+use Rattle.ob0_bindings.specs.InLabels.{in_labels}
 use Rattle.ob0_symbols.specs.KnownTables.{Tables}
 use Rattle.ob0_typing.specs.Laws.{FitsByOrdinal}
 use Rattle.ob0_typing.specs.WellTyped.{WellTyped, fits_over}

@@ -5,7 +5,7 @@ use Rattle.ob0_scope.specs.Resolution.{Resolution, IsResolution}
 use Rattle.ob0_scope.specs.Names.{Name, as_names}
 use Rattle.ob0_tree.specs.Parsed.{named_tree_of}
 use Rattle.ob0_tree.specs.Tree.{Tree, module_text}
-use Rattle.ob0_checker.specs.Bindings.{declared_object}
+use Rattle.ob0_bindings.specs.Bindings.{declared_object}
 use Rattle.ob0_symbols.specs.KnownTables.{Tables, declared_in}
 use Rattle.ob0_typing.specs.WellTyped.{WellTyped, fits_over}
 use Rattle.ob0_types.specs.FaultOrder.{AreFirstFaults}

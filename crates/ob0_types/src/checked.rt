@@ -222,7 +222,7 @@ impl<'c, 't> WellTyped<'c, 't> {
     ghost use Rattle.ob0_types.specs.CheckedModules.{HoldsDeclarations, IsWellTyped};
     ghost use Rattle.ob0_fields.specs.Listed.{AreFields};
     ghost use Rattle.ob0_typing.specs.ConstantValues.{value_of_constant};
-    ghost use Rattle.ob0_checker.specs.Bindings.{declared_object};
+    ghost use Rattle.ob0_bindings.specs.Bindings.{declared_object};
     ghost use Rattle.ob0_types.specs.DeclaredShapes.{shape_of};
     ghost use Rattle.ob0_typing.specs.Typing.{type_declared};
     ghost use Rattle.ob0_values.specs.Scalars.{scalar_value};

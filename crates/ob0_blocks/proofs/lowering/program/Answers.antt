@@ -5,8 +5,8 @@ use Rattle.ob0_tree.specs.View.{block_of}
 use Rattle.ob0_scope.specs.Names.{Name}
 use Rattle.ob0_scope.specs.Parts.{module_block}
 use Rattle.ob0_scope.specs.Scopes.{numbered}
-use Rattle.ob0_checker.specs.Bindings.{declared_object}
-use Rattle.ob0_checker.specs.InLabels.{in_labels}
+use Rattle.ob0_bindings.specs.Bindings.{declared_object}
+use Rattle.ob0_bindings.specs.InLabels.{in_labels}
 use Rattle.ob0_symbols.specs.KnownTables.{Tables, declared_in}
 use Rattle.ob0_blocks.proofs.LoweredBlocks.{program_means}
 use Rattle.ob0_blocks.proofs.lowering.program.Goals as goal

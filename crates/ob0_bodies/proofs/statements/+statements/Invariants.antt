@@ -1,6 +1,6 @@
 use Rattle.ob0_tree.specs.View.{expression_of, sequence_listed}
 use Rattle.ob0_tree.specs.declared.tree.If.{out-If}
-use Rattle.ob0_checker.specs.InLabels.{in_labels}
+use Rattle.ob0_bindings.specs.InLabels.{in_labels}
 use Rattle.ob0_bodies.proofs.Made.{BranchesMade, SequenceMade}
 use Rattle.ob0_bodies.proofs.statements.+statements.Given as goal
 

@@ -4,7 +4,7 @@ use Rattle.std.specs.declared.alloc.Global.{Global}
 use Rattle.std.specs.declared.vec.Vec.{Vec}
 use Rattle.ob0_tree.specs.View.{body_of, sequence_listed}
 use Rattle.ob0_tree.specs.declared.tree.Statement.{Statement}
-use Rattle.ob0_checker.specs.InLabels.{in_labels}
+use Rattle.ob0_bindings.specs.InLabels.{in_labels}
 use Rattle.ob0_machine.specs.View.{sequence_of}
 use Rattle.ob0_bodies.specs.LoweredBodies.{BodyLowers}
 use Rattle.ob0_bodies.proofs.InScene.{no-body, some-body}

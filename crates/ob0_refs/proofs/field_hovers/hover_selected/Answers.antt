@@ -1,5 +1,5 @@
 use Rattle.std.proofs.Common.{◌≡◌, map, option_map}
-use Rattle.ob0_checker.proofs.Procedures.{ifok_map}
+use Rattle.ob0_bindings.proofs.Parts.{ifok_map}
 use Rattle.ob0_symbols.specs.KnownTables.{declared_in, shapes_of}
 use Rattle.ob0_refs.specs.Selections.{module_selections}
 use Rattle.ob0_refs.specs.SelectionParts.{selection_in}

@@ -5,7 +5,7 @@ use Rattle.ob0_scope.specs.Names.{Name, as_labels}
 use Rattle.ob0_scope.specs.Resolution.{Resolution}
 use Rattle.ob0_scope.specs.Scopes.{numbered}
 use Rattle.ob0_symbols.specs.KnownTables.{declared_in}
-use Rattle.ob0_checker.specs.Bindings.{declared_object}
+use Rattle.ob0_bindings.specs.Bindings.{declared_object}
 use Rattle.ob0_typing.specs.WellTyped.{WellTyped}
 use Rattle.ob0_machine.specs.View.{program_of}
 use Rattle.ob0_cells.specs.ActivationLaws as law

@@ -1,7 +1,7 @@
 use Rattle.std.proofs.Common.{◌≡◌, suc, ◌-◌, refl, sym, ap, subst, arith}
 use Rattle.ob0_tree.specs.View.{block_of, items_of, procedure_of}
 use Rattle.ob0_tree.specs.declared.tree.Procedure.{out-Procedure}
-use Rattle.ob0_checker.specs.InLabels.{in_labels}
+use Rattle.ob0_bindings.specs.InLabels.{in_labels}
 use Rattle.ob0_lowering.specs.declared.scene.Scene.{Scene}
 use Rattle.ob0_machine.specs.declared.code.Procedure.{Procedure}
 use Rattle.ob0_blocks.specs.Blocks.{LowersBlock}

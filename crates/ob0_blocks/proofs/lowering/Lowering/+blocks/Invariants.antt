@@ -1,6 +1,6 @@
 use Rattle.std.proofs.Common.{drop}
 use Rattle.ob0_tree.specs.View.{items_of, procedure_of}
-use Rattle.ob0_checker.specs.InLabels.{in_labels}
+use Rattle.ob0_bindings.specs.InLabels.{in_labels}
 use Rattle.ob0_blocks.specs.Blocks.{Goes}
 use Rattle.ob0_blocks.proofs.lowering.Lowering.+blocks.Given as goal
 

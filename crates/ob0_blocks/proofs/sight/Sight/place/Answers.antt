@@ -1,7 +1,7 @@
 use Rattle.std.proofs.Common.{◌≡◌, ◌+◌, ap, sym, ◌∙◌, subst, arith}
 use Rattle.ob0_tree.specs.Places.{text_at}
 use Rattle.ob0_scope.specs.Resolution.{ordinal_in}
-use Rattle.ob0_checker.specs.InLabels.{label_in}
+use Rattle.ob0_bindings.specs.InLabels.{label_in}
 use Rattle.ob0_symbols.specs.Tables.{mode_of}
 use Rattle.ob0_lowering.specs.Scenes.{site_at}
 use Rattle.ob0_lowering.specs.declared.scene.Site.TheVariants as site

@@ -1,5 +1,5 @@
 use Rattle.ob0_tree.specs.View.{items_of, variable_of}
-use Rattle.ob0_checker.specs.InLabels.{in_labels}
+use Rattle.ob0_bindings.specs.InLabels.{in_labels}
 use Rattle.ob0_blocks.specs.Placed as placed
 use Rattle.ob0_blocks.specs.Placed.{declared_size, slots_at}
 use Rattle.ob0_blocks.proofs.Sights.{InPlaces}

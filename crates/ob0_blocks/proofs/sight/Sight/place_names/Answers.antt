@@ -1,6 +1,6 @@
 use Rattle.std.proofs.Common.{◌∷◌, map, get_or, refl, sym, ap, ◌∙◌, arith, add-one}
-use Rattle.ob0_checker.specs.InLabels.{label_in}
-use Rattle.ob0_checker.proofs.Counted.{labels_listed}
+use Rattle.ob0_bindings.specs.InLabels.{label_in}
+use Rattle.ob0_bindings.proofs.Counted.{labels_listed}
 use Rattle.ob0_symbols.specs.Tables.{mode_of}
 use Rattle.ob0_blocks.specs.Placed.{declared_size, place_each, place_one, slots_at}
 use Rattle.ob0_blocks.proofs.Sights.{as_deep, in_begins, in_ends, in_on, places_as}

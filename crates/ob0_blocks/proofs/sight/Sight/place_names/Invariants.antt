@@ -1,5 +1,5 @@
 use Rattle.std.proofs.Common.{◌∷◌, ◌+◌, map}
-use Rattle.ob0_checker.specs.InLabels.{label_in}
+use Rattle.ob0_bindings.specs.InLabels.{label_in}
 use Rattle.ob0_symbols.specs.Tables.{mode_of}
 use Rattle.ob0_blocks.specs.Placed.{declared_size, place_each, slots_at}
 use Rattle.ob0_blocks.proofs.Sights.{InPlaces}

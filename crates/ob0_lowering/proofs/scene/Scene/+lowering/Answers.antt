@@ -7,7 +7,7 @@ use Rattle.ob0_tree.specs.declared.tree.Simple.{out-Simple}
 use Rattle.ob0_tree.specs.declared.tree.Term.{out-Term}
 use Rattle.ob0_tree.specs.Tree.{compares, one, relates}
 use Rattle.ob0_tree.specs.View.{items_of, addend_of, multiplier_of, selector_of, term_of, factor_of, simple_of}
-use Rattle.ob0_checker.specs.InLabels.{in_labels, label_in}
+use Rattle.ob0_bindings.specs.InLabels.{in_labels, label_in}
 use Rattle.ob0_symbols.specs.KnownTables.{shapes_of}
 use Rattle.ob0_typing.proofs.TreeParts.{addend_parts, expression_alone, expression_related}
 use Rattle.ob0_lowering.specs.Codes.{added, multiplied, related, signed}

@@ -3,7 +3,7 @@ use Rattle.std.proofs.lemmas.Result.{IfOk-weaker}
 use Rattle.ob0_tree.specs.View.{expression_of}
 use Rattle.ob0_tree.specs.declared.tree.Designator.{out-Designator}
 use Rattle.ob0_typing.specs.Selected.{selectors_in}
-use Rattle.ob0_checker.proofs.DesignatedAlone.{labelled_designator, parts_in}
+use Rattle.ob0_bindings.proofs.DesignatedAlone.{labelled_designator, parts_in}
 use Rattle.ob0_lowering.specs.Means.{Locates, LocatesAlone}
 use Rattle.ob0_lowering.proofs.Lowerings.{alone-by, alone-not}
 use Rattle.ob0_lowering.proofs.scene.Scene.passed.Goals as goal
