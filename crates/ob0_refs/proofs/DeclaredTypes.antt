@@ -23,8 +23,8 @@ use Rattle.ob0_typing.proofs.TypedElsewhere.{then_some}
 use Rattle.ob0_types.specs.CheckedModules.{IsWellTyped}
 use Rattle.ob0_fields.proofs.DeclaredInOrder.{Right, at_label, right_split}
 use Rattle.ob0_fields.proofs.OwnedModules.{FitParts, bind_typed-append, bindings_right, block-listed, block-parts, procedure-parts}
-use Rattle.ob0_refs.specs.FieldTypes.{first_listed}
-use Rattle.ob0_refs.specs.Selections.{token_meaning}
+use Rattle.ob0_selections.specs.FieldTypes.{first_listed}
+use Rattle.ob0_selections.specs.Selections.{token_meaning}
 use Rattle.ob0_values.specs.Values.{Shape}
 
 abbrev parameter_of : Mode → Shape → Label → TypedParameter Label

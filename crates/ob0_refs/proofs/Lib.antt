@@ -1,14 +1,6 @@
-pub mod Counted
-pub mod DeclaringWalks
-pub mod FieldWalks
-pub mod Parameters
-pub mod Paths
 pub mod Selected
-pub mod SelectingWalks
 pub mod AtFields
-pub mod ParametersBehind
 pub mod SelectedFields
 pub mod DeclaredTypes
-pub mod FieldLabels
 pub mod DeclaredFields
 pub mod ShownFields

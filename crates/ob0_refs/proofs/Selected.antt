@@ -8,10 +8,11 @@ use Rattle.ob0_tree.specs.Parsed.{named_tree_of, tree_of}
 use Rattle.ob0_bindings.specs.Bindings.{declared_object}
 use Rattle.ob0_typing.specs.Expressions.{Object}
 use Rattle.ob0_typing.specs.WellTyped.{Signature}
-use Rattle.ob0_refs.specs.declared.selecting.Selection.{Selection}
-use Rattle.ob0_refs.specs.Selections.{Selected, module_selections, selections, token_meaning}
-use Rattle.ob0_refs.specs.SelectionParts.{selection_in}
-use Rattle.ob0_refs.specs.FieldTypes.{module_typed, typed_fields}
+use Rattle.ob0_selections.specs.declared.selecting.Selection.{Selection}
+use Rattle.ob0_selections.specs.Selections.{Selected, selections, token_meaning}
+use Rattle.ob0_refs.specs.Fields.{module_selections, module_typed}
+use Rattle.ob0_selections.specs.SelectionParts.{selection_in}
+use Rattle.ob0_selections.specs.FieldTypes.{typed_fields}
 use Rattle.ob0_refs.specs.Questions.{selected_on, selected_shown, selection_shown}
 use Rattle.ob0_refs.specs.FieldParts.{selection_on}
 use Rattle.ob0_values.specs.Values.{Shape}

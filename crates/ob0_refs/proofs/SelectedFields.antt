@@ -20,7 +20,8 @@ use Rattle.ob0_fields.specs.Identifiers.{declared_fields, declared_in, declared_
 use Rattle.ob0_fields.specs.Owned.{mark, marked, marked_block, marked_module, marked_path, marked_procedure, marked_procedures, marked_sections, marked_types, marked_variables, owner, token_objects}
 use Rattle.ob0_fields.proofs.MarkedFields.{module-fields}
 use Rattle.ob0_refs.specs.Questions.{selected_on}
-use Rattle.ob0_refs.specs.Selections.{Selected, module_selections, noted, path_selections, selected_by, selections, token_meaning, type_behind}
+use Rattle.ob0_selections.specs.Selections.{Selected, noted, path_selections, selected_by, selections, token_meaning, type_behind}
+use Rattle.ob0_refs.specs.Fields.{module_selections}
 
 -- ---- what holds of some element of one of two lists
 

@@ -5,10 +5,10 @@ use Rattle.ob0_tree.specs.Parsed.{Parsed}
 use Rattle.ob0_scope.specs.Resolution.{Resolution}
 use Rattle.ob0_types.specs.CheckedModules.{IsWellTyped}
 use Rattle.ob0_fields.specs.Identifiers.{declared_fields}
-use Rattle.ob0_refs.specs.FieldTypes.{module_typed}
+use Rattle.ob0_refs.specs.Fields.{module_selections, module_typed}
 use Rattle.ob0_refs.specs.Laws.{FieldsAreShown, IsOnField}
 use Rattle.ob0_refs.specs.Questions.{field_shown, or_else, selected_on, selected_shown, selection_shown}
-use Rattle.ob0_refs.specs.Selections.{Selected, module_selections}
+use Rattle.ob0_selections.specs.Selections.{Selected}
 use Rattle.ob0_refs.specs.Shown.{Shown, shown_at}
 use Rattle.ob0_refs.proofs.AtFields.{on_field, shown_else, some_mapped}
 use Rattle.ob0_refs.proofs.DeclaredFields.{declared-typed}

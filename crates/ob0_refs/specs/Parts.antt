@@ -1,20 +1,12 @@
 -- What the code's values stand for.
-use Rattle.std.specs.Prelude.{List, map, string_bytes, Option}
+use Rattle.std.specs.Prelude.{string_bytes}
+use Rattle.ob0_scan.specs.declared.lexeme.Span.{Span}
+use Rattle.ob0_refs.specs.declared.answers.Capture as told
 use Rattle.ob0_refs.specs.declared.answers.Hover as answer
 use Rattle.ob0_refs.specs.Shown.{Shown}
-use Rattle.ob0_symbols.specs.declared.known.Formal as formal
-use Rattle.ob0_symbols.specs.declared.known.Object as declaration
-use Rattle.ob0_typing.specs.Expressions.{Object}
-use Rattle.ob0_symbols.specs.KnownTables.{Tables, shapes_of}
-use Rattle.ob0_symbols.specs.Tables.{formal_in, object_in}
-use Rattle.ob0_typing.specs.WellTyped.{Signature}
-use Rattle.ob0_values.specs.Values.{Shape}
 
 abbrev pub hover_in : answer.Hover → Shown
 hover_in h = record { span = h.span; text = string_bytes h.text }
 
-abbrev pub object_of : Tables → declaration.Object → Option (Object Shape Signature)
-object_of t o = object_in (shapes_of t) o
-
-abbrev pub signature_in : Tables → List formal.Formal → Signature
-signature_in t fs = map (formal_in (shapes_of t)) fs
+abbrev pub capture_at : told.Capture → Span
+capture_at c = c.span

@@ -1,5 +1,5 @@
 -- What is answered of a place: of the name that stands there, or else of the field.
-use Rattle.std.specs.Prelude.{◌≡◌, ◌==◌, ℕ, Bool, true, false, not, List, [], ◌∷◌, ◌++◌, codes, if◌then◌else◌, map, Option, Some, None, option_map, option_and_then, unwrap_or}
+use Rattle.std.specs.Prelude.{◌≡◌, ◌==◌, ℕ, Bool, true, false, not, List, [], ◌∷◌, if◌then◌else◌, map, Option, Some, None, option_map, option_and_then, unwrap_or}
 use Rattle.std.specs.List.{filter}
 use Rattle.ob0_scan.specs.Scanned.{Scanned}
 use Rattle.ob0_scan.specs.declared.lexeme.Span.{Span}
@@ -9,10 +9,11 @@ use Rattle.ob0_scope.specs.Resolution.{Resolution, span_at}
 use Rattle.ob0_scope.specs.Standing.{is_on, name_on}
 use Rattle.ob0_scope.specs.declared.naming.Named as named
 use Rattle.ob0_fields.specs.Identifiers.{declaring_field, field_at, field_place, field_tokens}
-use Rattle.ob0_refs.specs.Answered.{at_name, declared_at, references_to}
-use Rattle.ob0_refs.specs.FieldTypes.{module_typed}
-use Rattle.ob0_refs.specs.Hovers.{type_text}
-use Rattle.ob0_refs.specs.Selections.{Selected, module_selections}
+use Rattle.ob0_refs.specs.Answered.{at_name}
+use Rattle.ob0_shown.specs.Places.{declared_at, references_to}
+use Rattle.ob0_refs.specs.Fields.{module_selections, module_typed}
+use Rattle.ob0_shown.specs.Hovers.{field_text, type_text}
+use Rattle.ob0_selections.specs.Selections.{Selected}
 use Rattle.ob0_refs.specs.Shown.{Shown, shown_at}
 use Rattle.ob0_refs.specs.declared.answers.At as told
 use Rattle.ob0_refs.specs.declared.answers.Of.TheVariants as tells
@@ -82,10 +83,6 @@ or_else None other = other
 abbrev pub selected_on : Scanned → ℕ → List (Selected ℕ) → Option (Selected ℕ)
 selected_on source offset [] = None
 selected_on source offset (s ∷ found) = if is_on offset (span_at source s.name) then Some s else selected_on source offset found
-
--- FIELD f: T
-abbrev pub field_text : List ℕ → List ℕ → List ℕ
-field_text name of = codes "FIELD " ++ (name ++ (codes ": " ++ of))
 
 abbrev pub selection_shown : Resolution → Selected ℕ → Shown
 selection_shown r s = record { span = span_at r.module_read.source s.name; text = field_text (text_at r.module_read.source s.name) (type_text s.shape) }

@@ -1,14 +1,12 @@
 //! Where another name for a declaration isn't free.
 
 ghost use Rattle.std.specs.Prelude.{◌≡◌, IfOk, option_map};
-ghost use Rattle.ob0_scope.specs.Occurrences.{at_occurrence};
-ghost use Rattle.ob0_scope.specs.Renames.{place_of};
-ghost use Rattle.ob0_refs.specs.Captured.{capture_at, capture_span, captured_span};
+ghost use Rattle.ob0_refs.specs.Parts.{capture_at};
+ghost use Rattle.ob0_shown.specs.Captured.{captured_span};
 
 use crate::answers::Capture;
-use crate::names::declared_at;
-use ob0_scan::Span;
-use ob0_scope::{Capture as Captured, Resolved, captures as first_capture, token_span};
+use ob0_scope::{Resolved, captures as first_capture};
+use ob0_shown::capture_span;
 use std::alloc::{AllocError, Global};
 
 /// Where another name for a declaration isn't free: the identifier that declares it, where another declaration of its
@@ -28,24 +26,5 @@ pub fn captures(
             None => Ok(None),
             Some(span) => Ok(Some(Capture { span })),
         },
-    }
-}
-
-fn capture_span(names: &Resolved, declaration: usize, capture: Captured) -> Option<Span>
-    ensures { result ≡ capture_span names.now.module_read declaration (place_of capture) }
-{
-    match capture {
-        Captured::Duplicate(_) => declared_at(names, declaration),
-        Captured::Occurrence(k) => occurrence_span(names, k),
-    }
-}
-
-fn occurrence_span(names: &Resolved, k: usize) -> Option<Span>
-    ensures { result ≡ capture_span names.now.module_read 0 (at_occurrence k) }
-{
-    let tokens = names.module().tokens();
-    match names.occurrences().get(k) {
-        Some(token) => Some(token_span(tokens, *token)),
-        None => None,
     }
 }

@@ -1,26 +1,21 @@
 //! What is shown at a place: of a name, or else of a field.
 
-ghost use Rattle.std.specs.Prelude.{◌≡◌, IfOk, map, option_map, string_bytes};
+ghost use Rattle.std.specs.Prelude.{◌≡◌, IfOk, map, option_map};
 ghost use Rattle.ob0_refs.specs.Parts.{hover_in};
-ghost use Rattle.ob0_refs.specs.Hovers.{type_text};
-ghost use Rattle.ob0_refs.specs.Selections.{module_selections};
-ghost use Rattle.ob0_refs.specs.SelectionParts.{selection_in};
+ghost use Rattle.ob0_selections.specs.SelectionParts.{selection_in};
 ghost use Rattle.ob0_symbols.specs.KnownTables.{shapes_of};
-ghost use Rattle.ob0_symbols.specs.Tables.{type_shape};
-ghost use Rattle.ob0_refs.specs.FieldTypes.{module_typed};
-ghost use Rattle.ob0_refs.specs.Questions.{all_shown_at, field_shown, field_text, selected_shown, selection_shown};
+ghost use Rattle.ob0_refs.specs.Fields.{module_selections, module_typed};
+ghost use Rattle.ob0_refs.specs.Questions.{all_shown_at, field_shown, selected_shown, selection_shown};
 ghost use Rattle.ob0_refs.specs.FieldParts.{selection_on};
 
 use crate::answers::Hover;
-use crate::declaring::declared_by;
 use crate::hovering::hover as hover_name;
 use crate::names::is_on;
-use crate::selecting::Selection;
-use crate::selections::selections_by;
-use crate::typing::type_text;
 use ob0_scan::Tokens;
 use ob0_scope::{Resolved, token_span};
-use ob0_symbols::{Known, TypeId, text_at};
+use ob0_selections::{Selection, declared_by, selections_by};
+use ob0_shown::field_line;
+use ob0_symbols::{Known, text_at};
 use ob0_types::WellTyped;
 use std::alloc::{AllocError, Global};
 
@@ -109,19 +104,6 @@ fn hover_of(
         span: token_span(tokens, selection.token),
         text,
     })
-}
-
-fn field_line(
-    alloc: Global,
-    known: &Known<'_>,
-    name: &str,
-    of: TypeId,
-) -> Result<String, AllocError>
-    ensures { IfOk result (λ text. string_bytes text ≡ field_text name.now (type_text (type_shape (shapes_of known.now) of))) }
-{
-    let of = type_text(alloc, known, of)?;
-    let of = of.as_str();
-    format!(in alloc; "FIELD {name}: {of}")
 }
 
 /// The first selection that a place is on.

@@ -1,6 +1,6 @@
 //! The laws. Each function does nothing: its contract is the law.
 
-ghost use Rattle.ob0_refs.specs.Laws.{FieldsAreDefined, FieldsAreRenamedThere, FieldsAreShown, ParametersAreBehind};
+ghost use Rattle.ob0_refs.specs.Laws.{FieldsAreDefined, FieldsAreRenamedThere, FieldsAreShown};
 
 /// In a well-typed module a field has a definition, where it is declared and where it is selected.
 pub fn fields_are_defined()
@@ -10,11 +10,6 @@ pub fn fields_are_defined()
 /// A field that is answered at a place is the one that renaming finds there, and its references are what renaming writes.
 pub fn fields_are_renamed_there()
     ensures { FieldsAreRenamedThere }
-{}
-
-/// The first names that are declared behind a procedure are those of its parameters, in order.
-pub fn parameters_are_behind()
-    ensures { ParametersAreBehind }
 {}
 
 /// In a well-typed module a field is shown where it is declared and where it is selected.

@@ -4,17 +4,11 @@
 
 mod answers;
 mod capturing;
-mod declaring;
 mod field_hovers;
 mod hovering;
-mod hovers;
 pub mod laws;
 mod names;
 mod questions;
-mod selecting;
-mod selections;
-mod showing;
-mod typing;
 
 pub use answers::{At, Capture, Hover, Of};
 pub use capturing::captures;

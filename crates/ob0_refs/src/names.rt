@@ -1,14 +1,12 @@
-//! What is answered of a name: what it is a name of, where that is declared, and where it is named.
+//! What is answered of a name: where it stands, and what it is a name of.
 
-ghost use Rattle.std.specs.Prelude.{◌≡◌, IfOk, map};
-ghost use Rattle.ob0_scope.specs.Resolution.{span_at};
+ghost use Rattle.std.specs.Prelude.{◌≡◌};
 ghost use Rattle.ob0_scope.specs.Standing.{is_on};
-ghost use Rattle.ob0_refs.specs.Answered.{at_name, declared_at, of_ordinal, references_to};
+ghost use Rattle.ob0_refs.specs.Answered.{at_name, of_ordinal};
 
 use crate::answers::{At, Of};
-use ob0_scan::{Span, Tokens};
-use ob0_scope::{Named, PREDECLARED, Resolved, token_span, tokens_bound};
-use std::alloc::{AllocError, Global};
+use ob0_scan::Span;
+use ob0_scope::{Named, PREDECLARED, Resolved, token_span};
 
 /// Where a name stands, and what it is a name of.
 pub(crate) fn at_name(names: &Resolved, name: Named) -> At
@@ -28,44 +26,6 @@ fn of_ordinal(ordinal: usize) -> Of
     } else {
         Of::Declared(ordinal)
     }
-}
-
-/// Where that is declared which has an ordinal. None for a predeclared name.
-pub(crate) fn declared_at(names: &Resolved, ordinal: usize) -> Option<Span>
-    ensures { result ≡ declared_at names.now.module_read ordinal }
-{
-    let tokens = names.module().tokens();
-    match names.declaring_token(ordinal) {
-        Some(token) => Some(token_span(tokens, token)),
-        None => None,
-    }
-}
-
-/// Where a declaration is named, closing names too, in text order: with the identifier that declares it or without.
-pub(crate) fn references_to(
-    alloc: Global,
-    names: &Resolved,
-    declaration: usize,
-    include: bool,
-) -> Result<Vec<Span>, AllocError>
-    ensures { IfOk result (λ spans. spans.items ≡ references_to names.now.module_read declaration include) }
-{
-    let found = tokens_bound(alloc, names, declaration, include)?;
-    spans_of(alloc, names.tokens(), &found)
-}
-
-/// Where tokens stand.
-pub(crate) fn spans_of(
-    alloc: Global,
-    tokens: &Tokens,
-    found: &[usize],
-) -> Result<Vec<Span>, AllocError>
-    ensures { IfOk result (λ spans. spans.items ≡ map (span_at tokens.now) found.now) }
-{
-    found
-        .iter()
-        .map(|token| token_span(tokens, *token))
-        .collect(alloc)
 }
 
 pub(crate) fn is_on(offset: usize, span: Span) -> bool

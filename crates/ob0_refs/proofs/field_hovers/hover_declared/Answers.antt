@@ -1,9 +1,9 @@
 use Rattle.std.proofs.Common.{◌≡◌, map, option_map}
 use Rattle.ob0_bindings.proofs.Parts.{ifok_map}
 use Rattle.ob0_symbols.specs.KnownTables.{declared_in, shapes_of}
-use Rattle.ob0_refs.specs.SelectionParts.{selection_in}
+use Rattle.ob0_selections.specs.SelectionParts.{selection_in}
 use Rattle.ob0_refs.specs.Parts.{hover_in}
-use Rattle.ob0_refs.specs.FieldTypes.{module_typed}
+use Rattle.ob0_refs.specs.Fields.{module_typed}
 use Rattle.ob0_refs.proofs.Selected.{module_typed_found, shown_kept}
 use Rattle.ob0_refs.proofs.field_hovers.hover_declared.Goals as goal
 

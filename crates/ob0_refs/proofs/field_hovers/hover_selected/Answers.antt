@@ -1,8 +1,8 @@
 use Rattle.std.proofs.Common.{◌≡◌, map, option_map}
 use Rattle.ob0_bindings.proofs.Parts.{ifok_map}
 use Rattle.ob0_symbols.specs.KnownTables.{declared_in, shapes_of}
-use Rattle.ob0_refs.specs.Selections.{module_selections}
-use Rattle.ob0_refs.specs.SelectionParts.{selection_in}
+use Rattle.ob0_refs.specs.Fields.{module_selections}
+use Rattle.ob0_selections.specs.SelectionParts.{selection_in}
 use Rattle.ob0_refs.specs.Parts.{hover_in}
 use Rattle.ob0_refs.proofs.Selected.{module_found, shown_kept}
 use Rattle.ob0_refs.proofs.field_hovers.hover_selected.Goals as goal

@@ -1,0 +1,5 @@
+pub mod DeclaringWalks
+pub mod FieldWalks
+pub mod Paths
+pub mod SelectingWalks
+pub mod FieldLabels

@@ -1,0 +1,4 @@
+pub mod FieldParts
+pub mod FieldTypes
+pub mod SelectionParts
+pub mod Selections

@@ -1,0 +1,70 @@
+-- What is shown of a name: its declaration, or that it is predeclared. Names and types are given by their texts.
+use Rattle.std.specs.Prelude.{ℕ, ◌+◌, Bool, true, false, List, [], ◌∷◌, ◌++◌, codes, decimal}
+use Rattle.std.specs.Fmt.{signed_decimal}
+use Rattle.ob0_values.specs.Values.{FieldShapes, Shape, array_shape, boolean_shape, integer_shape, next_field_shape, no_field_shape, record_shape}
+use Rattle.ob0_values.specs.declared.scalar.Scalar.{Scalar}
+use Rattle.ob0_values.specs.declared.scalar.Scalar.TheVariants as scalar
+
+abbrev pub truth_text : Bool → List ℕ
+truth_text true = codes "TRUE"
+truth_text false = codes "FALSE"
+
+abbrev pub value_text : Scalar → List ℕ
+value_text (scalar.Number n) = signed_decimal n
+value_text (scalar.Truth b) = truth_text b
+
+abbrev pub fields_count : FieldShapes → ℕ
+fields_count no_field_shape = 0
+fields_count (next_field_shape x s rest) = fields_count rest + 1
+
+-- ARRAY n OF T, where n is a number; RECORD with k fields
+abbrev pub type_text : Shape → List ℕ
+type_text integer_shape = codes "INTEGER"
+type_text boolean_shape = codes "BOOLEAN"
+type_text (array_shape k n s) = codes "ARRAY " ++ (decimal n ++ (codes " OF " ++ type_text s))
+type_text (record_shape k fs) = codes "RECORD with " ++ (decimal (fields_count fs) ++ codes " fields")
+
+-- CONST c = V
+abbrev pub constant_text : List ℕ → Scalar → List ℕ
+constant_text name value = codes "CONST " ++ (name ++ (codes " = " ++ value_text value))
+
+-- TYPE t = T
+abbrev pub named_type_text : List ℕ → List ℕ → List ℕ
+named_type_text name of = codes "TYPE " ++ (name ++ (codes " = " ++ of))
+
+-- VAR x: T
+abbrev pub variable_text : List ℕ → List ℕ → List ℕ
+variable_text name of = codes "VAR " ++ (name ++ (codes ": " ++ of))
+
+-- FIELD f: T
+abbrev pub field_text : List ℕ → List ℕ → List ℕ
+field_text name of = codes "FIELD " ++ (name ++ (codes ": " ++ of))
+
+-- a parameter: whether it is passed by its place, its name and its type
+pub record Parameter : Type 0 where
+  pub by_place : Bool
+  pub name : List ℕ
+  pub of : List ℕ
+
+abbrev pub by_text : Bool → List ℕ
+by_text true = codes "VAR "
+by_text false = []
+
+abbrev pub parameter_text : Parameter → List ℕ
+parameter_text p = by_text p.by_place ++ (p.name ++ (codes ": " ++ p.of))
+
+-- parameters behind another one
+abbrev pub further_text : List Parameter → List ℕ
+further_text [] = []
+further_text (p ∷ ps) = codes "; " ++ (parameter_text p ++ further_text ps)
+
+abbrev pub parameters_text : List Parameter → List ℕ
+parameters_text [] = []
+parameters_text (p ∷ ps) = parameter_text p ++ further_text ps
+
+-- PROCEDURE p(a: T; VAR b: T)
+abbrev pub procedure_text : List ℕ → List Parameter → List ℕ
+procedure_text name ps = codes "PROCEDURE " ++ (name ++ (codes "(" ++ (parameters_text ps ++ codes ")")))
+
+abbrev pub predeclared_text : List ℕ → List ℕ
+predeclared_text name = codes "predeclared " ++ name
