@@ -13,16 +13,16 @@ use Rattle.ob0_text.specs.declared.refusals.EditRefusal.{EditRefusal}
 use Rattle.ob0_tree.specs.Parsed.{Parsed, named_tree_of}
 use Rattle.ob0_tree.specs.Tree.{Tree, module_text}
 use Rattle.ob0_typing.specs.WellTyped.{WellTyped}
-use Rattle.ob0_answers.specs.Actions.{AnswersInlining, FindsInlinings, Inlines, InlinesIn, IsOffered, Offers}
-use Rattle.ob0_analysis.specs.Analysed.{Finds, IsModuleIn}
+use Rattle.ob0_offers.specs.Inlinings.{AnswersInlining, Inlines, InlinesIn}
+use Rattle.ob0_answers.specs.Actions.{FindsInlinings, IsOffered, Offers}
+use Rattle.ob0_analysis.specs.Analysed.{Finds, IsModuleIn, IsReadAs}
 use Rattle.ob0_analysis.specs.Diagnosed.{IsTextOf, IsWellTypedModule}
 use Rattle.ob0_analysis.specs.Texts.{utf8}
-use Rattle.ob0_answers.specs.declared.actions.Inlining.{Inlining}
-use Rattle.ob0_answers.specs.declared.actions.Inlining.TheVariants.{Here, Everywhere}
+use Rattle.ob0_offers.specs.declared.inlining.Inlining.{Inlining}
+use Rattle.ob0_offers.specs.declared.inlining.Inlining.TheVariants.{Here, Everywhere}
 use Rattle.ob0_answers.specs.declared.actions.Inlinings.{Inlinings}
 use Rattle.ob0_analysis.specs.declared.analysis.Asked.{Asked}
 use Rattle.ob0_analysis.specs.declared.analysis.Asked.TheVariants.{Answered, IllTyped}
-use Rattle.ob0_answers.proofs.Naming.{read_as}
 use Rattle.ob0_analysis.proofs.Scanning.{is_module, utf8_of}
 
 -- ---- what is offered of an answer
@@ -33,6 +33,9 @@ offered_of how unit text m offset answer (Some edits) h is = subst (λ (a : Resu
 offered_of how unit text m offset answer None h (refusal, other, is) = (refusal, other, subst (λ (a : Result (Vec Edit Global) EditRefusal). AnswersInlining how unit text m offset a) is h)
 
 -- ---- from the module to its text
+
+pub read_as : (text : List ℕ) (names : Resolution) → IsModuleIn text names → IsReadAs text names.module_read
+read_as text names h = record { scan = h.scan; parsed = h.well_typed.resolved.parsed; well_typed = h.well_typed.well_typed }
 
 -- edits that leave the text of a module with the same runs
 kept : (how : Inlining) (unit : Unit) (text : List ℕ) (offset : ℕ) (edits : Vec Edit Global) (names : Resolution) (t : Tree Name module_text) → IsModuleIn (utf8 text) names

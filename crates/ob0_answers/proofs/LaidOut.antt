@@ -21,7 +21,8 @@ use Rattle.ob0_text.specs.declared.refusals.EditRefusal.TheVariants.{TooLong, Me
 use Rattle.ob0_analysis.specs.Analysed.{Finds, IsModuleIn}
 use Rattle.ob0_analysis.specs.Diagnosed.{IsTextOf, IsWellTypedModule}
 use Rattle.ob0_analysis.specs.Texts.{utf8}
-use Rattle.ob0_answers.specs.Formatted.{Formats, IsTooLongLaidOut, LaysOut, changes_of, layout_of}
+use Rattle.ob0_offers.specs.Layouts.{IsTooLongLaidOut, LaysOut, changes_of, layout_of}
+use Rattle.ob0_answers.specs.Formatted.{Formats}
 use Rattle.ob0_analysis.specs.declared.analysis.Asked.{Asked}
 use Rattle.ob0_analysis.specs.declared.analysis.Asked.TheVariants.{Answered, IllTyped}
 use Rattle.ob0_analysis.proofs.Scanning.{is_module, utf8_of}

@@ -1,6 +1,5 @@
 pub mod LaidOut
 pub mod Inlined
 pub mod Lists
-pub mod Naming
 pub mod Plain
 pub mod Diagnosing

@@ -8,7 +8,6 @@ use Rattle.serde_json.specs.View.{items_of}
 use Rattle.ob0_rpc.specs.Seen.{id_data, kinds_seen}
 use Rattle.ob0_rpc.specs.Shapes.{result_message}
 use Rattle.ob0_rpc.specs.declared.clients.Client.{Client}
-use Rattle.ob0_text.specs.Patches.{patched}
 use Rattle.ob0_text.specs.Texts.{offset_of}
 use Rattle.ob0_text.specs.Units.{width_of}
 use Rattle.ob0_text.specs.declared.edits.Edit.{Edit}
@@ -16,20 +15,16 @@ use Rattle.ob0_text.specs.declared.positions.Range.{Range}
 use Rattle.ob0_text.specs.declared.positions.Unit.{Unit}
 use Rattle.ob0_text.specs.declared.refusals.EditRefusal.{EditRefusal}
 use Rattle.ob0_text.specs.declared.refusals.EditRefusal.TheVariants.{Memory}
-use Rattle.ob0_tree.specs.Parsed.{Parsed}
-use Rattle.ob0_inline.specs.Everywhere.{AnswersEverywhere}
-use Rattle.ob0_inline.specs.Uses.{AnswersHere}
 use Rattle.ob0_analysis.specs.Diagnosed.{IsWellTypedModule}
 use Rattle.ob0_analysis.specs.Texts.{utf8}
-use Rattle.ob0_analysis.specs.Analysed.{IsReadAs}
-use Rattle.ob0_analysis.specs.RunsKept.{RunsAsBefore}
-use Rattle.ob0_answers.specs.Shapes.{action_value, workspace_edit}
+use Rattle.ob0_offers.specs.Inlinings.{InlinesIn, IsNotInlinedIn}
+use Rattle.ob0_results.specs.Shapes.{action_value, workspace_edit}
 use Rattle.ob0_analysis.specs.declared.analysis.Asked.{Asked}
 use Rattle.ob0_analysis.specs.declared.analysis.Asked.TheVariants.{Answered, IllTyped}
 use Rattle.ob0_answers.specs.declared.actions.ActionsRequest.{ActionsRequest}
 use Rattle.ob0_answers.specs.declared.actions.Inlinings.{Inlinings}
-use Rattle.ob0_answers.specs.declared.actions.Inlining.{Inlining}
-use Rattle.ob0_answers.specs.declared.actions.Inlining.TheVariants.{Here, Everywhere}
+use Rattle.ob0_offers.specs.declared.inlining.Inlining.{Inlining}
+use Rattle.ob0_offers.specs.declared.inlining.Inlining.TheVariants.{Here, Everywhere}
 
 -- ---- the request
 
@@ -64,35 +59,10 @@ place_of unit text range = min (offset_of (width_of unit) text range.start) (off
 
 -- ---- what is offered
 
--- the answer of an inliner at a place in bytes of a module
-abbrev pub AnswersInlining : Inlining → Unit → List ℕ → Parsed → ℕ → Result (Vec Edit Global) EditRefusal → Type 0
-AnswersInlining Here unit text m offset answer = AnswersHere unit text m offset answer
-AnswersInlining Everywhere unit text m offset answer = AnswersEverywhere unit text m offset answer
-
--- the edits that inline, or none where they are refused; running out of memory is no refusal
-abbrev pub Inlines : Inlining → Unit → List ℕ → Parsed → ℕ → Option (Vec Edit Global) → Type 0
-Inlines how unit text m offset (Some edits) = AnswersInlining how unit text m offset (Ok edits)
-Inlines how unit text m offset None = (refusal : EditRefusal) × ¬ (refusal ≡ Memory) × AnswersInlining how unit text m offset (Err refusal)
-
 -- what is offered of an inliner's answer
 abbrev pub IsOffered : Result (Vec Edit Global) EditRefusal → Option (Vec Edit Global) → Type 0
 IsOffered answer (Some edits) = answer ≡ Ok edits
 IsOffered answer None = (refusal : EditRefusal) × ¬ (refusal ≡ Memory) × (answer ≡ Err refusal)
-
--- These edits inline. Made at once they leave a text whose module runs as before.
-pub record InlinesIn (how : Inlining) (unit : Unit) (text : List ℕ) (offset : ℕ) (edits : Vec Edit Global) : Type 0 where
-  pub module_read : Parsed
-  pub read : IsReadAs (utf8 text) module_read
-  pub inlines : Inlines how unit text module_read offset (Some edits)
-  pub after : List ℕ
-  pub made : patched (width_of unit) text edits.items ≡ Some after
-  pub runs : RunsAsBefore (utf8 text) (utf8 after)
-
--- there are no edits that inline
-pub record IsNotInlinedIn (how : Inlining) (unit : Unit) (text : List ℕ) (offset : ℕ) : Type 0 where
-  pub module_read : Parsed
-  pub read : IsReadAs (utf8 text) module_read
-  pub refused : Inlines how unit text module_read offset None
 
 -- offered exactly where it isn't refused
 abbrev pub Offers : Inlining → Unit → List ℕ → ℕ → Option (Vec Edit Global) → Type 0

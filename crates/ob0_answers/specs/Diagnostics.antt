@@ -1,13 +1,11 @@
 -- The diagnostics of a text: what is told of it, at positions.
 use Rattle.std.specs.Prelude.{◌≡◌, ℕ, List, map}
-use Rattle.serde_json.specs.View.{items_view, items_of}
-use Rattle.serde_json.specs.declared.value.Value.{Value}
 use Rattle.ob0_text.specs.Texts.{position_of}
 use Rattle.ob0_text.specs.Units.{width_of}
 use Rattle.ob0_text.specs.declared.positions.Unit.{Unit}
 use Rattle.ob0_analysis.specs.Diagnosed.{Complaint, Tells}
 use Rattle.ob0_analysis.specs.Texts.{utf8}
-use Rattle.ob0_answers.specs.Shapes.{Diagnostic, diagnostic_value}
+use Rattle.ob0_results.specs.Shapes.{Diagnostic}
 
 -- a complaint is shown at the positions of its ends
 abbrev pub diagnostic_of : Unit → List ℕ → Complaint → Diagnostic
@@ -21,7 +19,3 @@ diagnostic_of unit text c = record {
 -- these are the diagnostics of the text
 abbrev pub Diagnoses : Unit → List ℕ → List Diagnostic → Type 0
 Diagnoses unit text ds = (told : List Complaint) × Tells (utf8 text) told × (ds ≡ map (diagnostic_of unit text) told)
-
--- the values in a list are these diagnostics
-abbrev pub DiagnosticsAre : List Diagnostic → List Value → Type 0
-DiagnosticsAre ds values = items_view values ≡ items_of (map diagnostic_value ds)

@@ -1,14 +1,6 @@
 pub mod Actions
 pub mod Diagnostics
 pub mod Formatted
-pub mod Questions
 pub mod Renamed
-pub mod Shapes
-pub use Rattle.ob0_analysis.specs.Analysed
 pub use Rattle.ob0_analysis.specs.Diagnosed
-pub use Rattle.ob0_analysis.specs.RunsKept
 pub use Rattle.ob0_analysis.specs.Texts
-pub use Rattle.ob0_rename.specs.Answers
-pub use Rattle.ob0_rename.specs.InTexts
-pub use Rattle.ob0_rename.specs.Renaming
-pub use Rattle.ob0_types.specs.CheckedModules

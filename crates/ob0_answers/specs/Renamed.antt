@@ -12,7 +12,7 @@ use Rattle.ob0_text.specs.declared.refusals.EditRefusal.{EditRefusal}
 use Rattle.ob0_rename.specs.InTexts.{IsRefusedIn, RenamesIn}
 use Rattle.ob0_analysis.specs.Diagnosed.{IsWellTypedModule}
 use Rattle.ob0_analysis.specs.Texts.{utf8}
-use Rattle.ob0_answers.specs.Shapes.{edit_refused, workspace_edit}
+use Rattle.ob0_results.specs.Shapes.{edit_refused, workspace_edit}
 use Rattle.ob0_answers.specs.declared.renaming.RenameRequest.{RenameRequest}
 
 -- a request for another name: its id, the client, the place in a document, the document's version, and the name

@@ -11,36 +11,20 @@ ghost use Rattle.ob0_rpc.specs.Shapes.{result_message};
 ghost use Rattle.ob0_rpc.specs.Writing.{Writes};
 ghost use Rattle.ob0_text.specs.Texts.{offset_of};
 ghost use Rattle.ob0_text.specs.Units.{width_of};
-ghost use Rattle.ob0_answers.specs.Actions.{AnswersActions, FindsInlinings, Inlines, IsOffered, action_of, action_values, actions_asked, actions_value, allows_inlining as allows, is_of_kind as of_kind, place_of as place_in, title, wants_inlining as wants};
-ghost use Rattle.ob0_answers.specs.declared.actions.Inlining.TheVariants as how;
+ghost use Rattle.ob0_offers.specs.Inlinings.{Inlines};
+ghost use Rattle.ob0_answers.specs.Actions.{AnswersActions, FindsInlinings, IsOffered, action_of, action_values, actions_asked, actions_value, allows_inlining as allows, is_of_kind as of_kind, place_of as place_in, title, wants_inlining as wants};
+ghost use Rattle.ob0_offers.specs.declared.inlining.Inlining.TheVariants as how;
 
-use crate::writing::{DocumentEdits, write_action};
 use ob0_analysis::{Asked, Question, ask};
 use ob0_inline::{inline_all, inline_here};
+use ob0_offers::Inlining;
+use ob0_results::writing::{DocumentEdits, write_action};
 use ob0_rpc::{Client, Id, Written, result, result_of, write_comma, write_piece};
 use ob0_scan::Tokens;
 use ob0_text::{Edit, EditRefusal, Position, Range, TextStore};
 use ob0_types::WellTyped;
 use serde_json::Value;
 use std::alloc::{AllocError, Global};
-
-/// Where a constant is inlined: at one use, or at all of them, and then its declaration goes.
-#[derive(Clone, Copy, Debug, Drop, PartialEq, Eq)]
-pub enum Inlining {
-    Here,
-    Everywhere,
-}
-
-impl Inlining {
-    fn title(self) -> &'static str
-        ensures { result.now ≡ title self }
-    {
-        match self {
-            Inlining::Here => "Inline here",
-            Inlining::Everywhere => "Inline everywhere",
-        }
-    }
-}
 
 /// The edits of each inlining that isn't refused.
 #[derive(Drop)]
@@ -255,5 +239,14 @@ fn write_inlining(
         version: request.version,
         edits,
     };
-    write_action(out, &edits, how.title())
+    write_action(out, &edits, title_of(how))
+}
+
+fn title_of(how: Inlining) -> &'static str
+    ensures { result.now ≡ title how }
+{
+    match how {
+        Inlining::Here => "Inline here",
+        Inlining::Everywhere => "Inline everywhere",
+    }
 }

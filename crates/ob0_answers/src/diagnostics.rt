@@ -4,13 +4,14 @@ ghost use Rattle.std.specs.Prelude.{◌≡◌, List, IfOk, OnOk, map};
 ghost use Rattle.serde_json.specs.View.{view};
 ghost use Rattle.ob0_analysis.specs.Diagnosed.{Keeps, complaint_in};
 ghost use Rattle.ob0_analysis.specs.Texts.{utf8};
-ghost use Rattle.ob0_answers.specs.Diagnostics.{Diagnoses, DiagnosticsAre, diagnostic_of};
-ghost use Rattle.ob0_answers.specs.Shapes.{Diagnostic, diagnostic_value};
+ghost use Rattle.ob0_results.specs.Shapes.{DiagnosticsAre};
+ghost use Rattle.ob0_answers.specs.Diagnostics.{Diagnoses, diagnostic_of};
+ghost use Rattle.ob0_results.specs.Shapes.{Diagnostic, diagnostic_value};
 ghost use Rattle.ob0_text.specs.Texts.{position_of};
 ghost use Rattle.ob0_text.specs.Units.{width_of};
 
-use crate::results::range_value;
 use ob0_analysis::{Diagnosis, diagnose_again};
+use ob0_results::results::range_value;
 use ob0_scan::Tokens;
 use ob0_text::{Position, TextStore};
 use serde_json::{Value, json};

@@ -7,10 +7,10 @@ ghost use Rattle.ob0_rpc.specs.Shapes.{result_message};
 ghost use Rattle.ob0_rpc.specs.Writing.{Writes};
 ghost use Rattle.ob0_answers.specs.Renamed.{AnswersRenaming, asked_of, edits_for_client};
 
-use crate::results::{refused_because, refused_ill_typed};
-use crate::writing::DocumentEdits;
 use ob0_analysis::Asked;
 use ob0_rename::rename_in;
+use ob0_results::results::{refused_because, refused_ill_typed};
+use ob0_results::writing::DocumentEdits;
 use ob0_rpc::{Client, Id, Place, result_of};
 use ob0_scan::Tokens;
 use ob0_text::{Edit, TextStore};

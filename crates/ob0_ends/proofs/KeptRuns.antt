@@ -6,8 +6,8 @@ use Rattle.ob0_text.specs.declared.edits.Edit.{Edit}
 use Rattle.ob0_text.specs.declared.positions.Unit.{Unit}
 use Rattle.ob0_text.specs.Units.{width_of}
 use Rattle.ob0_text.specs.Patches.{cut_at, patched_by_cuts, patched}
-use Rattle.ob0_answers.specs.RunsKept.{RunsAsBefore}
-use Rattle.ob0_answers.specs.Texts.{utf8}
+use Rattle.ob0_offers.specs.RunsKept.{RunsAsBefore}
+use Rattle.ob0_offers.specs.Texts.{utf8}
 use Rattle.ob0_ends.specs.Edited.{Replacement, replacement_of, replacements, edited}
 use Rattle.ob0_ends.specs.Asks.{Ask, rename, inline_here, inline_all, format, HandsOut, AnswersFor}
 use Rattle.ob0_ends.specs.Headline.{KeepTheRun}

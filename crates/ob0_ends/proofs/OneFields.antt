@@ -12,7 +12,7 @@ use Rattle.ob0_tree.proofs.Leaves.{ascending_bounds, leaves_ascend, leaves_spell
 use Rattle.ob0_tree.proofs.Mapped.{spell_mapped}
 use Rattle.ob0_scope.specs.Names as written
 use Rattle.ob0_scope.specs.Resolution.{Resolution, ordinal_in}
-use Rattle.ob0_answers.specs.CheckedModules.{IsWellTyped}
+use Rattle.ob0_types.specs.CheckedModules.{IsWellTyped}
 use Rattle.ob0_field_laws.specs.Fields.{refielded}
 use Rattle.ob0_field_laws.specs.Owners.{AreOwners, of_records}
 use Rattle.ob0_fields.specs.Identifiers.{field_identifiers}

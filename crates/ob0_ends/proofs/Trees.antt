@@ -6,8 +6,8 @@ use Rattle.ob0_tree.specs.Module.{ModuleOf}
 use Rattle.ob0_tree.specs.Tree.{Tree, module_text, spell}
 use Rattle.ob0_scope.specs.Names.{Name}
 use Rattle.ob0_parse.proofs.Unique.{same}
-use Rattle.ob0_answers.specs.Diagnosed.{IsTextOf, IsWellTypedModule}
-use Rattle.ob0_answers.specs.Texts.{utf8}
+use Rattle.ob0_offers.specs.Diagnosed.{IsTextOf, IsWellTypedModule}
+use Rattle.ob0_offers.specs.Texts.{utf8}
 use Rattle.ob0_ends.specs.Language.{IsTheTree, WellTypedText}
 
 pub one_tree : (s : Scanned) (a b : Tree Name module_text) → ModuleOf s a → ModuleOf s b → a ≡ b

@@ -10,11 +10,11 @@ use Rattle.ob0_text.specs.declared.refusals.EditRefusal.{EditRefusal}
 use Rattle.ob0_text.specs.OpenDocuments.{Document, InStep, OutOfStep}
 use Rattle.ob0_text.specs.Texts.{offset_of}
 use Rattle.ob0_text.specs.Units.{width_of}
-use Rattle.ob0_answers.specs.InTexts.{RenamesIn, IsRefusedIn}
-use Rattle.ob0_answers.specs.Actions.{InlinesIn, IsNotInlinedIn}
-use Rattle.ob0_answers.specs.Formatted.{LaysOut, IsTooLongLaidOut}
-pub use Rattle.ob0_answers.specs.declared.actions.Inlining.{Inlining}
-pub use Rattle.ob0_answers.specs.declared.actions.Inlining.TheVariants.{Here, Everywhere}
+use Rattle.ob0_rename.specs.InTexts.{RenamesIn, IsRefusedIn}
+use Rattle.ob0_offers.specs.Inlinings.{InlinesIn, IsNotInlinedIn}
+use Rattle.ob0_offers.specs.Layouts.{LaysOut, IsTooLongLaidOut}
+pub use Rattle.ob0_offers.specs.declared.inlining.Inlining.{Inlining}
+pub use Rattle.ob0_offers.specs.declared.inlining.Inlining.TheVariants.{Here, Everywhere}
 use Rattle.ob0_ends.specs.Language.{WellTypedText}
 use Rattle.ob0_ends.specs.Edited.{Replacement, replacements}
 

@@ -4,8 +4,8 @@ use Rattle.ob0_tree.specs.Tree.{Tree, module_text}
 use Rattle.ob0_scope.specs.Names.{Name}
 use Rattle.ob0_typing.specs.WellTyped.{WellTyped}
 use Rattle.ob0_semantics.specs.EditLaws.{SameRuns}
-use Rattle.ob0_answers.specs.Diagnosed.{IsTextOf}
-use Rattle.ob0_answers.specs.Texts.{utf8}
+use Rattle.ob0_offers.specs.Diagnosed.{IsTextOf}
+use Rattle.ob0_offers.specs.Texts.{utf8}
 
 -- A text is here the list of its characters.
 

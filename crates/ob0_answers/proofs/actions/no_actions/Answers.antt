@@ -6,7 +6,7 @@ use Rattle.serde_json.specs.declared.value.Value.{Value}
 use Rattle.ob0_rpc.specs.Seen.{id_data}
 use Rattle.ob0_rpc.specs.Shapes.{result_message}
 use Rattle.ob0_rpc.specs.Writing.{CanBeSent, Writes}
-use Rattle.ob0_answers.proofs.Naming.{view-Array}
+use Rattle.ob0_results.proofs.Values.{view-Array}
 use Rattle.ob0_answers.proofs.actions.no_actions.Goals as goal
 
 pub returns : goal.returns

@@ -1,7 +1,7 @@
 use Rattle.std.proofs.Common.{◌∙◌, ap, arith}
 use Rattle.ob0_analysis.specs.Diagnosed.{complaint_in}
 use Rattle.ob0_answers.specs.Diagnostics.{diagnostic_of}
-use Rattle.ob0_answers.specs.Shapes.{diagnostic_value}
+use Rattle.ob0_results.specs.Shapes.{diagnostic_value}
 use Rattle.ob0_analysis.specs.declared.diagnoses.Diagnosis.{Diagnosis}
 use Rattle.ob0_answers.proofs.Lists.{diagnostics_next}
 use Rattle.ob0_answers.proofs.diagnostics.listed.Goals as goal

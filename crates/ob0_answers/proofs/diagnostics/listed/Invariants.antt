@@ -1,6 +1,7 @@
 use Rattle.std.proofs.Common.{map, take}
 use Rattle.ob0_analysis.specs.Diagnosed.{complaint_in}
-use Rattle.ob0_answers.specs.Diagnostics.{DiagnosticsAre, diagnostic_of}
+use Rattle.ob0_results.specs.Shapes.{DiagnosticsAre}
+use Rattle.ob0_answers.specs.Diagnostics.{diagnostic_of}
 use Rattle.ob0_answers.proofs.diagnostics.listed.Given as goal
 
 abbrev pub invariant-loop-diagnosis : goal.invariant-loop-diagnosis

@@ -9,10 +9,10 @@ use Rattle.ob0_text.specs.declared.edits.Edit.{Edit}
 use Rattle.ob0_text.specs.declared.refusals.EditRefusal.{EditRefusal}
 use Rattle.ob0_text.specs.declared.refusals.EditRefusal.TheVariants.{TooLong}
 use Rattle.ob0_answers.specs.Formatted.{Formats}
-use Rattle.ob0_answers.specs.Shapes.{edit_refused, edits_value}
+use Rattle.ob0_results.specs.Shapes.{edit_refused, edits_value}
 use Rattle.ob0_analysis.specs.declared.analysis.Asked.{Asked}
 use Rattle.ob0_answers.proofs.LaidOut.{FoundOf, found_of}
-use Rattle.ob0_answers.proofs.Plain.{edits_can_be_sent}
+use Rattle.ob0_results.proofs.Plain.{edits_can_be_sent}
 use Rattle.ob0_answers.proofs.formatting.formatted.Goals as goal
 
 pub returns-in-Ok : goal.returns-in-Ok

@@ -1,7 +1,7 @@
 use Rattle.std.proofs.Common.{◌≡◌, rules, w64, to_z, of_z}
 use Rattle.std.proofs.lemmas.Result.{IfOk-weaker}
 use Rattle.ob0_answers.specs.Renamed.{asked_of}
-use Rattle.ob0_answers.proofs.Plain.{workspace_edit_can_be_sent}
+use Rattle.ob0_results.proofs.Plain.{workspace_edit_can_be_sent}
 use Rattle.ob0_answers.proofs.renaming.edits_answer.Goals as goal
 
 pub returns : goal.returns

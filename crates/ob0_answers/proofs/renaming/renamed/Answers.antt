@@ -8,7 +8,7 @@ use Rattle.ob0_text.specs.declared.edits.Edit.{Edit}
 use Rattle.ob0_text.specs.declared.refusals.EditRefusal.{EditRefusal}
 use Rattle.ob0_answers.specs.Renamed.{asked_of, edits_for_client}
 use Rattle.ob0_rename.specs.InTexts.{FindsNewName}
-use Rattle.ob0_answers.specs.Shapes.{edit_refused}
+use Rattle.ob0_results.specs.Shapes.{edit_refused}
 use Rattle.ob0_analysis.specs.declared.analysis.Asked.{Asked}
 use Rattle.ob0_analysis.specs.declared.analysis.Asked.TheVariants.{Answered}
 use Rattle.ob0_answers.proofs.renaming.renamed.Goals as goal

@@ -3,8 +3,8 @@ use Rattle.std.proofs.lemmas.Result.{on_ok_weaker}
 use Rattle.serde_json.specs.Written.{comma_if}
 use Rattle.ob0_text.specs.declared.edits.Edit.{Edit}
 use Rattle.ob0_answers.specs.Actions.{ActionsAsked, action_values, actions_asked}
-use Rattle.ob0_answers.specs.declared.actions.Inlining.{Inlining}
-use Rattle.ob0_answers.specs.declared.actions.Inlining.TheVariants.{Here, Everywhere}
+use Rattle.ob0_offers.specs.declared.inlining.Inlining.{Inlining}
+use Rattle.ob0_offers.specs.declared.inlining.Inlining.TheVariants.{Here, Everywhere}
 use Rattle.ob0_rpc.proofs.Appending.{array_of, each_joined, some}
 use Rattle.ob0_answers.proofs.actions.ActionsWritten.write.Goals as goal
 

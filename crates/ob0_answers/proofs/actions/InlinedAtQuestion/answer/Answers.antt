@@ -1,6 +1,6 @@
 use Rattle.ob0_text.specs.Texts.{offset_of}
 use Rattle.ob0_text.specs.Units.{width_of}
-use Rattle.ob0_answers.specs.declared.actions.Inlining.TheVariants.{Here, Everywhere}
+use Rattle.ob0_offers.specs.declared.inlining.Inlining.TheVariants.{Here, Everywhere}
 use Rattle.ob0_answers.proofs.Inlined.{offered_of}
 use Rattle.ob0_answers.proofs.actions.InlinedAtQuestion.answer.Goals as goal
 
