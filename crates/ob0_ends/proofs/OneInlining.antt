@@ -37,7 +37,7 @@ use Rattle.ob0_answers.specs.Actions.{InlinesIn, IsNotInlinedIn}
 use Rattle.ob0_answers.specs.declared.actions.Inlining.{Inlining}
 use Rattle.ob0_answers.specs.declared.actions.Inlining.TheVariants.{Here, Everywhere}
 use Rattle.ob0_answers.specs.Texts.{utf8}
-use Rattle.ob0_ends.specs.Edited.{replacements}
+use Rattle.ob0_events.specs.Edited.{replacements}
 use Rattle.ob0_ends.proofs.OneModule.{Same, same_module, one_named_tree, one_name, same_parts}
 
 one_scalar : (a b : Scalar) → Some (scalar_value a) ≡ Some (scalar_value b) → a ≡ b
