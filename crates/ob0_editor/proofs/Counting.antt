@@ -9,11 +9,11 @@ use Rattle.std.proofs.lemmas.Option.{none-some}
 use Rattle.std.proofs.lemmas.List.{length-append}
 use Rattle.ob0_text.specs.OpenDocuments.{TextChange}
 use Rattle.ob0_text.specs.declared.positions.Unit.{Unit}
-use Rattle.ob0_ends.specs.Edited.{Replacement, after_changes}
-use Rattle.ob0_ends.specs.Asks.{Ask}
-use Rattle.ob0_ends.specs.Ends.{Open, Asked, Editor, open_at, new_editor}
-use Rattle.ob0_ends.specs.Editing.{opens_document, changes_text, changes_document, asks_about, keeps}
-use Rattle.ob0_ends.proofs.SameDocument.{found}
+use Rattle.ob0_events.specs.Edited.{Replacement, after_changes}
+use Rattle.ob0_events.specs.Asks.{Ask}
+use Rattle.ob0_events.specs.Ends.{Open, Asked, Editor, open_at, new_editor}
+use Rattle.ob0_events.specs.Editing.{opens_document, changes_text, changes_document, asks_about, keeps}
+use Rattle.ob0_events.proofs.SameDocument.{found}
 use Rattle.ob0_editor.specs.Moves.{AreFew, Moves}
 
 -- after n calls

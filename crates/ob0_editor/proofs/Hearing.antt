@@ -7,7 +7,7 @@ use Rattle.serde_json.specs.Data.{Data}
 use Rattle.serde_json.specs.Read.{read}
 use Rattle.ob0_text.specs.OpenDocuments.{DocumentNote, Opened, Changed, Lost, Closed}
 use Rattle.ob0_rpc.specs.Messages.{Reads, meaning_of}
-use Rattle.ob0_ends.specs.Ends.{Asked, ToServer, tells, asks}
+use Rattle.ob0_events.specs.Ends.{Asked, ToServer, tells, asks}
 use Rattle.ob0_editor.specs.Heard.{heard, message_heard, note_heard, told_as, Says}
 use Rattle.ob0_editor.specs.Understood.{understood, value_understood}
 

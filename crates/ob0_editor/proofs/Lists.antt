@@ -10,8 +10,8 @@ use Rattle.serde_json.specs.View.{view, items_of, items_view}
 use Rattle.serde_json.specs.declared.value.Value.{Value}
 use Rattle.ob0_text.specs.declared.edits.Edit.{Edit}
 use Rattle.ob0_rpc.specs.Members.{text_in}
-use Rattle.ob0_ends.specs.Edited.{Replacement}
-use Rattle.ob0_ends.specs.Edited.{replacement_of, replacements}
+use Rattle.ob0_events.specs.Edited.{Replacement}
+use Rattle.ob0_events.specs.Edited.{replacement_of, replacements}
 use Rattle.ob0_editor.specs.Understood.{edit_in, edits_in, has_none, is_titled, action_in}
 
 pub left : (xs : List Value) (i : ℕ) (d : Value) → i < length xs → items_view (drop i xs) ≡ item (view (get_or xs i d)) (items_view (drop (i + 1) xs))

@@ -9,12 +9,12 @@ use Rattle.ob0_editor.specs.declared.editor.Asked as asked
 use Rattle.ob0_editor.specs.declared.editor.Answer as answer
 use Rattle.ob0_editor.specs.declared.editor.Rewritten as rewritten
 use Rattle.ob0_editor.specs.declared.applied.Applying as applying
-use Rattle.ob0_ends.specs.Edited.{Replacement}
-use Rattle.ob0_ends.specs.Asks.{Ask}
-use Rattle.ob0_ends.specs.Ends.{Open, Asked, Answer, Editor, numbered, open_at}
-use Rattle.ob0_ends.specs.Editing.{asks_about, held_answer, all_but, without_answer, applies_answer, Outcome, not_held, lets_go, makes}
+use Rattle.ob0_events.specs.Edited.{Replacement}
+use Rattle.ob0_events.specs.Asks.{Ask}
+use Rattle.ob0_events.specs.Ends.{Open, Asked, Answer, Editor, numbered, open_at}
+use Rattle.ob0_events.specs.Editing.{asks_about, held_answer, all_but, without_answer, applies_answer, Outcome, not_held, lets_go, makes}
 use Rattle.ob0_editor.specs.Code.{asked_of, answer_of}
-use Rattle.ob0_ends.specs.Edited.{replacements}
+use Rattle.ob0_events.specs.Edited.{replacements}
 use Rattle.ob0_editor.specs.Heard.{IsRequest, Says}
 use Rattle.ob0_editor.specs.Moves.{AreFew, Moves, IsPlaceOf, IsRewritten, IsMade, ComesOf, text_told}
 

@@ -12,8 +12,8 @@ use Rattle.ob0_rpc.specs.Asks.{call_of}
 use Rattle.ob0_rpc.specs.Messages.{Reads}
 use Rattle.ob0_rpc.specs.Notes.{change_in, all_changes, change_of, open_of}
 use Rattle.ob0_rpc.specs.Shapes.{notification_message}
-use Rattle.ob0_ends.specs.Edited.{whole_text}
-use Rattle.ob0_ends.specs.Asks.{Ask, rename, inline_here, inline_all, format}
+use Rattle.ob0_events.specs.Edited.{whole_text}
+use Rattle.ob0_events.specs.Asks.{Ask, rename, inline_here, inline_all, format}
 use Rattle.ob0_editor.specs.Shapes.{request_message, change_by, change_value, change_params, open_params, close_params, params_for, method_of}
 use Rattle.ob0_editor.specs.Heard.{IsNote, IsRequest, call_for}
 

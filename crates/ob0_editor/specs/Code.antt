@@ -6,9 +6,9 @@ use Rattle.ob0_editor.specs.declared.editor.Asked as asked
 use Rattle.ob0_editor.specs.declared.editor.Answer as answer
 use Rattle.ob0_editor.specs.declared.reading.Message as message
 use Rattle.ob0_editor.specs.declared.applied.Applied as applied
-use Rattle.ob0_ends.specs.Edited.{replacements}
-use Rattle.ob0_ends.specs.Asks.{Ask, rename, inline_here, inline_all, format}
-use Rattle.ob0_ends.specs.Ends.{Asked, Answer, Applied, ToEditor, publishes, answers}
+use Rattle.ob0_events.specs.Edited.{replacements}
+use Rattle.ob0_events.specs.Asks.{Ask, rename, inline_here, inline_all, format}
+use Rattle.ob0_events.specs.Ends.{Asked, Answer, Applied, ToEditor, publishes, answers}
 
 abbrev pub ask_of : ask.Ask → Ask
 ask_of (ask.TheVariants.Rename position name) = rename position (string_bytes name)

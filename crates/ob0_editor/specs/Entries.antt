@@ -4,7 +4,7 @@ use Rattle.std.specs.Str.{chars}
 use Rattle.std.specs.FinMap as map_of
 use Rattle.std.specs.Coded.{Coded, code_by, coded×, coded_ℕ, coded_list}
 use Rattle.ob0_editor.specs.declared.documents.Open as stored
-use Rattle.ob0_ends.specs.Ends.{Open, Documents}
+use Rattle.ob0_events.specs.Ends.{Open, Documents}
 
 abbrev pub open_of : stored.Open → Open
 open_of d = record { version = d.version; text = chars (string_bytes d.text); opening = d.opening }

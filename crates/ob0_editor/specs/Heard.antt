@@ -9,8 +9,8 @@ use Rattle.ob0_rpc.specs.Asks as wire
 use Rattle.ob0_rpc.specs.Asks.{call_of}
 use Rattle.ob0_rpc.specs.Messages.{Reads, Meaning, not_json, not_a_message, response, request, notice, meaning_of}
 use Rattle.ob0_rpc.specs.Notes.{Told, exits, opens, changes, closes, unreadable, other, note_of}
-use Rattle.ob0_ends.specs.Asks.{Ask, rename, inline_here, inline_all, format, indent_read}
-use Rattle.ob0_ends.specs.Ends.{Asked, numbered, ToServer, tells, asks}
+use Rattle.ob0_events.specs.Asks.{Ask, rename, inline_here, inline_all, format, indent_read}
+use Rattle.ob0_events.specs.Ends.{Asked, numbered, ToServer, tells, asks}
 use Rattle.ob0_editor.specs.Shapes.{method_of, empty_at}
 
 -- ---- as a function: the message in a content, where an ask is known by its number

@@ -5,11 +5,3 @@ pub mod Understood
 pub mod Entries
 pub mod Moves
 pub mod Beginning
-pub use Rattle.ob0_ends.specs.Asks
-pub use Rattle.ob0_ends.specs.Edited
-pub use Rattle.ob0_ends.specs.Editing
-pub use Rattle.ob0_ends.specs.Ends
-pub use Rattle.ob0_ends.specs.Happens
-pub use Rattle.ob0_ends.specs.Headline
-pub use Rattle.ob0_ends.specs.Played
-pub use Rattle.ob0_ends.specs.Serving

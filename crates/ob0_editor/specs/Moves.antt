@@ -4,11 +4,11 @@ use Rattle.std.specs.List.{remove}
 use Rattle.std.specs.FinMap as map_of
 use Rattle.std.specs.declared.alloc.Global.{Global}
 use Rattle.ob0_text.specs.OpenDocuments.{Changed}
-use Rattle.ob0_ends.specs.Edited.{whole_text}
-use Rattle.ob0_ends.specs.Ends.{Open, Applied, Editor, open_at, ToServer, tells}
-use Rattle.ob0_ends.specs.Editing.{Move, idle, sends, Outcome, not_held, lets_go, makes, held_answer, all_but}
+use Rattle.ob0_events.specs.Edited.{whole_text}
+use Rattle.ob0_events.specs.Ends.{Open, Applied, Editor, open_at, ToServer, tells}
+use Rattle.ob0_events.specs.Editing.{Move, idle, sends, Outcome, not_held, lets_go, makes, held_answer, all_but}
 use Rattle.ob0_editor.specs.Code.{answer_of, applied_of}
-use Rattle.ob0_ends.specs.Edited.{replacements}
+use Rattle.ob0_events.specs.Edited.{replacements}
 use Rattle.ob0_editor.specs.Heard.{Says}
 use Rattle.ob0_editor.specs.declared.applied.Applying as applying
 use Rattle.ob0_editor.specs.declared.editor.Answer as answer

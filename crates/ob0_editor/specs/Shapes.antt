@@ -8,7 +8,7 @@ use Rattle.ob0_text.specs.declared.edits.Change.{Change}
 use Rattle.ob0_text.specs.declared.edits.Indent.{Indent}
 use Rattle.ob0_text.specs.declared.edits.Indent.TheVariants.{Tab, Spaces}
 use Rattle.ob0_rpc.specs.Shapes.{text, json_rpc}
-use Rattle.ob0_ends.specs.Asks.{Ask, rename, inline_here, inline_all, format}
+use Rattle.ob0_events.specs.Asks.{Ask, rename, inline_here, inline_all, format}
 
 -- {"id":k,"jsonrpc":"2.0","method":M,"params":P}
 abbrev pub request_message : ℕ → List ℕ → Data → Data

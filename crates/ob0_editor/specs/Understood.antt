@@ -6,9 +6,9 @@ use Rattle.serde_json.specs.Find.{get, at, as_array, as_number, as_i64}
 use Rattle.serde_json.specs.Read.{read}
 use Rattle.ob0_text.specs.declared.positions.Range.{Range}
 use Rattle.ob0_rpc.specs.Members.{text_in, range_in}
-use Rattle.ob0_ends.specs.Edited.{Replacement}
-use Rattle.ob0_ends.specs.Asks.{Ask, rename, inline_here, inline_all, format}
-use Rattle.ob0_ends.specs.Ends.{Asked, numbered, ToEditor, publishes, answers}
+use Rattle.ob0_events.specs.Edited.{Replacement}
+use Rattle.ob0_events.specs.Asks.{Ask, rename, inline_here, inline_all, format}
+use Rattle.ob0_events.specs.Ends.{Asked, numbered, ToEditor, publishes, answers}
 use Rattle.ob0_editor.specs.Heard.{number_of}
 
 -- ---- publications

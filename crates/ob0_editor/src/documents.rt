@@ -24,7 +24,7 @@ pub struct OpenDocuments {
 }
 
 impl Model for OpenDocuments {
-    ghost use Rattle.ob0_ends.specs.Ends.{Documents};
+    ghost use Rattle.ob0_events.specs.Ends.{Documents};
     ghost use Rattle.ob0_editor.specs.Entries.{documents_of, open_documents_code};
 
     ghost Value = { Documents };

@@ -2,10 +2,10 @@
 ghost use Rattle.std.specs.Prelude.{◌≡◌, IfOk, OnOk, OnErr, map, option_map, is_some, ◌<◌, ◌^◌};
 ghost use Rattle.std.specs.Str.{chars};
 ghost use Rattle.ob0_text.specs.OpenDocuments.{told_change};
-ghost use Rattle.ob0_ends.specs.Ends.{new_editor, numbered, open_at};
-ghost use Rattle.ob0_ends.specs.Editing.{opens_document, changes_document, closes_document, asks_about, has_edits, keeps, held_answer, without_answer, applies_asked, applies_answer};
+ghost use Rattle.ob0_events.specs.Ends.{new_editor, numbered, open_at};
+ghost use Rattle.ob0_events.specs.Editing.{opens_document, changes_document, closes_document, asks_about, has_edits, keeps, held_answer, without_answer, applies_asked, applies_answer};
 ghost use Rattle.ob0_editor.specs.Code.{ask_of, message_of};
-ghost use Rattle.ob0_ends.specs.Edited.{replacements};
+ghost use Rattle.ob0_events.specs.Edited.{replacements};
 ghost use Rattle.ob0_editor.specs.Moves.{AreFew, Moves, ComesOf, IsRewritten, IsMade, IsPlaceOf};
 ghost use Rattle.ob0_editor.specs.Understood.{understood};
 
@@ -57,7 +57,7 @@ pub struct Editor {
 impl Model for Editor {
     ghost use Rattle.std.specs.Prelude.{map};
     ghost use Rattle.std.specs.Coded.{codes};
-    ghost use Rattle.ob0_ends.specs.Ends.{Editor};
+    ghost use Rattle.ob0_events.specs.Ends.{Editor};
     ghost use Rattle.ob0_editor.specs.Code.{asked_of, answer_of};
     ghost use Rattle.ob0_editor.specs.Entries.{open_documents_code};
 

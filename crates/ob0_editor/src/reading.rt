@@ -5,10 +5,10 @@ ghost use Rattle.serde_json.specs.Find.{get, as_str, as_number, as_i64, as_array
 ghost use Rattle.serde_json.specs.View.{view, items_view};
 ghost use Rattle.ob0_rpc.specs.Members.{text_in as text_of_member, range_in as range_of_member, position_in as position_of_member, position_of as position_told, range_of as range_told, count_in as count_of_member};
 ghost use Rattle.ob0_editor.specs.Code.{message_of, ask_of, asked_of};
-ghost use Rattle.ob0_ends.specs.Edited.{replacement_of, replacements};
+ghost use Rattle.ob0_events.specs.Edited.{replacement_of, replacements};
 ghost use Rattle.ob0_editor.specs.Heard.{number_of};
 ghost use Rattle.ob0_editor.specs.Understood.{understood, value_understood, publication_understood, answer_understood, has_none, edit_in, edits_in, workspace_items, is_titled, action_in, action_items, items_for as items_of_answer, edits_for};
-ghost use Rattle.ob0_ends.specs.Ends.{numbered};
+ghost use Rattle.ob0_events.specs.Ends.{numbered};
 
 use crate::asks::Ask;
 use crate::editor::Asked;

@@ -3,8 +3,8 @@ ghost use Rattle.std.specs.Prelude.{◌≡◌, Some, map, IfOk, OnOk, string_byt
 ghost use Rattle.std.specs.Option.{option_map};
 ghost use Rattle.std.specs.Str.{chars};
 ghost use Rattle.ob0_text.specs.OpenDocuments.{told_change, changed_text};
-ghost use Rattle.ob0_ends.specs.Edited.{edited, after_changes};
-ghost use Rattle.ob0_ends.specs.Edited.{replacements};
+ghost use Rattle.ob0_events.specs.Edited.{edited, after_changes};
+ghost use Rattle.ob0_events.specs.Edited.{replacements};
 
 use ob0_text::{Change, Edit, PatchFault, TextStore, Unit, patch};
 use std::alloc::{AllocError, Global};

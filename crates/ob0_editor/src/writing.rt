@@ -7,7 +7,7 @@ ghost use Rattle.ob0_text.specs.OpenDocuments.{Opened, Changed, Closed, told_cha
 ghost use Rattle.ob0_text.specs.declared.edits.Change as change_type;
 ghost use Rattle.ob0_rpc.specs.Messages.{Reads};
 ghost use Rattle.ob0_rpc.specs.Shapes.{notification_message};
-ghost use Rattle.ob0_ends.specs.Edited.{whole_text};
+ghost use Rattle.ob0_events.specs.Edited.{whole_text};
 ghost use Rattle.ob0_editor.specs.Code.{ask_of};
 ghost use Rattle.ob0_editor.specs.Shapes.{request_message, position_value as position_data, range_value as range_data, open_params as open_data, change_by, change_value as change_data, change_params as change_data_of, close_params as close_data, rename_params as rename_data, actions_params as actions_data, options_value as options_data, formatting_params as formatting_data, params_for, method_of as method_for};
 ghost use Rattle.ob0_editor.specs.Heard.{IsNote, IsRequest};

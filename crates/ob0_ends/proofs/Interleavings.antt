@@ -12,15 +12,18 @@ use Rattle.ob0_text.specs.declared.positions.Unit.{Unit}
 use Rattle.ob0_text.specs.OpenDocuments.{OpenDocuments, Document, InStep, OutOfStep, DocumentNote, Opened, Changed, Lost, Closed, TextChange, changed_text, updated, after_note, changed_document, document_at}
 use Rattle.ob0_text.proofs.EntryLaws.{updated-some, updated-none}
 use Rattle.ob0_ends.specs.Language.{WellTypedText, SameRun}
-use Rattle.ob0_ends.specs.Edited.{Replacement, edited, whole_text, after_changes}
-use Rattle.ob0_ends.specs.Asks.{Ask, IsAnswer}
-use Rattle.ob0_ends.specs.Ends.{Open, Asked, Answer, Editor, numbered, open_at, ToServer, tells, asks, ToEditor, publishes, answers, Applied, Made, Ends, start, after_message, will_hold, as_held}
-use Rattle.ob0_ends.specs.Editing.{opens_document, changes_text, changes_document, closes_document, asks_about, keeps, held_answer, all_but, without_answer, discards, if_same, applies_text, applies_edits, applies_asked, applies_answer, Move, idle, sends, Outcome, not_held, lets_go, makes}
+use Rattle.ob0_events.specs.Edited.{Replacement, edited, whole_text, after_changes}
+use Rattle.ob0_events.specs.Asks.{Ask}
+use Rattle.ob0_ends.specs.Answers.{IsAnswer}
+use Rattle.ob0_events.specs.Ends.{Open, Asked, Answer, Editor, numbered, open_at, ToServer, tells, asks, ToEditor, publishes, answers, Applied, Made, Ends, start, after_message, will_hold, as_held}
+use Rattle.ob0_events.specs.Editing.{opens_document, changes_text, changes_document, closes_document, asks_about, keeps, held_answer, all_but, without_answer, discards, if_same, applies_text, applies_edits, applies_asked, applies_answer, Move, idle, sends, Outcome, not_held, lets_go, makes}
 use Rattle.ob0_ends.specs.Serving.{MayPublish, taken_back, MayTell, MaySend}
-use Rattle.ob0_ends.specs.Happens.{Event, open_document, change_document, close_document, ask_about, serve, take_message, apply, discard, Seen, moved, takes, comes_of, Serves, Happens, Run}
+use Rattle.ob0_events.specs.Events.{Event, open_document, change_document, close_document, ask_about, serve, take_message, apply, discard, Seen, moved, takes, comes_of}
+use Rattle.ob0_ends.specs.Happens.{Serves, Happens, Run}
 use Rattle.ob0_ends.specs.Headline.{KeepTheRun, KeepsTheRun, IsRight, IsMadeFor, latest, IsUpToDate, Holds}
-use Rattle.ob0_ends.proofs.UriLaws.{get_put, get_removed, same_uri, uri_itself, latest_push}
-use Rattle.ob0_ends.proofs.SameDocument.{Known, Same, same_from, still_known, later_answers, later_open, later_close, later_ask, slice_get_last, found, left}
+use Rattle.ob0_events.proofs.UriLaws.{get_put, get_removed, same_uri, uri_itself}
+use Rattle.ob0_ends.proofs.Latest.{latest_push}
+use Rattle.ob0_events.proofs.SameDocument.{Known, Same, same_from, still_known, later_answers, later_open, later_close, later_ask, slice_get_last, found, left}
 use Rattle.ob0_ends.proofs.KeptRuns.{answer_keeps}
 use Rattle.ob0_ends.proofs.Keeping.{Fits, AnswerFits, HeldFits, AsksSee, Kept, message_unit, sends_kept, put_mirrors, remove_mirrors, rewrites_kept, answers_kept, held_known}
 

@@ -10,12 +10,12 @@ use Rattle.std.proofs.lemmas.List.Sums.{fold_push}
 use Rattle.ob0_text.specs.declared.positions.Unit.{Unit}
 use Rattle.ob0_text.specs.OpenDocuments.{OpenDocuments, document, DocumentNote, Opened, Changed, Lost, Closed, TextChange, after_note, changed_document, document_at}
 use Rattle.ob0_text.proofs.EntryLaws.{updated-some}
-use Rattle.ob0_ends.specs.Edited.{Replacement, after_changes}
-use Rattle.ob0_ends.specs.Ends.{Open, Answer, Editor, open_at, ToServer, tells, asks, ToEditor, publishes, answers, Ends, after_message, will_hold, as_held, Mirrors}
-use Rattle.ob0_ends.specs.Editing.{held_answer, rewritten, rewrites}
+use Rattle.ob0_events.specs.Edited.{Replacement, after_changes}
+use Rattle.ob0_events.specs.Ends.{Open, Answer, Editor, open_at, ToServer, tells, asks, ToEditor, publishes, answers, Ends, after_message, will_hold, as_held, Mirrors}
+use Rattle.ob0_events.specs.Editing.{held_answer, rewritten, rewrites}
 use Rattle.ob0_ends.specs.Headline.{KeepTheRun, KeepsTheRun, IsRight}
-use Rattle.ob0_ends.proofs.UriLaws.{get_put, get_removed, mapped_choice}
-use Rattle.ob0_ends.proofs.SameDocument.{Known, Later, still_known, later_answers, later_rewrite, found}
+use Rattle.ob0_events.proofs.UriLaws.{get_put, get_removed, mapped_choice}
+use Rattle.ob0_events.proofs.SameDocument.{Known, Later, still_known, later_answers, later_rewrite, found}
 
 -- no edits, or edits that keep the run of this document
 abbrev pub Fits : Unit → List Replacement → Open → Type 0

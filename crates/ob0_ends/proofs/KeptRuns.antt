@@ -1,21 +1,18 @@
 -- What is handed out keeps the run.
-use Rattle.std.proofs.Common.{◌≡◌, ◌∙◌, ℕ, List, [], sym, ap, subst, inl, inr}
-use mathlib.Core.List.{map-map}
+use Rattle.std.proofs.Common.{◌≡◌, ◌∙◌, ℕ, List, [], sym, subst, inl, inr}
 use Rattle.std.specs.Prelude.{◌⊎◌, Some}
 use Rattle.ob0_text.specs.declared.edits.Edit.{Edit}
 use Rattle.ob0_text.specs.declared.positions.Unit.{Unit}
 use Rattle.ob0_text.specs.Units.{width_of}
-use Rattle.ob0_text.specs.Patches.{cut_at, patched_by_cuts, patched}
-use Rattle.ob0_offers.specs.RunsKept.{RunsAsBefore}
-use Rattle.ob0_offers.specs.Texts.{utf8}
-use Rattle.ob0_ends.specs.Edited.{Replacement, replacement_of, replacements, edited}
-use Rattle.ob0_ends.specs.Asks.{Ask, rename, inline_here, inline_all, format, HandsOut, AnswersFor}
+use Rattle.ob0_text.specs.Patches.{patched}
+use Rattle.ob0_answers.specs.RunsKept.{RunsAsBefore}
+use Rattle.ob0_answers.specs.Texts.{utf8}
+use Rattle.ob0_events.specs.Edited.{Replacement, replacements}
+use Rattle.ob0_events.proofs.EditedTexts.{edited_as_patched}
+use Rattle.ob0_events.specs.Asks.{Ask, rename, inline_here, inline_all, format}
+use Rattle.ob0_ends.specs.Answers.{HandsOut, AnswersFor}
 use Rattle.ob0_ends.specs.Headline.{KeepTheRun}
 use Rattle.ob0_ends.proofs.Trees.{the_tree, fits}
-
-pub edited_as_patched : (unit : Unit) (text : List ℕ) (edits : List Edit) → edited unit text (replacements edits) ≡ patched (width_of unit) text edits
-unfolding edited
-edited_as_patched unit text edits = ap (patched_by_cuts text) (map-map (λ e. cut_at (width_of unit) text e.range e.text) replacement_of edits)
 
 -- edits that leave a text which runs as before
 runs_kept : (unit : Unit) (text after : List ℕ) (edits : List Edit) → patched (width_of unit) text edits ≡ Some after → RunsAsBefore (utf8 text) (utf8 after) → KeepTheRun unit text (replacements edits)

@@ -1,5 +1,4 @@
-pub mod UriLaws
-pub mod SameDocument
+mod Latest
 pub mod Trees
 pub mod KeptRuns
 mod OneModule

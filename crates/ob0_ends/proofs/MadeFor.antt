@@ -6,10 +6,11 @@ use Rattle.std.proofs.lemmas.Option.{same_Some, none-some}
 use Rattle.std.proofs.lemmas.List.Elements.{All-nil, All-push, All-append, All-weaker}
 use Rattle.ob0_text.specs.declared.positions.Unit.{Unit}
 use Rattle.ob0_text.specs.OpenDocuments.{OpenDocuments, Document, InStep, OutOfStep, DocumentNote, Opened, Changed, Lost, Closed, after_note, document_at}
-use Rattle.ob0_ends.specs.Ends.{Open, open_at, ToServer, tells, asks, ToEditor, publishes, answers, Made, Ends, start, after_message, will_hold, as_held}
-use Rattle.ob0_ends.specs.Editing.{Move, idle, sends, opens_document, changes_document, closes_document, asks_about, held_answer, Outcome, not_held, lets_go, makes, discards, applies_answer}
+use Rattle.ob0_events.specs.Ends.{Open, open_at, ToServer, tells, asks, ToEditor, publishes, answers, Made, Ends, start, after_message, will_hold, as_held}
+use Rattle.ob0_events.specs.Editing.{Move, idle, sends, opens_document, changes_document, closes_document, asks_about, held_answer, Outcome, not_held, lets_go, makes, discards, applies_answer}
 use Rattle.ob0_ends.specs.Serving.{MayPublish, MayTell, MaySend}
-use Rattle.ob0_ends.specs.Happens.{Event, open_document, change_document, close_document, ask_about, serve, take_message, apply, discard, Seen, Step, Is, moved, takes, comes_of, Serves, Happens, Run}
+use Rattle.ob0_events.specs.Events.{Event, open_document, change_document, close_document, ask_about, serve, take_message, apply, discard, Seen, Step, Is, moved, takes, comes_of}
+use Rattle.ob0_ends.specs.Happens.{Serves, Happens, Run}
 use Rattle.ob0_ends.specs.Played.{WasOpen, WasMadeFor}
 use Rattle.ob0_ends.proofs.Interleavings.{in_every_interleaving}
 

@@ -7,14 +7,15 @@ use Rattle.std.proofs.lemmas.List.{map-append}
 use Rattle.std.proofs.lemmas.List.Sums.{fold_push}
 use Rattle.ob0_text.specs.declared.positions.Unit.{Unit}
 use Rattle.ob0_text.specs.OpenDocuments.{OpenDocuments, TextChange, Opened, Changed, Lost, Closed, after_note, document_at}
-use Rattle.ob0_ends.specs.Ends.{Open, Documents, Asked, Editor, numbered, open_at, ToServer, tells, asks, ToEditor, publishes, answers, Made, Ends, start, after_message, as_held, Mirrors}
-use Rattle.ob0_ends.specs.Edited.{Replacement, edited, after_changes}
-use Rattle.ob0_ends.specs.Asks.{Ask}
-use Rattle.ob0_ends.specs.Editing.{Move, idle, sends, opens_document, rewritten, changes_text, changes_document, closes_document, asks_about, held_answer, without_answer, Outcome, not_held, lets_go, makes, discards, if_same, applies_text, applies_edits, applies_asked, applies_answer}
+use Rattle.ob0_events.specs.Ends.{Open, Documents, Asked, Editor, numbered, open_at, ToServer, tells, asks, ToEditor, publishes, answers, Made, Ends, start, after_message, as_held, Mirrors}
+use Rattle.ob0_events.specs.Edited.{Replacement, edited, after_changes}
+use Rattle.ob0_events.specs.Asks.{Ask}
+use Rattle.ob0_events.specs.Editing.{Move, idle, sends, opens_document, rewritten, changes_text, changes_document, closes_document, asks_about, held_answer, without_answer, Outcome, not_held, lets_go, makes, discards, if_same, applies_text, applies_edits, applies_asked, applies_answer}
 use Rattle.ob0_ends.specs.Serving.{MayPublish, MaySend}
-use Rattle.ob0_ends.specs.Happens.{Event, open_document, change_document, close_document, ask_about, serve, take_message, apply, discard, Seen, Step, Is, moved, takes, comes_of, Serves, Happens, Run}
+use Rattle.ob0_events.specs.Events.{Event, open_document, change_document, close_document, ask_about, serve, take_message, apply, discard, Seen, Step, Is, moved, takes, comes_of}
+use Rattle.ob0_ends.specs.Happens.{Serves, Happens, Run}
 use Rattle.ob0_ends.specs.Played.{Told, told_at, told_by, told_in_move, told_in_outcome, told_at_event, AreTold, named_by, named_in, name_of, AreMadeOf, AreMadeInOrder}
-use Rattle.ob0_ends.proofs.UriLaws.{get_put, uri_itself}
+use Rattle.ob0_events.proofs.UriLaws.{get_put, uri_itself}
 use Rattle.ob0_ends.proofs.Interleavings.{in_every_interleaving}
 use Rattle.ob0_ends.proofs.MadeFor.{run_push}
 use Rattle.ob0_ends.proofs.OneRun.{one_run}

@@ -21,7 +21,7 @@ use Rattle.ob0_parse.proofs.Unique.{same}
 use Rattle.ob0_edits.specs.Replaced.{parts}
 use Rattle.ob0_scope.specs.Standing.{Standing, is_on, name_on, named_by}
 use Rattle.ob0_scope.specs.declared.naming.Named.{Named}
-use Rattle.ob0_ends.specs.Edited.{Replacement, replacements}
+use Rattle.ob0_events.specs.Edited.{Replacement, replacements}
 
 pub record Same (m n : Parsed) : Type 0 where
   pub source : m.source ≡ n.source

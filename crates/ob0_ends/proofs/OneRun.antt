@@ -4,11 +4,13 @@ use Rattle.std.specs.Prelude.{◌↔◌, IsTrue, ℤ, Option, Some, None}
 use Rattle.ob0_text.specs.declared.positions.Unit.{Unit}
 use Rattle.ob0_text.specs.OpenDocuments.{OpenDocuments, Document, InStep, OutOfStep, DocumentNote, Opened, Changed, Lost, Closed, after_note, document_at}
 use Rattle.ob0_ends.specs.Language.{WellTypedText}
-use Rattle.ob0_ends.specs.Edited.{Replacement}
-use Rattle.ob0_ends.specs.Asks.{Ask, IsAnswer}
-use Rattle.ob0_ends.specs.Ends.{ToServer, tells, asks, ToEditor, publishes, answers, Made, Ends, start, after_message}
+use Rattle.ob0_events.specs.Edited.{Replacement}
+use Rattle.ob0_events.specs.Asks.{Ask}
+use Rattle.ob0_ends.specs.Answers.{IsAnswer}
+use Rattle.ob0_events.specs.Ends.{ToServer, tells, asks, ToEditor, publishes, answers, Made, Ends, start, after_message}
 use Rattle.ob0_ends.specs.Serving.{MayPublish, MayTell, MaySend}
-use Rattle.ob0_ends.specs.Happens.{Event, open_document, change_document, close_document, ask_about, serve, take_message, apply, discard, Seen, Serves, Happens, Run}
+use Rattle.ob0_events.specs.Events.{Event, open_document, change_document, close_document, ask_about, serve, take_message, apply, discard, Seen}
+use Rattle.ob0_ends.specs.Happens.{Serves, Happens, Run}
 use Rattle.ob0_ends.proofs.OneAnswer.{answers_are_one}
 
 same_truth : (a b : Bool) (P : Type 0) → IsTrue a ↔ P → IsTrue b ↔ P → a ≡ b

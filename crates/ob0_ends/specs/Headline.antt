@@ -4,10 +4,12 @@ use Rattle.std.specs.Str.{bytes_eq}
 use Rattle.ob0_text.specs.declared.positions.Unit.{Unit}
 use Rattle.ob0_text.specs.declared.edits.Edit.{Edit}
 use Rattle.ob0_ends.specs.Language.{WellTypedText, SameRun}
-use Rattle.ob0_ends.specs.Edited.{Replacement, replacements, edited}
-use Rattle.ob0_ends.specs.Asks.{Ask, HandsOut}
-use Rattle.ob0_ends.specs.Ends.{Open, Editor, open_at, Applied, Made, Ends, start, Mirrors}
-use Rattle.ob0_ends.specs.Happens.{Event, Run}
+use Rattle.ob0_events.specs.Edited.{Replacement, replacements, edited}
+use Rattle.ob0_events.specs.Asks.{Ask}
+use Rattle.ob0_ends.specs.Answers.{HandsOut}
+use Rattle.ob0_events.specs.Ends.{Open, Editor, open_at, Applied, Made, Ends, start, Mirrors}
+use Rattle.ob0_events.specs.Events.{Event}
+use Rattle.ob0_ends.specs.Happens.{Run}
 
 -- an edit that leaves of a well-typed module a well-typed module with the same run
 pub record KeepsTheRun (a : Applied) : Type 0 where

@@ -1,10 +1,12 @@
 -- A list of events has one run.
 use Rattle.std.specs.Prelude.{◌≡◌, ℕ, List}
 use Rattle.ob0_text.specs.declared.positions.Unit.{Unit}
-use Rattle.ob0_ends.specs.Edited.{Replacement}
-use Rattle.ob0_ends.specs.Asks.{Ask, AnswersFor}
-use Rattle.ob0_ends.specs.Ends.{Ends, start}
-use Rattle.ob0_ends.specs.Happens.{Event, Run}
+use Rattle.ob0_events.specs.Edited.{Replacement}
+use Rattle.ob0_events.specs.Asks.{Ask}
+use Rattle.ob0_ends.specs.Answers.{AnswersFor}
+use Rattle.ob0_events.specs.Ends.{Ends, start}
+use Rattle.ob0_events.specs.Events.{Event}
+use Rattle.ob0_ends.specs.Happens.{Run}
 
 -- an ask about a text has one answer
 abbrev pub AnswersAreOne : Type 0

@@ -2,9 +2,10 @@
 use Rattle.std.specs.Prelude.{◌≡◌, ⊤, ℕ, ℤ, pos, List, [], ◌∷◌, ◌++◌, map, All, Option, Some, None}
 use Rattle.ob0_text.specs.declared.positions.Unit.{Unit}
 use Rattle.ob0_text.specs.OpenDocuments.{Opened, Changed, Lost, Closed}
-use Rattle.ob0_ends.specs.Ends.{Open, Editor, open_at, ToServer, tells, asks, Applied, Made, Ends, start, Mirrors}
-use Rattle.ob0_ends.specs.Editing.{Move, idle, sends, opens_document, changes_document, closes_document, asks_about, held_answer, Outcome, not_held, lets_go, makes, discards, applies_answer}
-use Rattle.ob0_ends.specs.Happens.{Event, open_document, change_document, close_document, ask_about, serve, take_message, apply, discard, Seen, Happens, Run}
+use Rattle.ob0_events.specs.Ends.{Open, Editor, open_at, ToServer, tells, asks, Applied, Made, Ends, start, Mirrors}
+use Rattle.ob0_events.specs.Editing.{Move, idle, sends, opens_document, changes_document, closes_document, asks_about, held_answer, Outcome, not_held, lets_go, makes, discards, applies_answer}
+use Rattle.ob0_events.specs.Events.{Event, open_document, change_document, close_document, ask_about, serve, take_message, apply, discard, Seen}
+use Rattle.ob0_ends.specs.Happens.{Happens, Run}
 use Rattle.ob0_ends.specs.Headline.{KeepsTheRun, IsRight, AreUpToDate}
 
 -- just these edits are applied, in this order, and each leaves of a well-typed module a well-typed module with the same run

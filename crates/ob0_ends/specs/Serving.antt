@@ -1,9 +1,9 @@
 -- What a server sends for each message that it takes.
 use Rattle.std.specs.Prelude.{◌≡◌, ℕ, List, [], ◌∷◌, Bool, true, false, Option, Some, None, is_some}
 use Rattle.ob0_text.specs.OpenDocuments.{OpenDocuments, Document, InStep, OutOfStep, DocumentNote, Opened, Changed, Lost, Closed, document_at, after_note}
-use Rattle.ob0_ends.specs.Edited.{Replacement}
-use Rattle.ob0_ends.specs.Asks.{IsAnswer, TellsOf}
-use Rattle.ob0_ends.specs.Ends.{ToServer, tells, asks, ToEditor, publishes, answers, Made}
+use Rattle.ob0_events.specs.Edited.{Replacement}
+use Rattle.ob0_ends.specs.Answers.{IsAnswer, TellsOf}
+use Rattle.ob0_events.specs.Ends.{ToServer, tells, asks, ToEditor, publishes, answers, Made}
 
 -- a document in step is diagnosed, with its version
 abbrev pub MayPublish : List ℕ → Option Document → List ToEditor → List Made → Type 0

@@ -14,11 +14,11 @@ use Rattle.ob0_editor.specs.declared.applied.Applied as applied
 use Rattle.ob0_editor.specs.declared.applied.Applying as applying
 use Rattle.ob0_editor.proofs.Hearing.{says_heard}
 use Rattle.ob0_editor.proofs.Moving.{none_goes}
-use Rattle.ob0_editor.specs.Edited.{Replacement, edited, after_changes}
-use Rattle.ob0_editor.specs.Asks.{Ask}
-use Rattle.ob0_editor.specs.Ends.{Open, Asked, Editor, numbered, open_at, ToServer, ToEditor, publishes, answers, Ends}
-use Rattle.ob0_editor.specs.Editing.{Move, idle, sends, opens_document, changes_text, changes_document, closes_document, asks_about, keeps, has_edits, Outcome, not_held, lets_go, makes, held_answer, without_answer, discards, if_same, applies_text, applies_edits, applies_asked, applies_answer}
-use Rattle.ob0_editor.specs.Happens.{Is, moved, comes_of, takes, applies, drops, nothing, published, answered}
+use Rattle.ob0_events.specs.Edited.{Replacement, edited, after_changes}
+use Rattle.ob0_events.specs.Asks.{Ask}
+use Rattle.ob0_events.specs.Ends.{Open, Asked, Editor, numbered, open_at, ToServer, ToEditor, publishes, answers, Ends}
+use Rattle.ob0_events.specs.Editing.{Move, idle, sends, opens_document, changes_text, changes_document, closes_document, asks_about, keeps, has_edits, Outcome, not_held, lets_go, makes, held_answer, without_answer, discards, if_same, applies_text, applies_edits, applies_asked, applies_answer}
+use Rattle.ob0_events.specs.Events.{Is, moved, comes_of, takes, applies, drops, nothing, published, answered}
 use Rattle.ob0_world.specs.declared.events.Seen as seen
 use Rattle.ob0_world.specs.declared.played.Made as made
 use Rattle.ob0_world.specs.Code.{seen_of}

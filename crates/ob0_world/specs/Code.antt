@@ -7,8 +7,8 @@ use Rattle.ob0_world.specs.declared.events.Event as event
 use Rattle.ob0_world.specs.declared.events.Seen as seen
 use Rattle.ob0_world.specs.declared.played.Made as made
 use Rattle.ob0_world.specs.declared.played.Played as played
-use Rattle.ob0_editor.specs.Ends.{Applied, Made}
-use Rattle.ob0_editor.specs.Happens.{Event, open_document, change_document, close_document, ask_about, serve, take_message, apply, discard, Seen, nothing, sent, served, published, answered, applies, drops}
+use Rattle.ob0_events.specs.Ends.{Applied, Made}
+use Rattle.ob0_events.specs.Events.{Event, open_document, change_document, close_document, ask_about, serve, take_message, apply, discard, Seen, nothing, sent, served, published, answered, applies, drops}
 
 abbrev pub event_of : event.Event → Event
 event_of (event.TheVariants.OpenDoc uri text) = open_document (string_bytes uri) (chars (string_bytes text))

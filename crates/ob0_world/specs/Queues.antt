@@ -12,8 +12,8 @@ use Rattle.ob0_editor.specs.Heard.{heard, Says}
 use Rattle.ob0_editor.specs.Understood.{understood}
 use Rattle.ob0_editor.specs.Code.{applied_of}
 use Rattle.ob0_editor.specs.declared.applied.Applied as applied
-use Rattle.ob0_editor.specs.Ends.{Asked, Editor, ToServer, ToEditor, publishes, answers, Made, Ends, start}
-use Rattle.ob0_editor.specs.Happens.{nothing, sent}
+use Rattle.ob0_events.specs.Ends.{Asked, Editor, ToServer, ToEditor, publishes, answers, Made, Ends, start}
+use Rattle.ob0_events.specs.Events.{nothing, sent}
 use Rattle.ob0_world.specs.declared.events.Seen as seen
 use Rattle.ob0_world.specs.declared.played.Made as made
 use Rattle.ob0_world.specs.Code.{made_of, seen_of}

@@ -2,9 +2,9 @@
 ghost use Rattle.std.specs.Prelude.{◌≡◌, ◌<◌, ◌-◌, ◌^◌, length, map, IfOk, OnOk, IfErr};
 ghost use Rattle.ob0_text.specs.declared.positions.Unit as units;
 ghost use Rattle.ob0_text.specs.declared.positions.Unit.TheVariants.{Utf16};
-ghost use Rattle.ob0_editor.specs.Ends.{start};
-ghost use Rattle.ob0_editor.specs.Headline.{Holds};
-ghost use Rattle.ob0_editor.specs.Played.{AreApplied, ArePublished, AreLatest, MirrorsInTheEnd};
+ghost use Rattle.ob0_events.specs.Ends.{start};
+ghost use Rattle.ob0_ends.specs.Headline.{Holds};
+ghost use Rattle.ob0_ends.specs.Played.{AreApplied, ArePublished, AreLatest, MirrorsInTheEnd};
 ghost use Rattle.ob0_world.specs.Code.{event_of, seen_of, all_applied, all_made};
 ghost use Rattle.ob0_world.specs.Queues.{IsInitialized};
 ghost use Rattle.ob0_world.specs.Worlds.{new_world, HasCome, Plays, PlaysBefore, Steps, Fails};

@@ -1,7 +1,7 @@
 use Rattle.std.proofs.Common.{◌≡◌, ◌++◌, drop, option_map}
 use Rattle.serde_json.specs.View.{items_view}
 use Rattle.ob0_editor.specs.Understood.{edits_in}
-use Rattle.ob0_ends.specs.Edited.{replacements}
+use Rattle.ob0_events.specs.Edited.{replacements}
 use Rattle.ob0_editor.proofs.reading.edits_of.Given as goal
 
 -- the edits so far, before those of the values that are left

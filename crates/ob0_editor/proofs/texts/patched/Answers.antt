@@ -1,7 +1,7 @@
 use Rattle.std.proofs.Common.{◌∙◌, ap, sym, Err}
 use Rattle.ob0_text.specs.Units.{width_of}
 use Rattle.ob0_text.specs.Patches as patches
-use Rattle.ob0_ends.proofs.KeptRuns.{edited_as_patched}
+use Rattle.ob0_events.proofs.EditedTexts.{edited_as_patched}
 use Rattle.ob0_editor.proofs.texts.patched.Goals as goal
 
 pub returns-in-Ok : goal.returns-in-Ok

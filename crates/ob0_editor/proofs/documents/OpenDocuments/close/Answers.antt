@@ -1,6 +1,6 @@
 use Rattle.std.proofs.Common.{◌∙◌, ap}
 use Rattle.std.specs.FinMap as map_of
-use Rattle.ob0_ends.specs.Ends.{Documents}
+use Rattle.ob0_events.specs.Ends.{Documents}
 use Rattle.ob0_editor.proofs.EntryLaws.{documents-remove}
 use Rattle.ob0_editor.proofs.documents.OpenDocuments.close.Goals as goal
 

@@ -1,7 +1,7 @@
 use Rattle.std.proofs.Common.{◌≡◌, ◌∙◌, sym, ap, Option, Some, None, refl}
 use Rattle.std.specs.Option.{option_map}
 use Rattle.std.specs.FinMap as map_of
-use Rattle.ob0_ends.specs.Ends.{Documents}
+use Rattle.ob0_events.specs.Ends.{Documents}
 use Rattle.ob0_editor.specs.Entries.{open_of}
 use Rattle.ob0_editor.proofs.EntryLaws.{get-documents}
 use Rattle.ob0_editor.proofs.documents.OpenDocuments.get.Goals as goal

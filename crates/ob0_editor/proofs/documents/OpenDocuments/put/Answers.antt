@@ -1,7 +1,7 @@
 use Rattle.std.proofs.Common.{◌∙◌, ap}
 use Rattle.std.specs.Prelude.{string_bytes}
 use Rattle.std.specs.FinMap as map_of
-use Rattle.ob0_ends.specs.Ends.{Documents}
+use Rattle.ob0_events.specs.Ends.{Documents}
 use Rattle.ob0_editor.specs.Entries.{open_of}
 use Rattle.ob0_editor.proofs.EntryLaws.{documents-insert}
 use Rattle.ob0_editor.proofs.documents.OpenDocuments.put.Goals as goal

@@ -1,6 +1,6 @@
 use Rattle.std.proofs.Common.{refl, sym, subst}
 use Rattle.ob0_editor.specs.declared.applied.Applying as applying
-use Rattle.ob0_ends.specs.Editing.{held_answer, applies_answer}
+use Rattle.ob0_events.specs.Editing.{held_answer, applies_answer}
 use Rattle.ob0_editor.specs.Moves.{AreFew, ComesOf}
 use Rattle.ob0_editor.proofs.Moving.{comes_not_held, few_without}
 use Rattle.ob0_editor.proofs.editor.Editor.apply.Goals as goal

@@ -1,5 +1,5 @@
 use Rattle.std.proofs.Common.{◌≡◌, ◌∙◌, ap, sym, map, Some}
-use Rattle.ob0_ends.specs.Ends.{Editor, open_at}
+use Rattle.ob0_events.specs.Ends.{Editor, open_at}
 use Rattle.ob0_editor.specs.Entries.{open_of}
 use Rattle.ob0_editor.specs.Code.{ask_of, asked_of}
 use Rattle.ob0_editor.proofs.Moving.{asks_once_more}

@@ -1,5 +1,5 @@
 use Rattle.std.proofs.Common.{◌≡◌, ◌∙◌, ◌<◌, ◌-◌, ◌^◌, ap, sym, arith, Some}
-use Rattle.ob0_ends.specs.Ends.{Editor, open_at}
+use Rattle.ob0_events.specs.Ends.{Editor, open_at}
 use Rattle.ob0_editor.specs.Entries.{open_of}
 use Rattle.ob0_editor.proofs.editor.Editor.change.Goals as goal
 

@@ -1,6 +1,6 @@
 use Rattle.std.proofs.Common.{◌≡◌, ◌∙◌, ap, sym, map, get_or, Some}
-use Rattle.ob0_ends.specs.Ends.{Editor}
-use Rattle.ob0_ends.specs.Editing.{held_answer, all_but}
+use Rattle.ob0_events.specs.Ends.{Editor}
+use Rattle.ob0_events.specs.Editing.{held_answer, all_but}
 use Rattle.ob0_editor.specs.Code.{answer_of}
 use Rattle.ob0_editor.specs.Moves.{IsPlaceOf}
 use Rattle.ob0_editor.proofs.Moving.{none_goes, edits_at}

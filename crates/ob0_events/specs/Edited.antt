@@ -1,11 +1,11 @@
 -- What edits and changes make of a text.
-use Rattle.std.specs.Prelude.{ℕ, List, map, fold, Option, None, string_bytes}
+use Rattle.std.specs.Prelude.{◌≡◌, ℕ, List, map, fold, Option, None, string_bytes}
 use Rattle.std.specs.Str.{chars}
 use Rattle.ob0_text.specs.declared.edits.Edit.{Edit}
 use Rattle.ob0_text.specs.declared.positions.Range.{Range}
 use Rattle.ob0_text.specs.declared.positions.Unit.{Unit}
 use Rattle.ob0_text.specs.Units.{width_of}
-use Rattle.ob0_text.specs.Patches.{cut_at, patched_by_cuts}
+use Rattle.ob0_text.specs.Patches.{cut_at, patched_by_cuts, patched}
 use Rattle.ob0_text.specs.OpenDocuments.{TextChange, changed_text}
 
 -- a range of a text, and the characters that take its place
@@ -31,3 +31,9 @@ whole_text text = record { range = None; text = text }
 -- a text after changes, each made of the result of the one before
 abbrev pub after_changes : Unit → Option (List ℕ) → List TextChange → Option (List ℕ)
 after_changes unit text changes = fold (changed_text unit) text changes
+
+-- ---- the law
+
+-- edits of the code, as replacements, leave the text that is patched by them
+abbrev pub EditsArePatched : Type 0
+EditsArePatched = (unit : Unit) (text : List ℕ) (edits : List Edit) → edited unit text (replacements edits) ≡ patched (width_of unit) text edits

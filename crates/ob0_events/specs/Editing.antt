@@ -2,9 +2,9 @@
 use Rattle.std.specs.Prelude.{ℕ, suc, ◌+◌, pos, List, [], ◌∷◌, ◌++◌, Bool, true, false, ◌&&◌, ◌==◌, length, Option, Some, None, if◌then◌else◌}
 use Rattle.std.specs.FinMap as map_of
 use Rattle.ob0_text.specs.OpenDocuments.{TextChange, Opened, Changed, Closed}
-use Rattle.ob0_ends.specs.Edited.{Replacement, edited, whole_text, after_changes}
-use Rattle.ob0_ends.specs.Asks.{Ask}
-use Rattle.ob0_ends.specs.Ends.{Open, Asked, Answer, Editor, numbered, open_at, ToServer, tells, asks, Applied}
+use Rattle.ob0_events.specs.Edited.{Replacement, edited, whole_text, after_changes}
+use Rattle.ob0_events.specs.Asks.{Ask}
+use Rattle.ob0_events.specs.Ends.{Open, Asked, Answer, Editor, numbered, open_at, ToServer, tells, asks, Applied}
 
 -- nothing, or the editor becomes this one and sends this message
 pub data Move : Type 0 where

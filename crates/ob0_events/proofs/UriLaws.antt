@@ -1,5 +1,5 @@
--- Documents by uri after one was put in or taken out, and the last publication for a uri.
-use Rattle.std.proofs.Common.{◌≡◌, ◌∙◌, ℕ, Bool, true, false, cond, List, [], ◌∷◌, ◌++◌, refl, ap}
+-- Documents by uri after one was put in or taken out.
+use Rattle.std.proofs.Common.{◌≡◌, ◌∙◌, ℕ, Bool, true, false, cond, List, refl, ap}
 use Rattle.std.specs.Prelude.{Option, Some, None, option_map}
 use Rattle.std.specs.Ordering.{nat_cmp}
 use Rattle.std.specs.Cmp.Lexicographic.{slice_cmp, nat_list_cmp_total}
@@ -8,8 +8,6 @@ use Rattle.std.specs.FinMap.{FinMap}
 use Rattle.std.specs.Str.{bytes_eq}
 use Rattle.std.proofs.lemmas.Map.Text.{is_eq-slice_cmp}
 use Rattle.std.proofs.lemmas.Slice.Eq.{bytes_eq-Decides}
-use Rattle.ob0_ends.specs.Ends.{Made}
-use Rattle.ob0_ends.specs.Headline.{latest, or_else}
 
 -- the test by which a uri is looked up
 pub same_uri : (q uri : List ℕ) → bytes_eq q uri ≡ true → q ≡ uri
@@ -28,13 +26,3 @@ module _ {X : Type 0} (m : FinMap (slice_cmp nat_cmp) X) (uri : List ℕ) where
 pub mapped_choice : {A B : Type 0} (f : A → B) (b : Bool) (x y : Option A) → option_map f (cond b x y) ≡ cond b (option_map f x) (option_map f y)
 mapped_choice f true x y = refl
 mapped_choice f false x y = refl
-
-or_else_choice : (b : Bool) (m : Made) (rest this : Option Made) → or_else (cond b (Some m) rest) this ≡ cond b (Some m) (or_else rest this)
-or_else_choice true m rest this = refl
-or_else_choice false m rest this = refl
-
-pub latest_push : (uri : List ℕ) (ms : List Made) (m : Made) → latest uri (ms ++ m ∷ []) ≡ cond (bytes_eq m.uri uri) (Some m) (latest uri ms)
-latest_push uri [] m = refl
-latest_push uri (x ∷ ms) m =
-    ap (λ o. or_else o (cond (bytes_eq x.uri uri) (Some x) None)) (latest_push uri ms m)
-    ∙ or_else_choice (bytes_eq m.uri uri) m (latest uri ms) _

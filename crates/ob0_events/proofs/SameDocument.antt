@@ -6,9 +6,9 @@ use Rattle.std.specs.Str.{bytes_eq}
 use Rattle.std.specs.FinMap as map_of
 use Rattle.std.proofs.lemmas.Bool.{eqb-true, and_parts}
 use Rattle.std.proofs.lemmas.Option.{cond_some, same_Some, none-some}
-use Rattle.ob0_ends.specs.Ends.{Open, Documents, Asked, Answer, Editor, numbered, open_at}
-use Rattle.ob0_ends.specs.Editing.{if_same}
-use Rattle.ob0_ends.proofs.UriLaws.{get_put, get_removed, same_uri}
+use Rattle.ob0_events.specs.Ends.{Open, Documents, Asked, Answer, Editor, numbered, open_at}
+use Rattle.ob0_events.specs.Editing.{if_same}
+use Rattle.ob0_events.proofs.UriLaws.{get_put, get_removed, same_uri}
 
 -- an ask of the past: its opening's number isn't fresh any more, and in that opening the version only rose
 pub record Past (e : Editor) (a : Asked) : Type 0 where

@@ -5,8 +5,8 @@ use Rattle.std.specs.Cmp.Lexicographic.{slice_cmp}
 use Rattle.std.specs.FinMap as map_of
 use Rattle.ob0_text.specs.declared.positions.Unit.{Unit}
 use Rattle.ob0_text.specs.OpenDocuments.{OpenDocuments, Document, InStep, DocumentNote, after_note, none_open, document_at}
-use Rattle.ob0_ends.specs.Edited.{Replacement}
-use Rattle.ob0_ends.specs.Asks.{Ask}
+use Rattle.ob0_events.specs.Edited.{Replacement}
+use Rattle.ob0_events.specs.Asks.{Ask}
 
 -- ---- the editor
 

@@ -1,11 +1,9 @@
--- What an editor may ask for, and what is answered.
-use Rattle.std.specs.Prelude.{◌≡◌, ◌⊎◌, ℕ, List, [], Bool, Option, Some, None, IsTrue, ◌↔◌, Vec, max, min}
+-- What is answered to what an editor asks for.
+use Rattle.std.specs.Prelude.{◌≡◌, ◌⊎◌, ℕ, List, [], Bool, Option, Some, None, IsTrue, ◌↔◌, Vec}
 use Rattle.std.specs.declared.alloc.Global.{Global}
 use Rattle.ob0_text.specs.declared.positions.Position.{Position}
 use Rattle.ob0_text.specs.declared.positions.Unit.{Unit}
 use Rattle.ob0_text.specs.declared.edits.Edit.{Edit}
-use Rattle.ob0_text.specs.declared.edits.Indent.{Indent}
-use Rattle.ob0_text.specs.declared.edits.Indent.TheVariants.{Tab, Spaces}
 use Rattle.ob0_text.specs.declared.refusals.EditRefusal.{EditRefusal}
 use Rattle.ob0_text.specs.OpenDocuments.{Document, InStep, OutOfStep}
 use Rattle.ob0_text.specs.Texts.{offset_of}
@@ -16,20 +14,8 @@ use Rattle.ob0_offers.specs.Layouts.{LaysOut, IsTooLongLaidOut}
 pub use Rattle.ob0_offers.specs.declared.inlining.Inlining.{Inlining}
 pub use Rattle.ob0_offers.specs.declared.inlining.Inlining.TheVariants.{Here, Everywhere}
 use Rattle.ob0_ends.specs.Language.{WellTypedText}
-use Rattle.ob0_ends.specs.Edited.{Replacement, replacements}
-
-pub data Ask : Type 0 where
-  -- the place, and the bytes of the new name
-  rename : Position → List ℕ → Ask
-  -- the constant's value in place of the use that stands there, or of all uses
-  inline_here : Position → Ask
-  inline_all : Position → Ask
-  format : Indent → Ask
-
--- a count of spaces is read as one from 1 to 16
-abbrev pub indent_read : Indent → Indent
-indent_read Tab = Tab
-indent_read (Spaces n) = Spaces (max 1 (min n 16))
+use Rattle.ob0_events.specs.Edited.{Replacement, replacements}
+use Rattle.ob0_events.specs.Asks.{Ask, rename, inline_here, inline_all, format, indent_read}
 
 -- the place in bytes at which a position stands
 abbrev pub place_at : Unit → List ℕ → Position → ℕ

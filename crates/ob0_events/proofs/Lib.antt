@@ -1,0 +1,3 @@
+pub mod UriLaws
+pub mod SameDocument
+pub mod EditedTexts

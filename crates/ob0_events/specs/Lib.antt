@@ -1,0 +1,5 @@
+pub mod Edited
+pub mod Asks
+pub mod Ends
+pub mod Editing
+pub mod Events
