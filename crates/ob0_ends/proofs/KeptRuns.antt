@@ -5,8 +5,8 @@ use Rattle.ob0_text.specs.declared.edits.Edit.{Edit}
 use Rattle.ob0_text.specs.declared.positions.Unit.{Unit}
 use Rattle.ob0_text.specs.Units.{width_of}
 use Rattle.ob0_text.specs.Patches.{patched}
-use Rattle.ob0_answers.specs.RunsKept.{RunsAsBefore}
-use Rattle.ob0_answers.specs.Texts.{utf8}
+use Rattle.ob0_offers.specs.RunsKept.{RunsAsBefore}
+use Rattle.ob0_offers.specs.Texts.{utf8}
 use Rattle.ob0_events.specs.Edited.{Replacement, replacements}
 use Rattle.ob0_events.proofs.EditedTexts.{edited_as_patched}
 use Rattle.ob0_events.specs.Asks.{Ask, rename, inline_here, inline_all, format}

@@ -3,9 +3,9 @@ use Rattle.std.proofs.Common.{◌≡◌, ◌∙◌, ℕ, List, sym, ap, inl, inr
 use Rattle.ob0_text.specs.declared.edits.Edit.{Edit}
 use Rattle.ob0_text.specs.declared.positions.Position.{Position}
 use Rattle.ob0_text.specs.declared.positions.Unit.{Unit}
-use Rattle.ob0_answers.specs.declared.actions.Inlining.{Inlining}
-use Rattle.ob0_answers.specs.declared.actions.Inlining.TheVariants.{Here, Everywhere}
-use Rattle.ob0_answers.specs.Actions.{IsNotInlinedIn}
+use Rattle.ob0_offers.specs.declared.inlining.Inlining.{Inlining}
+use Rattle.ob0_offers.specs.declared.inlining.Inlining.TheVariants.{Here, Everywhere}
+use Rattle.ob0_offers.specs.Inlinings.{IsNotInlinedIn}
 use Rattle.ob0_events.specs.Edited.{replacements}
 use Rattle.ob0_events.specs.Asks.{Ask, rename, inline_here, inline_all, format, indent_read}
 use Rattle.ob0_ends.specs.Answers.{place_at, InlinesAt, HandsOut, Refuses}

@@ -33,10 +33,10 @@ use Rattle.ob0_inline.specs.Everywhere.{AnswersEverywhere, IsConstantAt, any_hid
 use Rattle.ob0_inline.specs.Uses.{AnswersHere, IsUseAt, is_shown, refusal_here}
 use Rattle.ob0_inline.specs.Values.{value_factor, value_text}
 use Rattle.ob0_inline.proofs.UsesStand.{one_place}
-use Rattle.ob0_answers.specs.Actions.{InlinesIn, IsNotInlinedIn}
-use Rattle.ob0_answers.specs.declared.actions.Inlining.{Inlining}
-use Rattle.ob0_answers.specs.declared.actions.Inlining.TheVariants.{Here, Everywhere}
-use Rattle.ob0_answers.specs.Texts.{utf8}
+use Rattle.ob0_offers.specs.Inlinings.{InlinesIn, IsNotInlinedIn}
+use Rattle.ob0_offers.specs.declared.inlining.Inlining.{Inlining}
+use Rattle.ob0_offers.specs.declared.inlining.Inlining.TheVariants.{Here, Everywhere}
+use Rattle.ob0_offers.specs.Texts.{utf8}
 use Rattle.ob0_events.specs.Edited.{replacements}
 use Rattle.ob0_ends.proofs.OneModule.{Same, same_module, one_named_tree, one_name, same_parts}
 

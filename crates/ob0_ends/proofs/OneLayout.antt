@@ -15,9 +15,9 @@ use Rattle.ob0_scope.specs.Names.{Name}
 use Rattle.ob0_layout.specs.Layout.{layout}
 use Rattle.ob0_layout.specs.Sites.{Said, said, edit_of, changed_sites, all_sites}
 use Rattle.ob0_layout.specs.Standings.{standings}
-use Rattle.ob0_answers.specs.Diagnosed.{IsTextOf, IsWellTypedModule}
-use Rattle.ob0_answers.specs.Texts.{utf8}
-use Rattle.ob0_answers.specs.Formatted.{LaysOut, IsTooLongLaidOut, changes_of, layout_of}
+use Rattle.ob0_offers.specs.Diagnosed.{IsTextOf, IsWellTypedModule}
+use Rattle.ob0_offers.specs.Texts.{utf8}
+use Rattle.ob0_offers.specs.Layouts.{LaysOut, IsTooLongLaidOut, changes_of, layout_of}
 use Rattle.ob0_events.specs.Edited.{Replacement, replacements}
 use Rattle.ob0_ends.proofs.Trees.{same_tree}
 

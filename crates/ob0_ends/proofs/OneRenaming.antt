@@ -22,11 +22,11 @@ use Rattle.ob0_scope.proofs.FirstCaptures.{captured_where_not_free-holds}
 use Rattle.ob0_scope.specs.Standing.{refers}
 use Rattle.ob0_field_laws.specs.Renaming.{is_duplicate_field}
 use Rattle.ob0_fields.specs.Identifiers.{field_identifiers, field_on, tokens_among}
-use Rattle.ob0_answers.specs.Analysed.{IsModuleIn}
-use Rattle.ob0_answers.specs.Texts.{utf8}
-use Rattle.ob0_answers.specs.Renaming.{Meant, Renaming, declaration, field_of, field_tokens_renamed, meant, meant_by, nothing, predeclared, text_with, tokens_renamed}
-use Rattle.ob0_answers.specs.Answers.{AreEdits, IsRefused, IsRefusedTo, IsRefusedToField, IsRefusedToNamed, Renames, RenamesField, Writes}
-use Rattle.ob0_answers.specs.InTexts.{IsRefusedIn, RenamesIn, renaming_of}
+use Rattle.ob0_offers.specs.Analysed.{IsModuleIn}
+use Rattle.ob0_offers.specs.Texts.{utf8}
+use Rattle.ob0_rename.specs.Renaming.{Meant, Renaming, declaration, field_of, field_tokens_renamed, meant, meant_by, nothing, predeclared, text_with, tokens_renamed}
+use Rattle.ob0_rename.specs.Answers.{AreEdits, IsRefused, IsRefusedTo, IsRefusedToField, IsRefusedToNamed, Renames, RenamesField, Writes}
+use Rattle.ob0_rename.specs.InTexts.{IsRefusedIn, RenamesIn, renaming_of}
 use Rattle.ob0_events.specs.Edited.{replacements}
 use Rattle.ob0_ends.proofs.OneModule.{Same, same_module, one_named_tree, one_name, standing_of, same_parts}
 use Rattle.ob0_ends.proofs.OneFields.{one_list_of_fields}
