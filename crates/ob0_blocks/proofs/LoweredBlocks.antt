@@ -13,10 +13,10 @@ use Rattle.ob0_tree.proofs.Viewed.{block_parts}
 use Rattle.ob0_checker.specs.InLabels.{in_labels, label_in}
 use Rattle.ob0_checker.proofs.Procedures.{procedure_parts}
 use Rattle.ob0_checker.proofs.Walked.{split}
-use Rattle.ob0_scope.specs.Resolution.{Resolution, ordinal_in}
-use Rattle.ob0_scope.specs.Names.{Label, Name, as_labels, as_names}
-use Rattle.ob0_scope.specs.Parts.{constant_names, formal_sections, module_block, named_types, section_constants, section_types, section_variables}
-use Rattle.ob0_scope.specs.Scopes.{as_label, numbered}
+use Rattle.ob0_names.specs.Resolution.{Resolution, ordinal_in}
+use Rattle.ob0_names.specs.Names.{Label, Name, as_labels, as_names}
+use Rattle.ob0_names.specs.Parts.{constant_names, formal_sections, module_block, named_types, section_constants, section_types, section_variables}
+use Rattle.ob0_names.specs.Scopes.{as_label, numbered}
 use Rattle.ob0_symbols.specs.KnownTables.{Tables, declared_in}
 use Rattle.ob0_checker.specs.Bindings.{declared_object}
 use Rattle.ob0_checker.proofs.ConstantsDeclared.{FitParts, block-parts, procedure-parts}

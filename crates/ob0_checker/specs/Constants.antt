@@ -3,7 +3,7 @@ use Rattle.std.specs.Prelude.{cond, [], Some, None, Option, option_and_then}
 use Rattle.ob0_tree.specs.declared.tree.AddOperator.{AddOperator}
 use Rattle.ob0_tree.specs.declared.tree.MultiplyOperator.{MultiplyOperator}
 use Rattle.ob0_tree.specs.Tree.{Tree, addend, adds, item, multiplier, multiplies}
-use Rattle.ob0_scope.specs.Names.{Label}
+use Rattle.ob0_names.specs.Names.{Label}
 use Rattle.ob0_typing.specs.Expressions.{Meanings, Object, a_variable, evaluate_factor, evaluate_term}
 use Rattle.ob0_symbols.specs.Operators.{product_value, sum_value}
 use Rattle.ob0_symbols.specs.KnownTables.{Tables, known_meaning}

@@ -2,8 +2,8 @@
 use Rattle.std.specs.Prelude.{ℕ, Bool, true, false, Option, option_map}
 use Rattle.ob0_tree.specs.Tree.{Sort, Tree, mapped}
 use Rattle.ob0_tree.specs.Places.{value_at}
-use Rattle.ob0_scope.specs.Names.{Label, label_text}
-use Rattle.ob0_scope.specs.Resolution.{Resolution, label_at}
+use Rattle.ob0_names.specs.Names.{Label, label_text}
+use Rattle.ob0_names.specs.Resolution.{Resolution, label_at}
 use Rattle.ob0_typing.specs.Expressions.{Object, a_constant}
 use Rattle.ob0_typing.specs.Typing.{constant_of}
 use Rattle.ob0_typing.specs.WellTyped.{Signature, Typed}

@@ -1,8 +1,8 @@
 -- What the code's lists stand for.
 use Rattle.std.specs.Prelude.{ℕ, List, [], ◌∷◌, map, Option, Some, None, option_map, if◌then◌else◌}
-use Rattle.ob0_scope.specs.Standing.{is_on}
+use Rattle.ob0_names.specs.Spans.{is_on}
 use Rattle.ob0_scan.specs.Scanned.{Scanned}
-use Rattle.ob0_scope.specs.Resolution.{span_at}
+use Rattle.ob0_names.specs.Resolution.{span_at}
 use Rattle.ob0_refs.specs.declared.selecting.Selection.{Selection}
 use Rattle.ob0_refs.specs.declared.declaring.Declaring.{Declaring}
 use Rattle.ob0_refs.specs.Selections.{Selected, token_meaning}

@@ -6,8 +6,8 @@ use Rattle.ob0_tree.specs.declared.tree.Role.TheVariants as role
 use Rattle.ob0_tree.specs.Parsed.{Parsed, tree_of}
 use Rattle.ob0_tree.specs.Places.{text_at}
 use Rattle.ob0_tree.specs.Tree.{Tree, block, declares, declares_procedure, end, has_body, identifiers, item, items, more, procedure}
-use Rattle.ob0_scope.specs.Parts.{formal_names, formal_sections, module_block}
-use Rattle.ob0_scope.specs.Resolution.{Resolution, declaring_only, span_at, token_declaring}
+use Rattle.ob0_names.specs.Parts.{formal_names, formal_sections, module_block}
+use Rattle.ob0_names.specs.Resolution.{Resolution, declaring_only, span_at, token_declaring}
 use Rattle.ob0_scope.specs.Standing.{name_on}
 use Rattle.ob0_fields.specs.Identifiers.{field_at, field_tokens}
 use Rattle.ob0_types.specs.CheckedModules.{IsWellTyped}

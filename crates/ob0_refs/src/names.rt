@@ -1,13 +1,14 @@
 //! What is answered of a name: what it is a name of, where that is declared, and where it is named.
 
 ghost use Rattle.std.specs.Prelude.{◌≡◌, IfOk, map};
-ghost use Rattle.ob0_scope.specs.Resolution.{span_at};
-ghost use Rattle.ob0_scope.specs.Standing.{is_on};
+ghost use Rattle.ob0_names.specs.Resolution.{span_at};
+ghost use Rattle.ob0_names.specs.Spans.{is_on};
 ghost use Rattle.ob0_refs.specs.Answered.{at_name, declared_at, of_ordinal, references_to};
 
 use crate::answers::{At, Of};
+use ob0_names::{PREDECLARED, Resolved, token_span};
 use ob0_scan::{Span, Tokens};
-use ob0_scope::{Named, PREDECLARED, Resolved, token_span, tokens_bound};
+use ob0_scope::{Named, tokens_bound};
 use std::alloc::{AllocError, Global};
 
 /// Where a name stands, and what it is a name of.
