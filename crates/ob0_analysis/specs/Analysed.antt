@@ -2,7 +2,7 @@
 use Rattle.std.specs.Prelude.{ℕ, List, map}
 use Rattle.ob0_scan.specs.Scanned.{IsScanOf}
 use Rattle.ob0_tree.specs.Parsed.{Parsed, IsParsed, named_tree_of}
-use Rattle.ob0_scope.specs.Resolution.{Resolution}
+use Rattle.ob0_names.specs.Resolution.{Resolution}
 use Rattle.ob0_typing.specs.WellTyped.{WellTyped}
 use Rattle.ob0_types.specs.CheckedModules.{IsWellTyped}
 use Rattle.ob0_analysis.specs.Diagnosed.{IsWellTypedModule, TellsFaults, complaint_in}

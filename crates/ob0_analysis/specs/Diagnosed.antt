@@ -9,8 +9,8 @@ use Rattle.ob0_scan.specs.declared.lexeme.Token.{Token}
 use Rattle.ob0_tree.specs.Module.{ModuleOf}
 use Rattle.ob0_tree.specs.Tree.{Tree, module_text}
 use Rattle.ob0_tree.specs.Parsed.{named_tree_of}
-use Rattle.ob0_scope.specs.Names.{Name, as_names}
-use Rattle.ob0_scope.specs.Resolution.{IsResolution, Resolution}
+use Rattle.ob0_names.specs.Names.{Name, as_names}
+use Rattle.ob0_names.specs.Resolution.{IsResolution, Resolution}
 use Rattle.ob0_typing.specs.WellTyped.{WellTyped, fits_over}
 use Rattle.ob0_types.specs.FaultOrder.{AreFirstFaults}
 use Rattle.ob0_parse.specs.RefusedBy.{NoneBegins}

@@ -5,8 +5,8 @@ use Rattle.ob0_inline.specs.Everywhere.{inlined_all}
 use Rattle.ob0_inline.specs.Inlined.{LeavesModule}
 use Rattle.ob0_inline.specs.Uses.{inlined_here}
 use Rattle.ob0_semantics.specs.EditLaws.{SameRuns}
-use Rattle.ob0_scope.specs.Names.{Name}
-use Rattle.ob0_scope.specs.Resolution.{Resolution}
+use Rattle.ob0_names.specs.Names.{Name}
+use Rattle.ob0_names.specs.Resolution.{Resolution}
 use Rattle.ob0_text.specs.declared.edits.Edit.{Edit}
 use Rattle.ob0_text.specs.declared.positions.Unit.{Unit}
 use Rattle.ob0_text.specs.declared.refusals.EditRefusal.{EditRefusal}

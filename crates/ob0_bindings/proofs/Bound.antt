@@ -2,8 +2,8 @@
 use Rattle.std.proofs.Common.{◌≡◌, ℕ, ◌+◌, Bool, true, false, cond, List, [], ◌∷◌, ◌++◌, length, take, Some, None, Option, refl, sym, ap, ◌∙◌, arith, length-append}
 use Rattle.std.proofs.Math.Seq.{take-append_seam}
 use Rattle.ob0_tree.specs.Tree.{Tree, block, declares_procedure, formals, maybe}
-use Rattle.ob0_scope.specs.Names.{Label, as_labels}
-use Rattle.ob0_scope.specs.Parts.{formal_sections}
+use Rattle.ob0_names.specs.Names.{Label, as_labels}
+use Rattle.ob0_names.specs.Parts.{formal_sections}
 use Rattle.ob0_bindings.specs.Bindings.{block_bindings, for_some, procedure_bindings, since}
 use Rattle.ob0_typing.specs.Declarations.{formals_constructors}
 use Rattle.ob0_typing.specs.Environments.{from_binding, newest}

@@ -3,11 +3,11 @@ use Rattle.std.proofs.Common.{◌≡◌, ℕ, suc, ◌+◌, ◌<◌, ◌≤◌, 
 use Rattle.std.proofs.lemmas.Bool.{and_parts, le-ltb, lt-ltb, ltb-false, ltb-true, ne_eqb}
 use Rattle.std.proofs.lemmas.List.{append-nil}
 use Rattle.ob0_tree.specs.Tree.{Tree, block, body, constant, declares, declares_constant, declares_procedure, declares_type, declares_variable, end, expression, formals, has_body, is_module, item, items, maybe, module_text, more, procedure, type_name, variable}
-use Rattle.ob0_scope.specs.Names.{Label, Name, as_labels, as_names, declared, same_label, same_name}
-use Rattle.ob0_scope.specs.Parts.{block_constants, block_procedures, block_statements, block_types, block_variables, constant_names, formal_names, formal_sections, module_block, named_types, names_listed, section_constants, section_types, section_variables, variable_names}
-use Rattle.ob0_scope.specs.Scopes.{Scope, after_block, after_names, after_procedure, after_procedures, as_label, declare_names, first_procedure, first_type, first_variable, numbered, procedures_scope, relabel_block, relabel_constants, relabel_formals, relabel_names, relabel_procedures, relabel_sections, relabel_types, relabel_uses, relabel_variables, types_scope, variables_scope}
-use Rattle.ob0_scope.proofs.Ordinals.{after_names-append, declare_names-append, le-after_names, le-after_block, le-after_procedure, le-after_procedures}
-use Rattle.ob0_scope.proofs.Relabelled.{constants-section, formals-section, names-relabel, types-section, variables-section}
+use Rattle.ob0_names.specs.Names.{Label, Name, as_labels, as_names, declared, same_label, same_name}
+use Rattle.ob0_names.specs.Parts.{block_constants, block_procedures, block_statements, block_types, block_variables, constant_names, formal_names, formal_sections, module_block, named_types, names_listed, section_constants, section_types, section_variables, variable_names}
+use Rattle.ob0_names.specs.Scopes.{Scope, after_block, after_names, after_procedure, after_procedures, as_label, declare_names, first_procedure, first_type, first_variable, numbered, procedures_scope, relabel_block, relabel_constants, relabel_formals, relabel_names, relabel_procedures, relabel_sections, relabel_types, relabel_uses, relabel_variables, types_scope, variables_scope}
+use Rattle.ob0_names.proofs.Ordinals.{after_names-append, declare_names-append, le-after_names, le-after_block, le-after_procedure, le-after_procedures}
+use Rattle.ob0_names.proofs.Relabelled.{constants-section, formals-section, names-relabel, types-section, variables-section}
 use Rattle.ob0_bindings.specs.Bindings.{block_bindings, declared_object, for_some, object_bound, procedure_bindings, procedures_bindings, since}
 use Rattle.ob0_bindings.specs.Declaring.{declare_block, declare_procedure}
 use Rattle.ob0_typing.specs.ConstantValues.{Known, known_object, no_constant, predeclared_known, value_among, value_in_block, value_in_procedure, value_in_procedures, value_of_constant}

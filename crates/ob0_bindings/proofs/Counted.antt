@@ -3,9 +3,9 @@ use Rattle.std.proofs.Common.{◌≡◌, ℕ, suc, ◌+◌, map, List, [], ◌�
 use Rattle.ob0_tree.specs.Tree.{Tree, array_type, block, declares, declares_procedure, declares_type, declares_variable, end, fields, formals, further_fields, further_section, has_body, item, items, mapped, maybe, more, named_type, no_fields, no_formals, none, one, procedure, record_type, section, some_fields, some_formals, then_fields, then_name, then_section, type_name, value_section, variable, variable_section, written_type, constants, declares_constants, type_names, declares_types, variables, declares_variables}
 use Rattle.ob0_tree.specs.View.{items_of, names_of}
 use Rattle.ob0_tree.specs.declared.tree.Names as tree_names
-use Rattle.ob0_scope.specs.Names.{Label}
-use Rattle.ob0_scope.specs.Parts.{formal_sections, further_names, names_listed, section_constants, section_type, section_types, section_variables}
-use Rattle.ob0_scope.specs.Resolution.{Resolution}
+use Rattle.ob0_names.specs.Names.{Label}
+use Rattle.ob0_names.specs.Parts.{formal_sections, further_names, names_listed, section_constants, section_type, section_types, section_variables}
+use Rattle.ob0_names.specs.Resolution.{Resolution}
 use Rattle.ob0_typing.specs.Declarations.{block_constructors, formals_constructors, procedure_constructors, procedures_constructors, types_constructors, variables_constructors}
 use Rattle.ob0_bindings.specs.InLabels.{in_labels, label_in}
 use Rattle.ob0_typing.specs.Typing.{constructors, group_constructors, groups_constructors}

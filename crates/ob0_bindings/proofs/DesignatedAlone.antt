@@ -6,8 +6,8 @@ use Rattle.ob0_tree.specs.declared.tree.Addend.{Addend}
 use Rattle.ob0_tree.specs.declared.tree.Factor.{Factor}
 use Rattle.ob0_tree.specs.declared.tree.Multiplier.{Multiplier}
 use Rattle.ob0_tree.specs.declared.tree.Sign.{Sign}
-use Rattle.ob0_scope.specs.Names.{Label}
-use Rattle.ob0_scope.specs.Resolution.{Resolution}
+use Rattle.ob0_names.specs.Names.{Label}
+use Rattle.ob0_names.specs.Resolution.{Resolution}
 use Rattle.ob0_typing.specs.Typing.{designated}
 use Rattle.ob0_bindings.specs.Designators.{designated_factor, designated_simple, designated_term}
 use Rattle.ob0_bindings.specs.InLabels.{in_labels, label_in}

@@ -9,8 +9,8 @@ use Rattle.ob0_tree.specs.Tree.{declares_procedure, one, value_section, variable
 use Rattle.ob0_tree.specs.View as view
 use Rattle.ob0_tree.specs.View.{block_of, expression_of, formals_of, further_argument_of, items_of, names_of, procedure_of, section_of, type_of}
 use Rattle.ob0_tree.proofs.Viewed.{procedure_made}
-use Rattle.ob0_scope.specs.Parts.{names_listed, section_names, section_type}
-use Rattle.ob0_scope.specs.Resolution.{Resolution}
+use Rattle.ob0_names.specs.Parts.{names_listed, section_names, section_type}
+use Rattle.ob0_names.specs.Resolution.{Resolution}
 use Rattle.ob0_bindings.specs.Designators.{all_in_labels}
 use Rattle.ob0_bindings.specs.InLabels.{in_labels, label_in}
 use Rattle.ob0_bindings.proofs.Counted.{counted_section}

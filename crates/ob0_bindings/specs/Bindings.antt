@@ -1,9 +1,9 @@
 -- All that the declarations of a module bind, each in the environment in which it is checked: the latest first.
 use Rattle.std.specs.Prelude.{ℕ, ◌+◌, ◌-◌, List, [], ◌++◌, length, take, Some, None, Option}
 use Rattle.ob0_tree.specs.Tree.{Tree, block, declares, declares_procedure, end, has_body, item, items, module_text, more, procedure}
-use Rattle.ob0_scope.specs.Names.{Label, Name, Naming, as_labels, declared}
-use Rattle.ob0_scope.specs.Parts.{formal_sections, module_block}
-use Rattle.ob0_scope.specs.Scopes.{numbered}
+use Rattle.ob0_names.specs.Names.{Label, Name, Naming, as_labels, declared}
+use Rattle.ob0_names.specs.Parts.{formal_sections, module_block}
+use Rattle.ob0_names.specs.Scopes.{numbered}
 use Rattle.ob0_bindings.specs.Declaring.{declare_block, declare_procedure}
 use Rattle.ob0_typing.specs.Declarations.{after_variables, formals_constructors, procedure_constructors}
 use Rattle.ob0_typing.specs.Environments.{from_binding, newest, outermost}

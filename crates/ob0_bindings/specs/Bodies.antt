@@ -1,9 +1,9 @@
 -- The bodies of a module, each with the environment in which its statements are checked.
 use Rattle.std.specs.Prelude.{◌≡◌, ℕ, ◌+◌, List, [], ◌∷◌, ◌++◌, Some, All}
 use Rattle.ob0_tree.specs.Tree.{Tree, block, body, declares, declares_procedure, end, has_body, item, items, maybe, module_text, more, procedure}
-use Rattle.ob0_scope.specs.Names.{Name, Naming, as_labels}
-use Rattle.ob0_scope.specs.Parts.{formal_sections, module_block, procedure_formals, procedure_name}
-use Rattle.ob0_scope.specs.Scopes.{numbered}
+use Rattle.ob0_names.specs.Names.{Name, Naming, as_labels}
+use Rattle.ob0_names.specs.Parts.{formal_sections, module_block, procedure_formals, procedure_name}
+use Rattle.ob0_names.specs.Scopes.{numbered}
 use Rattle.ob0_bindings.specs.Bindings.{declared_object, for_some, object_bound}
 use Rattle.ob0_bindings.specs.Declaring.{declare_block}
 use Rattle.ob0_typing.specs.Declarations.{after_variables, formals_constructors, procedure_constructors}

@@ -1,8 +1,8 @@
 -- The environments that declarations leave.
 use Rattle.std.specs.Prelude.{ℕ, if◌then◌else◌, Some, None, Option}
 use Rattle.ob0_tree.specs.Tree.{Tree, block, item, procedure}
-use Rattle.ob0_scope.specs.Names.{Naming}
-use Rattle.ob0_scope.specs.Parts.{block_variables, procedure_formals, procedure_name}
+use Rattle.ob0_names.specs.Names.{Naming}
+use Rattle.ob0_names.specs.Parts.{block_variables, procedure_formals, procedure_name}
 use Rattle.ob0_typing.specs.Declarations.{after_types, declare_first}
 use Rattle.ob0_typing.specs.Typing.{◌>>=◌}
 use Rattle.ob0_typing.specs.WellTyped.{TypeEnvironment, bind_typed, declare_typed, heading, procedure_fits, typed_parameters}

@@ -3,10 +3,10 @@ use Rattle.std.proofs.Common.{◌≡◌, ℕ, suc, ◌+◌, ◌<◌, ◌≤◌, 
 use Rattle.std.proofs.lemmas.Bool.{ltb-false, ltb-true}
 use Rattle.std.proofs.lemmas.List.{append-nil}
 use Rattle.ob0_tree.specs.Tree.{Tree, block, body, declares, declares_procedure, end, formals, has_body, is_module, items, maybe, module_text, more, procedure}
-use Rattle.ob0_scope.specs.Names.{Label, Name, as_labels, as_names, declared}
-use Rattle.ob0_scope.specs.Parts.{block_procedures, block_statements, formal_names, formal_sections, module_block, named_types, section_types, section_variables, variable_names}
-use Rattle.ob0_scope.specs.Scopes.{Scope, after_block, after_names, after_procedure, after_procedures, as_label, declare_names, first_procedure, numbered, relabel_block, relabel_formals, relabel_procedures}
-use Rattle.ob0_scope.proofs.Ordinals.{le-after_names, le-after_block, le-after_procedure, le-after_procedures}
+use Rattle.ob0_names.specs.Names.{Label, Name, as_labels, as_names, declared}
+use Rattle.ob0_names.specs.Parts.{block_procedures, block_statements, formal_names, formal_sections, module_block, named_types, section_types, section_variables, variable_names}
+use Rattle.ob0_names.specs.Scopes.{Scope, after_block, after_names, after_procedure, after_procedures, as_label, declare_names, first_procedure, numbered, relabel_block, relabel_formals, relabel_procedures}
+use Rattle.ob0_names.proofs.Ordinals.{le-after_names, le-after_block, le-after_procedure, le-after_procedures}
 use Rattle.ob0_bindings.specs.Bindings.{block_bindings, module_bindings, object_bound, procedures_bindings}
 use Rattle.ob0_typing.specs.ConstantValues.{Known, no_constant}
 use Rattle.ob0_typing.specs.Declarations.{after_variables, formals_constructors, procedure_constructors}

@@ -12,10 +12,10 @@ use Rattle.ob0_tree.specs.declared.tree.Procedure as tree
 use Rattle.ob0_tree.proofs.Viewed.{block_parts}
 use Rattle.ob0_bindings.specs.InLabels.{in_labels, label_in}
 use Rattle.ob0_bindings.proofs.Parts.{procedure_parts, split}
-use Rattle.ob0_scope.specs.Resolution.{Resolution, ordinal_in}
-use Rattle.ob0_scope.specs.Names.{Label, Name, as_labels, as_names}
-use Rattle.ob0_scope.specs.Parts.{constant_names, formal_sections, module_block, named_types, section_constants, section_types, section_variables}
-use Rattle.ob0_scope.specs.Scopes.{as_label, numbered}
+use Rattle.ob0_names.specs.Resolution.{Resolution, ordinal_in}
+use Rattle.ob0_names.specs.Names.{Label, Name, as_labels, as_names}
+use Rattle.ob0_names.specs.Parts.{constant_names, formal_sections, module_block, named_types, section_constants, section_types, section_variables}
+use Rattle.ob0_names.specs.Scopes.{as_label, numbered}
 use Rattle.ob0_symbols.specs.KnownTables.{Tables, declared_in}
 use Rattle.ob0_bindings.specs.Bindings.{declared_object}
 use Rattle.ob0_bindings.proofs.ConstantsDeclared.{FitParts, block-parts, procedure-parts}

@@ -1,9 +1,9 @@
 -- Where what is in sight is placed, and what the code's table has of it.
 use Rattle.std.proofs.Common.{◌≡◌, ℕ, suc, ◌+◌, ◌-◌, ◌≤◌, ◌==◌, Bool, true, false, List, [], ◌∷◌, ◌++◌, map, Some, None, Option, option_and_then, if◌then◌else◌, refl, sym, ap, ◌∙◌, subst, arith, eqb-true, true≢false}
 use Rattle.ob0_tree.specs.Tree.{Tree, block, constant, declares_constant, declares_type, declares_variable, end, further_section, items, more, section, then_section, type_name, variable}
-use Rattle.ob0_scope.specs.Names.{Label, Name, as_labels, as_names, as_written, declared, same_label}
-use Rattle.ob0_scope.specs.Parts.{block_constants, block_types, constant_names, named_types, names_listed, section_names, section_type}
-use Rattle.ob0_scope.specs.Scopes.{as_label}
+use Rattle.ob0_names.specs.Names.{Label, Name, as_labels, as_names, as_written, declared, same_label}
+use Rattle.ob0_names.specs.Parts.{block_constants, block_types, constant_names, named_types, names_listed, section_names, section_type}
+use Rattle.ob0_names.specs.Scopes.{as_label}
 use Rattle.ob0_symbols.specs.KnownTables.{Tables, declared_in}
 use Rattle.ob0_typing.specs.Declarations.{declare_constants, declare_first, declare_types}
 use Rattle.ob0_typing.specs.Environments.{from_binding, meanings, newest}

@@ -13,11 +13,11 @@ use Rattle.ob0_tree.specs.View.{names_of, section_of}
 use Rattle.ob0_tree.specs.declared.tree.Section.{Section}
 use Rattle.ob0_bindings.specs.InLabels.{in_labels}
 use Rattle.ob0_bindings.proofs.Parts.{section-mode, section-names}
-use Rattle.ob0_scope.specs.Parts.{names_listed}
-use Rattle.ob0_scope.specs.Resolution.{Resolution}
+use Rattle.ob0_names.specs.Parts.{names_listed}
+use Rattle.ob0_names.specs.Resolution.{Resolution}
 use Rattle.ob0_symbols.specs.Tables.{mode_of}
-use Rattle.ob0_scope.specs.Names.{Label, Name, as_names}
-use Rattle.ob0_scope.specs.Scopes.{as_label}
+use Rattle.ob0_names.specs.Names.{Label, Name, as_names}
+use Rattle.ob0_names.specs.Scopes.{as_label}
 use Rattle.ob0_typing.specs.WellTyped.{by_place, by_value}
 use Rattle.ob0_blocks.specs.Placed.{AllWithin, Follows, GoesBack, Holds, IsFrame, IsNextSite, Places, Tells, before_all, most, place_each, place_one, place_sections, put_at, put_site, slots_at}
 use Rattle.ob0_blocks.specs.declared.sight.Frame.{Frame}

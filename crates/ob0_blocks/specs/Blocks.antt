@@ -1,7 +1,7 @@
 -- What the code of procedures and blocks means, wherever they stand in a well-typed module.
 use Rattle.std.specs.Prelude.{◌≡◌, ℕ, ◌≤◌, true, List, length, Some, slice_get}
 use Rattle.ob0_tree.specs.Tree.{Tree, block, body, items, maybe, procedure}
-use Rattle.ob0_scope.specs.Names.{Label, as_labels}
+use Rattle.ob0_names.specs.Names.{Label, as_labels}
 use Rattle.ob0_symbols.specs.KnownTables.{Tables, declared_in}
 use Rattle.ob0_typing.specs.WellTyped.{TypeEnvironment, block_fits, procedures_fit}
 use Rattle.ob0_machine.specs.Lowered as lowered

@@ -1,8 +1,8 @@
 -- What a module's declarations bind, and what its table of declarations has, by ordinal.
 use Rattle.std.specs.Prelude.{◌≡◌, ℕ, ◌+◌, List, [], ◌∷◌, Some, Option}
 use Rattle.ob0_tree.specs.Tree.{Tree, block, declares, declares_procedure, end, has_body, item, items, more, procedure}
-use Rattle.ob0_scope.specs.Names.{Label, as_labels, declared}
-use Rattle.ob0_scope.specs.Parts.{formal_sections, procedure_formals, procedure_name}
+use Rattle.ob0_names.specs.Names.{Label, as_labels, declared}
+use Rattle.ob0_names.specs.Parts.{formal_sections, procedure_formals, procedure_name}
 use Rattle.ob0_bindings.specs.Declaring.{declare_block}
 use Rattle.ob0_typing.specs.Declarations.{after_variables, formals_constructors, procedure_constructors}
 use Rattle.ob0_typing.specs.Expressions.{Object}

@@ -1,8 +1,8 @@
 -- Where the code's table has what is placed, and how the names of a block and of a heading are placed one by one.
 use Rattle.std.specs.Prelude.{◌≡◌, ℕ, zero, suc, ◌+◌, ◌≤◌, List, [], ◌∷◌, ◌++◌, length, if◌then◌else◌, ◌==◌, Some, None, Option}
 use Rattle.ob0_tree.specs.Tree.{Tree, declares_variable, end, further_section, items, more, then_section, variable}
-use Rattle.ob0_scope.specs.Names.{Label, as_labels, declared}
-use Rattle.ob0_scope.specs.Parts.{names_listed, section_names}
+use Rattle.ob0_names.specs.Names.{Label, as_labels, declared}
+use Rattle.ob0_names.specs.Parts.{names_listed, section_names}
 use Rattle.ob0_symbols.specs.KnownTables.{Tables}
 use Rattle.ob0_typing.specs.Expressions.{Object, a_constant, a_procedure, a_standard, a_type, a_variable}
 use Rattle.ob0_typing.specs.Typing.{type_declared}

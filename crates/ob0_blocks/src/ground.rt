@@ -3,7 +3,7 @@
 ghost use Rattle.std.specs.Prelude.{◌≡◌};
 
 use ob0_lowering::Types;
-use ob0_scope::Resolved;
+use ob0_names::Resolved;
 use ob0_symbols::TypeId;
 use std::alloc::Global;
 

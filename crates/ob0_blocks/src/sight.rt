@@ -69,7 +69,7 @@ impl Frame {
 impl Sight {
     ghost use Rattle.std.specs.Prelude.{[], Some};
     ghost use Rattle.ob0_tree.specs.View.{formals_of, items_of, further_section_of, names_of, variable_of, variables_of};
-    ghost use Rattle.ob0_scope.specs.Parts.{formal_sections, names_listed, section_variables};
+    ghost use Rattle.ob0_names.specs.Parts.{formal_sections, names_listed, section_variables};
     ghost use Rattle.ob0_bindings.specs.InLabels.{in_labels, label_in};
     ghost use Rattle.ob0_blocks.specs.Placed.{Follows, GoesBack, Places, declared_size, place_each, place_one, put_at, slots_at};
     ghost use Rattle.ob0_blocks.specs.Placed as placed;

@@ -6,8 +6,8 @@ use Rattle.std.specs.declared.vec.Vec.{Vec}
 use Rattle.ob0_tree.specs.Tree.{Tree, arguments, calls, compares, end, expression, integer, maybe, none, product, sum}
 use Rattle.ob0_tree.specs.View.{arguments_of, expression_of}
 use Rattle.ob0_tree.specs.declared.tree.Expression.{Expression}
-use Rattle.ob0_scope.specs.Names.{Label}
-use Rattle.ob0_scope.specs.Resolution.{Resolution}
+use Rattle.ob0_names.specs.Names.{Label}
+use Rattle.ob0_names.specs.Resolution.{Resolution}
 use Rattle.ob0_symbols.specs.KnownTables.{shapes_of}
 use Rattle.ob0_symbols.specs.Tables.{formal_in}
 use Rattle.ob0_symbols.specs.declared.known.Formal as formal

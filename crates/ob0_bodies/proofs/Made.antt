@@ -8,8 +8,8 @@ use Rattle.ob0_tree.specs.View as view
 use Rattle.ob0_tree.specs.View.{else_in, elsif_of, expression_of, further_statement_of, items_of, sequence_listed}
 use Rattle.ob0_tree.specs.declared.tree.Elsif.{Elsif}
 use Rattle.ob0_tree.specs.declared.tree.Statement.{Statement}
-use Rattle.ob0_scope.specs.Names.{Label}
-use Rattle.ob0_scope.specs.Resolution.{Resolution}
+use Rattle.ob0_names.specs.Names.{Label}
+use Rattle.ob0_names.specs.Resolution.{Resolution}
 use Rattle.ob0_bindings.specs.InLabels.{in_labels}
 use Rattle.ob0_machine.specs.declared.code.Branch as branch
 use Rattle.ob0_machine.specs.declared.code.If.{out-roll-If, roll-If}

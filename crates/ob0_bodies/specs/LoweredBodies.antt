@@ -5,7 +5,7 @@ use Rattle.std.specs.declared.alloc.Global.{Global}
 use Rattle.std.specs.declared.vec.Vec.{Vec}
 use Rattle.ob0_tree.specs.Tree.{Tree, body, else_part, elsif_part, empty, expression, further_statement, items, maybe, sequence, statement}
 use Rattle.ob0_tree.specs.declared.tree.Expression.{Expression}
-use Rattle.ob0_scope.specs.Names.{Label, as_labels}
+use Rattle.ob0_names.specs.Names.{Label, as_labels}
 use Rattle.ob0_typing.specs.Environments.{meanings}
 use Rattle.ob0_typing.specs.WellTyped.{Signature, TypeEnvironment, Typed, arguments_fit, body_fits, condition_fits, else_fits, elsifs_fit, sequence_fits, statement_fits, statements_fit}
 use Rattle.ob0_machine.specs.Lowered as lowered

@@ -3,7 +3,7 @@
 ghost use Rattle.std.specs.Prelude.{◌≡◌, IfOk, Some, map, option_map, slice_get};
 ghost use Rattle.ob0_tree.specs.View.{arguments_of, call_of};
 ghost use Rattle.ob0_tree.specs.Tree.{calls};
-ghost use Rattle.ob0_scope.specs.Names.{Label};
+ghost use Rattle.ob0_names.specs.Names.{Label};
 ghost use Rattle.ob0_symbols.specs.KnownTables.{shapes_of};
 ghost use Rattle.ob0_symbols.specs.Tables.{formal_in, standard_of};
 ghost use Rattle.ob0_bindings.specs.Designators.{all_in_labels};

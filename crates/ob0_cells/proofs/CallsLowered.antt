@@ -1,8 +1,8 @@
 -- Calls of lowered procedures do what calls of the module's do, by induction on how many may be open.
 use Rattle.std.proofs.Common.{◌≡◌, ℕ, zero, suc, ◌+◌, ◌*◌, ◌^◌, ◌<◌, true, List, [], ◌∷◌, ◌++◌, drop, length, map, replicate, take, pos, slice_get, Some, option_and_then, unwrap_or, sym, refl, ap, ◌∙◌, subst, arith, append_assoc}
 use Rattle.ob0_tree.specs.Tree.{Tree, begins, body, declares_procedure, item, maybe, none, one, procedure}
-use Rattle.ob0_scope.specs.Names.{Naming}
-use Rattle.ob0_scope.specs.Parts.{block_statements, formal_sections, procedure_formals}
+use Rattle.ob0_names.specs.Names.{Naming}
+use Rattle.ob0_names.specs.Parts.{block_statements, formal_sections, procedure_formals}
 use Rattle.ob0_typing.specs.Declarations.{formals_constructors}
 use Rattle.ob0_typing.specs.Environments.{from_binding, meanings, newest}
 use Rattle.ob0_typing.specs.Expressions.{Object, a_constant, a_procedure, a_standard, a_type, a_variable}

@@ -1,6 +1,6 @@
 -- Placings that fit: names found in them, stores that grow, and what is seen from further in.
 use Rattle.std.proofs.Common.{◌≡◌, ℕ, true, false, List, [], ◌∷◌, ◌++◌, drop, Some, None, sym, refl, ap, ◌∙◌, subst}
-use Rattle.ob0_scope.specs.Names.{Naming}
+use Rattle.ob0_names.specs.Names.{Naming}
 use Rattle.ob0_typing.specs.Environments.{from_binding, newest}
 use Rattle.ob0_typing.specs.Expressions.{Object, a_constant, a_procedure, a_standard, a_type, a_variable}
 use Rattle.ob0_typing.specs.WellTyped.{Signature, TypeEnvironment}

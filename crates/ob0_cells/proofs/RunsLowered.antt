@@ -2,9 +2,9 @@
 use Rattle.std.proofs.Common.{◌≡◌, ℕ, suc, ◌+◌, ◌*◌, ◌^◌, ◌<◌, ◌≤◌, true, List, [], ℤ, sym, refl, ap, ◌∙◌, subst, arith}
 use Rattle.std.proofs.lemmas.Nat.{mul-le}
 use Rattle.ob0_tree.specs.Tree.{Tree, is_module, module_text}
-use Rattle.ob0_scope.specs.Names.{Naming, as_labels}
-use Rattle.ob0_scope.specs.Parts.{block_statements}
-use Rattle.ob0_scope.specs.Scopes.{numbered}
+use Rattle.ob0_names.specs.Names.{Naming, as_labels}
+use Rattle.ob0_names.specs.Parts.{block_statements}
+use Rattle.ob0_names.specs.Scopes.{numbered}
 use Rattle.ob0_typing.specs.Environments.{outermost}
 use Rattle.ob0_typing.specs.WellTyped.{WellTyped, fits_over}
 use Rattle.ob0_typing.proofs.Proved.{fits_by_ordinal-holds}

@@ -1,7 +1,7 @@
 -- A worked program: a module with a procedure, a VAR parameter among its two, and the program that means it.
 use Rattle.std.proofs.Common.{◌≡◌, ℕ, List, [], ◌∷◌, Some, None, pos, refl, arith}
 use Rattle.ob0_tree.specs.Tree.{Tree, assigns, begins, calls, compares, declares, declares_procedure, declares_variable, declares_variables, designator, end, expression, has_body, integer, is_module, item, listed, module_text, more, named_type, none, one, procedure, product, runs, some_arguments, some_formals, sum, then_argument, then_section, then_statement, value_section, variable_section}
-use Rattle.ob0_scope.specs.Names.{Label, as_labels, as_written, declared}
+use Rattle.ob0_names.specs.Names.{Label, as_labels, as_written, declared}
 use Rattle.ob0_typing.specs.Declarations.{declare_first}
 use Rattle.ob0_typing.specs.Environments.{meanings, outermost}
 use Rattle.ob0_typing.specs.Expressions.{a_variable}

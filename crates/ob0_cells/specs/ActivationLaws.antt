@@ -1,8 +1,8 @@
 -- Calls of lowered procedures do what calls of the module's do that give up their variables; runs are the same runs.
 use Rattle.std.specs.Prelude.{◌≡◌, ℕ, suc, ◌+◌, ◌*◌, ◌<◌, ◌^◌, List, map, ℤ}
 use Rattle.ob0_tree.specs.Tree.{Tree, module_text}
-use Rattle.ob0_scope.specs.Names.{Label, Name, as_labels}
-use Rattle.ob0_scope.specs.Scopes.{numbered}
+use Rattle.ob0_names.specs.Names.{Label, Name, as_labels}
+use Rattle.ob0_names.specs.Scopes.{numbered}
 use Rattle.ob0_typing.specs.Environments.{meanings}
 use Rattle.ob0_typing.specs.WellTyped.{TypeEnvironment, WellTyped}
 use Rattle.ob0_semantics.specs.Fitting.{EnvironmentsFit, StoreTyping}

@@ -1,8 +1,8 @@
 -- Where lowered code finds what names stand for, and what it means that a table of procedures is lowered from a module's blocks.
 use Rattle.std.specs.Prelude.{◌≡◌, ℕ, suc, ◌+◌, ◌≤◌, true, false, List, [], ◌∷◌, drop, slice_get, Some, Option, option_and_then}
 use Rattle.ob0_tree.specs.Tree.{Tree, begins, block, body, declares, declares_procedure, declares_variable, end, has_body, item, items, maybe, module_text, more, none, one, procedure, variable}
-use Rattle.ob0_scope.specs.Names.{Naming}
-use Rattle.ob0_scope.specs.Parts.{constant_names, formal_sections, module_block, named_types, names_listed, procedure_formals, procedure_name, section_constants, section_types, section_variables}
+use Rattle.ob0_names.specs.Names.{Naming}
+use Rattle.ob0_names.specs.Parts.{constant_names, formal_sections, module_block, named_types, names_listed, procedure_formals, procedure_name, section_constants, section_types, section_variables}
 use Rattle.ob0_typing.specs.Declarations.{after_types, after_variables, declare_first, formals_constructors, procedure_constructors}
 use Rattle.ob0_typing.specs.Environments.{meanings, outermost}
 use Rattle.ob0_typing.specs.Expressions.{Object, a_constant, a_procedure, a_standard, a_type, a_variable}

@@ -6,7 +6,7 @@ use Rattle.ob0_tree.specs.declared.tree.Sign.TheVariants as sign
 use Rattle.ob0_tree.specs.declared.tree.AddOperator.TheVariants as add_operator
 use Rattle.ob0_tree.specs.declared.tree.MultiplyOperator.TheVariants as multiply_operator
 use Rattle.ob0_tree.specs.Tree.{Tree, addend, adds, compares, designator, end, expression, factor, field, index, integer, items, more, multiplier, multiplies, negation, none, one, parenthesised, product, relates, selector, simple, sum, term}
-use Rattle.ob0_scope.specs.Names.{Label}
+use Rattle.ob0_names.specs.Names.{Label}
 use Rattle.ob0_typing.specs.Expressions.{a_constant, a_variable}
 use Rattle.ob0_typing.specs.Typing.{shape_of_field}
 use Rattle.ob0_typing.specs.WellTyped.{Typed}

@@ -1,7 +1,7 @@
 -- Lowering is right for each production of statements: what the parts mean makes what the whole means.
 use Rattle.std.specs.Prelude.{◌≡◌, List, [], ◌∷◌, Some}
 use Rattle.ob0_tree.specs.Tree.{Tree, arguments, assigns, branches, calls, else_branch, else_part, elsif_branch, elsif_part, empty, end, expression, further_statement, items, maybe, more, none, one, repeat_loop, runs, selector, sequence, statement, then_statement, while_loop}
-use Rattle.ob0_scope.specs.Names.{Label}
+use Rattle.ob0_names.specs.Names.{Label}
 use Rattle.ob0_typing.specs.Arguments.{arguments_listed}
 use Rattle.ob0_typing.specs.Expressions.{a_procedure, a_standard, reads, writes, writes_line}
 use Rattle.ob0_typing.specs.WellTyped.{Signature, Typed}

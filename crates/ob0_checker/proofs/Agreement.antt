@@ -5,10 +5,10 @@ use Rattle.std.proofs.lemmas.List.{get_or_append_left}
 use Rattle.std.proofs.lemmas.List.Elements.{All-head, All-push, All-tail}
 use Rattle.std.proofs.Math.Seq.{get_or-append_seam}
 use Rattle.ob0_tree.specs.Places.{text_at}
-use Rattle.ob0_scope.specs.Resolution.{Resolution, ordinal_in}
-use Rattle.ob0_scope.specs.Scopes.{as_label}
+use Rattle.ob0_names.specs.Resolution.{Resolution, ordinal_in}
+use Rattle.ob0_names.specs.Scopes.{as_label}
 use Rattle.ob0_bindings.specs.InLabels.{label_in}
-use Rattle.ob0_scope.specs.Names.{Label, Name, as_labels, as_names, as_written, declared, label_text}
+use Rattle.ob0_names.specs.Names.{Label, Name, as_labels, as_names, as_written, declared, label_text}
 use Rattle.ob0_values.specs.Values.{Shape, boolean_shape, integer_shape, truth}
 use Rattle.ob0_symbols.specs.declared.known.Entry.{Entry}
 use Rattle.ob0_symbols.specs.declared.known.Formal as formal

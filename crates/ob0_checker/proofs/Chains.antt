@@ -3,8 +3,8 @@ use Rattle.std.proofs.Common.{◌≡◌, ℕ, ◌+◌, ◌<◌, ◌≤◌, Optio
 use Rattle.std.proofs.lemmas.List.{drop_all, drop_more}
 use Rattle.ob0_tree.specs.Tree.{Tree, Item, item, items, end, more}
 use Rattle.ob0_tree.specs.View.{items_of}
-use Rattle.ob0_scope.specs.Names.{Label}
-use Rattle.ob0_scope.specs.Resolution.{Resolution}
+use Rattle.ob0_names.specs.Names.{Label}
+use Rattle.ob0_names.specs.Resolution.{Resolution}
 use Rattle.ob0_bindings.specs.InLabels.{in_labels}
 
 -- a chain is evaluated item by item

@@ -4,9 +4,9 @@ use Rattle.std.proofs.lemmas.List.{drop_all, drop_more}
 use Rattle.ob0_tree.specs.declared.tree.Names as tree_names
 use Rattle.ob0_tree.specs.Tree.{Tree, declares_constant, declares_type, declares_variable, end, expression, more, names, written_type}
 use Rattle.ob0_tree.specs.View.{names_of}
-use Rattle.ob0_scope.specs.Names.{Label, as_labels}
-use Rattle.ob0_scope.specs.Parts.{names_listed}
-use Rattle.ob0_scope.specs.Resolution.{Resolution}
+use Rattle.ob0_names.specs.Names.{Label, as_labels}
+use Rattle.ob0_names.specs.Parts.{names_listed}
+use Rattle.ob0_names.specs.Resolution.{Resolution}
 use Rattle.ob0_symbols.specs.declared.known.Object as declaration
 use Rattle.ob0_symbols.specs.declared.known.Object.TheVariants as kind
 use Rattle.ob0_symbols.specs.declared.types.TypeId.{TypeId}

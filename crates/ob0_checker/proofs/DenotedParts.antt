@@ -8,8 +8,8 @@ use Rattle.ob0_tree.specs.declared.tree.Fields as group
 use Rattle.ob0_tree.specs.Places.{value_at}
 use Rattle.ob0_tree.specs.Tree.{Tree, array_type, expression, named_type, record_type, written_type}
 use Rattle.ob0_tree.specs.View.{expression_of, further_fields_of_group, items_of, record_listed, type_of}
-use Rattle.ob0_scope.specs.Names.{Label}
-use Rattle.ob0_scope.specs.Resolution.{Resolution}
+use Rattle.ob0_names.specs.Names.{Label}
+use Rattle.ob0_names.specs.Resolution.{Resolution}
 use Rattle.ob0_symbols.specs.declared.known.Field.{Field}
 use Rattle.ob0_symbols.specs.declared.types.TypeId.{TypeId}
 use Rattle.ob0_checker.specs.DenotedTables.{AreAdded, Denotes, Grown, IsFound, array_in}

@@ -3,8 +3,8 @@ use Rattle.std.proofs.Common.{◌≡◌, ◌<◌, Bool, true, false, cond, List,
 use Rattle.ob0_tree.specs.declared.tree.Relation.{Relation}
 use Rattle.ob0_tree.specs.declared.tree.Sign.{Sign}
 use Rattle.ob0_tree.specs.Tree.{Tree, addend, adds, compares, designator, end, factor, field, index, item, items, more, multiplier, multiplies, negation, none, one, product, relates, selector, simple, sum, term}
-use Rattle.ob0_scope.specs.Names.{Label}
-use Rattle.ob0_scope.specs.Resolution.{Resolution}
+use Rattle.ob0_names.specs.Names.{Label}
+use Rattle.ob0_names.specs.Resolution.{Resolution}
 use Rattle.ob0_tree.specs.View.{items_of, selector_of}
 use Rattle.ob0_tree.specs.declared.tree.Selector.{Selector}
 use Rattle.ob0_bindings.specs.InLabels.{in_labels}

@@ -5,8 +5,8 @@ use Rattle.ob0_tree.specs.View as view
 use Rattle.ob0_tree.specs.View.{elsif_of, expression_of, further_statement_of, items_of, sequence_listed, statement_of}
 use Rattle.ob0_tree.specs.declared.tree.Expression.{Expression}
 use Rattle.ob0_tree.specs.declared.tree.Statement.{Statement}
-use Rattle.ob0_scope.specs.Names.{Label}
-use Rattle.ob0_scope.specs.Resolution.{Resolution}
+use Rattle.ob0_names.specs.Names.{Label}
+use Rattle.ob0_names.specs.Resolution.{Resolution}
 use Rattle.ob0_symbols.specs.declared.known.Formal as formal
 use Rattle.ob0_typing.specs.Arguments.{arguments_listed}
 use Rattle.ob0_bindings.specs.Bindings.{variable_of}

@@ -7,9 +7,9 @@ use Rattle.ob0_tree.specs.declared.tree.Names as tree_names
 use Rattle.ob0_tree.specs.Tree.{Tree, array_type, end, fields, further_fields, further_name, items, listed, mapped, more, named_type, names, no_fields, record_type, some_fields, then_fields, then_name, written_type}
 use Rattle.ob0_tree.specs.View.{fields_of, further_fields_of_group, items_of, names_of, record_listed, type_of}
 use Rattle.ob0_tree.specs.Places.{value_at}
-use Rattle.ob0_scope.specs.Names.{Label, label_text}
-use Rattle.ob0_scope.specs.Parts.{further_names, names_listed}
-use Rattle.ob0_scope.specs.Resolution.{Resolution}
+use Rattle.ob0_names.specs.Names.{Label, label_text}
+use Rattle.ob0_names.specs.Parts.{further_names, names_listed}
+use Rattle.ob0_names.specs.Resolution.{Resolution}
 use Rattle.ob0_symbols.specs.declared.known.Field.{Field}
 use Rattle.ob0_symbols.specs.declared.types.TypeId.{TypeId}
 use Rattle.ob0_checker.specs.DenotedTables.{AreAdded, Grown, fields_named, joined}

@@ -4,9 +4,9 @@ use Rattle.std.proofs.lemmas.List.{drop_all}
 use Rattle.std.proofs.lemmas.List.Elements.{All-head, All-tail}
 use Rattle.ob0_tree.specs.Tree.{Tree, Item, body, constants, declares, declares_constant, declares_type, declares_variable, end, expression, has_body, item, items, maybe, more, names, procedure, type_names, variables, written_type}
 use Rattle.ob0_tree.specs.View.{items_of}
-use Rattle.ob0_scope.specs.Names.{Label, as_labels, declared}
-use Rattle.ob0_scope.specs.Parts.{names_listed, section_constants, section_types, section_variables}
-use Rattle.ob0_scope.specs.Resolution.{Resolution}
+use Rattle.ob0_names.specs.Names.{Label, as_labels, declared}
+use Rattle.ob0_names.specs.Parts.{names_listed, section_constants, section_types, section_variables}
+use Rattle.ob0_names.specs.Resolution.{Resolution}
 use Rattle.ob0_symbols.specs.declared.known.Entry.{Entry}
 use Rattle.ob0_symbols.specs.declared.known.Object as declaration
 use Rattle.ob0_symbols.specs.declared.known.Object.TheVariants as kind

@@ -10,9 +10,9 @@ use Rattle.ob0_tree.specs.Places.{value_at}
 use Rattle.ob0_tree.specs.Tree.{Tree, block, body, constants, declares, declares_procedure, end, formals, has_body, item, items, maybe, more, procedure, type_names, variables}
 use Rattle.ob0_tree.specs.View.{block_of, body_of, constants_of, formals_of, items_of, names_of, procedure_of, type_of, types_of, variables_of}
 use Rattle.ob0_tree.proofs.Viewed.{block_parts}
-use Rattle.ob0_scope.specs.Names.{Label, as_labels, declared}
-use Rattle.ob0_scope.specs.Parts.{block_types, block_variables, formal_sections, names_listed, procedure_name, section_types, section_variables}
-use Rattle.ob0_scope.specs.Resolution.{Resolution}
+use Rattle.ob0_names.specs.Names.{Label, as_labels, declared}
+use Rattle.ob0_names.specs.Parts.{block_types, block_variables, formal_sections, names_listed, procedure_name, section_types, section_variables}
+use Rattle.ob0_names.specs.Resolution.{Resolution}
 use Rattle.ob0_symbols.specs.declared.known.Formal as formal
 use Rattle.ob0_symbols.specs.declared.known.Object.TheVariants as kind
 use Rattle.ob0_checker.specs.declared.walk.Parameter.{Parameter}

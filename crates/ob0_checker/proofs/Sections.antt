@@ -6,9 +6,9 @@ use Rattle.ob0_tree.specs.declared.tree.Section.{Section}
 use Rattle.ob0_tree.specs.Tree.{Tree, end, further_section, items, more, one, section, then_section}
 use Rattle.ob0_tree.specs.View.{formals_listed, further_section_of, items_of, names_of, section_of, type_of}
 use Rattle.ob0_tree.specs.Places.{value_at}
-use Rattle.ob0_scope.specs.Names.{Label, as_labels}
-use Rattle.ob0_scope.specs.Parts.{formal_sections, names_listed, section_names, section_type}
-use Rattle.ob0_scope.specs.Resolution.{Resolution}
+use Rattle.ob0_names.specs.Names.{Label, as_labels}
+use Rattle.ob0_names.specs.Parts.{formal_sections, names_listed, section_names, section_type}
+use Rattle.ob0_names.specs.Resolution.{Resolution}
 use Rattle.ob0_symbols.specs.declared.known.Formal as formal
 use Rattle.ob0_checker.specs.declared.walk.Parameter.{Parameter}
 use Rattle.ob0_checker.specs.declared.walk.Typed.{Typed}

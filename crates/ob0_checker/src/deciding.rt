@@ -3,7 +3,7 @@
 
 ghost use Rattle.std.specs.Prelude.{◌≡◌, ◌++◌, ◌∷◌, map, IfOk, IfSome, OnOk, is_some};
 ghost use Rattle.ob0_tree.specs.Parsed.{tree_of};
-ghost use Rattle.ob0_scope.specs.Names.{as_labels};
+ghost use Rattle.ob0_names.specs.Names.{as_labels};
 ghost use Rattle.ob0_bindings.specs.Bindings.{module_bindings};
 ghost use Rattle.ob0_checker.specs.Checking.{Keeps};
 ghost use Rattle.ob0_bindings.specs.InLabels.{in_labels};
@@ -11,7 +11,7 @@ ghost use Rattle.ob0_typing.specs.WellTyped.{fits_over};
 
 use crate::names::Names;
 use crate::walk::{Parameter, Typed, Walk};
-use ob0_scope::Resolved;
+use ob0_names::Resolved;
 use ob0_symbols::{Formal, Known, Object, TypeId};
 use ob0_tree::{
     Block, Constant, Names as NameList, Procedure, Section, Statement, TypeDeclaration, Variables,
@@ -47,8 +47,8 @@ impl<'t> Walk<'t> {
     ghost use Rattle.std.specs.Prelude.{◌≡◌, ◌+◌, All, IfOk, IfSome, length};
     ghost use Rattle.ob0_tree.specs.Tree.{end, more};
     ghost use Rattle.ob0_tree.specs.View.{block_of, body_of, constant_of, constants_of, formals_of, further_section_of, items_of, names_of, procedure_of, type_declaration_of, type_of, types_of, variable_of, variables_of};
-    ghost use Rattle.ob0_scope.specs.Names.{Label, as_labels};
-    ghost use Rattle.ob0_scope.specs.Parts.{block_types, block_variables, formal_sections, names_listed, procedure_name, section_constants, section_types, section_variables};
+    ghost use Rattle.ob0_names.specs.Names.{Label, as_labels};
+    ghost use Rattle.ob0_names.specs.Parts.{block_types, block_variables, formal_sections, names_listed, procedure_name, section_constants, section_types, section_variables};
     ghost use Rattle.ob0_bindings.specs.Bindings.{block_bindings, procedure_bindings};
     ghost use Rattle.ob0_checker.specs.Checking.{Agrees, Decides, Declares, DeclaresHeading, DeclaresSections, Follows, Grows, Keeps, KeepsAll, KeepsHeading, KeepsParameters, parameters_in};
     ghost use Rattle.ob0_bindings.specs.Declaring.{declare_block, declare_procedure};
@@ -332,7 +332,7 @@ impl<'t> Walk<'t> {
 impl<'t> Headed<'t> {
     ghost use Rattle.std.specs.Prelude.{IfOk, IfSome};
     ghost use Rattle.ob0_tree.specs.View.{section_of};
-    ghost use Rattle.ob0_scope.specs.Names.{Label};
+    ghost use Rattle.ob0_names.specs.Names.{Label};
     ghost use Rattle.ob0_checker.specs.Checking.{DeclaresSection, Keeps, parameters_of};
     ghost use Rattle.ob0_typing.specs.WellTyped.{TypeEnvironment, bind_typed};
     ghost use Rattle.ob0_bindings.specs.InLabels.{in_labels};

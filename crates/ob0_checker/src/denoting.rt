@@ -13,7 +13,7 @@ ghost use Rattle.ob0_values.specs.Scalars.{scalar_value};
 ghost use Rattle.ob0_values.specs.Values.{Shape};
 
 use crate::names::Names;
-use ob0_scope::Resolved;
+use ob0_names::Resolved;
 use ob0_symbols::{Field, Known, MOST_DEPTH, MOST_SCALARS, TypeId};
 use ob0_tree::{ArrayType, FieldList, Fields, RecordType, WrittenType};
 use ob0_values::Scalar;

@@ -3,7 +3,7 @@
 ghost use Rattle.std.specs.Prelude.{◌≡◌, Some, length, option_and_then, option_map, IfSome};
 ghost use Rattle.ob0_tree.specs.Places.{text_at};
 
-use ob0_scope::Resolved;
+use ob0_names::Resolved;
 use ob0_symbols::{Known, Object, TypeId, scalar_type, text_at};
 use ob0_values::Scalar;
 
@@ -17,7 +17,7 @@ pub struct Names<'a, 't> {
 }
 
 impl<'a, 't> Names<'a, 't> {
-    ghost use Rattle.ob0_scope.specs.Names.{label_text};
+    ghost use Rattle.ob0_names.specs.Names.{label_text};
     ghost use Rattle.ob0_typing.specs.Expressions.{a_constant, a_type, a_variable};
     ghost use Rattle.ob0_symbols.specs.KnownTables.{label_object, shapes_of};
     ghost use Rattle.ob0_bindings.specs.InLabels.{label_in};

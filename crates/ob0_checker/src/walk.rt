@@ -1,7 +1,7 @@
 //! A module on its way through the checker: what is known and in sight, and what was in sight before each binding.
 
 use crate::denoting::denote;
-use ob0_scope::Resolved;
+use ob0_names::Resolved;
 use ob0_symbols::{Formal, Known, Object, Shadowed, TypeId};
 use ob0_tree::WrittenType;
 use std::alloc::{AllocError, Global};
@@ -57,7 +57,7 @@ impl<'t> Walk<'t> {
     ghost use Rattle.ob0_symbols.specs.Tables.{IsMade, ObjectIsMade, object_in, type_shape};
     ghost use Rattle.ob0_typing.specs.Typing.{constructors, denoted};
     ghost use Rattle.ob0_typing.specs.WellTyped.{Signature, TypeEnvironment};
-    ghost use Rattle.ob0_scope.specs.Names.{as_labels, Label};
+    ghost use Rattle.ob0_names.specs.Names.{as_labels, Label};
     ghost use Rattle.ob0_values.specs.Values.{Shape};
 
     /// The predeclared names alone are in sight.

@@ -10,8 +10,8 @@ use Rattle.ob0_tree.specs.Places.{text_at, value_at}
 use Rattle.ob0_tree.specs.Tree.{Sort, Tree, mapped, spell}
 use Rattle.ob0_tree.proofs.Leaves.{ascending_bounds, leaves_ascend, leaves_spelled, lexeme_names}
 use Rattle.ob0_tree.proofs.Mapped.{spell_mapped}
-use Rattle.ob0_scope.specs.Names as written
-use Rattle.ob0_scope.specs.Resolution.{Resolution, ordinal_in}
+use Rattle.ob0_names.specs.Names as written
+use Rattle.ob0_names.specs.Resolution.{Resolution, ordinal_in}
 use Rattle.ob0_types.specs.CheckedModules.{IsWellTyped}
 use Rattle.ob0_field_laws.specs.Fields.{refielded}
 use Rattle.ob0_field_laws.specs.Owners.{AreOwners, of_records}

@@ -17,10 +17,10 @@ use Rattle.ob0_tree.proofs.Leaves.{leaves_ascend, occurrences_ascend}
 use Rattle.ob0_edits.specs.Ranges.{range_of}
 use Rattle.ob0_edits.specs.Removed.{span_over, without_text}
 use Rattle.ob0_edits.specs.Replaced.{edit_at, with_text_at}
-use Rattle.ob0_scope.specs.Inlining.{inlined, inlined_everywhere, only}
-use Rattle.ob0_scope.specs.Names.{declared, same_label}
-use Rattle.ob0_scope.specs.Occurrences.{bindings}
-use Rattle.ob0_scope.specs.Resolution.{declaring_only, token_declaring}
+use Rattle.ob0_names.specs.Inlining.{inlined, inlined_everywhere, only}
+use Rattle.ob0_names.specs.Names.{declared, same_label}
+use Rattle.ob0_names.specs.Occurrences.{bindings}
+use Rattle.ob0_names.specs.Resolution.{declaring_only, token_declaring}
 use Rattle.ob0_values.specs.declared.scalar.Scalar.{Scalar}
 use Rattle.ob0_values.specs.declared.scalar.Scalar.TheVariants as scalar
 use Rattle.ob0_values.specs.Scalars.{scalar_value}

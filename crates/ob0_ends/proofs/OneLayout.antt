@@ -11,7 +11,7 @@ use Rattle.ob0_text.specs.declared.edits.Indent.{Indent}
 use Rattle.ob0_text.specs.declared.positions.Unit.{Unit}
 use Rattle.ob0_text.specs.Units.{width_of}
 use Rattle.ob0_tree.specs.Tree.{Tree, module_text}
-use Rattle.ob0_scope.specs.Names.{Name}
+use Rattle.ob0_names.specs.Names.{Name}
 use Rattle.ob0_layout.specs.Layout.{layout}
 use Rattle.ob0_layout.specs.Sites.{Said, said, edit_of, changed_sites, all_sites}
 use Rattle.ob0_layout.specs.Standings.{standings}

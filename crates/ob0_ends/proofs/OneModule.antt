@@ -15,11 +15,12 @@ use Rattle.ob0_tree.specs.Order.{leaves}
 use Rattle.ob0_tree.specs.Parsed.{Parsed, IsParsed, tree_of, named_tree_of}
 use Rattle.ob0_tree.specs.Places.{lexemes, named}
 use Rattle.ob0_tree.specs.Tree.{Tree, module_text, identifiers}
-use Rattle.ob0_scope.specs.Resolution.{span_at}
-use Rattle.ob0_scope.specs.Scopes.{numbered}
+use Rattle.ob0_names.specs.Resolution.{span_at}
+use Rattle.ob0_names.specs.Scopes.{numbered}
 use Rattle.ob0_parse.proofs.Unique.{same}
 use Rattle.ob0_edits.specs.Replaced.{parts}
-use Rattle.ob0_scope.specs.Standing.{Standing, is_on, name_on, named_by}
+use Rattle.ob0_names.specs.Spans.{is_on}
+use Rattle.ob0_scope.specs.Standing.{Standing, name_on, named_by}
 use Rattle.ob0_scope.specs.declared.naming.Named.{Named}
 use Rattle.ob0_events.specs.Edited.{Replacement, replacements}
 

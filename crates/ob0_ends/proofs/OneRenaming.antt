@@ -15,9 +15,9 @@ use Rattle.ob0_tree.specs.Parsed.{named_tree_of}
 use Rattle.ob0_tree.specs.Places.{text_at}
 use Rattle.ob0_tree.specs.Tree.{Tree, identifiers, module_text}
 use Rattle.ob0_edits.specs.Replaced.{edit_at, with_text_at}
-use Rattle.ob0_scope.specs.Names.{Name, same_name}
-use Rattle.ob0_scope.specs.Occurrences.{Capture, Free, at_declaration, first_captured}
-use Rattle.ob0_scope.specs.Resolution.{Resolution, declaring_only, token_declaring}
+use Rattle.ob0_names.specs.Names.{Name, same_name}
+use Rattle.ob0_names.specs.Occurrences.{Capture, Free, at_declaration, first_captured}
+use Rattle.ob0_names.specs.Resolution.{Resolution, declaring_only, token_declaring}
 use Rattle.ob0_scope.proofs.FirstCaptures.{captured_where_not_free-holds}
 use Rattle.ob0_scope.specs.Standing.{refers}
 use Rattle.ob0_field_laws.specs.Renaming.{is_duplicate_field}

@@ -4,7 +4,7 @@ use Rattle.ob0_scan.specs.Scanned.{Scanned}
 use Rattle.ob0_scan.proofs.Spans.{one_scan}
 use Rattle.ob0_tree.specs.Module.{ModuleOf}
 use Rattle.ob0_tree.specs.Tree.{Tree, module_text, spell}
-use Rattle.ob0_scope.specs.Names.{Name}
+use Rattle.ob0_names.specs.Names.{Name}
 use Rattle.ob0_parse.proofs.Unique.{same}
 use Rattle.ob0_offers.specs.Diagnosed.{IsTextOf, IsWellTypedModule}
 use Rattle.ob0_offers.specs.Texts.{utf8}

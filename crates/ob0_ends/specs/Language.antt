@@ -1,7 +1,7 @@
 -- What a text means as a module: whether it is well-typed, and whether two texts have the same run.
 use Rattle.std.specs.Prelude.{◌≡◌, ℕ, List}
 use Rattle.ob0_tree.specs.Tree.{Tree, module_text}
-use Rattle.ob0_scope.specs.Names.{Name}
+use Rattle.ob0_names.specs.Names.{Name}
 use Rattle.ob0_typing.specs.WellTyped.{WellTyped}
 use Rattle.ob0_semantics.specs.EditLaws.{SameRuns}
 use Rattle.ob0_offers.specs.Diagnosed.{IsTextOf}

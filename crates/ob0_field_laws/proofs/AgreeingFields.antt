@@ -1,10 +1,10 @@
 -- Two ways to write fields that agree on every field that a module's records declare: a module that fits is the same in both.
 use Rattle.std.proofs.Common.{◌≡◌, ℕ, suc, ◌+◌, true, false, ◌&&◌, List, [], ◌∷◌, ◌++◌, map, if◌then◌else◌, nat_le, Some, None, Option, option_and_then, sym, refl, ap, ◌∙◌, subst}
 use Rattle.ob0_tree.specs.Tree.{Tree, addend, adds, arguments, array_type, assigns, branches, calls, compares, designator, else_branch, else_part, elsif_branch, elsif_part, empty, end, expression, factor, field, fields, further_argument, further_fields, further_name, further_statement, index, integer, items, listed, maybe, more, multiplier, multiplies, named_type, names, negation, no_arguments, no_fields, none, one, parenthesised, product, record_type, relates, repeat_loop, runs, selector, sequence, simple, some_arguments, some_fields, statement, sum, term, then_argument, then_fields, then_name, then_statement, while_loop, written_type}
-use Rattle.ob0_scope.specs.DeclaredOnce.{group_fields, groups_fields}
-use Rattle.ob0_scope.specs.Mapping.{with_names}
-use Rattle.ob0_scope.specs.Names.{Name, same_name}
-use Rattle.ob0_scope.specs.Parts.{further_names, names_listed}
+use Rattle.ob0_names.specs.DeclaredOnce.{group_fields, groups_fields}
+use Rattle.ob0_names.specs.Mapping.{with_names}
+use Rattle.ob0_names.specs.Names.{Name, same_name}
+use Rattle.ob0_names.specs.Parts.{further_names, names_listed}
 use Rattle.ob0_typing.specs.Arguments.{arguments_listed, further_arguments}
 use Rattle.ob0_typing.specs.Expressions.{Object, a_constant, a_procedure, a_standard, a_type, a_variable}
 use Rattle.ob0_typing.specs.Typing.{add_type, array_length, complement_type, constant_value, denoted, denoted_group, denoted_groups, depth, designated, element_type, field_type, group_constructors, multiply_type, object_type, relation_type, scalars, shape_of_field, sign_type, type_at, type_of, type_of_addends, type_of_factor, type_of_multipliers, type_of_name, type_of_simple, type_of_term, value_type, with_fields, within_limits}

@@ -1,8 +1,8 @@
 -- A module that fits is the same in two ways to write fields that agree on every field that its records declare.
 use Rattle.std.proofs.Common.{◌≡◌, ℕ, ◌+◌, true, false, ◌&&◌, List, [], ◌∷◌, ◌++◌, map, Some, None, option_and_then, unwrap_or, sym, refl, ap, subst}
 use Rattle.ob0_tree.specs.Tree.{Tree, begins, block, body, constant, declares, declares_constant, declares_procedure, declares_type, declares_types, declares_variable, declares_variables, end, formals, further_section, has_body, is_module, item, items, maybe, module_text, more, no_formals, none, one, procedure, section, some_formals, then_section, type_name, type_names, value_section, variable, variable_section, variables}
-use Rattle.ob0_scope.specs.Names.{Name, as_names, same_name}
-use Rattle.ob0_scope.specs.Parts.{formal_sections, names_listed, procedure_formals, procedure_name, section_constants, section_names, section_type, section_types, section_variables}
+use Rattle.ob0_names.specs.Names.{Name, as_names, same_name}
+use Rattle.ob0_names.specs.Parts.{formal_sections, names_listed, procedure_formals, procedure_name, section_constants, section_names, section_type, section_types, section_variables}
 use Rattle.ob0_typing.specs.Declarations.{after_formals, after_types, after_variables, declare_constants, declare_first, declare_types, formals_constructors, procedure_constructors}
 use Rattle.ob0_typing.specs.Environments.{from_binding, meanings, newest, outermost}
 use Rattle.ob0_typing.specs.Expressions.{Object, a_constant, a_type, a_variable}

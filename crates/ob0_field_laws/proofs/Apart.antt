@@ -8,7 +8,7 @@ use Rattle.ob0_tree.specs.declared.tree.AddOperator.{AddOperator}
 use Rattle.ob0_tree.specs.declared.tree.AddOperator.TheVariants as add_operator
 use Rattle.ob0_tree.specs.declared.tree.MultiplyOperator.{MultiplyOperator}
 use Rattle.ob0_tree.specs.declared.tree.MultiplyOperator.TheVariants as multiply_operator
-use Rattle.ob0_scope.specs.Names.{Name, same_name}
+use Rattle.ob0_names.specs.Names.{Name, same_name}
 use Rattle.ob0_typing.specs.Expressions.{Meanings, Object, a_constant, a_procedure, a_standard, a_type, a_variable, reads, writes, writes_line}
 use Rattle.ob0_typing.specs.Typing.{add_type, complement_type, constant_of, depth, field_depth, field_scalars, field_type, multiply_type, object_type, relation_type, scalars, shape_of_field, sign_type, type_of_name, value_type, with_fields, within_limits}
 use Rattle.ob0_typing.specs.WellTyped.{Formal, Signature, Typed, agree, same_fields, same_shape, signature_of}

@@ -3,8 +3,8 @@ use Rattle.std.proofs.Common.{◌≡◌, ℕ, ◌&&◌, if◌then◌else◌, ◌
 use Rattle.ob0_tree.specs.Tree.{mapped}
 use Rattle.ob0_tree.specs.Parsed.{named_tree_of, tree_of}
 use Rattle.ob0_tree.specs.Places.{text_at, value_at}
-use Rattle.ob0_scope.specs.Names.{Name, same_name}
-use Rattle.ob0_scope.specs.Resolution.{ordinal_in}
+use Rattle.ob0_names.specs.Names.{Name, same_name}
+use Rattle.ob0_names.specs.Resolution.{ordinal_in}
 use Rattle.ob0_field_laws.specs.Fields.{refielded}
 use Rattle.ob0_field_laws.specs.Owners.{RenamedByToken, of_records}
 use Rattle.ob0_field_laws.specs.Renaming.{one_renamed}

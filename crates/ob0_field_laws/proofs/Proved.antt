@@ -1,6 +1,6 @@
 -- The proofs of the laws of fields written anew.
 use Rattle.std.proofs.Common.{IsTrue, sym, refl, ap, ◌∙◌, subst}
-use Rattle.ob0_scope.specs.Names.{as_names}
+use Rattle.ob0_names.specs.Names.{as_names}
 use Rattle.ob0_typing.specs.WellTyped.{WellTyped}
 use Rattle.ob0_semantics.specs.Runs.{run, run_over}
 use Rattle.ob0_field_laws.specs.FieldLaws.{KeepsApart, RefieldingKeepsModules}

@@ -2,8 +2,8 @@
 use Rattle.std.proofs.Common.{◌≡◌, ℕ, zero, suc, ◌+◌, true, false, List, [], ◌∷◌, ◌++◌, map, length, Some, None, Option, option_map, option_and_then, sym, refl, ap, ◌∙◌, subst₂}
 use Rattle.std.proofs.lemmas.List.{length-map, map-append}
 use Rattle.ob0_tree.specs.Tree.{Tree, block, body, constant, constants, declares, declares_constant, declares_type, declares_variable, end, expression, further_section, has_body, item, items, maybe, more, procedure, then_section, type_name, type_names, variable, variables, written_type}
-use Rattle.ob0_scope.specs.Names.{Name, as_names, same_name}
-use Rattle.ob0_scope.specs.Parts.{names_listed, procedure_formals, procedure_name, section_constants, section_type, section_types, section_variables}
+use Rattle.ob0_names.specs.Names.{Name, as_names, same_name}
+use Rattle.ob0_names.specs.Parts.{names_listed, procedure_formals, procedure_name, section_constants, section_type, section_types, section_variables}
 use Rattle.ob0_typing.specs.Declarations.{after_types, after_variables, declare_constants, declare_types, procedure_constructors}
 use Rattle.ob0_typing.specs.Environments.{from_binding, meanings, newest}
 use Rattle.ob0_typing.specs.Expressions.{Object, a_constant, a_procedure, a_standard, a_type, a_variable}

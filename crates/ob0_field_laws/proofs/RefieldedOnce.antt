@@ -2,11 +2,11 @@
 use Rattle.std.proofs.Common.{◌≡◌, ℕ, suc, ◌+◌, not, ◌&&◌, ◌||◌, List, [], ◌∷◌, ◌++◌, map, Some, None, Option, refl, ap, ◌∙◌, sym}
 use Rattle.std.proofs.lemmas.List.{map-append}
 use Rattle.ob0_tree.specs.Tree.{Sort, Tree, adds, array_type, assigns, begins, block, branches, calls, compares, declares, declares_procedure, declares_type, declares_types, declares_variable, declares_variables, designator, else_branch, elsif_branch, end, field, fields, formals, further_fields, further_name, further_section, has_body, index, is_module, item, items, listed, maybe, module_text, more, multiplies, named_type, names, negation, no_fields, no_formals, none, one, parenthesised, procedure, product, record_type, relates, repeat_loop, runs, section, some_arguments, some_fields, some_formals, sum, then_argument, then_fields, then_name, then_section, then_statement, type_name, type_names, value_section, variable, variable_section, variables, while_loop, written_type}
-use Rattle.ob0_scope.specs.DeclaredOnce.{are_distinct, block_once, declared_once, fields_once, formals_once, group_fields, group_once, groups_fields, groups_once, is_among, procedure_names, procedure_once, procedures_once, types_once, variables_once}
-use Rattle.ob0_scope.specs.Mapping.{with_names}
-use Rattle.ob0_scope.specs.Names.{Name, as_names, same_name}
-use Rattle.ob0_scope.specs.Parts.{constant_names, formal_names, formal_sections, further_names, named_types, names_listed, section_constants, section_type, section_types, section_variables, variable_names}
-use Rattle.ob0_scope.proofs.SameNames.{with_names-id}
+use Rattle.ob0_names.specs.DeclaredOnce.{are_distinct, block_once, declared_once, fields_once, formals_once, group_fields, group_once, groups_fields, groups_once, is_among, procedure_names, procedure_once, procedures_once, types_once, variables_once}
+use Rattle.ob0_names.specs.Mapping.{with_names}
+use Rattle.ob0_names.specs.Names.{Name, as_names, same_name}
+use Rattle.ob0_names.specs.Parts.{constant_names, formal_names, formal_sections, further_names, named_types, names_listed, section_constants, section_type, section_types, section_variables, variable_names}
+use Rattle.ob0_names.proofs.SameNames.{with_names-id}
 use Rattle.ob0_typing.specs.Declarations.{after_formals, after_types, after_variables, procedure_constructors}
 use Rattle.ob0_typing.specs.Environments.{meanings, outermost}
 use Rattle.ob0_typing.specs.Typing.{constructors, group_constructors, object_type}

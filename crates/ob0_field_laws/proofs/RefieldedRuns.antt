@@ -1,8 +1,8 @@
 -- Two runs of a module are alike: one with tagged fields, the other with fields written anew.
 use Rattle.std.proofs.Common.{◌≡◌, ℕ, zero, suc, ◌+◌, ◌≢◌, true, false, List, [], ◌∷◌, map, ℤ, ◌⊎◌, inl, inr, Some, None, Option, option_map, option_and_then, sym, refl, ap, ◌∙◌, subst, subst₂}
 use Rattle.ob0_tree.specs.Tree.{Tree, begins, block, body, declares, declares_procedure, formals, has_body, is_module, item, maybe, module_text, none, one, procedure}
-use Rattle.ob0_scope.specs.Names.{Name, as_names}
-use Rattle.ob0_scope.specs.Parts.{block_procedures, block_statements, formal_sections}
+use Rattle.ob0_names.specs.Names.{Name, as_names}
+use Rattle.ob0_names.specs.Parts.{block_procedures, block_statements, formal_sections}
 use Rattle.ob0_typing.specs.Declarations.{after_variables, formals_constructors}
 use Rattle.ob0_typing.specs.Environments.{meanings, outermost}
 use Rattle.ob0_typing.specs.Expressions.{reads, writes, writes_line}

@@ -1,7 +1,7 @@
 -- Which statements fit, with fields written anew.
 use Rattle.std.proofs.Common.{◌≡◌, ◌&&◌, List, [], ◌∷◌, map, Some, None, Option, option_map, refl, ap, ◌∙◌}
 use Rattle.ob0_tree.specs.Tree.{Tree, arguments, assigns, branches, calls, compares, designator, else_branch, else_part, elsif_branch, elsif_part, empty, end, expression, further_argument, further_statement, items, maybe, more, no_arguments, none, one, product, repeat_loop, runs, selector, sequence, some_arguments, statement, sum, then_argument, then_statement, while_loop}
-use Rattle.ob0_scope.specs.Names.{Name}
+use Rattle.ob0_names.specs.Names.{Name}
 use Rattle.ob0_typing.specs.Arguments.{arguments_listed, further_arguments}
 use Rattle.ob0_typing.specs.Expressions.{Object, a_constant, a_procedure, a_standard, a_type, a_variable}
 use Rattle.ob0_typing.specs.Typing.{designated, object_type, type_at, type_of}

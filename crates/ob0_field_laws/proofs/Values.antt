@@ -3,7 +3,7 @@ use Rattle.std.proofs.Common.{◌≡◌, ℕ, zero, suc, Bool, true, false, ◌&
 use Rattle.std.proofs.Math.Dec.{eqb-suc-suc, eqb-zero-suc}
 use Rattle.std.proofs.lemmas.Bool.{eqb-true}
 use Rattle.std.proofs.lemmas.Option.{slice_get-map}
-use Rattle.ob0_scope.specs.Names.{Name, same_name}
+use Rattle.ob0_names.specs.Names.{Name, same_name}
 use Rattle.ob0_values.specs.Values.{Members, Place, Step, Store, Value, Values, at_field, at_index, at_path, count_values, elements, members, named_member, next_member, next_value, no_member, no_value, nth_value, number, part, read_place, truth, with_at_path, with_named_member, with_nth_value, with_part, write_place}
 use Rattle.ob0_field_laws.specs.Fields.{FieldNames}
 use Rattle.ob0_field_laws.specs.FieldLaws.{KeepsApart}

@@ -2,9 +2,9 @@
 use Rattle.std.proofs.Common.{◌≡◌, true, [], ◌∷◌, None, codes, refl}
 use Rattle.ob0_tree.specs.Tree.{Tree, adds, array_type, assigns, begins, calls, declares, declares_procedure, declares_type, declares_types, declares_variable, declares_variables, designator, end, field, has_body, index, integer, is_module, listed, module_text, more, named_type, none, one, product, record_type, runs, some_arguments, some_fields, some_formals, sum, compares, then_argument, then_fields, then_name, then_section, then_statement, value_section, variable_section}
 use Rattle.ob0_tree.specs.declared.tree.AddOperator.TheVariants as add_operator
-use Rattle.ob0_scope.specs.Names.{Name}
-use Rattle.ob0_scope.proofs.WorkedTrees as worked
-use Rattle.ob0_scope.proofs.WorkedTrees.{alone}
+use Rattle.ob0_names.specs.Names.{Name}
+use Rattle.ob0_names.proofs.WorkedTrees as worked
+use Rattle.ob0_names.proofs.WorkedTrees.{alone}
 use Rattle.ob0_typing.specs.Declarations.{declare_first}
 use Rattle.ob0_typing.specs.WellTyped.{declare_typed, typed_parameters}
 use Rattle.ob0_field_laws.specs.Renaming.{FieldFree, field_renamed, is_duplicate_field, records}

@@ -1,7 +1,7 @@
 -- Laws of fields: under other names, kept apart in each record, they keep a module's types and runs.
 use Rattle.std.specs.Prelude.{◌≡◌, ℕ, Some}
 use Rattle.ob0_tree.specs.Tree.{Tree, module_text}
-use Rattle.ob0_scope.specs.Names.{Name, as_names, same_name}
+use Rattle.ob0_names.specs.Names.{Name, as_names, same_name}
 use Rattle.ob0_typing.specs.WellTyped.{WellTyped, fits_over}
 use Rattle.ob0_semantics.specs.EditLaws.{SameRuns}
 use Rattle.ob0_field_laws.specs.Fields.{FieldNames, refielded}

@@ -4,9 +4,9 @@ use Rattle.ob0_scan.specs.Scanned.{Scanned}
 use Rattle.ob0_tree.specs.Tree.{mapped}
 use Rattle.ob0_tree.specs.Parsed.{Parsed, named_tree_of, tree_of}
 use Rattle.ob0_tree.specs.Places.{text_at, value_at}
-use Rattle.ob0_scope.specs.Names.{Name, same_name}
-use Rattle.ob0_scope.specs.Resolution.{ordinal_in}
-use Rattle.ob0_scope.specs.Scopes.{same_ordinal}
+use Rattle.ob0_names.specs.Names.{Name, same_name}
+use Rattle.ob0_names.specs.Resolution.{ordinal_in}
+use Rattle.ob0_names.specs.Scopes.{same_ordinal}
 use Rattle.ob0_field_laws.specs.Fields.{FieldNames, refielded}
 use Rattle.ob0_field_laws.specs.Renaming.{field_renamed}
 

@@ -2,10 +2,10 @@
 use Rattle.std.specs.Prelude.{◌≡◌, ℕ, suc, ◌+◌, Bool, false, not, ◌&&◌, List, [], ◌∷◌, ◌++◌, if◌then◌else◌, ◌==◌}
 use Rattle.std.specs.List.{list_any}
 use Rattle.ob0_tree.specs.Tree.{Tree, array_type, block, declares_procedure, declares_type, declares_variable, end, fields, further_fields, further_section, has_body, declares, item, items, module_text, more, named_type, no_fields, procedure, record_type, some_fields, then_fields, then_section, type_name, variable, written_type}
-use Rattle.ob0_scope.specs.DeclaredOnce.{group_fields, groups_fields}
-use Rattle.ob0_scope.specs.Names.{Name, same_name}
-use Rattle.ob0_scope.specs.Parts.{formal_sections, module_block, section_type, section_types, section_variables}
-use Rattle.ob0_scope.specs.Scopes.{same_ordinal}
+use Rattle.ob0_names.specs.DeclaredOnce.{group_fields, groups_fields}
+use Rattle.ob0_names.specs.Names.{Name, same_name}
+use Rattle.ob0_names.specs.Parts.{formal_sections, module_block, section_type, section_types, section_variables}
+use Rattle.ob0_names.specs.Scopes.{same_ordinal}
 use Rattle.ob0_typing.specs.Declarations.{after_formals, after_types, after_variables, procedure_constructors}
 use Rattle.ob0_typing.specs.Typing.{constructors, group_constructors}
 use Rattle.ob0_field_laws.specs.Fields.{FieldNames, refielded}

@@ -2,11 +2,11 @@
 use Rattle.std.proofs.Common.{◌≡◌, ℕ, suc, ◌+◌, ◌<◌, ◌≤◌, cond, List, [], ◌∷◌, ◌++◌, Some, None, Option, refl, sym, ap, ◌∙◌, subst, append_assoc, arith, le_refl, eq-eqb}
 use Rattle.std.proofs.lemmas.Bool.{ne_eqb}
 use Rattle.ob0_tree.specs.Tree.{Tree, block, constant, declares, declares_constant, declares_type, declares_variable, end, has_body, items, more, type_name, variable}
-use Rattle.ob0_scope.specs.Names.{Label, Name, as_labels, as_names, as_written, declared, same_label}
-use Rattle.ob0_scope.specs.Parts.{block_constants, block_types, block_variables, constant_names, named_types, names_listed, section_constants, section_types, section_variables, variable_names}
-use Rattle.ob0_scope.specs.Scopes.{Scope, after_names, as_label, declare_names, first_procedure, first_type, first_variable, label_names, relabel_block, relabel_constants, relabel_names, relabel_types, relabel_uses, relabel_variables, types_scope, variables_scope}
-use Rattle.ob0_scope.proofs.Ordinals.{after_names-append}
-use Rattle.ob0_scope.proofs.Relabelled.{constants-section, names-relabel, types-section, variables-section}
+use Rattle.ob0_names.specs.Names.{Label, Name, as_labels, as_names, as_written, declared, same_label}
+use Rattle.ob0_names.specs.Parts.{block_constants, block_types, block_variables, constant_names, named_types, names_listed, section_constants, section_types, section_variables, variable_names}
+use Rattle.ob0_names.specs.Scopes.{Scope, after_names, as_label, declare_names, first_procedure, first_type, first_variable, label_names, relabel_block, relabel_constants, relabel_names, relabel_types, relabel_uses, relabel_variables, types_scope, variables_scope}
+use Rattle.ob0_names.proofs.Ordinals.{after_names-append}
+use Rattle.ob0_names.proofs.Relabelled.{constants-section, names-relabel, types-section, variables-section}
 use Rattle.ob0_bindings.specs.Bindings.{object_bound}
 use Rattle.ob0_bindings.specs.Declaring.{declare_block}
 use Rattle.ob0_typing.specs.Declarations.{after_types, declare_constants, declare_first, declare_types}

@@ -7,7 +7,7 @@ use Rattle.ob0_tree.specs.declared.tree.Variables.{Variables}
 use Rattle.ob0_tree.specs.declared.tree.Procedure.{Procedure}
 use Rattle.ob0_tree.specs.Tree.{Tree, further_section, items, more, procedure, type_name, value_section, variable, variable_section}
 use Rattle.ob0_tree.specs.View.{further_section_of, items_of, names_of, procedure_of, section_of, type_declaration_of, type_of, variable_of}
-use Rattle.ob0_scope.specs.Parts.{section_type}
+use Rattle.ob0_names.specs.Parts.{section_type}
 use Rattle.ob0_typing.specs.Declarations.{formals_constructors, procedure_constructors, procedures_constructors, types_constructors, variables_constructors}
 use Rattle.ob0_typing.specs.Expressions.{Meanings}
 use Rattle.ob0_typing.specs.Typing.{constructors}

@@ -6,9 +6,9 @@ use Rattle.ob0_scan.specs.Scanned.{Scanned}
 use Rattle.ob0_tree.specs.Parsed.{tree_of}
 use Rattle.ob0_tree.specs.Places.{text_at, value_at}
 use Rattle.ob0_tree.specs.Tree.{Tree, item, items, maybe, array_type, block, declares, declares_procedure, declares_type, declares_variable, end, fields, formals, further_fields, further_name, further_section, has_body, listed, mapped, more, named_type, names, no_fields, procedure, record_type, section, some_fields, then_fields, then_name, then_section, type_name, value_section, variable, variable_section, written_type}
-use Rattle.ob0_scope.specs.DeclaredOnce.{group_fields, groups_fields}
-use Rattle.ob0_scope.specs.Names.{Name, same_name}
-use Rattle.ob0_scope.specs.Parts.{formal_sections, further_names, module_block, names_listed, section_type, section_types, section_variables}
+use Rattle.ob0_names.specs.DeclaredOnce.{group_fields, groups_fields}
+use Rattle.ob0_names.specs.Names.{Name, same_name}
+use Rattle.ob0_names.specs.Parts.{formal_sections, further_names, module_block, names_listed, section_type, section_types, section_variables}
 use Rattle.ob0_typing.specs.Declarations.{after_formals, after_types, after_variables, procedure_constructors}
 use Rattle.ob0_typing.specs.Typing.{constructors, group_constructors}
 use Rattle.ob0_fields.specs.Identifiers.{DuplicateByToken, declared_fields, declared_in, declared_in_procedure, declared_in_procedures, first, is_field, tokens_among}

@@ -12,9 +12,9 @@ use Rattle.ob0_scan.specs.declared.lexeme.Token.{Token}
 use Rattle.ob0_scan.specs.Lexed.{Lexeme}
 use Rattle.ob0_scan.specs.Scanned.{IsScan, Scanned, span_from, token_at, tokens_from}
 use Rattle.ob0_tree.specs.Order.{Ascending}
-use Rattle.ob0_scope.specs.Resolution.{span_at}
-use Rattle.ob0_scope.specs.Spans.{span_in}
-use Rattle.ob0_scope.specs.Standing.{is_on}
+use Rattle.ob0_names.specs.Resolution.{span_at}
+use Rattle.ob0_names.specs.Spans.{span_in}
+use Rattle.ob0_names.specs.Spans.{is_on}
 use Rattle.ob0_fields.specs.Identifiers.{AreInTextOrder, field_on, firsts}
 
 -- ---- the tokens of a text

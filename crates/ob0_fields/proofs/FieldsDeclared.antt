@@ -13,9 +13,9 @@ use Rattle.ob0_tree.specs.Places.{text_at, value_at}
 use Rattle.ob0_tree.specs.Tree.{Sort, Tree, mapped, spell}
 use Rattle.ob0_tree.proofs.Leaves.{leaves_spelled, lexeme_names}
 use Rattle.ob0_tree.proofs.Mapped.{spell_mapped}
-use Rattle.ob0_scope.specs.Names as written
-use Rattle.ob0_scope.specs.Names.{same_name}
-use Rattle.ob0_scope.specs.Resolution.{IsResolution, Resolution}
+use Rattle.ob0_names.specs.Names as written
+use Rattle.ob0_names.specs.Names.{same_name}
+use Rattle.ob0_names.specs.Resolution.{IsResolution, Resolution}
 use Rattle.ob0_bindings.specs.Bindings.{declared_object}
 use Rattle.ob0_typing.specs.WellTyped.{WellTyped}
 use Rattle.ob0_field_laws.specs.Renaming.{RecordFields, is_duplicate_field, names_another_field, one_renamed, records}

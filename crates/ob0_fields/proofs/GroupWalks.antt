@@ -4,7 +4,7 @@ use Rattle.std.proofs.lemmas.List.{drop_all, drop_more}
 use Rattle.ob0_tree.specs.declared.tree.Fields.{Fields}
 use Rattle.ob0_tree.specs.Tree.{Tree, further_fields, items, more, then_name}
 use Rattle.ob0_tree.specs.View.{fields_of, further_fields_of_group, items_of, record_listed}
-use Rattle.ob0_scope.specs.Parts.{further_names}
+use Rattle.ob0_names.specs.Parts.{further_names}
 use Rattle.ob0_typing.specs.Typing.{constructors, group_constructors, groups_constructors}
 use Rattle.ob0_fields.specs.Owned.{marked_group, marked_groups, marked_type}
 

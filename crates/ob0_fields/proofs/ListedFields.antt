@@ -4,7 +4,7 @@ use Rattle.std.proofs.lemmas.List.{nil_from_length}
 use Rattle.std.proofs.lemmas.List.Elements.{All-head}
 use Rattle.ob0_tree.specs.Parsed.{Parsed, named_tree_of, tree_of}
 use Rattle.ob0_tree.specs.Places.{text_at}
-use Rattle.ob0_scope.specs.Resolution.{IsResolution, Resolution}
+use Rattle.ob0_names.specs.Resolution.{IsResolution, Resolution}
 use Rattle.ob0_bindings.specs.Bindings.{declared_object}
 use Rattle.ob0_symbols.specs.KnownTables.{Tables, declared_in}
 use Rattle.ob0_typing.specs.WellTyped.{WellTyped}

@@ -5,16 +5,16 @@ use Rattle.std.proofs.lemmas.Bool.{and_parts}
 use Rattle.ob0_tree.specs.Tree.{Tree, block, body, constants, declares, declares_procedure, end, formals, has_body, is_module, item, items, Item, mapped, maybe, more, occurrences, procedure, type_names, variables}
 use Rattle.ob0_tree.specs.Parsed.{Parsed, named_tree_of, tree_of}
 use Rattle.ob0_tree.specs.Places.{text_at, value_at}
-use Rattle.ob0_scope.specs.Names.{Label, Name, as_labels, as_names, declared, same_name}
-use Rattle.ob0_scope.specs.Occurrences.{label_ordinal}
-use Rattle.ob0_scope.specs.Parts.{block_procedures, block_statements, block_variables, formal_names, formal_sections, module_block, procedure_block, section_types, section_variables}
-use Rattle.ob0_scope.specs.Resolution.{Resolution, ordinal_in}
-use Rattle.ob0_scope.specs.Scopes.{Scope, after_block, after_names, after_procedure, after_procedures, as_label, declare_names, declare_procedure_names, first_procedure, first_type, first_variable, numbered, ordinal_of, procedures_scope, relabel_block, relabel_formals, relabel_procedures, relabel_sections, relabel_uses, types_scope, variables_scope, label_of}
-use Rattle.ob0_scope.proofs.OccurrenceNames.{occurrences-with_names}
-use Rattle.ob0_scope.proofs.OccurrencesMapped.{occurrences-mapped}
-use Rattle.ob0_scope.proofs.Ordinals.{le-after_procedure}
-use Rattle.ob0_scope.proofs.Peeling.{heads}
-use Rattle.ob0_scope.proofs.Relabelled.{formals-section, types-section, variables-section}
+use Rattle.ob0_names.specs.Names.{Label, Name, as_labels, as_names, declared, same_name}
+use Rattle.ob0_names.specs.Occurrences.{label_ordinal}
+use Rattle.ob0_names.specs.Parts.{block_procedures, block_statements, block_variables, formal_names, formal_sections, module_block, procedure_block, section_types, section_variables}
+use Rattle.ob0_names.specs.Resolution.{Resolution, ordinal_in}
+use Rattle.ob0_names.specs.Scopes.{Scope, after_block, after_names, after_procedure, after_procedures, as_label, declare_names, declare_procedure_names, first_procedure, first_type, first_variable, numbered, ordinal_of, procedures_scope, relabel_block, relabel_formals, relabel_procedures, relabel_sections, relabel_uses, types_scope, variables_scope, label_of}
+use Rattle.ob0_names.proofs.OccurrenceNames.{occurrences-with_names}
+use Rattle.ob0_names.proofs.OccurrencesMapped.{occurrences-mapped}
+use Rattle.ob0_names.proofs.Ordinals.{le-after_procedure}
+use Rattle.ob0_names.proofs.Peeling.{heads}
+use Rattle.ob0_names.proofs.Relabelled.{formals-section, types-section, variables-section}
 use Rattle.ob0_bindings.specs.Bindings.{block_bindings, declared_object, for_some, module_bindings, procedure_bindings, procedures_bindings, since}
 use Rattle.ob0_bindings.specs.Declaring.{declare_block, declare_procedure}
 use Rattle.ob0_typing.specs.Declarations.{after_formals, after_types, after_variables, declare_first, formals_constructors, procedure_constructors, types_constructors, variables_constructors}

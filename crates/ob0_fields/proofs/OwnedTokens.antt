@@ -8,8 +8,8 @@ use Rattle.ob0_tree.specs.Order.{Ascending, leaves, names_only}
 use Rattle.ob0_tree.specs.Parsed.{tree_of}
 use Rattle.ob0_tree.specs.Tree.{Sort, Tree, item, adds, array_type, assigns, begins, branches, calls, compares, declares, declares_constant, declares_constants, declares_procedure, declares_type, declares_types, declares_variable, declares_variables, designator, else_branch, elsif_branch, empty, end, field, has_body, identifiers, index, integer, is_module, listed, more, multiplies, named_type, negation, no_arguments, no_fields, no_formals, none, one, parenthesised, product, record_type, relates, repeat_loop, runs, some_arguments, some_fields, some_formals, sum, then_argument, then_fields, then_name, then_section, then_statement, value_section, variable_section, while_loop, block, names, written_type, fields, further_name, further_fields, section, further_section, formals, type_name, type_names, variable, variables, procedure, module_text, items, maybe}
 use Rattle.ob0_tree.proofs.Leaves.{leaves_ascend}
-use Rattle.ob0_scope.specs.Parts.{further_names, names_listed, section_type}
-use Rattle.ob0_scope.specs.Resolution.{IsResolution, Resolution, ordinal_in}
+use Rattle.ob0_names.specs.Parts.{further_names, names_listed, section_type}
+use Rattle.ob0_names.specs.Resolution.{IsResolution, Resolution, ordinal_in}
 use Rattle.ob0_typing.specs.Declarations.{after_formals, after_types, after_variables, procedure_constructors}
 use Rattle.ob0_typing.specs.Expressions.{Meanings}
 use Rattle.ob0_typing.specs.Typing.{constructors, group_constructors, object_type}

@@ -1,9 +1,9 @@
 -- Declarations with their fields written anew are those with each token written by a table of owners.
 use Rattle.std.proofs.Common.{◌≡◌, ℕ, suc, ◌+◌, ◌++◌, map, Some, Option, refl, ap, ◌∙◌, sym}
 use Rattle.ob0_tree.specs.Tree.{Tree, item, items, maybe, array_type, block, declares, declares_procedure, declares_type, declares_types, declares_variable, declares_variables, end, fields, formals, further_fields, further_name, further_section, has_body, listed, mapped, more, named_type, names, no_fields, no_formals, none, one, procedure, record_type, section, some_fields, some_formals, then_fields, then_name, then_section, type_name, type_names, value_section, variable, variable_section, variables, written_type}
-use Rattle.ob0_scope.specs.Mapping.{with_names}
-use Rattle.ob0_scope.specs.Names.{Name}
-use Rattle.ob0_scope.specs.Parts.{formal_sections, further_names, names_listed, section_type, section_types, section_variables}
+use Rattle.ob0_names.specs.Mapping.{with_names}
+use Rattle.ob0_names.specs.Names.{Name}
+use Rattle.ob0_names.specs.Parts.{formal_sections, further_names, names_listed, section_type, section_types, section_variables}
 use Rattle.ob0_typing.specs.Declarations.{block_constructors, formals_constructors, procedure_constructors, procedures_constructors, types_constructors, variables_constructors}
 use Rattle.ob0_typing.specs.Typing.{constructors, group_constructors, groups_constructors}
 use Rattle.ob0_field_laws.specs.Fields.{refield_formals, refield_group, refield_groups, refield_section, refield_sections, refield_type, refield_type_section, refield_types, refield_variable_section, refield_variables}

@@ -1,7 +1,7 @@
 -- In statements that fit each selector that is a name selects a field of the record before it.
 use Rattle.std.proofs.Common.{◌≡◌, ℕ, suc, true, false, ◌&&◌, [], ◌∷◌, ◌++◌, if◌then◌else◌, Some, None, Option, option_and_then, option_map, sym, refl, ap, subst}
 use Rattle.ob0_tree.specs.Tree.{Tree, addend, adds, arguments, assigns, begins, body, branches, calls, compares, designator, else_branch, else_part, elsif_branch, elsif_part, empty, end, expression, factor, field, further_argument, further_statement, index, integer, items, mapped, maybe, more, multiplier, multiplies, negation, no_arguments, none, one, parenthesised, product, relates, repeat_loop, runs, selector, sequence, simple, some_arguments, statement, sum, term, then_argument, then_statement, while_loop}
-use Rattle.ob0_scope.specs.Names.{Name, as_names, same_name}
+use Rattle.ob0_names.specs.Names.{Name, as_names, same_name}
 use Rattle.ob0_typing.specs.Arguments.{arguments_listed, further_arguments}
 use Rattle.ob0_symbols.specs.declared.known.FieldOf.{FieldOf}
 use Rattle.ob0_typing.specs.Expressions.{Meanings, Object}

@@ -8,10 +8,10 @@ use Rattle.ob0_tree.specs.Order.{Ascending}
 use Rattle.ob0_tree.specs.Tree.{Tree, block, declares, declares_procedure, end, has_body, identifiers, item, items, mapped, more, procedure}
 use Rattle.ob0_tree.specs.Parsed.{Parsed, named_tree_of, tree_of}
 use Rattle.ob0_tree.specs.Places.{text_at, value_at}
-use Rattle.ob0_scope.specs.Names.{Name, same_name}
-use Rattle.ob0_scope.specs.Parts.{formal_sections, module_block, section_types, section_variables}
-use Rattle.ob0_scope.specs.Resolution.{IsResolution, Resolution, span_at}
-use Rattle.ob0_scope.specs.Standing.{is_on}
+use Rattle.ob0_names.specs.Names.{Name, same_name}
+use Rattle.ob0_names.specs.Parts.{formal_sections, module_block, section_types, section_variables}
+use Rattle.ob0_names.specs.Resolution.{IsResolution, Resolution, span_at}
+use Rattle.ob0_names.specs.Spans.{is_on}
 use Rattle.ob0_typing.specs.Declarations.{after_formals, after_types, after_variables, procedure_constructors}
 use Rattle.ob0_typing.specs.WellTyped.{WellTyped}
 use Rattle.ob0_fields.specs.Owned.{fields_among, marked_sections, marked_types, marked_variables, owned_tokens}

@@ -1,7 +1,7 @@
 -- The fields of a module in lists, as they are kept with it.
 use Rattle.std.specs.Prelude.{◌≡◌, ◌==◌, ℕ, List, [], length, if◌then◌else◌}
 use Rattle.ob0_tree.specs.Parsed.{tree_of}
-use Rattle.ob0_scope.specs.Resolution.{Resolution}
+use Rattle.ob0_names.specs.Resolution.{Resolution}
 use Rattle.ob0_symbols.specs.KnownTables.{Tables, declared_in}
 use Rattle.ob0_fields.specs.Identifiers.{declared_fields, field_identifiers}
 use Rattle.ob0_fields.specs.Owned.{marked_module, token_objects}

@@ -5,9 +5,9 @@ use Rattle.ob0_tree.specs.declared.tree.Role.TheVariants as role
 use Rattle.ob0_tree.specs.Tree.{Sort, Tree, Item, item, items, selector, maybe, adds, array_type, assigns, begins, block, branches, calls, compares, declares, declares_procedure, declares_type, declares_types, declares_variable, declares_variables, designator, else_branch, elsif_branch, empty, end, field, fields, formals, further_fields, further_section, has_body, identifiers, index, integer, is_module, module_text, more, multiplies, named_type, negation, no_arguments, no_fields, no_formals, none, one, parenthesised, procedure, product, record_type, relates, repeat_loop, runs, section, some_arguments, some_fields, some_formals, sum, then_argument, then_fields, then_section, then_statement, type_name, type_names, value_section, variable, variable_section, variables, while_loop, written_type}
 use Rattle.ob0_tree.specs.Parsed.{named_tree_of, tree_of}
 use Rattle.ob0_tree.specs.Places.{text_at}
-use Rattle.ob0_scope.specs.Names.{Name}
-use Rattle.ob0_scope.specs.Parts.{formal_sections, names_listed, section_type, section_types, section_variables}
-use Rattle.ob0_scope.specs.Resolution.{IsResolution, Resolution, ordinal_in}
+use Rattle.ob0_names.specs.Names.{Name}
+use Rattle.ob0_names.specs.Parts.{formal_sections, names_listed, section_type, section_types, section_variables}
+use Rattle.ob0_names.specs.Resolution.{IsResolution, Resolution, ordinal_in}
 use Rattle.ob0_bindings.specs.Bindings.{declared_object}
 use Rattle.ob0_typing.specs.Declarations.{after_formals, after_types, after_variables, procedure_constructors}
 use Rattle.ob0_typing.specs.Expressions.{Meanings, Object}

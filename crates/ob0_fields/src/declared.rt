@@ -1,7 +1,7 @@
 //! The walk over types that finds the fields that records declare.
 
 ghost use Rattle.std.specs.Prelude.{◌≡◌, ◌++◌, ◌+◌, IfOk, length, map};
-ghost use Rattle.ob0_scope.specs.Parts.{formal_sections, names_listed, section_types, section_variables};
+ghost use Rattle.ob0_names.specs.Parts.{formal_sections, names_listed, section_types, section_variables};
 ghost use Rattle.ob0_tree.specs.View.{fields_of, formals_of, names_of, record_in, type_of, types_of, variables_of};
 ghost use Rattle.ob0_typing.specs.Declarations.{formals_constructors, types_constructors, variables_constructors};
 ghost use Rattle.ob0_typing.specs.Typing.{constructors, group_constructors};

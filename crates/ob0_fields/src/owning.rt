@@ -3,7 +3,7 @@
 ghost use Rattle.std.specs.Prelude.{◌≡◌, ◌++◌, ◌+◌, IfOk, length, option_and_then, option_map};
 ghost use Rattle.ob0_tree.specs.View.{expression_of, simple_of, term_of, factor_of, designator_of, selector_of, assignment_of, call_of, arguments_in, statement_of, if_of, elsifs_in, sequence_in, body_of, block_of, procedure_of};
 ghost use Rattle.ob0_typing.specs.Declarations.{block_constructors, procedure_constructors};
-ghost use Rattle.ob0_scope.specs.Resolution.{ordinal_in};
+ghost use Rattle.ob0_names.specs.Resolution.{ordinal_in};
 ghost use Rattle.ob0_symbols.specs.FieldPlaces.{field_selected};
 ghost use Rattle.ob0_symbols.specs.KnownTables.{declared_in, shapes_of};
 ghost use Rattle.ob0_symbols.specs.Tables.{type_shape};
@@ -13,7 +13,7 @@ ghost use Rattle.ob0_fields.specs.Owned.{mark, marked, marked_block, marked_proc
 ghost use Rattle.ob0_fields.specs.Walk.{marked_at, meaning_in};
 
 use crate::declared::{formals, types, variables};
-use ob0_scope::Resolved;
+use ob0_names::Resolved;
 use ob0_symbols::{Known, Object, TypeId, scalar_type, text_at};
 use ob0_tree::{
     Assignment, Block, Call, Designator, Elsif, Expression, Factor, If, Procedure, Selector,

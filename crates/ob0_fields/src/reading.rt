@@ -4,13 +4,13 @@ ghost use Rattle.std.specs.Prelude.{◌≡◌, ◌≤◌, IfOk, None, Some, fals
 ghost use Rattle.std.specs.List.{position_from};
 ghost use Rattle.std.specs.List.Sorted.{IsNonDecreasingBy, IsPartitionPoint};
 ghost use Rattle.ob0_tree.specs.Places.{text_at};
-ghost use Rattle.ob0_scope.specs.Names.{same_name};
-ghost use Rattle.ob0_scope.specs.Resolution.{span_at};
-ghost use Rattle.ob0_scope.specs.Standing.{is_on};
+ghost use Rattle.ob0_names.specs.Names.{same_name};
+ghost use Rattle.ob0_names.specs.Resolution.{span_at};
+ghost use Rattle.ob0_names.specs.Spans.{is_on};
 ghost use Rattle.ob0_fields.specs.Identifiers.{AreInTextOrder, field_on, first, is_field, record_tokens, tokens_among};
 
+use ob0_names::token_span;
 use ob0_scan::{Span, Tokens};
-use ob0_scope::token_span;
 use ob0_symbols::text_at;
 use std::alloc::{AllocError, Global};
 

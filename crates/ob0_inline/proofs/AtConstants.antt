@@ -13,10 +13,10 @@ use Rattle.ob0_tree.specs.Tree.{Tree, module_text, nesting}
 use Rattle.ob0_edits.specs.Ranges.{range_of}
 use Rattle.ob0_edits.specs.Removed.{span_over}
 use Rattle.ob0_edits.specs.Replaced.{edit_at, parts}
-use Rattle.ob0_scope.specs.Names.{Label, Name}
-use Rattle.ob0_scope.specs.Occurrences.{bindings, binds, label_ordinal}
-use Rattle.ob0_scope.specs.Resolution.{Resolution}
-use Rattle.ob0_scope.specs.Scopes.{same_ordinal}
+use Rattle.ob0_names.specs.Names.{Label, Name}
+use Rattle.ob0_names.specs.Occurrences.{bindings, binds, label_ordinal}
+use Rattle.ob0_names.specs.Resolution.{Resolution}
+use Rattle.ob0_names.specs.Scopes.{same_ordinal}
 use Rattle.ob0_scope.specs.declared.naming.Named as named
 use Rattle.ob0_scope.specs.Standing.{name_on}
 use Rattle.ob0_types.specs.CheckedModules.{IsWellTyped}

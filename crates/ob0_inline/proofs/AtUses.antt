@@ -10,12 +10,12 @@ use Rattle.ob0_text.specs.declared.refusals.EditRefusal.TheVariants.{Memory, Sha
 use Rattle.ob0_tree.specs.Parsed.{Parsed, named_tree_of}
 use Rattle.ob0_tree.specs.Tree.{Tree, module_text, nesting}
 use Rattle.ob0_edits.specs.Replaced.{AreNames, edit_at, parts, with_text_at}
-use Rattle.ob0_scope.specs.Inlining.{only}
-use Rattle.ob0_scope.specs.Names.{Name}
-use Rattle.ob0_scope.specs.Occurrences.{binds}
-use Rattle.ob0_scope.specs.Resolution.{IsResolution, Resolution, ordinal_in}
-use Rattle.ob0_scope.specs.Scopes.{same_ordinal}
-use Rattle.ob0_scope.proofs.Bound.{bound_at}
+use Rattle.ob0_names.specs.Inlining.{only}
+use Rattle.ob0_names.specs.Names.{Name}
+use Rattle.ob0_names.specs.Occurrences.{binds}
+use Rattle.ob0_names.specs.Resolution.{IsResolution, Resolution, ordinal_in}
+use Rattle.ob0_names.specs.Scopes.{same_ordinal}
+use Rattle.ob0_names.proofs.Bound.{bound_at}
 use Rattle.ob0_scope.specs.declared.naming.Named as named
 use Rattle.ob0_scope.specs.Listing.{is_name_on}
 use Rattle.ob0_scope.specs.Standing.{name_on}

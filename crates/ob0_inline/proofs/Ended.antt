@@ -19,14 +19,14 @@ use Rattle.ob0_edits.specs.OfTrees.{placed}
 use Rattle.ob0_edits.specs.Removed.{IsDeclaration, without}
 use Rattle.ob0_edits.specs.Replaced.{AreNames}
 use Rattle.ob0_edits.specs.Words.{word_lexeme}
-use Rattle.ob0_scope.specs.Names.{Label, Name, as_names, declared, same_label}
-use Rattle.ob0_scope.specs.Occurrences.{bindings}
-use Rattle.ob0_scope.specs.Parts.{module_block}
-use Rattle.ob0_scope.specs.Resolution.{IsResolution, Resolution, declaring_only, label_at, ordinal_in, token_declaring}
-use Rattle.ob0_scope.specs.Scopes.{as_label, same_ordinal}
-use Rattle.ob0_scope.proofs.Bound.{bindings_by_table}
-use Rattle.ob0_scope.proofs.OccurrenceNames.{length-map}
-use Rattle.ob0_scope.proofs.Peeling.{heads}
+use Rattle.ob0_names.specs.Names.{Label, Name, as_names, declared, same_label}
+use Rattle.ob0_names.specs.Occurrences.{bindings}
+use Rattle.ob0_names.specs.Parts.{module_block}
+use Rattle.ob0_names.specs.Resolution.{IsResolution, Resolution, declaring_only, label_at, ordinal_in, token_declaring}
+use Rattle.ob0_names.specs.Scopes.{as_label, same_ordinal}
+use Rattle.ob0_names.proofs.Bound.{bindings_by_table}
+use Rattle.ob0_names.proofs.OccurrenceNames.{length-map}
+use Rattle.ob0_names.proofs.Peeling.{heads}
 use Rattle.ob0_typing.specs.ConstantValues.{value_of_constant}
 use Rattle.ob0_values.specs.Scalars.{scalar_value}
 use Rattle.ob0_values.specs.Values.{Value}

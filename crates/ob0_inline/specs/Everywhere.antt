@@ -14,12 +14,12 @@ use Rattle.ob0_tree.specs.Tree.{Tree, identifiers, module_text, nesting, occurre
 use Rattle.ob0_edits.specs.Ranges.{range_of}
 use Rattle.ob0_edits.specs.Removed.{span_over, without_text}
 use Rattle.ob0_edits.specs.Replaced.{edit_at, parts}
-use Rattle.ob0_scope.specs.Elsewhere.{names_elsewhere}
-use Rattle.ob0_scope.specs.Inlining.{inlined_everywhere}
-use Rattle.ob0_scope.specs.Names.{Name, declared, same_label}
-use Rattle.ob0_scope.specs.Occurrences.{bindings, binds}
-use Rattle.ob0_scope.specs.Resolution.{declaring_only, token_declaring}
-use Rattle.ob0_scope.specs.Scopes.{numbered, same_ordinal}
+use Rattle.ob0_names.specs.Elsewhere.{names_elsewhere}
+use Rattle.ob0_names.specs.Inlining.{inlined_everywhere}
+use Rattle.ob0_names.specs.Names.{Name, declared, same_label}
+use Rattle.ob0_names.specs.Occurrences.{bindings, binds}
+use Rattle.ob0_names.specs.Resolution.{declaring_only, token_declaring}
+use Rattle.ob0_names.specs.Scopes.{numbered, same_ordinal}
 use Rattle.ob0_values.specs.Scalars.{scalar_value}
 use Rattle.ob0_scope.specs.declared.naming.Named as named
 use Rattle.ob0_scope.specs.Standing.{name_on}

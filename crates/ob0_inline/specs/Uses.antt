@@ -10,11 +10,11 @@ use Rattle.ob0_tree.specs.Parsed.{Parsed, named_tree_of, tree_of}
 use Rattle.ob0_tree.specs.Tree.{Tree, module_text, nesting, occurrences}
 use Rattle.ob0_edits.specs.Replaced.{edit_at, parts, with_text_at}
 use Rattle.ob0_edits.specs.Written.{truth_text}
-use Rattle.ob0_scope.specs.Inlining.{inlined, only}
-use Rattle.ob0_scope.specs.Names.{Name}
-use Rattle.ob0_scope.specs.Occurrences.{binds}
-use Rattle.ob0_scope.specs.Scopes.{same_ordinal}
-use Rattle.ob0_scope.specs.SeenNames.{sees}
+use Rattle.ob0_names.specs.Inlining.{inlined, only}
+use Rattle.ob0_names.specs.Names.{Name}
+use Rattle.ob0_names.specs.Occurrences.{binds}
+use Rattle.ob0_names.specs.Scopes.{same_ordinal}
+use Rattle.ob0_names.specs.SeenNames.{sees}
 use Rattle.ob0_values.specs.declared.scalar.Scalar.{Scalar}
 use Rattle.ob0_values.specs.declared.scalar.Scalar.TheVariants as scalar
 use Rattle.ob0_values.specs.Scalars.{scalar_value}

@@ -4,8 +4,8 @@ use Rattle.std.proofs.Common.{◌≡◌, ℕ, ◌+◌, ◌<◌, ◌≤◌, List,
 use Rattle.std.proofs.lemmas.List.{drop_all, drop_more}
 use Rattle.ob0_tree.specs.Tree.{Tree, Item, addend, adds, item, items, end, field, index, more, multiplier, multiplies, selector}
 use Rattle.ob0_tree.specs.View.{items_of}
-use Rattle.ob0_scope.specs.Names.{Label}
-use Rattle.ob0_scope.specs.Resolution.{Resolution}
+use Rattle.ob0_names.specs.Names.{Label}
+use Rattle.ob0_names.specs.Resolution.{Resolution}
 use Rattle.ob0_bindings.specs.InLabels.{in_labels}
 use Rattle.ob0_lowering.specs.Codes.{Code, Found, added, multiplied}
 use Rattle.ob0_lowering.specs.Trees.{addends_code, factor_code, multipliers_code, selected_once, selected_place, term_code}

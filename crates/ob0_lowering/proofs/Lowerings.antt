@@ -5,7 +5,7 @@ use Rattle.ob0_scan.specs.Scanned.{IsScan, Scanned}
 use Rattle.ob0_scan.specs.declared.lexeme.Token.{Token}
 use Rattle.ob0_tree.specs.Places.{value_at, value_in, value_of}
 use Rattle.ob0_tree.specs.Tree.{Tree, expression, items, selector}
-use Rattle.ob0_scope.specs.Names.{Label, as_written, declared}
+use Rattle.ob0_names.specs.Names.{Label, as_written, declared}
 use Rattle.ob0_symbols.specs.KnownTables.{Tables, declared_in, shapes_of}
 use Rattle.ob0_symbols.specs.Tables.{formal_in, mode_of, type_shape}
 use Rattle.ob0_symbols.specs.declared.known.Formal.{Formal}

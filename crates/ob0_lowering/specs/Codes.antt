@@ -8,7 +8,7 @@ use Rattle.ob0_tree.specs.declared.tree.AddOperator.{AddOperator}
 use Rattle.ob0_tree.specs.declared.tree.AddOperator.TheVariants as add_operator
 use Rattle.ob0_tree.specs.declared.tree.MultiplyOperator.{MultiplyOperator}
 use Rattle.ob0_tree.specs.declared.tree.MultiplyOperator.TheVariants as multiply_operator
-use Rattle.ob0_scope.specs.Names.{Label, Name}
+use Rattle.ob0_names.specs.Names.{Label, Name}
 use Rattle.ob0_typing.specs.Typing.{field_type}
 use Rattle.ob0_typing.specs.WellTyped.{Typed}
 use Rattle.ob0_values.specs.Values.{Shape, Value, array_shape, at_field, boolean_shape, elements, integer_shape, members, number, record_shape, truth}

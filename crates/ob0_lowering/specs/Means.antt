@@ -1,7 +1,7 @@
 -- What the code of expressions, designators and arguments means, wherever a scene is right.
 use Rattle.std.specs.Prelude.{◌≡◌, ℕ, true, List, Some}
 use Rattle.ob0_tree.specs.Tree.{Tree, expression, items, selector}
-use Rattle.ob0_scope.specs.Names.{Label}
+use Rattle.ob0_names.specs.Names.{Label}
 use Rattle.ob0_symbols.specs.KnownTables.{shapes_of}
 use Rattle.ob0_symbols.specs.Tables.{formal_in, type_shape}
 use Rattle.ob0_symbols.specs.declared.known.Formal.{Formal}

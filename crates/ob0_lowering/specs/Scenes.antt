@@ -2,8 +2,8 @@
 use Rattle.std.specs.Prelude.{◌≡◌, ℕ, ◌-◌, List, slice_index_or, Some, None, Option, true, ℤ, pos}
 use Rattle.ob0_tree.specs.Places.{value_at}
 use Rattle.ob0_machine.specs.Evaluation as machine
-use Rattle.ob0_scope.specs.Names.{Label, as_written, declared, label_text}
-use Rattle.ob0_scope.specs.Resolution.{Resolution}
+use Rattle.ob0_names.specs.Names.{Label, as_written, declared, label_text}
+use Rattle.ob0_names.specs.Resolution.{Resolution}
 use Rattle.ob0_symbols.specs.KnownTables.{Tables, declared_in}
 use Rattle.ob0_typing.specs.Expressions.{Object, a_constant, a_procedure, a_variable}
 use Rattle.ob0_typing.specs.WellTyped.{Signature, Typed}

@@ -1,7 +1,7 @@
 -- The code of designators and expressions of a scene, by what declarations are and where they are.
 use Rattle.std.specs.Prelude.{◌≡◌, ℕ, List, map, pos, Some, None, Option, option_and_then}
 use Rattle.ob0_tree.specs.Tree.{Tree, addend, adds, compares, designator, end, expression, factor, field, index, integer, item, items, more, multiplier, multiplies, negation, none, one, parenthesised, product, relates, selector, simple, sum, term}
-use Rattle.ob0_scope.specs.Names.{Label, label_text}
+use Rattle.ob0_names.specs.Names.{Label, label_text}
 use Rattle.ob0_symbols.specs.KnownTables.{shapes_of}
 use Rattle.ob0_symbols.specs.Tables.{type_shape}
 use Rattle.ob0_typing.specs.Expressions.{Object, a_constant, a_procedure, a_standard, a_type, a_variable}

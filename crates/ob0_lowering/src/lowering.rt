@@ -4,7 +4,7 @@ ghost use Rattle.std.specs.Prelude.{◌≡◌, IfOk, Some, option_and_then, opti
 ghost use Rattle.ob0_tree.specs.Places.{value_at};
 ghost use Rattle.ob0_tree.specs.View.{designator_of, expression_of, factor_of, selector_of, simple_of, term_of};
 ghost use Rattle.ob0_tree.specs.declared.tree.Designator.{out-Designator};
-ghost use Rattle.ob0_scope.specs.Names.{label_text};
+ghost use Rattle.ob0_names.specs.Names.{label_text};
 ghost use Rattle.ob0_symbols.specs.KnownTables.{shapes_of};
 ghost use Rattle.ob0_symbols.specs.Tables.{object_in, type_shape};
 ghost use Rattle.ob0_bindings.specs.Bindings.{variable_of};

@@ -7,7 +7,7 @@ ghost use Rattle.ob0_cells.specs.Lowering as slots;
 
 use crate::types::Types;
 use ob0_machine::code::Place;
-use ob0_scope::Resolved;
+use ob0_names::Resolved;
 use ob0_symbols::Object;
 
 /// Where a declaration is. The first number of a place in an activation is how deep that activation is: 1 for those of the

@@ -3,7 +3,7 @@
 ghost use Rattle.std.specs.Prelude.{◌≡◌, ◌+◌, ◌*◌, ℕ, ℤ, Some, true, IfOk, IfSome, List, pos, slice_get, slice_index_or};
 ghost use Rattle.ob0_cells.specs.Cells.{field_offset, size, step_offset};
 ghost use Rattle.ob0_machine.specs.Evaluation as machine;
-ghost use Rattle.ob0_scope.specs.Names.{Name};
+ghost use Rattle.ob0_names.specs.Names.{Name};
 ghost use Rattle.ob0_symbols.specs.FieldPlaces.{field_selected};
 ghost use Rattle.ob0_symbols.specs.KnownTables.{declared_in, shapes_of};
 ghost use Rattle.ob0_symbols.specs.Tables.{fields_shape, made_shape, no_shape, only_array, only_record, type_shape};

@@ -9,7 +9,7 @@ use Rattle.ob0_rpc.specs.Writing.{CanBeSent}
 use Rattle.ob0_refs.specs.Shown.{Shown}
 use Rattle.ob0_refs.specs.Questions.{all_shown_at, definition_at}
 use Rattle.ob0_scan.specs.declared.lexeme.Span.{Span}
-use Rattle.ob0_scope.specs.Resolution.{Resolution}
+use Rattle.ob0_names.specs.Resolution.{Resolution}
 use Rattle.ob0_text.specs.declared.positions.Unit.{Unit}
 use Rattle.ob0_analysis.specs.Analysed.{Finds, IsModuleIn}
 use Rattle.ob0_analysis.specs.Diagnosed.{IsWellTypedModule}

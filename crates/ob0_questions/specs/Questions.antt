@@ -7,7 +7,7 @@ use Rattle.ob0_text.specs.Texts.{offset_of}
 use Rattle.ob0_text.specs.Units.{width_of}
 use Rattle.ob0_text.specs.declared.positions.Unit.{Unit}
 use Rattle.ob0_edits.specs.Ranges.{range_of}
-use Rattle.ob0_scope.specs.Resolution.{Resolution}
+use Rattle.ob0_names.specs.Resolution.{Resolution}
 use Rattle.ob0_refs.specs.Shown.{Shown}
 use Rattle.ob0_refs.specs.Questions.{AreReferencesAt, all_shown_at, definition_at, stands_at}
 use Rattle.ob0_refs.specs.declared.answers.At as told

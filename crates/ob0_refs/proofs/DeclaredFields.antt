@@ -6,11 +6,11 @@ use Rattle.std.specs.List.{list_any}
 use Rattle.ob0_tree.specs.Parsed.{named_tree_of, tree_of}
 use Rattle.ob0_tree.specs.Places.{text_at, value_at}
 use Rattle.ob0_tree.specs.Tree.{Tree, array_type, block, declares, declares_procedure, declares_type, declares_types, declares_variable, declares_variables, end, fields, formals, further_fields, further_name, further_section, has_body, is_module, item, items, listed, mapped, maybe, module_text, more, named_type, names, no_fields, no_formals, none, one, procedure, record_type, section, some_fields, some_formals, then_fields, then_name, then_section, type_name, type_names, value_section, variable, variable_section, variables, written_type}
-use Rattle.ob0_scope.specs.DeclaredOnce.{are_distinct, block_once, declared_once, fields_once, formals_once, group_fields, group_once, groups_fields, groups_once, is_among, procedure_once, procedures_once, types_once, variables_once}
-use Rattle.ob0_scope.specs.Names.{Label, Name, as_labels, as_names, as_written, declared, label_text, same_name}
-use Rattle.ob0_scope.specs.Parts.{formal_names, formal_sections, further_names, module_block, names_listed, section_type, section_types, section_variables}
-use Rattle.ob0_scope.specs.Resolution.{Resolution, ordinal_in}
-use Rattle.ob0_scope.specs.Scopes.{as_label, numbered}
+use Rattle.ob0_names.specs.DeclaredOnce.{are_distinct, block_once, declared_once, fields_once, formals_once, group_fields, group_once, groups_fields, groups_once, is_among, procedure_once, procedures_once, types_once, variables_once}
+use Rattle.ob0_names.specs.Names.{Label, Name, as_labels, as_names, as_written, declared, label_text, same_name}
+use Rattle.ob0_names.specs.Parts.{formal_names, formal_sections, further_names, module_block, names_listed, section_type, section_types, section_variables}
+use Rattle.ob0_names.specs.Resolution.{Resolution, ordinal_in}
+use Rattle.ob0_names.specs.Scopes.{as_label, numbered}
 use Rattle.ob0_bindings.specs.InLabels.{in_labels, label_in}
 use Rattle.ob0_symbols.specs.FieldPlaces.{field_selected, place_of_field}
 use Rattle.ob0_symbols.specs.declared.known.FieldOf.{FieldOf}

@@ -4,10 +4,10 @@ use Rattle.std.proofs.Common.{◌≡◌, ℕ, ◌+◌, true, List, [], ◌∷◌
 use Rattle.ob0_tree.specs.Parsed.{named_tree_of, tree_of}
 use Rattle.ob0_tree.specs.Places.{text_at, value_at}
 use Rattle.ob0_tree.specs.Tree.{Tree, block, body, constant, declares, declares_constant, declares_procedure, declares_type, declares_types, declares_variable, declares_variables, end, formals, further_section, has_body, is_module, item, items, listed, maybe, module_text, more, names, no_formals, none, one, procedure, section, some_formals, then_section, type_name, type_names, value_section, variable, variable_section, variables, written_type}
-use Rattle.ob0_scope.specs.Names.{Label, Name, as_labels, as_names}
-use Rattle.ob0_scope.specs.Parts.{block_constants, block_procedures, block_statements, block_types, block_variables, formal_sections, further_names, module_block, names_listed, section_names, section_type, section_types, section_variables}
-use Rattle.ob0_scope.specs.Resolution.{Resolution, ordinal_in}
-use Rattle.ob0_scope.specs.Scopes.{as_label, numbered}
+use Rattle.ob0_names.specs.Names.{Label, Name, as_labels, as_names}
+use Rattle.ob0_names.specs.Parts.{block_constants, block_procedures, block_statements, block_types, block_variables, formal_sections, further_names, module_block, names_listed, section_names, section_type, section_types, section_variables}
+use Rattle.ob0_names.specs.Resolution.{Resolution, ordinal_in}
+use Rattle.ob0_names.specs.Scopes.{as_label, numbered}
 use Rattle.ob0_bindings.specs.Bindings.{block_bindings, declared_object, module_bindings, procedures_bindings, since}
 use Rattle.ob0_bindings.specs.Declaring.{declare_block}
 use Rattle.ob0_bindings.specs.InLabels.{in_labels, label_in}

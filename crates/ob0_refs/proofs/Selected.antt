@@ -1,9 +1,9 @@
 -- Selections of the code and those of the module.
 use Rattle.std.proofs.Common.{◌≡◌, ℕ, Bool, true, false, List, [], ◌∷◌, map, Option, None, option_map, refl, ap, ◌∙◌}
 use Rattle.ob0_refs.specs.Shown.{Shown}
-use Rattle.ob0_scope.specs.Standing.{is_on}
+use Rattle.ob0_names.specs.Spans.{is_on}
 use Rattle.ob0_scan.specs.Scanned.{Scanned}
-use Rattle.ob0_scope.specs.Resolution.{Resolution, span_at}
+use Rattle.ob0_names.specs.Resolution.{Resolution, span_at}
 use Rattle.ob0_tree.specs.Parsed.{named_tree_of, tree_of}
 use Rattle.ob0_bindings.specs.Bindings.{declared_object}
 use Rattle.ob0_typing.specs.Expressions.{Object}

@@ -4,10 +4,10 @@ use Rattle.std.specs.List.{list_any}
 use Rattle.ob0_scan.specs.Scanned.{Scanned}
 use Rattle.ob0_tree.specs.Parsed.{Parsed, named_tree_of, tree_of}
 use Rattle.ob0_tree.specs.Tree.{Sort, Tree, adds, array_type, assigns, begins, block, branches, calls, compares, declares, declares_constant, declares_constants, declares_procedure, declares_type, declares_types, declares_variable, declares_variables, designator, else_branch, elsif_branch, empty, end, field, has_body, index, integer, is_module, item, items, listed, module_text, more, multiplies, named_type, negation, no_arguments, no_fields, no_formals, none, one, parenthesised, procedure, product, record_type, relates, repeat_loop, runs, selector, some_arguments, some_fields, some_formals, sum, then_argument, then_fields, then_name, then_section, then_statement, value_section, variable_section, while_loop}
-use Rattle.ob0_scope.specs.Names.{Name, same_name}
-use Rattle.ob0_scope.specs.Parts.{formal_sections, module_block, section_types, section_variables}
-use Rattle.ob0_scope.specs.Resolution.{Resolution, span_at}
-use Rattle.ob0_scope.specs.Standing.{is_on}
+use Rattle.ob0_names.specs.Names.{Name, same_name}
+use Rattle.ob0_names.specs.Parts.{formal_sections, module_block, section_types, section_variables}
+use Rattle.ob0_names.specs.Resolution.{Resolution, span_at}
+use Rattle.ob0_names.specs.Spans.{is_on}
 use Rattle.ob0_bindings.specs.Bindings.{declared_object}
 use Rattle.ob0_symbols.specs.FieldPlaces.{field_selected, place_of_field}
 use Rattle.ob0_symbols.specs.declared.known.FieldOf.{FieldOf}

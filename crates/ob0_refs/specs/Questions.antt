@@ -5,8 +5,9 @@ use Rattle.ob0_scan.specs.Scanned.{Scanned}
 use Rattle.ob0_scan.specs.declared.lexeme.Span.{Span}
 use Rattle.ob0_tree.specs.Parsed.{Parsed}
 use Rattle.ob0_tree.specs.Places.{text_at}
-use Rattle.ob0_scope.specs.Resolution.{Resolution, span_at}
-use Rattle.ob0_scope.specs.Standing.{is_on, name_on}
+use Rattle.ob0_names.specs.Resolution.{Resolution, span_at}
+use Rattle.ob0_names.specs.Spans.{is_on}
+use Rattle.ob0_scope.specs.Standing.{name_on}
 use Rattle.ob0_scope.specs.declared.naming.Named as named
 use Rattle.ob0_fields.specs.Identifiers.{declaring_field, field_at, field_place, field_tokens}
 use Rattle.ob0_refs.specs.Answered.{at_name}

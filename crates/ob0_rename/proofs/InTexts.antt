@@ -4,9 +4,9 @@ use Rattle.std.specs.Str.{chars, IsUtf8}
 use Rattle.ob0_field_laws.specs.Renaming.{field_renamed}
 use Rattle.ob0_rename.specs.Answers.{AreEdits, IsRefused, Writes}
 use Rattle.ob0_rename.specs.Renaming.{Renaming, field_tokens_renamed, tokens_renamed}
-use Rattle.ob0_scope.specs.Names.{Name}
-use Rattle.ob0_scope.specs.Resolution.{Resolution}
-use Rattle.ob0_scope.specs.Scopes.{renamed}
+use Rattle.ob0_names.specs.Names.{Name}
+use Rattle.ob0_names.specs.Resolution.{Resolution}
+use Rattle.ob0_names.specs.Scopes.{renamed}
 use Rattle.ob0_text.specs.declared.edits.Edit.{Edit}
 use Rattle.ob0_text.specs.declared.positions.Position.{Position}
 use Rattle.ob0_text.specs.declared.positions.Unit.{Unit}

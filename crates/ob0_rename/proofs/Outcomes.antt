@@ -13,12 +13,12 @@ use Rattle.ob0_text.specs.declared.refusals.EditRefusal.{EditRefusal}
 use Rattle.ob0_text.specs.declared.refusals.EditRefusal.TheVariants as refusal
 use Rattle.ob0_tree.specs.Parsed.{Parsed, named_tree_of, tree_of}
 use Rattle.ob0_tree.specs.Tree.{Tree, module_text, occurrences}
-use Rattle.ob0_scope.specs.DeclaredOnce.{declared_once}
-use Rattle.ob0_scope.specs.Names.{Name}
-use Rattle.ob0_scope.specs.Occurrences.{Free, at_declaration, at_occurrence, bindings, first_captured, first_difference, is_duplicate}
+use Rattle.ob0_names.specs.DeclaredOnce.{declared_once}
+use Rattle.ob0_names.specs.Names.{Name}
+use Rattle.ob0_names.specs.Occurrences.{Free, at_declaration, at_occurrence, bindings, first_captured, first_difference, is_duplicate}
 use Rattle.ob0_scope.specs.Renames.{namesake, other_of, place_of}
-use Rattle.ob0_scope.specs.Resolution.{IsResolution, Resolution}
-use Rattle.ob0_scope.specs.Scopes.{renamed}
+use Rattle.ob0_names.specs.Resolution.{IsResolution, Resolution}
+use Rattle.ob0_names.specs.Scopes.{renamed}
 use Rattle.ob0_scope.specs.declared.capturing.Capture as told
 use Rattle.ob0_scope.specs.declared.capturing.Capture.TheVariants as tells
 use Rattle.ob0_types.specs.CheckedModules.{IsWellTyped}

@@ -11,9 +11,9 @@ use Rattle.ob0_text.specs.declared.refusals.EditRefusal.{EditRefusal}
 use Rattle.ob0_text.specs.declared.refusals.EditRefusal.TheVariants as refusal
 use Rattle.ob0_tree.specs.Module.{ModuleOf}
 use Rattle.ob0_tree.specs.Tree.{Tree, module_text}
-use Rattle.ob0_scope.specs.Names.{Name}
-use Rattle.ob0_scope.specs.Occurrences.{Free, at_declaration, at_occurrence, first_captured}
-use Rattle.ob0_scope.specs.Scopes.{renamed}
+use Rattle.ob0_names.specs.Names.{Name}
+use Rattle.ob0_names.specs.Occurrences.{Free, at_declaration, at_occurrence, first_captured}
+use Rattle.ob0_names.specs.Scopes.{renamed}
 use Rattle.ob0_typing.specs.WellTyped.{WellTyped}
 use Rattle.ob0_semantics.specs.EditLaws.{SameRuns}
 use Rattle.ob0_edits.specs.Replaced.{edit_at, parts}

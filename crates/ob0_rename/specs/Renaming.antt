@@ -11,9 +11,9 @@ use Rattle.ob0_tree.specs.Parsed as read
 use Rattle.ob0_tree.specs.Places.{text_at}
 use Rattle.ob0_tree.specs.Tree.{Tree, identifiers, module_text, occurrences}
 use Rattle.ob0_tree.specs.declared.tree.Role.TheVariants as role
-use Rattle.ob0_scope.specs.Names.{Name, same_name}
+use Rattle.ob0_names.specs.Names.{Name, same_name}
 use Rattle.ob0_scope.specs.Renames.{namesake}
-use Rattle.ob0_scope.specs.Resolution.{Resolution, declaring_only, span_at, token_declaring}
+use Rattle.ob0_names.specs.Resolution.{Resolution, declaring_only, span_at, token_declaring}
 use Rattle.ob0_edits.specs.Replaced.{with_text_at}
 use Rattle.ob0_edits.specs.Ranges.{range_of}
 use Rattle.ob0_scope.specs.Standing.{name_on, tokens_bound}

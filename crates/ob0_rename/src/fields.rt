@@ -6,7 +6,7 @@ ghost use Rattle.ob0_scan.specs.Classes.{IsIdentifier};
 ghost use Rattle.ob0_text.specs.declared.positions.Position as positions;
 ghost use Rattle.ob0_text.specs.declared.refusals.EditRefusal.TheVariants as refused;
 ghost use Rattle.ob0_tree.specs.Places.{text_at};
-ghost use Rattle.ob0_scope.specs.Names.{same_name};
+ghost use Rattle.ob0_names.specs.Names.{same_name};
 ghost use Rattle.ob0_edits.specs.Replaced.{AreNames};
 ghost use Rattle.ob0_fields.specs.Identifiers.{declaring_field, field_at};
 ghost use Rattle.ob0_rename.specs.Answers.{AnswersForField, OnlyMemory};

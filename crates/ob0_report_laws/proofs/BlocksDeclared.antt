@@ -3,10 +3,10 @@ use Rattle.std.proofs.Common.{◌≡◌, ℕ, suc, ◌+◌, ◌≤◌, true, Lis
 use Rattle.std.proofs.lemmas.List.{map-append}
 use Rattle.ob0_tree.specs.Places.{named, text_at, value_at}
 use Rattle.ob0_tree.specs.Tree.{Tree, constant, declares_constant, declares_type, declares_variable, end, items, mapped, more, type_name, variable}
-use Rattle.ob0_scope.specs.Names.{Name, as_names}
-use Rattle.ob0_scope.specs.Parts.{constant_names, named_types, names_listed, variable_names}
-use Rattle.ob0_scope.specs.Scopes.{Scope, after_names, declare_names}
-use Rattle.ob0_scope.proofs.Ordinals.{after_names-append, declare_names-append, le-after_names}
+use Rattle.ob0_names.specs.Names.{Name, as_names}
+use Rattle.ob0_names.specs.Parts.{constant_names, named_types, names_listed, variable_names}
+use Rattle.ob0_names.specs.Scopes.{Scope, after_names, declare_names}
+use Rattle.ob0_names.proofs.Ordinals.{after_names-append, declare_names-append, le-after_names}
 use Rattle.ob0_typing.specs.Declarations.{declare_constants, declare_types}
 use Rattle.ob0_typing.specs.Environments.{meanings}
 use Rattle.ob0_typing.specs.Expressions as meant

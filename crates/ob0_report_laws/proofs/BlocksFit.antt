@@ -5,11 +5,11 @@ use Rattle.std.specs.List.{filter}
 use Rattle.ob0_tree.specs.Parsed.{tree_of}
 use Rattle.ob0_tree.specs.Places.{named, text_at, value_at}
 use Rattle.ob0_tree.specs.Tree.{Tree, begins, block, body, constants, declares, declares_procedure, end, has_body, item, items, mapped, maybe, more, none, one, procedure, type_names, variables}
-use Rattle.ob0_scope.specs.Names.{Name, as_names}
-use Rattle.ob0_scope.specs.Parts.{constant_names, formal_names, formal_sections, module_block, named_types, procedure_formals, procedure_name, section_constants, section_types, section_variables, variable_names}
-use Rattle.ob0_scope.specs.Resolution.{Resolution, is_of_occurrences}
-use Rattle.ob0_scope.specs.Scopes.{Scope, after_names, after_procedure, first_procedure, first_type, first_variable, predeclared_scope}
-use Rattle.ob0_scope.proofs.Ordinals.{le-after_names, le-after_procedure}
+use Rattle.ob0_names.specs.Names.{Name, as_names}
+use Rattle.ob0_names.specs.Parts.{constant_names, formal_names, formal_sections, module_block, named_types, procedure_formals, procedure_name, section_constants, section_types, section_variables, variable_names}
+use Rattle.ob0_names.specs.Resolution.{Resolution, is_of_occurrences}
+use Rattle.ob0_names.specs.Scopes.{Scope, after_names, after_procedure, first_procedure, first_type, first_variable, predeclared_scope}
+use Rattle.ob0_names.proofs.Ordinals.{le-after_names, le-after_procedure}
 use Rattle.ob0_typing.specs.Declarations.{after_types, after_variables, declare_constants, declare_first, declare_types, formals_constructors, procedure_constructors}
 use Rattle.ob0_typing.specs.Environments.{meanings, outermost}
 use Rattle.ob0_typing.specs.Expressions as meant

@@ -3,10 +3,10 @@ use Rattle.std.proofs.Common.{◌≡◌, ℕ, suc, ◌+◌, ◌<◌, ◌≤◌, 
 use Rattle.std.proofs.lemmas.List.{map-append}
 use Rattle.ob0_tree.specs.Places.{named, text_at, value_at}
 use Rattle.ob0_tree.specs.Tree.{Tree, end, further_section, items, more, then_section, value_section, variable_section, written_type}
-use Rattle.ob0_scope.specs.Names.{Name, as_names}
-use Rattle.ob0_scope.specs.Parts.{formal_names, names_listed}
-use Rattle.ob0_scope.specs.Scopes.{Scope, after_names, declare_names}
-use Rattle.ob0_scope.proofs.Ordinals.{le-after_names}
+use Rattle.ob0_names.specs.Names.{Name, as_names}
+use Rattle.ob0_names.specs.Parts.{formal_names, names_listed}
+use Rattle.ob0_names.specs.Scopes.{Scope, after_names, declare_names}
+use Rattle.ob0_names.proofs.Ordinals.{le-after_names}
 use Rattle.ob0_symbols.specs.Tables.{mode_of}
 use Rattle.ob0_symbols.specs.declared.types.TypeId.{TypeId}
 use Rattle.ob0_typing.specs.Environments.{meanings}

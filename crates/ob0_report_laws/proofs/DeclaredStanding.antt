@@ -6,9 +6,9 @@ use Rattle.ob0_tree.specs.Places.{text_at}
 use Rattle.ob0_tree.specs.Tree.{Sort, Tree, identifiers}
 use Rattle.ob0_tree.specs.declared.tree.Role.{Role}
 use Rattle.ob0_tree.specs.declared.tree.Role.TheVariants as role
-use Rattle.ob0_scope.specs.Names.{Name, as_names, same_name}
-use Rattle.ob0_scope.specs.Resolution.{ordinal_in}
-use Rattle.ob0_scope.specs.Scopes.{Scope, after_names, ordinal_of}
+use Rattle.ob0_names.specs.Names.{Name, as_names, same_name}
+use Rattle.ob0_names.specs.Resolution.{ordinal_in}
+use Rattle.ob0_names.specs.Scopes.{Scope, after_names, ordinal_of}
 use Rattle.ob0_symbols.specs.declared.types.TypeId.{TypeId}
 use Rattle.ob0_typing.specs.Environments.{from_binding, meanings, newest}
 use Rattle.ob0_typing.specs.Expressions as meant

@@ -3,9 +3,9 @@ use Rattle.std.proofs.Common.{◌≡◌, ℕ, suc, ◌+◌, Bool, true, false, L
 use Rattle.ob0_scan.specs.declared.fault.Fault.{Fault}
 use Rattle.ob0_tree.specs.Places.{named, text_at, value_at}
 use Rattle.ob0_tree.specs.Tree.{Tree, array_type, end, fields, further_fields, items, mapped, more, named_type, no_fields, occurrences, record_type, some_fields, then_fields, written_type}
-use Rattle.ob0_scope.specs.Names.{Name, as_names}
-use Rattle.ob0_scope.specs.Parts.{names_listed}
-use Rattle.ob0_scope.specs.Scopes.{Scope}
+use Rattle.ob0_names.specs.Names.{Name, as_names}
+use Rattle.ob0_names.specs.Parts.{names_listed}
+use Rattle.ob0_names.specs.Scopes.{Scope}
 use Rattle.ob0_symbols.specs.declared.types.TypeId.{TypeId}
 use Rattle.ob0_typing.specs.Environments.{meanings}
 use Rattle.ob0_typing.specs.Expressions as meant

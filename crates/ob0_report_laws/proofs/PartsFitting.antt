@@ -1,5 +1,5 @@
 -- What declarations use of expressions and statements: where nothing is told of them, they fit.
-use Rattle.ob0_scope.specs.Names.{Name}
+use Rattle.ob0_names.specs.Names.{Name}
 use Rattle.ob0_report_laws.specs.ReportLaws.{ConstantsFit, LengthsFit, StatementsFit, TypesOfTables}
 use Rattle.ob0_report_laws.proofs.FittingStatements.{statements_fit-holds}
 use Rattle.ob0_report_laws.proofs.Proved.{constants_fit-holds, lengths_fit-holds}

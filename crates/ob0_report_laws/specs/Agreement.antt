@@ -1,6 +1,6 @@
 -- What is known while faults are told, and what names and types are by the definitions of types: where they agree.
 use Rattle.std.specs.Prelude.{◌≡◌, ℕ, true, List, [], ◌∷◌, Option, Some, None, option_map, option_and_then, is_some, slice_get}
-use Rattle.ob0_scope.specs.Names.{Name}
+use Rattle.ob0_names.specs.Names.{Name}
 use Rattle.ob0_symbols.specs.declared.types.TypeId.{TypeId}
 use Rattle.ob0_symbols.specs.declared.types.TypeId.TheVariants as type
 use Rattle.ob0_symbols.specs.Tables.{mode_of}

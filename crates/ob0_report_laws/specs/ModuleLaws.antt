@@ -1,7 +1,7 @@
 -- The law of what is told of a module: where nothing is told, it fits.
 use Rattle.std.specs.Prelude.{◌≡◌, true, []}
-use Rattle.ob0_scope.specs.Names.{as_names}
-use Rattle.ob0_scope.specs.Resolution.{IsResolution, Resolution}
+use Rattle.ob0_names.specs.Names.{as_names}
+use Rattle.ob0_names.specs.Resolution.{IsResolution, Resolution}
 use Rattle.ob0_tree.specs.Parsed.{named_tree_of}
 use Rattle.ob0_typing.specs.WellTyped.{fits_over}
 use Rattle.ob0_reports.specs.DeclarationFaults.{told_module}

@@ -2,7 +2,7 @@
 
 ghost use Rattle.ob0_report_laws.specs.ModuleLaws.{ModulesFit};
 ghost use Rattle.ob0_report_laws.specs.ReportLaws.{ConstantsFit, ExpressionsFit, LengthsFit, StatementsFit, TypesOfTables};
-ghost use Rattle.ob0_scope.specs.Names.{Name};
+ghost use Rattle.ob0_names.specs.Names.{Name};
 
 /// What is known of an expression of which nothing is told is its type and its value.
 pub fn expressions_fit()

@@ -6,7 +6,7 @@ use Rattle.std.proofs.lemmas.Map.Text.{btree_map_updates_str}
 use Rattle.std.specs.BTreeMap.{BTreeMap, UpdatesBy}
 use Rattle.std.specs.Cmp.Lexicographic.{slice_cmp}
 use Rattle.std.specs.Ordering.{nat_cmp}
-use Rattle.ob0_scope.specs.Names.{Name, same_name}
+use Rattle.ob0_names.specs.Names.{Name, same_name}
 use Rattle.ob0_symbols.specs.declared.types.TypeId.{TypeId}
 use Rattle.ob0_tree.specs.Places.{text_at}
 use Rattle.ob0_tree.specs.View.{fields_of, further_fields_of_group}

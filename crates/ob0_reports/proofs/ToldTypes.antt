@@ -3,7 +3,7 @@ use Rattle.std.proofs.Common.{◌≡◌, ℕ, false, true, List, [], ◌∷◌, 
 use Rattle.ob0_tree.specs.Tree.{Tree, array_type, end, expression, fields, further_fields, item, items, more, named_type, names, no_fields, some_fields, then_fields, written_type}
 use Rattle.ob0_tree.specs.View.{fields_of, further_fields_of_group, items_of, record_listed}
 use Rattle.ob0_tree.specs.declared.tree.Fields.{Fields}
-use Rattle.ob0_scope.specs.Parts.{names_listed}
+use Rattle.ob0_names.specs.Parts.{names_listed}
 use Rattle.ob0_reports.specs.ExpressionFaults.{told_expression}
 use Rattle.ob0_reports.specs.Operations.{right, ◌>>=◌}
 use Rattle.ob0_reports.specs.SoFar.{SoFar, facts_at}

@@ -12,7 +12,7 @@ use Rattle.ob0_tree.specs.declared.tree.Relation.{Relation}
 use Rattle.ob0_tree.specs.declared.tree.Relation.TheVariants as relation
 use Rattle.ob0_tree.specs.declared.tree.Sign.{Sign}
 use Rattle.ob0_tree.specs.Places.{text_at, value_at}
-use Rattle.ob0_scope.specs.Resolution.{span_at}
+use Rattle.ob0_names.specs.Resolution.{span_at}
 use Rattle.ob0_symbols.specs.Operators.{product_value, sum_value}
 use Rattle.ob0_typing.specs.Selected.{both}
 use Rattle.ob0_typing.specs.Typing.{given_value}

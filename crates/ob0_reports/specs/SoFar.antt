@@ -3,8 +3,8 @@
 use Rattle.std.specs.Prelude.{ℕ, nat_le, Bool, true, false, ◌==◌, ◌&&◌, List, [], ◌∷◌, ◌++◌, length, map, slice_get, slice_index_or, slice_set, if◌then◌else◌, Option, Some, None, option_and_then}
 use Rattle.ob0_scan.specs.declared.fault.Code.TheVariants as code
 use Rattle.ob0_scan.specs.Scanned.{Scanned}
-use Rattle.ob0_scope.specs.Names.{Name}
-use Rattle.ob0_scope.specs.Resolution.{Resolution, ordinal_in}
+use Rattle.ob0_names.specs.Names.{Name}
+use Rattle.ob0_names.specs.Resolution.{Resolution, ordinal_in}
 use Rattle.ob0_symbols.specs.declared.types.TypeId.{TypeId}
 use Rattle.ob0_symbols.specs.declared.types.TypeId.TheVariants as type
 use Rattle.ob0_values.specs.Values.{truth}

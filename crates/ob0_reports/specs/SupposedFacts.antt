@@ -5,8 +5,8 @@ use Rattle.std.specs.BTreeMap.{BTreeMap, get_by}
 use Rattle.std.specs.Cmp.Lexicographic.{slice_cmp}
 use Rattle.std.specs.Ordering.{nat_cmp}
 use Rattle.ob0_scan.specs.declared.fault.Fault.{Fault}
-use Rattle.ob0_scope.specs.Names.{Name}
-use Rattle.ob0_scope.specs.Resolution.{ordinal_in}
+use Rattle.ob0_names.specs.Names.{Name}
+use Rattle.ob0_names.specs.Resolution.{ordinal_in}
 use Rattle.ob0_symbols.specs.declared.known.Formal as formal
 use Rattle.ob0_symbols.specs.declared.types.TypeId.{TypeId}
 use Rattle.ob0_symbols.specs.declared.types.TypeId.TheVariants as type

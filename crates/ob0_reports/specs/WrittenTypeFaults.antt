@@ -1,8 +1,8 @@
 -- The faults of types as they are written, in the order in which they are told: those of the parts from left to right, then
 -- that the whole is too large.
 use Rattle.std.specs.Prelude.{ℕ, ◌+◌, ◌*◌, max, true, false, List, [], ◌∷◌, if◌then◌else◌, is_some, Option, Some, None}
-use Rattle.ob0_scope.specs.Names.{Name, same_name}
-use Rattle.ob0_scope.specs.Parts.{names_listed}
+use Rattle.ob0_names.specs.Names.{Name, same_name}
+use Rattle.ob0_names.specs.Parts.{names_listed}
 use Rattle.ob0_symbols.specs.declared.types.TypeId.{TypeId}
 use Rattle.ob0_symbols.specs.declared.types.TypeId.TheVariants as type
 use Rattle.ob0_tree.specs.Places.{text_at}

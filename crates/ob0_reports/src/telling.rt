@@ -11,14 +11,14 @@ mod written_types;
 
 ghost use Rattle.std.specs.Prelude.{◌≡◌, ◌++◌, IfOk, OnOk, map, option_map, None};
 ghost use Rattle.std.specs.List.{filter};
-ghost use Rattle.ob0_scope.specs.Resolution.{is_of_occurrences};
+ghost use Rattle.ob0_names.specs.Resolution.{is_of_occurrences};
 ghost use Rattle.ob0_reports.specs.DeclarationFaults.{told_module};
 ghost use Rattle.ob0_reports.specs.SoFar.{at_first};
 ghost use Rattle.ob0_reports.specs.SupposedFacts.{meaning_of, so_far_in};
 
 use crate::telling::supposed::{Meaning, Supposed, predeclared};
+use ob0_names::Resolved;
 use ob0_scan::{Code, Fault};
-use ob0_scope::Resolved;
 use std::alloc::{AllocError, Global};
 
 /// The names of a module that nothing binds, in text order, and then the faults of its types. Its second declarations and closing names

@@ -13,16 +13,9 @@ use Rattle.std.specs.Cmp.Lexicographic.{slice_cmp}
 use Rattle.std.specs.Ordering.{nat_cmp, ordering_then}
 use Rattle.ob0_scope.specs.declared.newest.Entry.{Entry}
 use Rattle.ob0_scope.specs.Keys.{Key, compare_keys, compare_name, number_of}
-use Rattle.ob0_scope.specs.Names.{Name, same_name}
+use Rattle.ob0_names.specs.Names.{Name, same_name}
+use Rattle.ob0_names.proofs.NameEquality.{same_name-comm, same_name-refl}
 use Rattle.ob0_scope.specs.NewestNames.{ArePlaces, IsRenewed, newest_in, place_of}
-
-pub same_name-comm : (x y : Name) → same_name x y ≡ same_name y x
-same_name-comm x y =
-    let d = bytes_eq-Decides y x in
-    same_from_decides (same_name x y) (same_name y x) (bytes_eq-Decides x y) ((λ e. sym (d.0 e)), (λ e. d.1 (sym e)))
-
-pub same_name-refl : (x : Name) → same_name x x ≡ true
-same_name-refl x = (bytes_eq-Decides x x).1 refl
 
 -- names that are told apart: of the first, of a later one, of none
 first_place : (same : Bool) (o : Option ℕ) → (if same then Some zero else option_map suc o) ≡ Some zero → same ≡ true

@@ -5,9 +5,10 @@ use Rattle.ob0_scan.specs.declared.lexeme.Token.{Token}
 use Rattle.ob0_scan.specs.declared.lexeme.TokenKind.{TokenKind}
 use Rattle.ob0_scan.specs.declared.lexeme.TokenKind.TheVariants as kind
 use Rattle.ob0_tree.specs.declared.tree.Role.{Role}
-use Rattle.ob0_scope.specs.Resolution.{ordinal_in}
-use Rattle.ob0_scope.specs.Scopes.{same_ordinal}
-use Rattle.ob0_scope.specs.Standing.{is_declaring, is_on}
+use Rattle.ob0_names.specs.Resolution.{ordinal_in}
+use Rattle.ob0_names.specs.Scopes.{same_ordinal}
+use Rattle.ob0_names.specs.Spans.{is_on}
+use Rattle.ob0_scope.specs.Standing.{is_declaring}
 
 abbrev pub is_identifier : TokenKind → Bool
 is_identifier kind.Identifier = true

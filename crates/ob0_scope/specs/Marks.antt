@@ -1,5 +1,5 @@
 -- Identifiers with the ordinals of their declarations.
-use Rattle.std.specs.Prelude.{ℕ, List, [], ◌∷◌, Option, slice_set}
+use Rattle.std.specs.Prelude.{ℕ, List, [], ◌∷◌, Option, Some, slice_set}
 
 -- an identifier's token, and the ordinal of its declaration
 pub record Mark : Type 0 where
@@ -10,3 +10,7 @@ pub record Mark : Type 0 where
 abbrev pub with_marks : List (Option ℕ) → List Mark → List (Option ℕ)
 with_marks table [] = table
 with_marks table (m ∷ ms) = with_marks (slice_set table m.token m.ordinal) ms
+
+-- the first ordinal, at a token
+abbrev pub first_at : ℕ → Mark
+first_at token = record { token = token; ordinal = Some 0 }

@@ -1,17 +1,17 @@
 -- The names at the places of a module's text, by what its identifiers are bound to.
-use Rattle.std.specs.Prelude.{ℕ, Bool, true, false, not, nat_le, ◌&&◌, ◌||◌, ◌==◌, ◌≡◌, if◌then◌else◌, List, [], ◌∷◌, Option, map, option_map, option_and_then}
+use Rattle.std.specs.Prelude.{ℕ, Bool, true, false, not, ◌&&◌, ◌||◌, ◌==◌, ◌≡◌, if◌then◌else◌, List, [], ◌∷◌, Option, map, option_map, option_and_then}
 use Rattle.std.specs.List.{filter, find, zip}
-use Rattle.ob0_scan.specs.declared.lexeme.Span.{Span}
 use Rattle.ob0_tree.specs.declared.tree.Role.{Role}
 use Rattle.ob0_tree.specs.declared.tree.Role.TheVariants as role
 use Rattle.ob0_tree.specs.Order.{leaves}
 use Rattle.ob0_tree.specs.Parsed.{Parsed, named_tree_of, tree_of}
 use Rattle.ob0_tree.specs.Places.{text_at, value_at}
 use Rattle.ob0_tree.specs.Tree.{identifiers, mapped}
-use Rattle.ob0_scope.specs.Names.{Label, Name, declared, same_label}
-use Rattle.ob0_scope.specs.Occurrences.{label_ordinal}
-use Rattle.ob0_scope.specs.Resolution.{span_at}
-use Rattle.ob0_scope.specs.Scopes.{numbered, renamed}
+use Rattle.ob0_names.specs.Names.{Label, Name, declared, same_label}
+use Rattle.ob0_names.specs.Occurrences.{label_ordinal}
+use Rattle.ob0_names.specs.Resolution.{span_at}
+use Rattle.ob0_names.specs.Spans.{is_on}
+use Rattle.ob0_names.specs.Scopes.{numbered, renamed}
 use Rattle.ob0_scope.specs.declared.naming.Named as named
 
 -- an identifier: what it is where it stands, its token, and what it is bound to
@@ -21,10 +21,6 @@ Standing = (Role × ℕ) × Label
 -- the identifiers of a module, in text order
 abbrev pub standing_in : Parsed → List Standing
 standing_in m = zip (identifiers role.Declaring (tree_of m)) (leaves (numbered (named_tree_of m)))
-
--- a place is on what has this span: in it or at its end
-abbrev pub is_on : ℕ → Span → Bool
-is_on offset span = nat_le span.start offset && nat_le offset span.end
 
 -- the identifier that a place is on
 abbrev pub standing_on : Parsed → ℕ → Option Standing

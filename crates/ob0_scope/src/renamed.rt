@@ -2,12 +2,11 @@
 
 ghost use Rattle.std.specs.Prelude.{◌≡◌, IfOk, map};
 ghost use Rattle.ob0_scope.specs.Renames.{IsRenumbering};
-ghost use Rattle.ob0_scope.specs.Resolution.{IsResolution, ordinal_in};
+ghost use Rattle.ob0_names.specs.Resolution.{IsResolution, ordinal_in};
 
 use crate::numbering::number;
-use crate::resolved::Resolved;
-use crate::table::ordinal_at;
 use crate::writing::Writing;
+use ob0_names::{Resolved, ordinal_at};
 use std::alloc::{AllocError, Global};
 
 /// The ordinal of each identifier, by its token, where a declaration has another name.
@@ -22,7 +21,7 @@ pub(crate) fn renumber(
 {
     let writing = Writing {
         tokens: names.tokens(),
-        ordinals: names.ordinals.as_slice(),
+        ordinals: names.ordinals(),
         declaration: Some(declaration),
         new,
     };

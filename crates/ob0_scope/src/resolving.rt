@@ -1,13 +1,13 @@
 //! Binds the names of a module to their declarations.
 
 ghost use Rattle.std.specs.Prelude.{◌≡◌, IfOk};
-ghost use Rattle.ob0_scope.specs.Resolution.{IsResolution};
+ghost use Rattle.ob0_names.specs.Resolution.{IsResolution};
 
 use crate::checks::check;
 use crate::numbering::number;
-use crate::resolved::Resolved;
 use crate::table::undeclared;
 use crate::writing::Writing;
+use ob0_names::Resolved;
 use ob0_tree::Module;
 use std::alloc::{AllocError, Global};
 
@@ -21,11 +21,5 @@ pub fn resolve<'t>(alloc: Global, module: &'t Module<'t>) -> Result<Resolved<'t>
     let (declarations, occurrences, ordinals) = numbering.into_parts();
     let mut faults = check(alloc, module)?;
     undeclared(&mut faults, tokens, &ordinals, &occurrences)?;
-    Ok(Resolved {
-        module,
-        ordinals,
-        declarations,
-        occurrences,
-        faults,
-    })
+    Ok(Resolved::new(module, ordinals, declarations, occurrences, faults))
 }

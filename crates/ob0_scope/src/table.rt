@@ -1,39 +1,11 @@
-//! Tables of ordinals by token, and what is wrong with the names.
+//! What is wrong with the occurrences.
 
 ghost use Rattle.std.specs.Prelude.{◌≡◌, ◌++◌, OnOk};
-ghost use Rattle.ob0_scope.specs.Resolution.{ordinal_in, span_at, undeclared_at};
+ghost use Rattle.ob0_names.specs.Resolution.{undeclared_at};
 
-use ob0_scan::{Code, Fault, Span, Tokens};
+use ob0_names::{ordinal_at, token_span};
+use ob0_scan::{Code, Fault, Tokens};
 use std::alloc::AllocError;
-
-/// The ordinal that a table has at a token.
-pub(crate) fn ordinal_at(ordinals: &[Option<u32>], token: usize) -> Option<usize>
-    ensures { result ≡ ordinal_in ordinals.now token }
-{
-    match ordinals.get(token) {
-        Some(ordinal) => widened(*ordinal),
-        None => None,
-    }
-}
-
-fn widened(ordinal: Option<u32>) -> Option<usize>
-    ensures { result ≡ ordinal }
-{
-    match ordinal {
-        Some(ordinal) => Some(ordinal as usize),
-        None => None,
-    }
-}
-
-/// Where a token stands; the text's start where there is no such token.
-pub fn token_span(tokens: &Tokens, token: usize) -> Span
-    ensures { result ≡ span_at tokens.now token }
-{
-    match tokens.tokens().get(token) {
-        Some(found) => found.span,
-        None => Span { start: 0, end: 0 },
-    }
-}
 
 /// Tells of each occurrence that a table binds to nothing.
 pub(crate) fn undeclared(

@@ -3,7 +3,7 @@
 ghost use Rattle.std.specs.Prelude.{◌≡◌, ◌++◌, IfOk, List, None, map, option_map};
 ghost use Rattle.ob0_tree.specs.Parsed.{tree_of};
 ghost use Rattle.ob0_tree.specs.View.{block_of, fields_of, formals_of, names_of, procedure_of, record_in, section_of, type_of, types_of, variables_of};
-ghost use Rattle.ob0_scope.specs.Parts.{names_listed};
+ghost use Rattle.ob0_names.specs.Parts.{names_listed};
 ghost use Rattle.ob0_selections.specs.Selections.{noted, token_meaning};
 ghost use Rattle.ob0_selections.specs.SelectionParts.{selection_in};
 ghost use Rattle.ob0_typing.specs.Typing.{type_declared};
@@ -14,7 +14,7 @@ ghost use Rattle.ob0_selections.specs.FieldTypes.{field_named, fields_named, typ
 ghost use Rattle.ob0_selections.specs.FieldParts.{meaning_in, type_in, typed_in};
 
 use crate::selecting::Selection;
-use ob0_scope::Resolved;
+use ob0_names::Resolved;
 use ob0_symbols::{FieldOf, Known, TypeId, text_at};
 use ob0_tree::{
     Block, Fields, Names, Procedure, RecordType, Section, TypeDeclaration, Variables, WrittenType,

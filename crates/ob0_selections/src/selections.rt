@@ -6,7 +6,7 @@ ghost use Rattle.ob0_selections.specs.Selections.{selections, token_meaning};
 ghost use Rattle.ob0_selections.specs.SelectionParts.{selection_in};
 
 use crate::selecting::{Selecting, Selection};
-use ob0_scope::Resolved;
+use ob0_names::Resolved;
 use ob0_symbols::Known;
 use std::alloc::{AllocError, Global};
 

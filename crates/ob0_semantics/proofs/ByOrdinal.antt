@@ -1,12 +1,12 @@
 -- The run of a module is that of its numbered tree.
 use Rattle.std.proofs.Common.{◌≡◌, ℕ, zero, suc, ◌+◌, true, false, List, [], ◌∷◌, ◌++◌, map, length, ℤ, Some, None, Option, option_map, option_and_then, sym, refl, ap, ◌∙◌, subst, subst₂, le_refl, lit<}
 use Rattle.ob0_tree.specs.Tree.{Tree, begins, block, body, constant, declares, declares_constant, declares_procedure, declares_type, declares_variable, end, formals, further_section, has_body, is_module, item, items, maybe, module_text, more, none, one, procedure, section, then_section, type_name, value_section, variable, variable_section}
-use Rattle.ob0_scope.specs.Mapping.{with_names}
-use Rattle.ob0_scope.specs.Names.{Label, Naming, as_labels, declared}
-use Rattle.ob0_scope.specs.Parts.{block_statements, constant_names, formal_names, formal_sections, named_types, names_listed, procedure_formals, procedure_name, section_constants, section_names, section_types, section_variables, variable_names}
-use Rattle.ob0_scope.specs.Scopes.{Labels, Scope, after_block, after_names, after_procedure, after_procedures, as_label, body_scope, declare_names, declare_procedure_names, first_procedure, first_type, first_variable, label_names, label_of, predeclared_scope, procedures_scope, relabel_block, relabel_constants, relabel_formals, relabel_procedure, relabel_procedures, relabel_section, relabel_sections, relabel_type_section, relabel_types, relabel_uses, relabel_variable_section, relabel_variables, relabelled, types_scope, variables_scope}
-use Rattle.ob0_scope.proofs.Ordinals.{after_names-append, declare_names-append, le-after_procedure}
-use Rattle.ob0_scope.proofs.Relabelled.{constants-section, formals-section, names-relabel, types-section, variables-section}
+use Rattle.ob0_names.specs.Mapping.{with_names}
+use Rattle.ob0_names.specs.Names.{Label, Naming, as_labels, declared}
+use Rattle.ob0_names.specs.Parts.{block_statements, constant_names, formal_names, formal_sections, named_types, names_listed, procedure_formals, procedure_name, section_constants, section_names, section_types, section_variables, variable_names}
+use Rattle.ob0_names.specs.Scopes.{Labels, Scope, after_block, after_names, after_procedure, after_procedures, as_label, body_scope, declare_names, declare_procedure_names, first_procedure, first_type, first_variable, label_names, label_of, predeclared_scope, procedures_scope, relabel_block, relabel_constants, relabel_formals, relabel_procedure, relabel_procedures, relabel_section, relabel_sections, relabel_type_section, relabel_types, relabel_uses, relabel_variable_section, relabel_variables, relabelled, types_scope, variables_scope}
+use Rattle.ob0_names.proofs.Ordinals.{after_names-append, declare_names-append, le-after_procedure}
+use Rattle.ob0_names.proofs.Relabelled.{constants-section, formals-section, names-relabel, types-section, variables-section}
 use Rattle.ob0_typing.specs.Declarations.{after_types, after_variables, declare_constants, declare_first, declare_types, formals_constructors, procedure_constructors, types_constructors, variables_constructors}
 use Rattle.ob0_typing.specs.Environments.{meanings, newest}
 use Rattle.ob0_typing.specs.Expressions.{Object, a_constant, a_procedure, a_standard, a_type, a_variable, reads, writes, writes_line}

@@ -1,11 +1,11 @@
 -- The run of an edited module is the module's.
 use Rattle.std.proofs.Common.{List, None, Option, Some, [], ap, arith, false, if◌then◌else◌, le_refl, length, map, option_and_then, option_map, refl, subst, subst₂, suc, sym, true, zero, ℕ, ℤ, ⊎_elim, ◌++◌, ◌+◌, ◌<◌, ◌∙◌, ◌∷◌, ◌≡◌, ◌≤◌}
 use Rattle.ob0_tree.specs.Tree.{Tree, begins, block, body, declares, declares_procedure, declares_variable, end, formals, further_section, has_body, is_module, item, items, maybe, module_text, more, none, occurrences, one, procedure, sequence, then_section, value_section, variable, variable_section}
-use Rattle.ob0_scope.specs.Names.{Name, as_names, same_name}
-use Rattle.ob0_scope.specs.Parts.{block_statements, constant_names, formal_names, formal_sections, named_types, names_listed, procedure_formals, procedure_name, section_constants, section_types, section_variables, variable_names}
-use Rattle.ob0_scope.proofs.EditedTrees.{Edit, SameAt, edited, edited_block, edited_procedure, edited_procedures, inline-nothing, leaf, leaving_out, left-module, with_names-same, writing, written-module}
-use Rattle.ob0_scope.proofs.Ordinals.{after_names-append, le-after_names, le-after_procedure}
-use Rattle.ob0_scope.proofs.Places.{EachBlock, EachProcedure, EachVariable, OneProcedure}
+use Rattle.ob0_names.specs.Names.{Name, as_names, same_name}
+use Rattle.ob0_names.specs.Parts.{block_statements, constant_names, formal_names, formal_sections, named_types, names_listed, procedure_formals, procedure_name, section_constants, section_types, section_variables, variable_names}
+use Rattle.ob0_names.proofs.EditedTrees.{Edit, SameAt, edited, edited_block, edited_procedure, edited_procedures, inline-nothing, leaf, leaving_out, left-module, with_names-same, writing, written-module}
+use Rattle.ob0_names.proofs.Ordinals.{after_names-append, le-after_names, le-after_procedure}
+use Rattle.ob0_names.proofs.Places.{EachBlock, EachProcedure, EachVariable, OneProcedure}
 use Rattle.ob0_values.specs.Values.{Place, Store, Stuck, Value, elements, initial, members, number, truth}
 use Rattle.ob0_typing.specs.ConstantValues.{Known, no_constant, value_in_block, value_in_procedure, value_in_procedures}
 use Rattle.ob0_typing.specs.Declarations.{after_types, after_variables, declare_constants, declare_first, formals_constructors, procedure_constructors, types_constructors, variables_constructors}
@@ -28,7 +28,7 @@ use Rattle.ob0_semantics.specs.Runs.{Activation, Argument, Calls, Code, Frame, P
 use Rattle.ob0_semantics.proofs.ByOrdinal.{formal_names-parameters, parameter_names}
 use Rattle.ob0_semantics.proofs.InlinedStatements.{execute_all-written}
 use Rattle.ob0_semantics.proofs.RunNaturality.{execute_all-map}
-use Rattle.ob0_scope.specs.Scopes.{Scope, after_block, after_names, after_procedure, after_procedures, body_scope, declare_names, declare_procedure_names, first_procedure, first_type, first_variable, ordinal_of, predeclared_scope, procedures_scope, variables_scope}
+use Rattle.ob0_names.specs.Scopes.{Scope, after_block, after_names, after_procedure, after_procedures, body_scope, declare_names, declare_procedure_names, first_procedure, first_type, first_variable, ordinal_of, predeclared_scope, procedures_scope, variables_scope}
 use Rattle.std.proofs.lemmas.Bool.{cases_Bool}
 
 -- a procedure in a run, and the number of the first occurrence in its text

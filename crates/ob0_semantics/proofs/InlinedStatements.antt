@@ -1,8 +1,8 @@
 -- A constant's value in place of its uses keeps what a statement does.
 use Rattle.std.proofs.Common.{List, None, Option, Some, [], ap, false, if◌then◌else◌, length, refl, suc, sym, true, ℕ, ◌++◌, ◌+◌, ◌-◌, ◌∙◌, ◌∷◌, ◌≡◌}
 use Rattle.ob0_tree.specs.Tree.{Tree, arguments, assigns, branches, calls, compares, designator, else_branch, else_part, elsif_branch, elsif_part, empty, end, expression, factor, further_argument, further_statement, integer, items, maybe, more, negation, no_arguments, none, occurrences, one, parenthesised, product, repeat_loop, runs, selector, sequence, some_arguments, statement, sum, then_argument, then_statement, while_loop}
-use Rattle.ob0_scope.specs.Inlining.{Uses, inline_in}
-use Rattle.ob0_scope.specs.Names.{Name}
+use Rattle.ob0_names.specs.Inlining.{Uses, inline_in}
+use Rattle.ob0_names.specs.Names.{Name}
 use Rattle.ob0_values.specs.Values.{Outcome, Place, Store, Stuck, Value, at_path, ends, gives, or_stuck, read_place, ◌>>=◌}
 use Rattle.ob0_typing.specs.Arguments.{arguments_listed, further_arguments}
 use Rattle.ob0_typing.specs.Expressions.{Meanings, Object, a_constant, a_procedure, a_standard, a_type, a_variable, designate, evaluate, evaluate_factor, follow, place_of, value_of}

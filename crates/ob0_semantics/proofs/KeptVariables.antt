@@ -1,9 +1,9 @@
 -- Giving up a call's variables at its return leaves every run as it is.
 use Rattle.std.proofs.Common.{◌≡◌, ℕ, zero, suc, ◌+◌, true, false, List, [], ◌∷◌, ◌++◌, length, ℤ, Some, None, Option, option_map, option_and_then, sym, refl, ap, ◌∙◌, subst, append_assoc, append-nil}
 use Rattle.ob0_tree.specs.Tree.{Tree, begins, block, body, constant, declares_constant, declares_type, declares_variable, end, expression, items, maybe, module_text, more, none, one, procedure, type_name, variable, written_type}
-use Rattle.ob0_scope.specs.Names.{Naming}
-use Rattle.ob0_scope.specs.Parts.{block_constants, block_procedures, block_statements, block_types, block_variables, module_block, names_listed, procedure_block, procedure_formals, procedure_name}
-use Rattle.ob0_scope.proofs.SameNames.{with_names-id}
+use Rattle.ob0_names.specs.Names.{Naming}
+use Rattle.ob0_names.specs.Parts.{block_constants, block_procedures, block_statements, block_types, block_variables, module_block, names_listed, procedure_block, procedure_formals, procedure_name}
+use Rattle.ob0_names.proofs.SameNames.{with_names-id}
 use Rattle.ob0_typing.specs.Declarations.{after_formals, after_types, after_variables, declare_constants, declare_first, declare_types, procedure_constructors}
 use Rattle.ob0_typing.specs.Environments.{from_binding, meanings, newest, outermost}
 use Rattle.ob0_typing.specs.Expressions.{Object, a_constant, a_procedure, a_standard, a_type, a_variable}

@@ -1,8 +1,8 @@
 -- Environments whose bindings carry their declarations' ordinals: they read both as an environment by name and as one by ordinal, and a name and its ordinal find the same binding in them.
 use Rattle.std.proofs.Common.{◌≡◌, ℕ, ◌<◌, ◌≤◌, true, false, List, [], ◌∷◌, Some, refl, le_of_lt, arith}
-use Rattle.ob0_scope.specs.Names.{Label, Naming, as_labels, declared, same_label}
-use Rattle.ob0_scope.specs.Parts.{procedure_name}
-use Rattle.ob0_scope.specs.Scopes.{Scope, as_label, ordinal_of, relabel_procedure}
+use Rattle.ob0_names.specs.Names.{Label, Naming, as_labels, declared, same_label}
+use Rattle.ob0_names.specs.Parts.{procedure_name}
+use Rattle.ob0_names.specs.Scopes.{Scope, as_label, ordinal_of, relabel_procedure}
 use Rattle.ob0_typing.specs.Environments.{from_binding}
 use Rattle.ob0_typing.specs.Expressions.{Object, a_constant, a_procedure, a_standard, a_type, a_variable}
 use Rattle.ob0_values.specs.Values.{Place}

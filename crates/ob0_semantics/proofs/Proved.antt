@@ -1,8 +1,8 @@
 -- The proofs of the laws of runs.
 use Rattle.std.proofs.Common.{sym, ap, ◌∙◌}
-use Rattle.ob0_scope.specs.Names.{as_names}
-use Rattle.ob0_scope.specs.Scopes.{renamed}
-use Rattle.ob0_scope.proofs.Renaming.{renamed-numbered}
+use Rattle.ob0_names.specs.Names.{as_names}
+use Rattle.ob0_names.specs.Scopes.{renamed}
+use Rattle.ob0_names.proofs.Renaming.{renamed-numbered}
 use Rattle.ob0_semantics.specs.Laws.{FreeKeepsRuns, RunsByOrdinal, RunsByShape}
 use Rattle.ob0_semantics.specs.Runs.{run, run_numbered}
 use Rattle.ob0_semantics.proofs.ByOrdinal.{run-relabel}

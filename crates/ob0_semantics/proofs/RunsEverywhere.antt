@@ -1,8 +1,8 @@
 -- A constant inlined everywhere keeps a module's runs.
 use Rattle.std.proofs.Common.{ap, sym, ◌∙◌}
-use Rattle.ob0_scope.specs.Inlining.{all_bound_to}
-use Rattle.ob0_scope.specs.Names.{as_names}
-use Rattle.ob0_scope.proofs.EverywhereTrees.{everywhere, gone-module}
+use Rattle.ob0_names.specs.Inlining.{all_bound_to}
+use Rattle.ob0_names.specs.Names.{as_names}
+use Rattle.ob0_names.proofs.EverywhereTrees.{everywhere, gone-module}
 use Rattle.ob0_typing.proofs.InlinedEverywhere.{everywhere-fitted, inlining_everywhere_keeps_well_typed-holds}
 use Rattle.ob0_semantics.specs.EditLaws.{InliningEverywhereKeepsModules}
 use Rattle.ob0_semantics.specs.Runs.{run, run_over}

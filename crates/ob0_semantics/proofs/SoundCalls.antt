@@ -1,9 +1,9 @@
 -- Calls and whole modules keep the store's typing: no run of a well-typed module gets stuck.
 use Rattle.std.proofs.Common.{◌≡◌, ℕ, zero, suc, ◌+◌, Bool, true, false, ◌&&◌, ◌≢◌, List, [], ◌∷◌, ◌++◌, map, length, ℤ, slice_get, Some, None, Option, option_map, option_and_then, unwrap_or, sym, refl, ap, ◌∙◌, subst, append_assoc, append-nil}
 use Rattle.ob0_tree.specs.Tree.{Tree, begins, block, body, constant, declares, declares_constant, declares_procedure, declares_type, declares_variable, end, expression, further_section, has_body, is_module, item, items, maybe, module_text, more, none, one, procedure, then_section, type_name, variable, written_type}
-use Rattle.ob0_scope.specs.Names.{Naming, as_names}
-use Rattle.ob0_scope.specs.Parts.{block_statements, formal_sections, names_listed, procedure_formals, procedure_name, section_constants, section_names, section_type, section_types, section_variables}
-use Rattle.ob0_scope.proofs.SameNames.{with_names-id}
+use Rattle.ob0_names.specs.Names.{Naming, as_names}
+use Rattle.ob0_names.specs.Parts.{block_statements, formal_sections, names_listed, procedure_formals, procedure_name, section_constants, section_names, section_type, section_types, section_variables}
+use Rattle.ob0_names.proofs.SameNames.{with_names-id}
 use Rattle.ob0_typing.specs.Declarations.{after_types, after_variables, declare_constants, declare_first, declare_types, formals_constructors, procedure_constructors}
 use Rattle.ob0_typing.specs.Environments.{from_binding, meanings, newest, outermost}
 use Rattle.ob0_typing.specs.Expressions.{Object, a_constant, a_procedure, a_standard, a_type, a_variable}

@@ -1,7 +1,7 @@
 -- A statement that fits keeps the store's typing, or the run ends otherwise than stuck.
 use Rattle.std.proofs.Common.{◌≡◌, ℕ, zero, suc, ◌-◌, Bool, true, false, ◌&&◌, List, [], ◌∷◌, ◌++◌, ℤ, if◌then◌else◌, nat_lt, ◌==◌, slice_get, slice_set, Some, None, Option, option_map, option_and_then, unwrap_or, sym, refl, ap, ◌∙◌, subst, append_assoc, append-nil}
 use Rattle.ob0_tree.specs.Tree.{Tree, assigns, branches, calls, else_branch, else_part, elsif_branch, elsif_part, empty, end, expression, further_statement, items, maybe, more, none, one, repeat_loop, runs, selector, sequence, statement, then_statement, while_loop}
-use Rattle.ob0_scope.specs.Names.{Name, same_name}
+use Rattle.ob0_names.specs.Names.{Name, same_name}
 use Rattle.ob0_typing.specs.Arguments.{arguments_listed}
 use Rattle.ob0_typing.specs.Expressions.{Meanings, Object, a_constant, a_procedure, a_standard, a_type, a_variable, designate, evaluate, follow, place_of, reads, writes, writes_line}
 use Rattle.ob0_typing.specs.Typing.{designated, shape_of_field, type_at, type_of}

@@ -1,7 +1,7 @@
 -- Worked runs: each lemma is one run, computed by the checker.
 use Rattle.std.proofs.Common.{◌≡◌, [], ◌∷◌, pos, negsuc, refl}
-use Rattle.ob0_scope.specs.Names.{as_names}
-use Rattle.ob0_scope.proofs.WorkedTrees.{activations, aliases, captured_variable, divisions, least_constant, least_constant_gone, least_constant_inlined, negative_divisor, records, recursion, recursion_renamed, repeats, shadowed_variable, sign_overflows, store_of_calls, sum_overflows, turns_and_calls, visible_later, visible_later_renamed}
+use Rattle.ob0_names.specs.Names.{as_names}
+use Rattle.ob0_names.proofs.WorkedTrees.{activations, aliases, captured_variable, divisions, least_constant, least_constant_gone, least_constant_inlined, negative_divisor, records, recursion, recursion_renamed, repeats, shadowed_variable, sign_overflows, store_of_calls, sum_overflows, turns_and_calls, visible_later, visible_later_renamed}
 use Rattle.ob0_values.specs.Values.{CallBound, Divisor, Done, Index, InputEnd, Overflow, TurnBound}
 use Rattle.ob0_semantics.specs.GivenUp.{run_giving_up}
 use Rattle.ob0_semantics.specs.Runs.{line_out, number_out, run}

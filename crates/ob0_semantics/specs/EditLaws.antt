@@ -1,10 +1,10 @@
 -- Laws of edits: what keeps a module well-typed and its runs.
 use Rattle.std.specs.Prelude.{List, Some, ℕ, ℤ, ◌≡◌, ◌≢◌}
 use Rattle.ob0_tree.specs.Tree.{Tree, factor, module_text}
-use Rattle.ob0_scope.specs.Inlining.{Uses, inlined, inlined_everywhere, module_without}
-use Rattle.ob0_scope.specs.Names.{Name}
-use Rattle.ob0_scope.specs.Occurrences.{Free, binds}
-use Rattle.ob0_scope.specs.Scopes.{renamed}
+use Rattle.ob0_names.specs.Inlining.{Uses, inlined, inlined_everywhere, module_without}
+use Rattle.ob0_names.specs.Names.{Name}
+use Rattle.ob0_names.specs.Occurrences.{Free, binds}
+use Rattle.ob0_names.specs.Scopes.{renamed}
 use Rattle.ob0_values.specs.Values.{Value}
 use Rattle.ob0_typing.specs.EditLaws.{AreUsesOf, IsConstantWritten, IsShown}
 use Rattle.ob0_typing.specs.WellTyped.{WellTyped}

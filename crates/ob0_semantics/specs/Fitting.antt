@@ -1,7 +1,7 @@
 -- Values, places and what names stand for, by the types that a checked module gives them.
 use Rattle.std.specs.Prelude.{◌≡◌, true, List, [], ◌∷◌, map, if◌then◌else◌, nat_lt, slice_get, Some, None, Option, option_and_then}
-use Rattle.ob0_scope.specs.Names.{Naming}
-use Rattle.ob0_scope.specs.Parts.{procedure_formals}
+use Rattle.ob0_names.specs.Names.{Naming}
+use Rattle.ob0_names.specs.Parts.{procedure_formals}
 use Rattle.ob0_typing.specs.Expressions.{Meanings, Object, a_constant, a_procedure, a_standard, a_type, a_variable}
 use Rattle.ob0_typing.specs.Typing.{shape_of_field}
 use Rattle.ob0_typing.specs.WellTyped.{Mode, Signature, TypeEnvironment, Typed, TypedParameter, bind_typed, by_place, by_value, heading, procedure_fits, typed_parameters}

@@ -1,7 +1,7 @@
 -- Runs in which a call that returns gives up its variables, so that the store has only those of the calls that are open.
 use Rattle.std.specs.Prelude.{ℕ, zero, suc, length, take, List, ℤ}
 use Rattle.ob0_tree.specs.Tree.{Tree, module_text}
-use Rattle.ob0_scope.specs.Names.{Naming}
+use Rattle.ob0_names.specs.Names.{Naming}
 use Rattle.ob0_typing.specs.Environments.{from_binding}
 use Rattle.ob0_values.specs.Values.{CallBound}
 use Rattle.ob0_semantics.specs.Runs.{Activation, Calls, Progress, Run, activate, run_by, running, stopped}

@@ -1,10 +1,10 @@
 -- Laws of runs.
 use Rattle.std.specs.Prelude.{◌≡◌, ℕ, ◌≢◌, List, ℤ, Some}
 use Rattle.ob0_tree.specs.Tree.{Tree, factor, module_text, occurrences, statement}
-use Rattle.ob0_scope.specs.Inlining.{Uses, inline_in}
-use Rattle.ob0_scope.specs.Names.{Label, Name, Naming}
-use Rattle.ob0_scope.specs.Occurrences.{Free}
-use Rattle.ob0_scope.specs.Scopes.{numbered, renamed}
+use Rattle.ob0_names.specs.Inlining.{Uses, inline_in}
+use Rattle.ob0_names.specs.Names.{Label, Name, Naming}
+use Rattle.ob0_names.specs.Occurrences.{Free}
+use Rattle.ob0_names.specs.Scopes.{numbered, renamed}
 use Rattle.ob0_typing.specs.Expressions.{Meanings, a_constant, evaluate_factor}
 use Rattle.ob0_typing.specs.Laws.{UsesAre}
 use Rattle.ob0_values.specs.Values.{Place, Store, Stuck, Value, gives}

@@ -1,8 +1,8 @@
 -- Runs, by big steps: statements, calls and whole modules, over names, an environment, a store, the rest of the input, and bounds c on open calls and t on the turns of a loop.
 use Rattle.std.specs.Prelude.{ℕ, zero, suc, ◌+◌, ◌-◌, true, false, List, [], ◌∷◌, ◌++◌, map, length, ℤ, Some, None, Option, option_map, option_and_then}
 use Rattle.ob0_tree.specs.Tree.{Tree, assigns, begins, block, body, branches, calls, declares_variable, else_branch, else_part, elsif_branch, elsif_part, empty, end, expression, further_section, further_statement, item, items, maybe, module_text, more, none, one, procedure, repeat_loop, runs, sequence, statement, then_section, then_statement, variable, while_loop}
-use Rattle.ob0_scope.specs.Names.{Label, Name, Naming, as_labels, as_names}
-use Rattle.ob0_scope.specs.Parts.{block_procedures, block_statements, block_variables, module_block, names_listed, procedure_block, procedure_formals, procedure_name, section_names}
+use Rattle.ob0_names.specs.Names.{Label, Name, Naming, as_labels, as_names}
+use Rattle.ob0_names.specs.Parts.{block_procedures, block_statements, block_variables, module_block, names_listed, procedure_block, procedure_formals, procedure_name, section_names}
 use Rattle.ob0_typing.specs.Arguments.{arguments_listed}
 use Rattle.ob0_typing.specs.Declarations.{after_formals, after_types, after_variables, declare_first, procedure_constructors}
 use Rattle.ob0_typing.specs.Environments.{Environment, from_binding, meanings, outermost}

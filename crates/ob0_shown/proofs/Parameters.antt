@@ -2,7 +2,7 @@
 use Rattle.std.proofs.Common.{◌≡◌, ℕ, ◌<◌, zero, suc, min, List, [], ◌∷◌, ◌++◌, length, drop, map, get_or, refl, ap, sym, ◌∙◌, arith, append_assoc, append-nil}
 use Rattle.ob0_shown.specs.Declarations.{parameter_shown, parameters_shown}
 use Rattle.ob0_shown.specs.Hovers.{Parameter}
-use Rattle.ob0_scope.specs.Names.{Name}
+use Rattle.ob0_names.specs.Names.{Name}
 use Rattle.ob0_typing.specs.WellTyped.{Formal}
 
 -- those found so far and those that are left are all

@@ -3,10 +3,11 @@ use Rattle.std.specs.Prelude.{ℕ, List, Option, Some, None, map, option_and_the
 use Rattle.ob0_scan.specs.declared.lexeme.Span.{Span}
 use Rattle.ob0_tree.specs.Parsed.{Parsed, named_tree_of, tree_of}
 use Rattle.ob0_tree.specs.Tree.{occurrences}
-use Rattle.ob0_scope.specs.Names.{Name}
-use Rattle.ob0_scope.specs.Occurrences.{Capture, at_declaration, at_occurrence, first_captured}
-use Rattle.ob0_scope.specs.Resolution.{span_at}
+use Rattle.ob0_names.specs.Names.{Name}
+use Rattle.ob0_names.specs.Occurrences.{Capture, at_declaration, at_occurrence, first_captured}
+use Rattle.ob0_names.specs.Resolution.{span_at}
 use Rattle.ob0_shown.specs.Places.{declared_at}
+use Rattle.ob0_refs.specs.declared.answers.Capture as told
 
 -- the identifier that declares d, or an occurrence by its number
 abbrev pub capture_span : Parsed → ℕ → Capture → Option Span

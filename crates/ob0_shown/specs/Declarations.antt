@@ -4,8 +4,8 @@ use Rattle.ob0_tree.specs.declared.tree.Role.TheVariants as role
 use Rattle.ob0_tree.specs.Parsed.{Parsed, tree_of}
 use Rattle.ob0_tree.specs.Places.{text_at}
 use Rattle.ob0_tree.specs.Tree.{identifiers}
-use Rattle.ob0_scope.specs.Names.{Name}
-use Rattle.ob0_scope.specs.Resolution.{declaring_only}
+use Rattle.ob0_names.specs.Names.{Name}
+use Rattle.ob0_names.specs.Resolution.{declaring_only}
 use Rattle.ob0_scope.specs.declared.naming.Named as named
 use Rattle.ob0_shown.specs.Hovers.{Parameter, constant_text, named_type_text, predeclared_text, procedure_text, type_text, variable_text}
 use Rattle.ob0_typing.specs.Expressions.{Object, a_constant, a_procedure, a_standard, a_type, a_variable}

@@ -5,8 +5,8 @@ use Rattle.ob0_tree.specs.declared.tree.Role.TheVariants as role
 use Rattle.ob0_tree.specs.Parsed.{Parsed, tree_of}
 use Rattle.ob0_tree.specs.Places.{text_at}
 use Rattle.ob0_tree.specs.Tree.{Tree, block, declares, declares_procedure, end, has_body, identifiers, item, items, more, procedure}
-use Rattle.ob0_scope.specs.Parts.{formal_names, formal_sections, module_block}
-use Rattle.ob0_scope.specs.Resolution.{declaring_only, token_declaring}
+use Rattle.ob0_names.specs.Parts.{formal_names, formal_sections, module_block}
+use Rattle.ob0_names.specs.Resolution.{declaring_only, token_declaring}
 use Rattle.ob0_shown.specs.Declarations.{names_behind}
 
 -- the headings of procedures in text order: each name with the names of the formal parameters

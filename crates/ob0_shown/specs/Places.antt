@@ -4,7 +4,7 @@ use Rattle.ob0_scan.specs.declared.lexeme.Span.{Span}
 use Rattle.ob0_tree.specs.Parsed.{Parsed, tree_of}
 use Rattle.ob0_tree.specs.Tree.{identifiers}
 use Rattle.ob0_tree.specs.declared.tree.Role.TheVariants as role
-use Rattle.ob0_scope.specs.Resolution.{declaring_only, span_at, token_declaring}
+use Rattle.ob0_names.specs.Resolution.{declaring_only, span_at, token_declaring}
 use Rattle.ob0_scope.specs.Standing.{tokens_bound}
 
 -- where the identifier stands that declares what has an ordinal; nowhere for a predeclared name

@@ -1,13 +1,14 @@
 //! Where it is that another name for a declaration isn't free.
 
 ghost use Rattle.std.specs.Prelude.{◌≡◌};
-ghost use Rattle.ob0_scope.specs.Occurrences.{at_occurrence};
+ghost use Rattle.ob0_names.specs.Occurrences.{at_occurrence};
 ghost use Rattle.ob0_scope.specs.Renames.{place_of};
 ghost use Rattle.ob0_shown.specs.Captured.{capture_span};
 
 use crate::names::declared_at;
 use ob0_scan::Span;
-use ob0_scope::{Capture, Resolved, token_span};
+use ob0_names::{Resolved, token_span};
+use ob0_scope::Capture;
 
 /// Where it is that a capture is: at the identifier that declares the declaration, or at an occurrence.
 pub fn capture_span(names: &Resolved, declaration: usize, capture: Capture) -> Option<Span>

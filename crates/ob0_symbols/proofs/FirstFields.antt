@@ -5,8 +5,8 @@ use Rattle.std.proofs.lemmas.Map.Text.{btree_map_updates_str}
 use Rattle.std.specs.BTreeMap.{BTreeMap, UpdatesBy}
 use Rattle.std.specs.Cmp.Lexicographic.{slice_cmp}
 use Rattle.std.specs.Ordering.{nat_cmp}
-use Rattle.ob0_scope.specs.Names.{Name, same_name}
-use Rattle.ob0_scope.proofs.NewestNames.{same_name-comm}
+use Rattle.ob0_names.specs.Names.{Name, same_name}
+use Rattle.ob0_names.proofs.NameEquality.{same_name-comm}
 use Rattle.ob0_symbols.specs.declared.field_table.First.{First}
 use Rattle.ob0_symbols.specs.declared.known.Field.{Field}
 use Rattle.ob0_symbols.specs.declared.types.TypeId.{TypeId}

@@ -2,7 +2,7 @@
 use Rattle.std.proofs.Common.{◌≡◌, ℕ, zero, suc, List, [], ◌∷◌, ◌++◌, All, map, length, slice_get, Some, option_and_then, refl, sym, ap, ◌∙◌, subst}
 use Rattle.std.proofs.lemmas.List.Elements.{All-head, All-tail}
 use Rattle.ob0_values.specs.Values.{Shape}
-use Rattle.ob0_scope.specs.Names.{Label, as_written, declared, label_text}
+use Rattle.ob0_names.specs.Names.{Label, as_written, declared, label_text}
 use Rattle.ob0_symbols.specs.declared.known.Entry.{Entry}
 use Rattle.ob0_symbols.specs.declared.known.Formal as formal
 use Rattle.ob0_symbols.specs.declared.known.Object as declaration

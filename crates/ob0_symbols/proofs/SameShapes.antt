@@ -1,7 +1,7 @@
 -- Types that are the same: a type and itself, and fields side by side.
 use Rattle.std.proofs.Common.{◌≡◌, ℕ, ◌<◌, ◌≤◌, zero, suc, true, false, Bool, ◌&&◌, ◌==◌, List, [], ◌∷◌, length, get_or, refl, sym, ap, ◌∙◌, arith, eq-eqb, ne_eqb, nat_eq}
 use Rattle.std.proofs.lemmas.Cmp.{nat_list_eq_equiv}
-use Rattle.ob0_scope.specs.Names.{same_name}
+use Rattle.ob0_names.specs.Names.{same_name}
 use Rattle.ob0_values.specs.Values.{FieldShapes, Shape, array_shape, boolean_shape, integer_shape, next_field_shape, no_field_shape, record_shape}
 use Rattle.ob0_symbols.specs.declared.known.Field.{Field}
 use Rattle.ob0_symbols.specs.Tables.{fields_shape, type_shape}

@@ -4,7 +4,7 @@ use Rattle.std.specs.Borrow.{Bor}
 use Rattle.std.specs.BTreeMap.{BTreeMap, get_by}
 use Rattle.std.specs.Cmp.Lexicographic.{slice_cmp}
 use Rattle.std.specs.Ordering.{nat_cmp}
-use Rattle.ob0_scope.specs.Names.{Name, same_name}
+use Rattle.ob0_names.specs.Names.{Name, same_name}
 use Rattle.ob0_symbols.specs.declared.field_table.First.{First}
 use Rattle.ob0_symbols.specs.declared.known.Field.{Field}
 

@@ -11,7 +11,7 @@ use Rattle.ob0_symbols.specs.declared.known.Object.TheVariants as kind
 use Rattle.ob0_symbols.specs.declared.known.Standard.TheVariants as standards
 use Rattle.ob0_symbols.specs.declared.types.TypeId.TheVariants as type
 use Rattle.ob0_values.specs.declared.scalar.Scalar.TheVariants as scalar
-use Rattle.ob0_scope.specs.Names.{Label, as_written, declared, label_text}
+use Rattle.ob0_names.specs.Names.{Label, as_written, declared, label_text}
 use Rattle.ob0_typing.specs.Expressions.{Object}
 use Rattle.ob0_symbols.specs.Tables.{AreMadeInOrder, ObjectIsMade, object_in, shapes_from}
 use Rattle.ob0_typing.specs.WellTyped.{Signature, Typed}

@@ -1,7 +1,7 @@
 //! Whether two types are the same.
 
 ghost use Rattle.std.specs.Prelude.{◌≡◌, ◌&&◌, List};
-ghost use Rattle.ob0_scope.specs.Names.{same_name};
+ghost use Rattle.ob0_names.specs.Names.{same_name};
 ghost use Rattle.ob0_symbols.specs.declared.known.Shape.TheVariants as made;
 ghost use Rattle.ob0_symbols.specs.Parts.{parts_shape};
 ghost use Rattle.ob0_symbols.specs.KnownTables.{shapes_of};

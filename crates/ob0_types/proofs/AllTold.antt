@@ -3,9 +3,9 @@ use Rattle.std.proofs.Common.{◌≤◌, ◌≡◌, ◌↔◌, ◌+◌, ◌&&◌
 use Rattle.std.proofs.lemmas.List.{nil_from_length}
 use Rattle.std.specs.List.{filter, list_any}
 use Rattle.ob0_scan.specs.declared.fault.Fault.{Fault}
-use Rattle.ob0_scope.specs.Names.{as_labels, as_names}
-use Rattle.ob0_scope.specs.DeclaredOnce.{declared_once}
-use Rattle.ob0_scope.specs.Resolution.{IsResolution, Resolution, is_of_declarations}
+use Rattle.ob0_names.specs.Names.{as_labels, as_names}
+use Rattle.ob0_names.specs.DeclaredOnce.{declared_once}
+use Rattle.ob0_names.specs.Resolution.{IsResolution, Resolution, is_of_declarations}
 use Rattle.ob0_tree.specs.Parsed.{named_tree_of, tree_of}
 use Rattle.ob0_report_laws.specs.ModuleLaws.{ModulesFit}
 use Rattle.ob0_types.specs.FaultOrder.{AreFirstFaults, faults_of_types}

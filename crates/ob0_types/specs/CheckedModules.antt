@@ -1,8 +1,8 @@
 -- A checked module: its names, and what was told of it.
 use Rattle.std.specs.Prelude.{◌≡◌, ℕ, ◌≤◌, Bool, true, List, [], length, ◌↔◌, IfSome, is_some, Option}
 use Rattle.ob0_scan.specs.declared.fault.Fault.{Fault}
-use Rattle.ob0_scope.specs.Resolution.{Resolution, IsResolution}
-use Rattle.ob0_scope.specs.Names.{Name, as_names}
+use Rattle.ob0_names.specs.Resolution.{Resolution, IsResolution}
+use Rattle.ob0_names.specs.Names.{Name, as_names}
 use Rattle.ob0_tree.specs.Parsed.{named_tree_of}
 use Rattle.ob0_tree.specs.Tree.{Tree, module_text}
 use Rattle.ob0_bindings.specs.Bindings.{declared_object}

@@ -7,7 +7,7 @@ use Rattle.std.specs.declared.cmp.Ordering.{Ordering}
 use Rattle.ob0_scan.specs.declared.fault.Code.{Code}
 use Rattle.ob0_scan.specs.declared.fault.Code.TheVariants as code
 use Rattle.ob0_scan.specs.declared.fault.Fault.{Fault}
-use Rattle.ob0_scope.specs.Resolution.{Resolution, is_of_declarations}
+use Rattle.ob0_names.specs.Resolution.{Resolution, is_of_declarations}
 use Rattle.ob0_reports.specs.DeclarationFaults.{told_module}
 
 -- the numbers of the codes: of lexemes, of scopes, of types

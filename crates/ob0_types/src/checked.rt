@@ -1,6 +1,6 @@
 //! Checking a module, and what is known of a well-typed one.
 
-ghost use Rattle.ob0_scope.specs.Resolution.{is_of_declarations};
+ghost use Rattle.ob0_names.specs.Resolution.{is_of_declarations};
 ghost use Rattle.ob0_types.specs.CheckedModules.{AreFaultsOf, IsChecked};
 ghost use Rattle.ob0_types.specs.FaultOrder.{AreFirstFaults, faults_of_types};
 ghost use Rattle.std.specs.List.{filter};
@@ -9,10 +9,10 @@ ghost use Rattle.ob0_fields.specs.Listed.{listed_by};
 
 use ob0_checker::decide;
 use ob0_fields::FieldList;
+use ob0_names::{PREDECLARED, Resolved};
 use ob0_report_laws::laws::modules_fit;
 use ob0_reports::tell;
 use ob0_scan::{Code, Fault};
-use ob0_scope::{PREDECLARED, Resolved};
 use ob0_symbols::{Known, Parts, TypeId};
 use ob0_typing::laws::fits_by_ordinal;
 use ob0_values::Scalar;
@@ -57,7 +57,7 @@ impl<'c, 't> Model for WellTyped<'c, 't> {
     ghost use Rattle.ob0_fields.specs.Listed.{AreFields};
     ghost use Rattle.ob0_types.specs.CheckedModules.{HoldsDeclarations, IsWellTyped};
     ghost use Rattle.ob0_tree.specs.Parsed.{named_tree_of};
-    ghost use Rattle.ob0_scope.specs.Resolution.{Resolution};
+    ghost use Rattle.ob0_names.specs.Resolution.{Resolution};
 
     ghost Value = { Resolution };
 

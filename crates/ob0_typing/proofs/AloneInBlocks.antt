@@ -1,14 +1,14 @@
 -- In a block that fits, a constant's names stand alone as factors.
 use Rattle.std.proofs.Common.{Bool, List, None, Option, Some, ap, arith, eq-eqb, if◌then◌else◌, le_of_lt, le_refl, length, map, ne_eqb, option_and_then, option_map, refl, subst, suc, sym, true, true≢false, ℕ, ◌&&◌, ◌++◌, ◌+◌, ◌<◌, ◌==◌, ◌∙◌, ◌∷◌, ◌≡◌, ◌≤◌}
 use Rattle.ob0_tree.specs.Tree.{Tree, begins, block, body, constant, declares, declares_constant, declares_procedure, declares_type, declares_variable, end, further_section, has_body, item, items, maybe, more, none, occurrences, one, procedure, then_section, type_name, variable, written_type}
-use Rattle.ob0_scope.specs.Elsewhere.{names_elsewhere}
-use Rattle.ob0_scope.specs.Names.{Name, as_names}
-use Rattle.ob0_scope.specs.Parts.{block_constants, block_types, block_variables, constant_names, formal_names, formal_sections, named_types, names_listed, section_constants, section_names, section_type, section_types, section_variables, variable_names}
-use Rattle.ob0_scope.specs.Scopes.{Scope, after_block, after_names, after_procedure, after_procedures, declare_names, declare_procedure_names, first_procedure, first_type, first_variable, ordinal_of, procedures_scope, types_scope, variables_scope}
-use Rattle.ob0_scope.proofs.EditedTrees.{Edit, edited_block, edited_constants, leaf}
-use Rattle.ob0_scope.proofs.NoneLeft.{NoneOf}
-use Rattle.ob0_scope.proofs.Ordinals.{after_names-append, le-after_names, le-after_procedure}
-use Rattle.ob0_scope.proofs.Places.{EachBlock, EachConstant, EachProcedure, EachSection, EachType, EachVariable, Placed}
+use Rattle.ob0_names.specs.Elsewhere.{names_elsewhere}
+use Rattle.ob0_names.specs.Names.{Name, as_names}
+use Rattle.ob0_names.specs.Parts.{block_constants, block_types, block_variables, constant_names, formal_names, formal_sections, named_types, names_listed, section_constants, section_names, section_type, section_types, section_variables, variable_names}
+use Rattle.ob0_names.specs.Scopes.{Scope, after_block, after_names, after_procedure, after_procedures, declare_names, declare_procedure_names, first_procedure, first_type, first_variable, ordinal_of, procedures_scope, types_scope, variables_scope}
+use Rattle.ob0_names.proofs.EditedTrees.{Edit, edited_block, edited_constants, leaf}
+use Rattle.ob0_names.proofs.NoneLeft.{NoneOf}
+use Rattle.ob0_names.proofs.Ordinals.{after_names-append, le-after_names, le-after_procedure}
+use Rattle.ob0_names.proofs.Places.{EachBlock, EachConstant, EachProcedure, EachSection, EachType, EachVariable, Placed}
 use Rattle.ob0_values.specs.Values.{Shape, Value, fits}
 use Rattle.ob0_typing.specs.ConstantValues.{no_constant, value_among, value_in_block, value_in_procedure, value_in_procedures}
 use Rattle.ob0_typing.specs.Declarations.{after_types, after_variables, declare_constants, declare_first, declare_types, formals_constructors, procedure_constructors}

@@ -1,20 +1,20 @@
 -- In a well-typed module a constant's names stand alone as factors, as its numbered tree shows.
 use Rattle.std.proofs.Common.{All, List, None, [], ap, length, map, subst, suc, sym, ℕ, ◌+◌, ◌∙◌, ◌∷◌, ◌≡◌, ◌≢◌}
 use Rattle.ob0_tree.specs.Tree.{Sort, Tree, block, constant, constants, declares, declares_constant, declares_constants, declares_procedure, declares_type, declares_types, declares_variable, declares_variables, end, formals, further_section, has_body, is_module, item, items, maybe, module_text, more, no_formals, none, occurrences, one, procedure, section, some_formals, then_section, type_name, type_names, value_section, variable, variable_section, variables, written_type}
-use Rattle.ob0_scope.specs.Elsewhere.{names_elsewhere}
-use Rattle.ob0_scope.specs.Occurrences.{label_ordinal}
-use Rattle.ob0_scope.specs.Parts.{formal_names, formal_sections, names_listed, procedure_name, section_constants, section_names, section_type, section_types, section_variables}
-use Rattle.ob0_scope.proofs.ElsewhereNames.{elsewhere-with_names}
-use Rattle.ob0_scope.proofs.NoneLeft.{NoneOf, none-of-join}
-use Rattle.ob0_scope.proofs.Places.{EachBlock, EachConstant, EachProcedure, EachSection, EachType, EachVariable, OneProcedure}
+use Rattle.ob0_names.specs.Elsewhere.{names_elsewhere}
+use Rattle.ob0_names.specs.Occurrences.{label_ordinal}
+use Rattle.ob0_names.specs.Parts.{formal_names, formal_sections, names_listed, procedure_name, section_constants, section_names, section_type, section_types, section_variables}
+use Rattle.ob0_names.proofs.ElsewhereNames.{elsewhere-with_names}
+use Rattle.ob0_names.proofs.NoneLeft.{NoneOf, none-of-join}
+use Rattle.ob0_names.proofs.Places.{EachBlock, EachConstant, EachProcedure, EachSection, EachType, EachVariable, OneProcedure}
 use Rattle.ob0_typing.specs.EditLaws.{ConstantsStandAlone}
 use Rattle.ob0_typing.specs.WellTyped.{WellTyped, fits_over}
 use Rattle.ob0_typing.proofs.AloneInBlocks.{IsOf, StandsAlone}
 use Rattle.ob0_typing.proofs.EditedModules.{label_ordinal-of, seven-or-less}
 use Rattle.ob0_typing.proofs.InlinedEverywhere.{alone-module}
 use Rattle.std.proofs.lemmas.List.Elements.{All-cons, All-nil}
-use Rattle.ob0_scope.specs.Names.{Label, Name, as_names, declared}
-use Rattle.ob0_scope.specs.Scopes.{Scope, after_names, after_procedure, as_label, body_scope, declare_names, first_procedure, first_type, first_variable, label_of, numbered, predeclared_scope, procedures_scope, relabel_block, relabel_constant_section, relabel_constants, relabel_formals, relabel_procedure, relabel_procedures, relabel_section, relabel_sections, relabel_type_section, relabel_types, relabel_uses, relabel_variable_section, relabel_variables, types_scope, variables_scope}
+use Rattle.ob0_names.specs.Names.{Label, Name, as_names, declared}
+use Rattle.ob0_names.specs.Scopes.{Scope, after_names, after_procedure, as_label, body_scope, declare_names, first_procedure, first_type, first_variable, label_of, numbered, predeclared_scope, procedures_scope, relabel_block, relabel_constant_section, relabel_constants, relabel_formals, relabel_procedure, relabel_procedures, relabel_section, relabel_sections, relabel_type_section, relabel_types, relabel_uses, relabel_variable_section, relabel_variables, types_scope, variables_scope}
 
 abbrev pub IsLabelOf : ℕ → Label → Type 0
 IsLabelOf d l = l ≡ declared d

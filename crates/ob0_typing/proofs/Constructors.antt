@@ -1,10 +1,10 @@
 -- A relabelled tree has as many ARRAY and RECORD.
 use Rattle.std.proofs.Common.{◌≡◌, ℕ, suc, ◌+◌, ◌∷◌, None, refl, ap, ◌∙◌}
 use Rattle.ob0_tree.specs.Tree.{Tree, block, declares, declares_procedure, declares_type, declares_variable, end, further_section, has_body, item, items, more, procedure, then_section, type_name, variable}
-use Rattle.ob0_scope.specs.Names.{Naming}
-use Rattle.ob0_scope.specs.Parts.{formal_names, formal_sections, names_listed, procedure_name, section_names, section_type, section_types, section_variables}
-use Rattle.ob0_scope.specs.Scopes.{Labels, Scope, after_names, after_procedure, declare_names, first_procedure, first_type, first_variable, label_of, procedures_scope, relabel_block, relabel_procedure, relabel_procedures, relabel_sections, relabel_types, relabel_variables, types_scope, variables_scope}
-use Rattle.ob0_scope.proofs.Relabelled.{formals-section, section_type-relabel, types-section, variables-section}
+use Rattle.ob0_names.specs.Names.{Naming}
+use Rattle.ob0_names.specs.Parts.{formal_names, formal_sections, names_listed, procedure_name, section_names, section_type, section_types, section_variables}
+use Rattle.ob0_names.specs.Scopes.{Labels, Scope, after_names, after_procedure, declare_names, first_procedure, first_type, first_variable, label_of, procedures_scope, relabel_block, relabel_procedure, relabel_procedures, relabel_sections, relabel_types, relabel_variables, types_scope, variables_scope}
+use Rattle.ob0_names.proofs.Relabelled.{formals-section, section_type-relabel, types-section, variables-section}
 use Rattle.ob0_typing.specs.Declarations.{block_constructors, formals_constructors, procedure_constructors, procedures_constructors, types_constructors, variables_constructors}
 use Rattle.ob0_typing.specs.Typing.{constructors}
 use Rattle.ob0_typing.proofs.TypeNaturality.{constructors-map}

@@ -1,9 +1,9 @@
 -- A constant's literal in place of its uses keeps the values of constant expressions, and what the texts of types denote.
 use Rattle.std.proofs.Common.{List, Some, [], ap, length, map, option_and_then, option_map, refl, suc, ℕ, ◌+◌, ◌∙◌, ◌∷◌, ◌≡◌}
 use Rattle.ob0_tree.specs.Tree.{Tree, array_type, end, expression, factor, fields, further_fields, items, more, named_type, no_fields, occurrences, record_type, some_fields, then_fields, written_type}
-use Rattle.ob0_scope.specs.Inlining.{Uses, inline_in}
-use Rattle.ob0_scope.specs.Names.{Name}
-use Rattle.ob0_scope.specs.Parts.{names_listed}
+use Rattle.ob0_names.specs.Inlining.{Uses, inline_in}
+use Rattle.ob0_names.specs.Names.{Name}
+use Rattle.ob0_names.specs.Parts.{names_listed}
 use Rattle.ob0_values.specs.Values.{FieldShapes, Place, Shape, Value, array_shape, gives, record_shape}
 use Rattle.ob0_typing.specs.Expressions.{Meanings, a_constant, evaluate_factor}
 use Rattle.ob0_typing.specs.Laws.{UsesAre}

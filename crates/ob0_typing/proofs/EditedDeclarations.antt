@@ -1,12 +1,12 @@
 -- What an edited block's constants and types bind is what they bound, as the edit leaves it.
 use Rattle.std.proofs.Common.{Bool, None, Option, Some, ap, arith, eq-eqb, eqb-true, false, if◌then◌else◌, le_refl, length, ne_eqb, option_and_then, refl, subst, subst₂, suc, sym, true, ℕ, ◌+◌, ◌<◌, ◌==◌, ◌∙◌, ◌∷◌, ◌≡◌, ◌≤◌}
 use Rattle.ob0_tree.specs.Tree.{Tree, constant, declares_constant, declares_type, end, expression, items, more, occurrences, type_name}
-use Rattle.ob0_scope.specs.Names.{Name, as_names}
-use Rattle.ob0_scope.specs.Parts.{constant_names, named_types}
-use Rattle.ob0_scope.specs.Scopes.{Scope, after_names, declare_names}
-use Rattle.ob0_scope.proofs.EditedTrees.{Edit, edited_constants, leaf}
-use Rattle.ob0_scope.proofs.Ordinals.{le-after_names}
-use Rattle.ob0_scope.proofs.Places.{EachConstant, EachType}
+use Rattle.ob0_names.specs.Names.{Name, as_names}
+use Rattle.ob0_names.specs.Parts.{constant_names, named_types}
+use Rattle.ob0_names.specs.Scopes.{Scope, after_names, declare_names}
+use Rattle.ob0_names.proofs.EditedTrees.{Edit, edited_constants, leaf}
+use Rattle.ob0_names.proofs.Ordinals.{le-after_names}
+use Rattle.ob0_names.proofs.Places.{EachConstant, EachType}
 use Rattle.ob0_values.specs.Values.{Value}
 use Rattle.ob0_typing.specs.ConstantValues.{Known, no_constant, value_among}
 use Rattle.ob0_typing.specs.Declarations.{declare_constants, declare_types}

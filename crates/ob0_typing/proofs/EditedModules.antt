@@ -1,13 +1,13 @@
 -- Modules edited: what an edit maker knows is what the parts of a module need, and the edited module is well-typed.
 use Rattle.std.proofs.Common.{IsTrue, List, None, Option, Some, [], add-zero, ap, arith, codes, false, if◌then◌else◌, le_refl, lit<, ltb-false, nat_lt, option_and_then, refl, slice_get, subst, suc, sym, true, true≢false, zero-add, ℕ, ◌+◌, ◌<◌, ◌∙◌, ◌∷◌, ◌≡◌, ◌≢◌, ◌≤◌}
 use Rattle.ob0_tree.specs.Tree.{Tree, factor, is_module, module_text, occurrences}
-use Rattle.ob0_scope.specs.Inlining.{Uses, inline_in}
-use Rattle.ob0_scope.specs.Occurrences.{binds, label_ordinal}
-use Rattle.ob0_scope.specs.Parts.{module_block}
-use Rattle.ob0_scope.specs.SeenNames.{looking_for}
-use Rattle.ob0_scope.proofs.EditedTrees.{Edit, edited, edited_block, leaf-kept, leaving_out, left-module, writing, written-module}
-use Rattle.ob0_scope.proofs.Peeling.{both}
-use Rattle.ob0_scope.proofs.Places.{AllAt, Both, Each, EachBlock, each-block}
+use Rattle.ob0_names.specs.Inlining.{Uses, inline_in}
+use Rattle.ob0_names.specs.Occurrences.{binds, label_ordinal}
+use Rattle.ob0_names.specs.Parts.{module_block}
+use Rattle.ob0_names.specs.SeenNames.{looking_for}
+use Rattle.ob0_names.proofs.EditedTrees.{Edit, edited, edited_block, leaf-kept, leaving_out, left-module, writing, written-module}
+use Rattle.ob0_names.proofs.Peeling.{both}
+use Rattle.ob0_names.proofs.Places.{AllAt, Both, Each, EachBlock, each-block}
 use Rattle.ob0_values.specs.Values.{Value, boolean_shape, elements, integer_shape, members, number, truth}
 use Rattle.ob0_typing.specs.EditLaws.{AreUsesOf, InliningKeepsWellTyped, IsConstantWritten, IsShown, LeavingOutKeepsWellTyped}
 use Rattle.ob0_typing.specs.Expressions.{Object, a_constant, a_standard, a_type, reads, writes, writes_line}
@@ -16,9 +16,9 @@ use Rattle.ob0_typing.proofs.EditedTypes.{Checked, anything, as_signed, block_fi
 use Rattle.ob0_typing.proofs.Leaves.{AllStay, Here, Literal, Writes, shown}
 use Rattle.ob0_typing.proofs.Literals.{some_inverse}
 use Rattle.ob0_typing.proofs.Marks.{IsRight, Marks, Sound, not-left, object_as, read, read_edited}
-use Rattle.ob0_scope.specs.Names.{Label, Name, Naming, as_names, predeclared_name, same_name}
-use Rattle.ob0_scope.specs.Scopes.{Scope, as_label, label_of, ordinal_of, predeclared_scope, relabelled, same_ordinal}
-use Rattle.ob0_scope.proofs.EditedOnce.{declared_once-edited}
+use Rattle.ob0_names.specs.Names.{Label, Name, Naming, as_names, predeclared_name, same_name}
+use Rattle.ob0_names.specs.Scopes.{Scope, as_label, label_of, ordinal_of, predeclared_scope, relabelled, same_ordinal}
+use Rattle.ob0_names.proofs.EditedOnce.{declared_once-edited}
 use Rattle.ob0_typing.specs.ConstantValues.{predeclared_known, value_in_block, value_of_constant}
 
 -- the outermost block, as marks

@@ -1,12 +1,12 @@
 -- The parts of an edited block: what its names bind, where its constant is worth what, and how many ARRAY and RECORD it has.
 use Rattle.std.proofs.Common.{List, None, Option, Some, [], ap, arith, if◌then◌else◌, le-ltb, le_refl, le_trans, length, lt-ltb, nat_lt, option_and_then, option_map, refl, subst, subst₂, suc, sym, ℕ, ◌++◌, ◌+◌, ◌∙◌, ◌∷◌, ◌≡◌, ◌≤◌}
 use Rattle.ob0_tree.specs.Tree.{Tree, block, constants, declares, declares_constants, declares_procedure, declares_type, declares_types, declares_variable, declares_variables, end, formals, further_section, has_body, item, items, maybe, more, no_formals, none, occurrences, one, procedure, section, some_formals, then_section, type_name, type_names, value_section, variable, variable_section, variables}
-use Rattle.ob0_scope.specs.Names.{Name, as_names}
-use Rattle.ob0_scope.specs.Parts.{block_constants, block_procedures, block_types, block_variables, constant_names, formal_names, formal_sections, named_types, procedure_name, section_constants, section_names, section_type, section_types, section_variables, variable_names}
-use Rattle.ob0_scope.specs.Scopes.{Scope, after_block, after_names, after_procedure, after_procedures, declare_names, first_procedure, first_type, first_variable, types_scope, variables_scope}
-use Rattle.ob0_scope.proofs.EditedTrees.{Edit, edited_block, edited_constants, edited_procedure, edited_procedures, edited_section, leaf}
-use Rattle.ob0_scope.proofs.Ordinals.{after_names-append, declare_names-append, le-after_block, le-after_names, le-after_procedure, le-after_procedures}
-use Rattle.ob0_scope.proofs.Places.{EachBlock, EachType}
+use Rattle.ob0_names.specs.Names.{Name, as_names}
+use Rattle.ob0_names.specs.Parts.{block_constants, block_procedures, block_types, block_variables, constant_names, formal_names, formal_sections, named_types, procedure_name, section_constants, section_names, section_type, section_types, section_variables, variable_names}
+use Rattle.ob0_names.specs.Scopes.{Scope, after_block, after_names, after_procedure, after_procedures, declare_names, first_procedure, first_type, first_variable, types_scope, variables_scope}
+use Rattle.ob0_names.proofs.EditedTrees.{Edit, edited_block, edited_constants, edited_procedure, edited_procedures, edited_section, leaf}
+use Rattle.ob0_names.proofs.Ordinals.{after_names-append, declare_names-append, le-after_block, le-after_names, le-after_procedure, le-after_procedures}
+use Rattle.ob0_names.proofs.Places.{EachBlock, EachType}
 use Rattle.ob0_values.specs.Values.{Value}
 use Rattle.ob0_typing.specs.ConstantValues.{Known, no_constant, value_among, value_in_block, value_in_procedure, value_in_procedures}
 use Rattle.ob0_typing.specs.Declarations.{block_constructors, declare_constants, declare_first, declare_types, formals_constructors, procedure_constructors, procedures_constructors, types_constructors, variables_constructors}

@@ -1,12 +1,12 @@
 -- An edited module fits where the module does.
 use Rattle.std.proofs.Common.{List, None, Option, Some, [], ap, arith, false, if◌then◌else◌, le_of_lt, le_refl, le_trans, length, map, nat_lt, negsuc, option_and_then, option_map, pos, refl, subst, subst₂, suc, sym, true, ℕ, ⊎_elim, ◌&&◌, ◌++◌, ◌+◌, ◌<◌, ◌∙◌, ◌∷◌, ◌≡◌, ◌≤◌}
 use Rattle.ob0_tree.specs.Tree.{Tree, adds, begins, block, body, compares, declares, declares_procedure, declares_variable, end, factor, further_section, has_body, integer, item, items, maybe, more, none, occurrences, one, parenthesised, procedure, product, sequence, sum, then_section, variable, written_type}
-use Rattle.ob0_scope.specs.Names.{Name, as_names}
-use Rattle.ob0_scope.specs.Parts.{block_constants, block_types, block_variables, constant_names, formal_names, formal_sections, named_types, names_listed, section_constants, section_names, section_type, section_types, section_variables, variable_names}
-use Rattle.ob0_scope.specs.Scopes.{Scope, after_block, after_names, after_procedure, after_procedures, declare_names, declare_procedure_names, first_procedure, first_type, first_variable, procedures_scope, variables_scope}
-use Rattle.ob0_scope.proofs.EditedTrees.{Edit, SameAt, edited_block, edited_procedure, edited_procedures, inline-nothing, leaf, with_names-same}
-use Rattle.ob0_scope.proofs.Ordinals.{after_names-append, le-after_names, le-after_procedure}
-use Rattle.ob0_scope.proofs.Places.{EachBlock, EachProcedure, EachSection, EachVariable}
+use Rattle.ob0_names.specs.Names.{Name, as_names}
+use Rattle.ob0_names.specs.Parts.{block_constants, block_types, block_variables, constant_names, formal_names, formal_sections, named_types, names_listed, section_constants, section_names, section_type, section_types, section_variables, variable_names}
+use Rattle.ob0_names.specs.Scopes.{Scope, after_block, after_names, after_procedure, after_procedures, declare_names, declare_procedure_names, first_procedure, first_type, first_variable, procedures_scope, variables_scope}
+use Rattle.ob0_names.proofs.EditedTrees.{Edit, SameAt, edited_block, edited_procedure, edited_procedures, inline-nothing, leaf, with_names-same}
+use Rattle.ob0_names.proofs.Ordinals.{after_names-append, le-after_names, le-after_procedure}
+use Rattle.ob0_names.proofs.Places.{EachBlock, EachProcedure, EachSection, EachVariable}
 use Rattle.ob0_values.specs.Values.{Shape, Value, elements, members, number, truth}
 use Rattle.ob0_typing.specs.ConstantValues.{Known, no_constant, value_in_block, value_in_procedure, value_in_procedures}
 use Rattle.ob0_typing.specs.Declarations.{after_types, after_variables, declare_constants, declare_first, formals_constructors, procedure_constructors, types_constructors, variables_constructors}

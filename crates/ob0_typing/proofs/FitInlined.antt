@@ -1,8 +1,8 @@
 -- A constant's literal in place of its uses keeps which statements fit.
 use Rattle.std.proofs.Common.{List, None, Option, Some, [], ap, false, if◌then◌else◌, length, refl, suc, sym, true, ℕ, ◌&&◌, ◌++◌, ◌+◌, ◌∙◌, ◌∷◌, ◌≡◌}
 use Rattle.ob0_tree.specs.Tree.{Tree, addend, arguments, assigns, branches, calls, compares, comparison, designator, else_branch, else_part, elsif_branch, elsif_part, empty, end, expression, factor, further_argument, further_statement, integer, item, items, maybe, more, multiplier, negation, no_arguments, none, occurrences, one, parenthesised, product, repeat_loop, runs, selector, sequence, some_arguments, statement, sum, then_argument, then_statement, while_loop}
-use Rattle.ob0_scope.specs.Inlining.{Uses, inline_in}
-use Rattle.ob0_scope.specs.Names.{Name}
+use Rattle.ob0_names.specs.Inlining.{Uses, inline_in}
+use Rattle.ob0_names.specs.Names.{Name}
 use Rattle.ob0_values.specs.Values.{Value, boolean_shape}
 use Rattle.ob0_typing.specs.Arguments.{arguments_listed, further_arguments}
 use Rattle.ob0_typing.specs.Expressions.{a_constant, a_variable}

@@ -1,8 +1,8 @@
 -- A constant's value in place of its uses keeps an expression's evaluation.
 use Rattle.std.proofs.Common.{List, Some, [], add-zero, ap, arith, false, if◌then◌else◌, length, refl, subst, suc, sym, true, ℕ, ◌++◌, ◌+◌, ◌∙◌, ◌∷◌, ◌≡◌}
 use Rattle.ob0_tree.specs.Tree.{Tree, addend, adds, compares, designator, end, expression, factor, field, index, integer, items, more, multiplier, multiplies, negation, none, occurrences, one, parenthesised, product, relates, selector, simple, sum, term}
-use Rattle.ob0_scope.specs.Inlining.{Uses, inline_in}
-use Rattle.ob0_scope.specs.Names.{Name}
+use Rattle.ob0_names.specs.Inlining.{Uses, inline_in}
+use Rattle.ob0_names.specs.Names.{Name}
 use Rattle.ob0_values.specs.Values.{Place, Store, Value, add, add_is_settled, at_field, at_path, gives, multiply, multiply_is_settled, negated, or_stuck, part, relate, signed, ◌>>=◌}
 use Rattle.ob0_typing.specs.Expressions.{Meanings, a_constant, element_step, evaluate, evaluate_addends, evaluate_factor, evaluate_multipliers, evaluate_simple, evaluate_term, follow, value_of}
 use Rattle.ob0_typing.specs.Laws.{InliningKeepsEvaluation, UsesAre}

@@ -1,16 +1,16 @@
 -- A constant inlined everywhere keeps a module well-typed.
 use Rattle.std.proofs.Common.{List, Some, [], ap, arith, codes, eq-eqb, false, if◌then◌else◌, le_refl, nat_lt, negsuc, option_and_then, pos, refl, slice_get, subst, suc, sym, true, true≢false, zero-add, ℕ, ⊎_elim, ◌∙◌, ◌∷◌, ◌≡◌, ◌≤◌}
 use Rattle.ob0_tree.specs.Tree.{Sort, Tree, adds, compares, end, factor, integer, is_module, module_text, more, none, occurrences, parenthesised, product, sum}
-use Rattle.ob0_scope.specs.Inlining.{Uses, all_bound_to}
-use Rattle.ob0_scope.specs.Names.{Label, Name, as_names}
-use Rattle.ob0_scope.specs.Occurrences.{bindings, binds, label_ordinal}
-use Rattle.ob0_scope.specs.Parts.{module_block}
-use Rattle.ob0_scope.specs.SeenNames.{looking_for}
-use Rattle.ob0_scope.proofs.EditedTrees.{Edit, inline-nothing, leaf, no_uses, writing}
-use Rattle.ob0_scope.proofs.EverywhereTrees.{everywhere, gone-module}
-use Rattle.ob0_scope.proofs.NoneLeft.{AllGiveWay, NoneOf, none-left}
-use Rattle.ob0_scope.proofs.Peeling.{both}
-use Rattle.ob0_scope.proofs.Places.{AllAt, Both, Each, EachBlock, Placed, both-block, each-block}
+use Rattle.ob0_names.specs.Inlining.{Uses, all_bound_to}
+use Rattle.ob0_names.specs.Names.{Label, Name, as_names}
+use Rattle.ob0_names.specs.Occurrences.{bindings, binds, label_ordinal}
+use Rattle.ob0_names.specs.Parts.{module_block}
+use Rattle.ob0_names.specs.SeenNames.{looking_for}
+use Rattle.ob0_names.proofs.EditedTrees.{Edit, inline-nothing, leaf, no_uses, writing}
+use Rattle.ob0_names.proofs.EverywhereTrees.{everywhere, gone-module}
+use Rattle.ob0_names.proofs.NoneLeft.{AllGiveWay, NoneOf, none-left}
+use Rattle.ob0_names.proofs.Peeling.{both}
+use Rattle.ob0_names.proofs.Places.{AllAt, Both, Each, EachBlock, Placed, both-block, each-block}
 use Rattle.ob0_values.specs.Values.{Value, elements, members, number, truth}
 use Rattle.ob0_typing.specs.EditLaws.{InliningEverywhereKeepsWellTyped, IsConstantWritten, IsShown}
 use Rattle.ob0_typing.specs.WellTyped.{WellTyped, fits_over}
@@ -20,7 +20,7 @@ use Rattle.ob0_typing.proofs.EditedModules.{IsFitted, IsShownAs, all-at, all-sho
 use Rattle.ob0_typing.proofs.EditedTypes.{anything}
 use Rattle.ob0_typing.proofs.Leaves.{AllStay, Here, Literal, Writes, none-used, same_ordinal-true, shown}
 use Rattle.ob0_typing.proofs.Literals.{some_inverse}
-use Rattle.ob0_scope.specs.Scopes.{Scope, as_label, ordinal_of, predeclared_scope, relabelled, same_ordinal}
+use Rattle.ob0_names.specs.Scopes.{Scope, as_label, ordinal_of, predeclared_scope, relabelled, same_ordinal}
 use Rattle.ob0_tree.specs.declared.tree.Sign.TheVariants as sign
 use Rattle.ob0_tree.specs.declared.tree.AddOperator.TheVariants as add_operator
 use Rattle.std.proofs.lemmas.Bool.{cases_Bool}

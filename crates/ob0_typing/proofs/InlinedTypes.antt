@@ -1,8 +1,8 @@
 -- A constant's value in place of its uses keeps an expression's type.
 use Rattle.std.proofs.Common.{None, Option, Some, [], add-zero, ap, false, if◌then◌else◌, length, refl, subst, suc, sym, true, ℕ, ◌+◌, ◌∙◌, ◌≡◌}
 use Rattle.ob0_tree.specs.Tree.{Tree, addend, adds, compares, designator, end, expression, factor, field, index, integer, items, more, multiplier, multiplies, negation, none, occurrences, one, parenthesised, product, relates, selector, simple, sum, term}
-use Rattle.ob0_scope.specs.Inlining.{Uses, inline_in}
-use Rattle.ob0_scope.specs.Names.{Name}
+use Rattle.ob0_names.specs.Inlining.{Uses, inline_in}
+use Rattle.ob0_names.specs.Names.{Name}
 use Rattle.ob0_values.specs.Values.{Shape, Value}
 use Rattle.ob0_typing.specs.Expressions.{Meanings, a_constant}
 use Rattle.ob0_typing.specs.Laws.{InliningKeepsTypes, UsesAre}

@@ -1,12 +1,12 @@
 -- Edited expressions and types at a place: over the environment that an edit leaves they mean what they meant.
 use Rattle.std.proofs.Common.{Bool, List, None, Option, Some, [], ap, codes, eqb-true, false, option_map, refl, suc, sym, true, true≢false, ℕ, ⊎_elim, ◌∙◌, ◌∷◌, ◌≡◌, ◌≤◌}
 use Rattle.ob0_tree.specs.Tree.{Tree, expression, occurrences, written_type}
-use Rattle.ob0_scope.specs.Mapping.{with_names}
-use Rattle.ob0_scope.specs.Names.{Name, as_names}
-use Rattle.ob0_scope.specs.Scopes.{Scope, ordinal_of, same_ordinal}
-use Rattle.ob0_scope.proofs.EditedTrees.{Edit, SameAt, UsesNone, inline-nothing, leaf, with_names-same}
-use Rattle.ob0_scope.proofs.Places.{Each, Placed}
-use Rattle.ob0_scope.proofs.SameNames.{with_names-id}
+use Rattle.ob0_names.specs.Mapping.{with_names}
+use Rattle.ob0_names.specs.Names.{Name, as_names}
+use Rattle.ob0_names.specs.Scopes.{Scope, ordinal_of, same_ordinal}
+use Rattle.ob0_names.proofs.EditedTrees.{Edit, SameAt, UsesNone, inline-nothing, leaf, with_names-same}
+use Rattle.ob0_names.proofs.Places.{Each, Placed}
+use Rattle.ob0_names.proofs.SameNames.{with_names-id}
 use Rattle.ob0_values.specs.Values.{Place, Shape, Value, elements, members, number, truth}
 use Rattle.ob0_typing.specs.ConstantValues.{known_object}
 use Rattle.ob0_typing.specs.EditLaws.{IsScalar}

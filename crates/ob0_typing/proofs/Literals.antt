@@ -1,7 +1,7 @@
 -- What is written for a value is worth it, where TRUE and FALSE are seen.
 use Rattle.std.proofs.Common.{Some, [], ap, arith, codes, false, if◌then◌else◌, ltb-false, ltb-true, nat_lt, negsuc, option_and_then, pos, refl, subst, suc, sym, true, unwrap_or, ℕ, ◌∙◌, ◌≡◌}
 use Rattle.ob0_tree.specs.Tree.{Tree, adds, compares, end, factor, integer, more, none, parenthesised, product, sum}
-use Rattle.ob0_scope.specs.Names.{Name}
+use Rattle.ob0_names.specs.Names.{Name}
 use Rattle.ob0_values.specs.Values.{Overflow, Place, Shape, Store, Value, at_path, elements, ends, fits, gives, integer_shape, members, number, or_stuck, truth, ◌>>=◌}
 use Rattle.ob0_typing.specs.EditLaws.{IsScalar}
 use Rattle.ob0_typing.specs.Expressions.{Meanings, a_constant, evaluate, evaluate_factor, value_of}

@@ -1,8 +1,8 @@
 -- Environments with the ordinals of their bindings: read as they are, and as an edit leaves them.
 use Rattle.std.proofs.Common.{Bool, List, None, Option, Some, [], ap, arith, eqb-true, false, if◌then◌else◌, le_of_lt, option_map, refl, sym, true, ℕ, ◌&&◌, ◌<◌, ◌==◌, ◌∙◌, ◌∷◌, ◌≡◌, ◌≤◌}
-use Rattle.ob0_scope.specs.Names.{Name, as_names, same_name}
-use Rattle.ob0_scope.specs.Scopes.{Scope, ordinal_of}
-use Rattle.ob0_scope.proofs.EditedTrees.{Edit}
+use Rattle.ob0_names.specs.Names.{Name, as_names, same_name}
+use Rattle.ob0_names.specs.Scopes.{Scope, ordinal_of}
+use Rattle.ob0_names.proofs.EditedTrees.{Edit}
 use Rattle.ob0_values.specs.Values.{Value, truth}
 use Rattle.ob0_typing.specs.ConstantValues.{Known, known_object}
 use Rattle.ob0_typing.specs.Environments.{Environment, from_binding, newest}

@@ -1,7 +1,7 @@
 -- What a tree means over other names: the meaning of a mapped tree is that of the tree, over what the new names stand for.
 use Rattle.std.proofs.Common.{◌≡◌, true, false, ◌∷◌, ◌++◌, map, None, option_map, refl}
 use Rattle.ob0_tree.specs.Tree.{Tree, addend, adds, arguments, compares, designator, end, expression, factor, field, further_argument, index, integer, items, maybe, more, multiplier, multiplies, negation, no_arguments, none, one, parenthesised, product, relates, selector, simple, some_arguments, sum, term, then_argument}
-use Rattle.ob0_scope.specs.Mapping.{with_names}
+use Rattle.ob0_names.specs.Mapping.{with_names}
 use Rattle.ob0_typing.specs.Arguments.{arguments_listed, further_arguments}
 use Rattle.ob0_typing.specs.Expressions.{Meanings, designate, element_step, evaluate, evaluate_addends, evaluate_factor, evaluate_multipliers, evaluate_simple, evaluate_term, follow, place_of, value_of}
 use Rattle.ob0_typing.specs.Typing.{designated}

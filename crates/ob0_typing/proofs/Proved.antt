@@ -1,6 +1,6 @@
 -- The proofs of the laws of types.
 use Rattle.std.proofs.Common.{◌≡◌, IsTrue, sym, ap, ◌∙◌, subst}
-use Rattle.ob0_scope.specs.Names.{as_labels, as_names}
+use Rattle.ob0_names.specs.Names.{as_labels, as_names}
 use Rattle.ob0_typing.specs.Laws.{FitsByOrdinal, WellTypedByShape}
 use Rattle.ob0_typing.specs.WellTyped.{WellTyped, fits_over}
 use Rattle.ob0_typing.proofs.TypesByOrdinal.{fits-relabel}

@@ -1,8 +1,8 @@
 -- A free renaming keeps a module well-typed.
 use Rattle.std.proofs.Common.{}
-use Rattle.ob0_scope.specs.Scopes.{renamed}
-use Rattle.ob0_scope.proofs.RenamedDeclarations.{free_keeps_declarations-holds}
-use Rattle.ob0_scope.proofs.Renaming.{free_keeps_numbers-holds}
+use Rattle.ob0_names.specs.Scopes.{renamed}
+use Rattle.ob0_names.proofs.RenamedDeclarations.{free_keeps_declarations-holds}
+use Rattle.ob0_names.proofs.Renaming.{free_keeps_numbers-holds}
 use Rattle.ob0_typing.specs.EditLaws.{FreeKeepsWellTyped}
 use Rattle.ob0_typing.specs.WellTyped.{WellTyped}
 use Rattle.ob0_typing.proofs.Proved.{well_typed_by_shape-holds}

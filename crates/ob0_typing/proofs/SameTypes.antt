@@ -1,7 +1,7 @@
 -- The type of an expression depends on the types of what its names stand for alone.
 use Rattle.std.proofs.Common.{◌≡◌, refl}
 use Rattle.ob0_tree.specs.Tree.{Tree, addend, adds, compares, designator, end, expression, factor, field, index, integer, items, more, multiplier, multiplies, negation, none, one, parenthesised, product, relates, selector, simple, sum, term}
-use Rattle.ob0_scope.specs.Names.{Label}
+use Rattle.ob0_names.specs.Names.{Label}
 use Rattle.ob0_typing.specs.Expressions.{Meanings}
 use Rattle.ob0_typing.specs.Typing.{add_type, complement_type, element_type, field_type, multiply_type, object_type, relation_type, sign_type, type_at, type_of, type_of_addends, type_of_factor, type_of_multipliers, type_of_simple, type_of_term, ◌>>=◌}
 use Rattle.ob0_values.specs.Values.{Shape}

@@ -1,8 +1,8 @@
 -- Types and constants over other names: those of a mapped tree are those of the tree, over what the new names stand for.
 use Rattle.std.proofs.Common.{◌≡◌, ℕ, suc, ◌+◌, [], ◌∷◌, map, Some, option_map, refl, ◌∙◌}
 use Rattle.ob0_tree.specs.Tree.{Tree, addend, adds, array_type, compares, designator, end, expression, factor, field, fields, further_fields, further_name, index, integer, items, listed, more, multiplier, multiplies, named_type, names, negation, no_fields, none, one, parenthesised, product, record_type, relates, selector, simple, some_fields, sum, term, then_fields, then_name, written_type}
-use Rattle.ob0_scope.specs.Mapping.{with_names}
-use Rattle.ob0_scope.specs.Parts.{further_names, names_listed}
+use Rattle.ob0_names.specs.Mapping.{with_names}
+use Rattle.ob0_names.specs.Parts.{further_names, names_listed}
 use Rattle.ob0_typing.specs.Expressions.{Meanings, a_constant, evaluate}
 use Rattle.ob0_typing.specs.Typing.{add_type, array_length, complement_type, constant_of, constant_value, constants_only, constructors, denoted, denoted_group, denoted_groups, element_type, field_type, given_value, group_constructors, groups_constructors, multiply_type, object_type, relation_type, sign_type, type_at, type_of, type_of_addends, type_of_factor, type_of_multipliers, type_of_name, type_of_simple, type_of_term, with_fields, within_limits, ◌>>=◌}
 use Rattle.ob0_values.specs.Values.{FieldShapes, Shape, array_shape, record_shape}

@@ -1,10 +1,10 @@
 -- Where trees have types, a constant's names stand alone as factors.
 use Rattle.std.proofs.Common.{None, Option, Some, [], ap, map, option_and_then, option_map, refl, suc, sym, true, true≢false, ℕ, ◌&&◌, ◌++◌, ◌+◌, ◌∙◌, ◌∷◌, ◌≡◌}
 use Rattle.ob0_tree.specs.Tree.{Tree, addend, adds, arguments, array_type, assigns, branches, calls, compares, designator, else_branch, else_part, elsif_branch, elsif_part, empty, end, expression, factor, field, fields, further_argument, further_fields, further_statement, index, integer, item, items, maybe, more, multiplier, multiplies, named_type, negation, no_arguments, no_fields, none, one, parenthesised, product, record_type, relates, repeat_loop, runs, selector, sequence, simple, some_arguments, some_fields, statement, sum, term, then_argument, then_fields, then_statement, while_loop, written_type}
-use Rattle.ob0_scope.specs.Elsewhere.{names_elsewhere}
-use Rattle.ob0_scope.specs.Names.{Name}
-use Rattle.ob0_scope.specs.Parts.{names_listed}
-use Rattle.ob0_scope.proofs.NoneLeft.{NoneOf, none-of-join}
+use Rattle.ob0_names.specs.Elsewhere.{names_elsewhere}
+use Rattle.ob0_names.specs.Names.{Name}
+use Rattle.ob0_names.specs.Parts.{names_listed}
+use Rattle.ob0_names.proofs.NoneLeft.{NoneOf, none-of-join}
 use Rattle.ob0_values.specs.Values.{FieldShapes, Shape, Value, array_shape, boolean_shape, elements, integer_shape, members, number, record_shape, truth}
 use Rattle.ob0_typing.specs.Arguments.{arguments_listed, further_arguments}
 use Rattle.ob0_typing.specs.Expressions.{Meanings, Object, a_constant, a_procedure, a_standard, a_type, a_variable, evaluate}

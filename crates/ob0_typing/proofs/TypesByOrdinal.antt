@@ -1,12 +1,12 @@
 -- A module fits by name exactly where its numbered tree fits by ordinal.
 use Rattle.std.proofs.Common.{◌≡◌, ℕ, suc, ◌+◌, ◌<◌, ◌≤◌, Bool, true, false, ◌&&◌, List, [], ◌∷◌, ◌++◌, map, Some, None, Option, option_map, option_and_then, sym, refl, ap, ◌∙◌, subst, subst₂, le_refl, le_of_lt, arith, lit<}
 use Rattle.ob0_tree.specs.Tree.{Tree, begins, block, body, constant, declares, declares_constant, declares_procedure, declares_type, declares_variable, end, further_section, has_body, is_module, item, items, maybe, module_text, more, none, one, procedure, section, then_section, type_name, value_section, variable, variable_section, written_type}
-use Rattle.ob0_scope.specs.Mapping.{with_names}
-use Rattle.ob0_scope.specs.Names.{Label, Naming, as_labels, declared, same_label}
-use Rattle.ob0_scope.specs.Parts.{block_variables, constant_names, formal_names, formal_sections, named_types, names_listed, section_constants, section_names, section_type, section_types, section_variables, variable_names}
-use Rattle.ob0_scope.specs.Scopes.{Labels, Scope, after_names, after_procedure, as_label, body_scope, declare_names, declare_procedure_names, first_procedure, first_type, first_variable, label_names, label_of, ordinal_of, procedures_scope, relabel_block, relabel_constants, relabel_formals, relabel_procedure, relabel_procedures, relabel_section, relabel_sections, relabel_types, relabel_uses, relabel_variables, relabelled, types_scope, variables_scope}
-use Rattle.ob0_scope.proofs.Ordinals.{after_names-append, declare_names-append, le-after_procedure}
-use Rattle.ob0_scope.proofs.Relabelled.{constants-section, formals-section, names-relabel, section_names-relabel, section_type-relabel, types-section, variables-section}
+use Rattle.ob0_names.specs.Mapping.{with_names}
+use Rattle.ob0_names.specs.Names.{Label, Naming, as_labels, declared, same_label}
+use Rattle.ob0_names.specs.Parts.{block_variables, constant_names, formal_names, formal_sections, named_types, names_listed, section_constants, section_names, section_type, section_types, section_variables, variable_names}
+use Rattle.ob0_names.specs.Scopes.{Labels, Scope, after_names, after_procedure, as_label, body_scope, declare_names, declare_procedure_names, first_procedure, first_type, first_variable, label_names, label_of, ordinal_of, procedures_scope, relabel_block, relabel_constants, relabel_formals, relabel_procedure, relabel_procedures, relabel_section, relabel_sections, relabel_types, relabel_uses, relabel_variables, relabelled, types_scope, variables_scope}
+use Rattle.ob0_names.proofs.Ordinals.{after_names-append, declare_names-append, le-after_procedure}
+use Rattle.ob0_names.proofs.Relabelled.{constants-section, formals-section, names-relabel, section_names-relabel, section_type-relabel, types-section, variables-section}
 use Rattle.ob0_typing.specs.Declarations.{after_types, after_variables, declare_constants, declare_first, declare_types, formals_constructors, procedure_constructors, types_constructors, variables_constructors}
 use Rattle.ob0_typing.specs.Environments.{from_binding, meanings, newest}
 use Rattle.ob0_typing.specs.Expressions.{Object, a_constant, a_procedure, a_standard, a_type, a_variable, reads, writes, writes_line}

@@ -1,8 +1,8 @@
 -- A worked constant: its value, its uses, and what TRUE would be bound to at one.
 use Rattle.std.proofs.Common.{None, Some, codes, negsuc, refl, ◌≡◌}
-use Rattle.ob0_scope.specs.Occurrences.{binds}
-use Rattle.ob0_scope.specs.SeenNames.{sees}
-use Rattle.ob0_scope.proofs.WorkedTrees.{least_constant}
+use Rattle.ob0_names.specs.Occurrences.{binds}
+use Rattle.ob0_names.specs.SeenNames.{sees}
+use Rattle.ob0_names.proofs.WorkedTrees.{least_constant}
 use Rattle.ob0_values.specs.Values.{number}
 use Rattle.ob0_typing.specs.ConstantValues.{value_of_constant}
 

@@ -2,8 +2,8 @@
 use Rattle.std.proofs.Common.{◌≡◌, negsuc, Some, refl}
 use Rattle.ob0_tree.specs.declared.tree.Sign.TheVariants as sign
 use Rattle.ob0_tree.specs.Tree.{compares, end, integer, none, parenthesised, product, sum}
-use Rattle.ob0_scope.specs.Inlining.{inlined, inlined_everywhere, only}
-use Rattle.ob0_scope.proofs.WorkedTrees.{least_constant, least_constant_gone, least_constant_inlined}
+use Rattle.ob0_names.specs.Inlining.{inlined, inlined_everywhere, only}
+use Rattle.ob0_names.proofs.WorkedTrees.{least_constant, least_constant_gone, least_constant_inlined}
 use Rattle.ob0_typing.specs.Written.{written_number}
 
 -- occurrence 2 is the use of c, whose ordinal is 7

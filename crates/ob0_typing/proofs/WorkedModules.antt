@@ -5,9 +5,9 @@ use Rattle.ob0_tree.specs.declared.tree.Sign.TheVariants as sign
 use Rattle.ob0_tree.specs.declared.tree.AddOperator.TheVariants as add_operator
 use Rattle.ob0_tree.specs.declared.tree.MultiplyOperator.TheVariants as multiply_operator
 use Rattle.ob0_tree.specs.Tree.{Tree, adds, array_type, assigns, begins, branches, calls, compares, declares, declares_constant, declares_constants, declares_procedure, declares_type, declares_types, declares_variable, declares_variables, designator, empty, end, field, has_body, index, integer, is_module, listed, module_text, more, multiplies, named_type, none, one, parenthesised, product, record_type, relates, repeat_loop, runs, some_arguments, some_fields, some_formals, sum, then_argument, then_fields, then_name, then_section, then_statement, value_section, variable_section}
-use Rattle.ob0_scope.specs.Names.{Name, as_names}
-use Rattle.ob0_scope.proofs.WorkedTrees.{alone}
-use Rattle.ob0_scope.specs.DeclaredOnce.{declared_once}
+use Rattle.ob0_names.specs.Names.{Name, as_names}
+use Rattle.ob0_names.proofs.WorkedTrees.{alone}
+use Rattle.ob0_names.specs.DeclaredOnce.{declared_once}
 use Rattle.ob0_typing.specs.WellTyped.{fits_over}
 
 -- MODULE M; VAR a: ARRAY 3 OF INTEGER; b: ARRAY 3 OF INTEGER; BEGIN a := b END M.

@@ -1,9 +1,9 @@
 -- What the constants of a module are worth. Of the names around a constant only constants count; other names hide them.
 use Rattle.std.specs.Prelude.{None, Option, Some, if◌then◌else◌, map, nat_lt, option_and_then, suc, ℕ, ◌++◌, ◌==◌, ◌∷◌}
 use Rattle.ob0_tree.specs.Tree.{Tree, block, constant, declares, declares_constant, declares_procedure, end, has_body, item, items, module_text, more, procedure}
-use Rattle.ob0_scope.specs.Names.{Name, as_names}
-use Rattle.ob0_scope.specs.Parts.{formal_names, formal_sections, module_block, named_types, procedure_name, section_constants, section_types, section_variables, variable_names}
-use Rattle.ob0_scope.specs.Scopes.{after_names, after_procedure, first_procedure, first_type}
+use Rattle.ob0_names.specs.Names.{Name, as_names}
+use Rattle.ob0_names.specs.Parts.{formal_names, formal_sections, module_block, named_types, procedure_name, section_constants, section_types, section_variables, variable_names}
+use Rattle.ob0_names.specs.Scopes.{after_names, after_procedure, first_procedure, first_type}
 use Rattle.ob0_values.specs.Values.{Value}
 use Rattle.ob0_typing.specs.Declarations.{declare_constants}
 use Rattle.ob0_typing.specs.Environments.{Environment, meanings, outermost}

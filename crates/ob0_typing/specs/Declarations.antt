@@ -1,8 +1,8 @@
 -- What declarations bind, in a checked module and in a run alike: constants and types; and how types are numbered.
 use Rattle.std.specs.Prelude.{ℕ, ◌+◌, ◌∷◌, Some, Option}
 use Rattle.ob0_tree.specs.Tree.{Tree, block, constant, declares, declares_constant, declares_procedure, declares_type, declares_variable, end, further_section, has_body, item, items, more, procedure, then_section, type_name, variable}
-use Rattle.ob0_scope.specs.Names.{Naming}
-use Rattle.ob0_scope.specs.Parts.{block_constants, block_types, block_variables, formal_sections, procedure_formals, section_type, section_types, section_variables}
+use Rattle.ob0_names.specs.Names.{Naming}
+use Rattle.ob0_names.specs.Parts.{block_constants, block_types, block_variables, formal_sections, procedure_formals, section_type, section_types, section_variables}
 use Rattle.ob0_typing.specs.Environments.{Environment, meanings}
 use Rattle.ob0_typing.specs.Expressions.{a_constant, a_type}
 use Rattle.ob0_typing.specs.Typing.{constant_value, constructors, denoted, ◌>>=◌}

@@ -1,12 +1,12 @@
 -- Laws of edits: what keeps a module well-typed.
 use Rattle.std.specs.Prelude.{All, IsTrue, Some, codes, false, true, ℕ, ◌≡◌, ◌≢◌}
 use Rattle.ob0_tree.specs.Tree.{Tree, factor, module_text}
-use Rattle.ob0_scope.specs.Elsewhere.{names_elsewhere}
-use Rattle.ob0_scope.specs.Inlining.{Uses, inlined, inlined_everywhere, module_without}
-use Rattle.ob0_scope.specs.Names.{Name, declared}
-use Rattle.ob0_scope.specs.Occurrences.{Free, binds}
-use Rattle.ob0_scope.specs.Scopes.{numbered, renamed}
-use Rattle.ob0_scope.specs.SeenNames.{sees}
+use Rattle.ob0_names.specs.Elsewhere.{names_elsewhere}
+use Rattle.ob0_names.specs.Inlining.{Uses, inlined, inlined_everywhere, module_without}
+use Rattle.ob0_names.specs.Names.{Name, declared}
+use Rattle.ob0_names.specs.Occurrences.{Free, binds}
+use Rattle.ob0_names.specs.Scopes.{numbered, renamed}
+use Rattle.ob0_names.specs.SeenNames.{sees}
 use Rattle.ob0_values.specs.Values.{Value, elements, fits, members, number, truth}
 use Rattle.ob0_typing.specs.ConstantValues.{value_of_constant}
 use Rattle.ob0_typing.specs.WellTyped.{WellTyped}

@@ -1,6 +1,6 @@
 -- Environments: what each visible name is bound to.
 use Rattle.std.specs.Prelude.{true, false, List, [], ◌∷◌, Some, None, Option}
-use Rattle.ob0_scope.specs.Names.{Naming}
+use Rattle.ob0_names.specs.Names.{Naming}
 use Rattle.ob0_typing.specs.Expressions.{Meanings, Object, a_constant, a_standard, a_type, reads, writes, writes_line}
 use Rattle.ob0_values.specs.Values.{boolean_shape, integer_shape, truth}
 

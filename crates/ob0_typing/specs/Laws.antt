@@ -1,13 +1,13 @@
 -- Laws of types, constants and evaluation.
 use Rattle.std.specs.Prelude.{◌≡◌, ℕ, suc, true, ◌↔◌, List, [], ◌∷◌, IsTrue, Some}
 use Rattle.ob0_tree.specs.Tree.{Tree, expression, factor, module_text, occurrences}
-use Rattle.ob0_scope.specs.Inlining.{Uses, inline_in}
-use Rattle.ob0_scope.specs.Names.{Name, as_labels, as_names}
-use Rattle.ob0_scope.specs.Scopes.{numbered}
+use Rattle.ob0_names.specs.Inlining.{Uses, inline_in}
+use Rattle.ob0_names.specs.Names.{Name, as_labels, as_names}
+use Rattle.ob0_names.specs.Scopes.{numbered}
 use Rattle.ob0_typing.specs.Expressions.{Meanings, a_constant, evaluate, evaluate_factor}
 use Rattle.ob0_typing.specs.Typing.{constant_of, constant_value, type_of, type_of_factor, value_type}
 use Rattle.ob0_values.specs.Values.{Place, Store, Value, gives}
-use Rattle.ob0_scope.specs.DeclaredOnce.{declared_once}
+use Rattle.ob0_names.specs.DeclaredOnce.{declared_once}
 use Rattle.ob0_typing.specs.WellTyped.{Mode, Typed, WellTyped, fits_over}
 
 -- a module fits by name exactly where its numbered tree fits by ordinal

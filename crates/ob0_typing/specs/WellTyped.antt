@@ -1,9 +1,9 @@
 -- Well-typed modules: typing judgements over names and environments.
 use Rattle.std.specs.Prelude.{ℕ, ◌+◌, Bool, true, false, ◌&&◌, List, [], ◌∷◌, ◌++◌, map, IsTrue, ◌==◌, Some, None, Option}
 use Rattle.ob0_tree.specs.Tree.{Tree, assigns, begins, block, body, branches, calls, declares, declares_procedure, declares_variable, else_branch, else_part, elsif_branch, elsif_part, empty, end, expression, further_section, further_statement, has_body, item, items, maybe, module_text, more, none, one, procedure, repeat_loop, runs, section, selector, sequence, statement, then_section, then_statement, value_section, variable, variable_section, while_loop}
-use Rattle.ob0_scope.specs.DeclaredOnce.{declared_once}
-use Rattle.ob0_scope.specs.Names.{Name, Naming, as_names, same_name}
-use Rattle.ob0_scope.specs.Parts.{formal_sections, module_block, names_listed, procedure_formals, procedure_name, section_names, section_type, section_variables}
+use Rattle.ob0_names.specs.DeclaredOnce.{declared_once}
+use Rattle.ob0_names.specs.Names.{Name, Naming, as_names, same_name}
+use Rattle.ob0_names.specs.Parts.{formal_sections, module_block, names_listed, procedure_formals, procedure_name, section_names, section_type, section_variables}
 use Rattle.ob0_typing.specs.Arguments.{arguments_listed}
 use Rattle.ob0_typing.specs.Declarations.{after_types, after_variables, declare_first, formals_constructors, procedure_constructors}
 use Rattle.ob0_typing.specs.Environments.{Environment, meanings, outermost}

@@ -1,7 +1,7 @@
 //! What is supposed of types and declarations while faults are told; each may be unknown, as a whole or in parts.
 
 ghost use Rattle.std.specs.Prelude.{◌≡◌, ◌∷◌, [], ◌++◌, ◌+◌, ◌*◌, map, max, IfOk, OnOk, option_map, slice_get, slice_index_or, None, Some};
-ghost use Rattle.ob0_scope.specs.Resolution.{span_at};
+ghost use Rattle.ob0_names.specs.Resolution.{span_at};
 ghost use Rattle.ob0_symbols.specs.declared.types.TypeId.TheVariants as type;
 ghost use Rattle.ob0_tree.specs.Places.{text_at};
 ghost use Rattle.ob0_reports.specs.Known.{a_procedure};
@@ -10,8 +10,8 @@ ghost use Rattle.ob0_reports.specs.SoFar.{define, is_within, make, no_scalar, on
 ghost use Rattle.ob0_reports.specs.SupposedFacts.{counted, declared_at, elements_of, field_of, meaning_of, parts_of, size_of, so_far_in};
 ghost use Rattle.ob0_reports.specs.WrittenTypeFaults.{array_size, beside, record_size};
 
+use ob0_names::{Resolved, token_span};
 use ob0_scan::{Code, Fault, Span};
-use ob0_scope::{Resolved, token_span};
 use ob0_symbols::{Formal, MOST_DEPTH, MOST_SCALARS, TypeId, text_at};
 use ob0_values::Scalar;
 use std::alloc::{AllocError, Global};

@@ -1,7 +1,7 @@
 //! Tells the faults of types as they are written, and finds what is known of them.
 
 ghost use Rattle.std.specs.Prelude.{◌≡◌, ◌∷◌, false, IfOk, OnOk, None, Some};
-ghost use Rattle.ob0_scope.specs.Names.{Name};
+ghost use Rattle.ob0_names.specs.Names.{Name};
 ghost use Rattle.ob0_symbols.specs.declared.types.TypeId.TheVariants as type;
 ghost use Rattle.ob0_tree.specs.Tree.{array_type, some_fields};
 ghost use Rattle.ob0_tree.specs.View.{expression_of, fields_of, further_fields_of_group, items_of, names_of, record_in, type_of};

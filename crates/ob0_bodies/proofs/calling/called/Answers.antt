@@ -1,7 +1,7 @@
 use Rattle.std.proofs.Common.{List, map, sym, subst}
 use Rattle.ob0_tree.specs.Tree.{Tree, expression}
 use Rattle.ob0_tree.specs.View.{arguments_of}
-use Rattle.ob0_scope.specs.Names.{Label}
+use Rattle.ob0_names.specs.Names.{Label}
 use Rattle.ob0_bindings.specs.InLabels.{in_labels, label_in}
 use Rattle.ob0_machine.specs.View.{argument_of}
 use Rattle.ob0_bodies.specs.LoweredBodies.{ArgumentsLower}

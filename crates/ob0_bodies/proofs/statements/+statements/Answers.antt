@@ -6,7 +6,7 @@ use Rattle.ob0_tree.specs.View.{else_in, elsif_of, expression_of, items_of, sequ
 use Rattle.ob0_tree.specs.declared.tree.Elsif.{Elsif}
 use Rattle.ob0_tree.specs.declared.tree.If.{out-If}
 use Rattle.ob0_tree.specs.declared.tree.Statement as written
-use Rattle.ob0_scope.specs.Names.{Label}
+use Rattle.ob0_names.specs.Names.{Label}
 use Rattle.ob0_bindings.specs.InLabels.{in_labels}
 use Rattle.ob0_machine.proofs.Viewed.{repeat_made, while_made}
 use Rattle.ob0_machine.specs.Lowered as lowered

@@ -1,7 +1,7 @@
 use Rattle.std.proofs.Common.{◌≡◌, ◌++◌, IfSome, Some, None, sym, ap, ◌∙◌, subst}
 use Rattle.ob0_tree.specs.declared.tree.Block.{Block}
 use Rattle.ob0_tree.specs.View.{block_of}
-use Rattle.ob0_scope.specs.Names.{as_labels}
+use Rattle.ob0_names.specs.Names.{as_labels}
 use Rattle.ob0_checker.specs.Checking.{Agrees, Decides, Keeps, KeepsAll}
 use Rattle.ob0_typing.specs.Declarations.{block_constructors}
 use Rattle.ob0_typing.specs.Environments.{outermost}

@@ -2,7 +2,7 @@ use Rattle.std.proofs.Common.{◌≡◌, ℕ, ◌+◌, ◌++◌, length, sym, ap
 use Rattle.ob0_tree.proofs.Viewed.{block_parts}
 use Rattle.ob0_tree.specs.declared.tree.Block.{out-Block}
 use Rattle.ob0_tree.specs.View.{block_of, items_of, procedure_of, types_of, variables_of}
-use Rattle.ob0_scope.specs.Parts.{section_types, section_variables}
+use Rattle.ob0_names.specs.Parts.{section_types, section_variables}
 use Rattle.ob0_typing.specs.Declarations.{block_constructors, procedures_constructors, types_constructors, variables_constructors}
 use Rattle.ob0_fields.specs.Identifiers.{declared_in, declared_in_procedures}
 use Rattle.ob0_fields.specs.Owned.{marked_types, marked_variables}

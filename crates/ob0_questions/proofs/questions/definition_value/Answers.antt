@@ -3,7 +3,7 @@ use Rattle.std.proofs.lemmas.Result.{IfOk-weaker}
 use Rattle.ob0_rpc.specs.Seen.{at_seen}
 use Rattle.ob0_scan.specs.declared.lexeme.Span.{Span}
 use Rattle.ob0_refs.specs.Questions.{definition_at}
-use Rattle.ob0_scope.specs.Resolution.{Resolution}
+use Rattle.ob0_names.specs.Resolution.{Resolution}
 use Rattle.ob0_questions.specs.Questions.{location_at, or_null}
 use Rattle.ob0_analysis.specs.declared.analysis.Asked.{Asked}
 use Rattle.ob0_results.proofs.Values.{view-Null}

@@ -8,7 +8,7 @@ use Rattle.ob0_rpc.specs.Shapes.{result_message}
 use Rattle.ob0_rpc.specs.Writing.{CanBeSent, Writes}
 use Rattle.ob0_scan.specs.declared.lexeme.Span.{Span}
 use Rattle.ob0_refs.specs.Questions.{AreReferencesAt}
-use Rattle.ob0_scope.specs.Resolution.{Resolution}
+use Rattle.ob0_names.specs.Resolution.{Resolution}
 use Rattle.ob0_questions.specs.Questions.{location_at}
 use Rattle.ob0_analysis.specs.declared.analysis.Asked.{Asked}
 use Rattle.ob0_results.proofs.Values.{view-Array}

@@ -1,7 +1,7 @@
 use Rattle.std.proofs.Common.{◌≡◌, ◌∙◌, ℕ, List, Option, ap, option_map, inl, inr, subst}
 use Rattle.std.proofs.lemmas.Result.{IfOk-weaker}
 use Rattle.ob0_scan.specs.declared.lexeme.Span.{Span}
-use Rattle.ob0_scope.specs.Resolution.{Resolution}
+use Rattle.ob0_names.specs.Resolution.{Resolution}
 use Rattle.ob0_questions.specs.Questions.{renamable_in, range_at, or_null}
 use Rattle.ob0_analysis.specs.declared.analysis.Asked.{Asked}
 use Rattle.ob0_results.proofs.Values.{view-Null}

@@ -4,7 +4,7 @@ use Rattle.ob0_refs.specs.Parts.{hover_in}
 use Rattle.ob0_refs.specs.Shown.{Shown}
 use Rattle.ob0_refs.specs.declared.answers.Hover.{Hover}
 use Rattle.ob0_refs.specs.Questions.{all_shown_at}
-use Rattle.ob0_scope.specs.Resolution.{Resolution}
+use Rattle.ob0_names.specs.Resolution.{Resolution}
 use Rattle.ob0_questions.specs.Questions.{hover_at, or_null}
 use Rattle.ob0_analysis.specs.declared.analysis.Asked.{Asked}
 use Rattle.ob0_results.proofs.Values.{view-Null}

@@ -4,8 +4,8 @@ use Rattle.ob0_text.specs.Units.{width_of}
 use Rattle.ob0_text.specs.declared.refusals.EditRefusal.TheVariants as refusal
 use Rattle.ob0_tree.specs.Parsed.{named_tree_of}
 use Rattle.ob0_tree.specs.Places.{text_at}
-use Rattle.ob0_scope.specs.Names.{Name, same_name}
-use Rattle.ob0_scope.specs.Resolution.{Resolution, span_at}
+use Rattle.ob0_names.specs.Names.{Name, same_name}
+use Rattle.ob0_names.specs.Resolution.{Resolution, span_at}
 use Rattle.ob0_types.specs.CheckedModules.{IsWellTyped}
 use Rattle.ob0_edits.specs.Ranges.{range_of}
 use Rattle.ob0_edits.specs.Replaced.{AreNames}

@@ -1,6 +1,6 @@
 use Rattle.std.proofs.Common.{[]}
 use Rattle.std.specs.List.{filter}
-use Rattle.ob0_scope.specs.Resolution.{is_of_occurrences}
+use Rattle.ob0_names.specs.Resolution.{is_of_occurrences}
 use Rattle.ob0_reports.proofs.Listed.{EachSoFar}
 use Rattle.ob0_reports.proofs.telling.unbound.Given as goal
 

@@ -1,9 +1,9 @@
 use Rattle.std.proofs.Common.{◌≡◌, ℕ, ◌<◌, ◌^◌, ap, ◌∙◌, subst, arith}
 use Rattle.ob0_tree.specs.Parsed.{named_tree_of}
 use Rattle.ob0_tree.specs.Tree.{Tree, module_text}
-use Rattle.ob0_scope.specs.Names.{Name, as_labels}
-use Rattle.ob0_scope.specs.Resolution.{Resolution}
-use Rattle.ob0_scope.specs.Scopes.{numbered}
+use Rattle.ob0_names.specs.Names.{Name, as_labels}
+use Rattle.ob0_names.specs.Resolution.{Resolution}
+use Rattle.ob0_names.specs.Scopes.{numbered}
 use Rattle.ob0_symbols.specs.KnownTables.{declared_in}
 use Rattle.ob0_bindings.specs.Bindings.{declared_object}
 use Rattle.ob0_typing.specs.WellTyped.{WellTyped}

@@ -1,7 +1,7 @@
 use Rattle.std.proofs.Common.{ap, ◌∙◌}
 use Rattle.std.proofs.lemmas.Result.{MatchResult-weaker}
 use Rattle.ob0_tree.specs.View.{block_of}
-use Rattle.ob0_scope.specs.Resolution.{Resolution}
+use Rattle.ob0_names.specs.Resolution.{Resolution}
 use Rattle.ob0_scope.specs.Searching.{found_in_block}
 use Rattle.ob0_scope.proofs.Searched.{namesake_found}
 use Rattle.ob0_scope.proofs.capturing.namesake.Goals as goal

@@ -2,7 +2,7 @@ use Rattle.std.proofs.Common.{Some, refl, ap, ◌∙◌}
 use Rattle.ob0_tree.specs.Parsed.{tree_of}
 use Rattle.ob0_scope.specs.Marking as listing
 use Rattle.ob0_scope.specs.Renames.{renamed_in}
-use Rattle.ob0_scope.specs.Resolution.{Resolution}
+use Rattle.ob0_names.specs.Resolution.{Resolution}
 use Rattle.ob0_scope.specs.Tabling.{Visit, started, visit_module}
 use Rattle.ob0_scope.proofs.Renumbered.{renumbered}
 use Rattle.ob0_scope.proofs.Tabled.{module_tabled}

@@ -1,10 +1,10 @@
 use Rattle.std.proofs.Common.{◌++◌, refl, ap, ◌∙◌}
 use Rattle.ob0_scope.specs.Marking as listing
-use Rattle.ob0_scope.specs.Resolution.{undeclared_at}
+use Rattle.ob0_names.specs.Resolution.{undeclared_at}
 use Rattle.ob0_tree.specs.Parsed.{tree_of}
 use Rattle.ob0_scope.specs.Tabling.{Visit, started, visit_module}
 use Rattle.ob0_scope.specs.Written.{as_in}
-use Rattle.ob0_scope.proofs.Bound.{resolution_made}
+use Rattle.ob0_scope.proofs.Made.{resolution_made}
 use Rattle.ob0_scope.proofs.Tabled.{module_tabled}
 use Rattle.ob0_scope.proofs.resolving.resolve.Goals as goal
 

@@ -1,6 +1,6 @@
 use Rattle.std.proofs.Common.{Some, option_map, sym, ap, ◌∙◌}
 use Rattle.ob0_tree.specs.Parsed.{Parsed}
-use Rattle.ob0_scope.specs.Resolution.{span_at, token_declaring}
+use Rattle.ob0_names.specs.Resolution.{span_at, token_declaring}
 use Rattle.ob0_shown.proofs.names.declared_at.Goals as goal
 
 pub returns-in-Some : goal.returns-in-Some

@@ -1,6 +1,6 @@
 use Rattle.std.proofs.Common.{map, ◌∙◌}
 use Rattle.std.proofs.lemmas.Result.{MatchResult-weaker}
-use Rattle.ob0_scope.specs.Resolution.{span_at}
+use Rattle.ob0_names.specs.Resolution.{span_at}
 use Rattle.ob0_shown.proofs.names.references_to.Goals as goal
 
 pub returns : goal.returns

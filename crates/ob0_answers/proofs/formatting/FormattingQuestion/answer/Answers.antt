@@ -1,5 +1,5 @@
 use Rattle.std.proofs.Common.{◌≡◌, ◌∙◌, Err, true, false, ap, sym}
-use Rattle.ob0_scope.specs.Resolution.{Resolution}
+use Rattle.ob0_names.specs.Resolution.{Resolution}
 use Rattle.ob0_answers.proofs.LaidOut.{formats, too_long}
 use Rattle.ob0_answers.proofs.formatting.FormattingQuestion.answer.Goals as goal
 

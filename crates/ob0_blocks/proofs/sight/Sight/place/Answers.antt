@@ -1,6 +1,6 @@
 use Rattle.std.proofs.Common.{◌≡◌, ◌+◌, ap, sym, ◌∙◌, subst, arith}
 use Rattle.ob0_tree.specs.Places.{text_at}
-use Rattle.ob0_scope.specs.Resolution.{ordinal_in}
+use Rattle.ob0_names.specs.Resolution.{ordinal_in}
 use Rattle.ob0_bindings.specs.InLabels.{label_in}
 use Rattle.ob0_symbols.specs.Tables.{mode_of}
 use Rattle.ob0_lowering.specs.Scenes.{site_at}

@@ -1,6 +1,6 @@
 use Rattle.std.proofs.Common.{refl}
 use Rattle.ob0_tree.specs.View.{names_of}
-use Rattle.ob0_scope.specs.Parts.{names_listed}
+use Rattle.ob0_names.specs.Parts.{names_listed}
 use Rattle.ob0_bindings.specs.InLabels.{in_labels}
 use Rattle.ob0_typing.specs.WellTyped.{by_value}
 use Rattle.ob0_blocks.specs.Placed.{declared_size, place_each, slots_at}

@@ -1,6 +1,6 @@
 use Rattle.std.proofs.Common.{IfOk, sym, subst}
 use Rattle.ob0_tree.specs.View.{variables_of}
-use Rattle.ob0_scope.specs.Parts.{section_variables}
+use Rattle.ob0_names.specs.Parts.{section_variables}
 use Rattle.ob0_bindings.specs.InLabels.{in_labels}
 use Rattle.ob0_blocks.specs.Placed as placed
 use Rattle.ob0_blocks.specs.Placed.{Places, declared_size, slots_at}

@@ -5,7 +5,7 @@ use Rattle.ob0_bindings.specs.InLabels.{in_labels}
 use Rattle.ob0_symbols.specs.Tables.{IsMade}
 use Rattle.ob0_checker.proofs.Declared.{Behind}
 use Rattle.ob0_checker.proofs.Sections.{section_made, section_none, section_some}
-use Rattle.ob0_scope.specs.Names.{Label}
+use Rattle.ob0_names.specs.Names.{Label}
 use Rattle.ob0_typing.specs.WellTyped.{TypeEnvironment, bind_typed}
 use Rattle.ob0_checker.proofs.KeptProcedures.{section_keeps}
 use Rattle.ob0_checker.proofs.deciding.Headed.section.Goals as goal

@@ -2,8 +2,8 @@ use Rattle.std.proofs.Common.{IfSome, Some, sym, ap, ◌∙◌, subst}
 use Rattle.ob0_tree.specs.declared.tree.Block.{out-Block}
 use Rattle.ob0_tree.specs.declared.tree.Procedure.{out-Procedure}
 use Rattle.ob0_tree.specs.View.{block_of, body_of, procedure_of}
-use Rattle.ob0_scope.specs.Names.{Label, as_labels}
-use Rattle.ob0_scope.specs.Parts.{procedure_name}
+use Rattle.ob0_names.specs.Names.{Label, as_labels}
+use Rattle.ob0_names.specs.Parts.{procedure_name}
 use Rattle.ob0_checker.specs.Checking.{Agrees, Decides, Declares, DeclaresHeading, Grows, Heading, Keeps, KeepsAll, KeepsHeading, parameters_in}
 use Rattle.ob0_bindings.specs.Declaring.{declare_block}
 use Rattle.ob0_typing.specs.Declarations.{block_constructors, procedure_constructors, procedures_constructors}

@@ -1,5 +1,5 @@
 use Rattle.std.proofs.Common.{◌≡◌, ℕ, Some, None, IfSome, [], ◌∷◌, ◌++◌, length, sym, ap, ◌∙◌, subst, arith}
-use Rattle.ob0_scope.specs.Resolution.{ordinal_in}
+use Rattle.ob0_names.specs.Resolution.{ordinal_in}
 use Rattle.ob0_symbols.specs.declared.known.Shadowed.{Shadowed}
 use Rattle.ob0_checker.specs.Checking.{Agrees, Keeps, Walking}
 use Rattle.ob0_symbols.specs.KnownTables.{declared_in, put_at, seen_object, shapes_of}

@@ -1,6 +1,6 @@
 use Rattle.std.proofs.Common.{sym, ap, ◌∙◌}
 use Rattle.ob0_tree.specs.View.{body_of, sequence_in}
-use Rattle.ob0_scope.specs.Names.{as_labels}
+use Rattle.ob0_names.specs.Names.{as_labels}
 use Rattle.ob0_bindings.specs.InLabels.{in_labels}
 use Rattle.ob0_symbols.specs.KnownTables.{known_meaning}
 use Rattle.ob0_typing.specs.WellTyped.{body_fits, sequence_fits}

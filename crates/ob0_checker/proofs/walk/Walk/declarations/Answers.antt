@@ -3,8 +3,8 @@ use Rattle.ob0_tree.proofs.Viewed.{block_parts}
 use Rattle.ob0_tree.specs.declared.tree.Block.{out-Block}
 use Rattle.ob0_tree.specs.Tree.{declares, has_body}
 use Rattle.ob0_tree.specs.View.{body_of, constants_of, items_of, procedure_of, types_of, variables_of}
-use Rattle.ob0_scope.specs.Names.{as_labels}
-use Rattle.ob0_scope.specs.Parts.{block_types, block_variables, section_constants, section_types, section_variables}
+use Rattle.ob0_names.specs.Names.{as_labels}
+use Rattle.ob0_names.specs.Parts.{block_types, block_variables, section_constants, section_types, section_variables}
 use Rattle.ob0_checker.specs.Checking.{Declares, Grows}
 use Rattle.ob0_bindings.specs.Declaring.{declare_block}
 use Rattle.ob0_typing.specs.Declarations.{declare_constants, declare_types, types_constructors, variables_constructors}

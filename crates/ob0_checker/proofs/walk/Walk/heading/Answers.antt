@@ -2,7 +2,7 @@ use Rattle.std.proofs.Common.{◌≡◌, ℕ, All, IfSome, Some, length, map, sy
 use Rattle.std.proofs.lemmas.List.Elements.{All-map}
 use Rattle.ob0_tree.specs.declared.tree.Procedure.{out-Procedure}
 use Rattle.ob0_tree.specs.View.{formals_of}
-use Rattle.ob0_scope.specs.Parts.{formal_sections}
+use Rattle.ob0_names.specs.Parts.{formal_sections}
 use Rattle.ob0_symbols.specs.declared.known.Formal as formal
 use Rattle.ob0_checker.specs.declared.walk.Parameter.{Parameter}
 use Rattle.ob0_checker.specs.Checking.{DeclaresSections, Heading, KeepsParameters}

@@ -1,7 +1,7 @@
 use Rattle.std.proofs.Common.{sym, subst, IfOk, IfSome, Some}
 use Rattle.ob0_tree.specs.View.{variables_of, variable_of, items_of}
-use Rattle.ob0_scope.specs.Names.{as_labels}
-use Rattle.ob0_scope.specs.Parts.{section_variables}
+use Rattle.ob0_names.specs.Names.{as_labels}
+use Rattle.ob0_names.specs.Parts.{section_variables}
 use Rattle.ob0_checker.specs.Checking.{Declares, Grows}
 use Rattle.ob0_typing.specs.Declarations.{variables_constructors}
 use Rattle.ob0_bindings.specs.InLabels.{in_labels}

@@ -2,7 +2,7 @@ use Rattle.std.proofs.Common.{◌≡◌, ℕ, ◌+◌, ◌++◌, IfOk, Result, O
 use Rattle.ob0_tree.proofs.Viewed.{block_parts}
 use Rattle.ob0_tree.specs.declared.tree.Block.{out-Block}
 use Rattle.ob0_tree.specs.View.{block_of, body_of, items_of, procedure_of, types_of, variables_of}
-use Rattle.ob0_scope.specs.Parts.{section_types, section_variables}
+use Rattle.ob0_names.specs.Parts.{section_types, section_variables}
 use Rattle.ob0_typing.specs.Declarations.{block_constructors, procedures_constructors, types_constructors, variables_constructors}
 use Rattle.ob0_fields.specs.Owned.{marked, marked_block, marked_procedures, marked_types, marked_variables}
 use Rattle.ob0_fields.specs.Walk.{meaning_in}

@@ -4,7 +4,7 @@ use Rattle.ob0_tree.proofs.Viewed.{block_parts}
 use Rattle.ob0_tree.specs.declared.tree.Block.{out-Block}
 use Rattle.ob0_tree.specs.declared.tree.Procedure.{out-Procedure}
 use Rattle.ob0_tree.specs.View.{block_of, body_of, constants_of, items_of, procedure_of, types_of, variables_of}
-use Rattle.ob0_scope.specs.Parts.{section_types, section_variables}
+use Rattle.ob0_names.specs.Parts.{section_types, section_variables}
 use Rattle.ob0_reports.specs.DeclarationFaults.{behind_heading, told_block, told_body, told_procedures, told_types, told_variables}
 use Rattle.ob0_reports.specs.Operations.{◌>>=◌}
 use Rattle.ob0_reports.specs.SupposedFacts.{so_far_in}

@@ -1,6 +1,6 @@
 use Rattle.std.proofs.Common.{sym, ap, ◌∙◌}
 use Rattle.std.proofs.lemmas.Result.{on_ok_weaker}
-use Rattle.ob0_scope.specs.Parts.{formal_sections}
+use Rattle.ob0_names.specs.Parts.{formal_sections}
 use Rattle.ob0_tree.specs.View.{formals_of, further_section_of, items_of}
 use Rattle.ob0_reports.specs.DeclarationFaults.{told_sections}
 use Rattle.ob0_reports.specs.SupposedFacts.{heading_in}

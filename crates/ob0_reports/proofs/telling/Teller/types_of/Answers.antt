@@ -1,5 +1,5 @@
 use Rattle.std.proofs.Common.{sym, ap, ◌∙◌}
-use Rattle.ob0_scope.specs.Parts.{section_types}
+use Rattle.ob0_names.specs.Parts.{section_types}
 use Rattle.ob0_tree.specs.View.{types_of}
 use Rattle.ob0_reports.specs.DeclarationFaults.{told_types}
 use Rattle.ob0_reports.specs.SupposedFacts.{so_far_in}

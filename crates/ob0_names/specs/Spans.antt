@@ -1,0 +1,17 @@
+-- Where tokens stand.
+use Rattle.std.specs.Prelude.{ℕ, Bool, nat_le, ◌&&◌, Option, Some, None, slice_get}
+use Rattle.ob0_scan.specs.declared.lexeme.Span.{Span}
+use Rattle.ob0_scan.specs.declared.lexeme.Token.{Token}
+use Rattle.ob0_scan.specs.Scanned.{Scanned}
+
+-- where a token stands: at the text's start where there is no such token
+abbrev pub span_in : Option Token → Span
+span_in None = record { start = 0; end = 0 }
+span_in (Some t) = t.span
+
+abbrev pub span_at : Scanned → ℕ → Span
+span_at source token = span_in (slice_get source.tokens token)
+
+-- a place is on what has this span: in it or at its end
+abbrev pub is_on : ℕ → Span → Bool
+is_on offset span = nat_le span.start offset && nat_le offset span.end

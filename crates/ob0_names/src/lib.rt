@@ -1,0 +1,9 @@
+//! The names of a module and the scopes of Oberon-0: which declaration each name is bound to, renaming and inlining, as
+//! definitions with their laws; and what is known of a module's names once they are resolved.
+#![tactic(auto)]
+
+mod resolved;
+mod table;
+
+pub use resolved::{PREDECLARED, Resolved};
+pub use table::{ordinal_at, token_span};
