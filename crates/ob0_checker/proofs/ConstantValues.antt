@@ -2,7 +2,7 @@
 use Rattle.std.proofs.Common.{◌≡◌, [], Option, Some, None, option_and_then, option_map, refl, sym, ap, ◌∙◌, true}
 use Rattle.ob0_tree.specs.Tree.{Tree, expression}
 use Rattle.ob0_names.specs.Names.{Label}
-use Rattle.ob0_checker.specs.Constants.{constants_in}
+use Rattle.ob0_checker.specs.Constants.{constants_in, meaning_in}
 use Rattle.ob0_typing.specs.Expressions.{a_constant, evaluate}
 use Rattle.ob0_symbols.specs.KnownTables.{Tables, known_meaning, label_object}
 use Rattle.ob0_typing.specs.Typing.{constant_of, constant_value, constants_only, given_value, object_type, type_of}

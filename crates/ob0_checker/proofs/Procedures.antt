@@ -8,7 +8,7 @@ use Rattle.ob0_tree.specs.Places.{value_at}
 use Rattle.ob0_tree.specs.Tree.{Tree, block, body, constants, declares, declares_procedure, end, formals, has_body, item, items, maybe, more, procedure, type_names, variables}
 use Rattle.ob0_tree.specs.View.{block_of, body_of, constants_of, formals_of, items_of, procedure_of, types_of, variables_of}
 use Rattle.ob0_tree.specs.declared.tree.Block.{Block, out-Block}
-use Rattle.ob0_tree.proofs.Viewed.{block_parts, procedure_made}
+use Rattle.ob0_tree.proofs.Viewed.{block_parts}
 use Rattle.ob0_names.specs.Names.{Label, as_labels}
 use Rattle.ob0_names.specs.Parts.{block_types, block_variables, formal_sections, procedure_formals, procedure_name, section_constants, section_types, section_variables}
 use Rattle.ob0_names.specs.Resolution.{Resolution}

@@ -1,8 +1,8 @@
 -- The walk over declarations: what is in sight at each place of a module is what its environment there says.
-use Rattle.std.specs.Prelude.{◌≡◌, ℕ, ◌+◌, ◌≤◌, Bool, List, ◌++◌, map, length, if◌then◌else◌, IfSome, is_some, Some, None, Option, option_map}
-use Rattle.ob0_tree.specs.Tree.{Tree, block, further_section, item, items, procedure, section}
-use Rattle.ob0_names.specs.Names.{Label, Naming, as_labels, declared}
-use Rattle.ob0_names.specs.Parts.{block_variables, procedure_formals, procedure_name, section_names, section_type}
+use Rattle.std.specs.Prelude.{◌≡◌, ℕ, ◌+◌, ◌≤◌, Bool, List, ◌++◌, map, length, IfSome, is_some, Some, None, Option, option_map}
+use Rattle.ob0_tree.specs.Tree.{Tree, further_section, item, items, procedure, section}
+use Rattle.ob0_names.specs.Names.{Label, as_labels, declared}
+use Rattle.ob0_names.specs.Parts.{procedure_formals, procedure_name, section_names, section_type}
 use Rattle.ob0_names.specs.Resolution.{Resolution}
 use Rattle.ob0_symbols.specs.declared.known.Shadowed.{Shadowed}
 use Rattle.ob0_checker.specs.declared.walk.Parameter.{Parameter}

@@ -1,11 +1,7 @@
--- What is answered of a name: what it is a name of, where that is declared, and where it is named.
-use Rattle.std.specs.Prelude.{ℕ, Bool, nat_lt, if◌then◌else◌, List, [], Option, Some, None, map, option_map}
-use Rattle.ob0_scan.specs.declared.lexeme.Span.{Span}
-use Rattle.ob0_tree.specs.Parsed.{Parsed, tree_of}
-use Rattle.ob0_tree.specs.Tree.{identifiers}
-use Rattle.ob0_tree.specs.declared.tree.Role.TheVariants as role
-use Rattle.ob0_names.specs.Resolution.{declaring_only, span_at, token_declaring}
-use Rattle.ob0_scope.specs.Standing.{tokens_bound}
+-- What is answered of a name: where it stands, and what it is a name of.
+use Rattle.std.specs.Prelude.{ℕ, nat_lt, if◌then◌else◌}
+use Rattle.ob0_tree.specs.Parsed.{Parsed}
+use Rattle.ob0_names.specs.Resolution.{span_at}
 use Rattle.ob0_scope.specs.declared.naming.Named as named
 use Rattle.ob0_refs.specs.declared.answers.At as told
 use Rattle.ob0_refs.specs.declared.answers.Of as of

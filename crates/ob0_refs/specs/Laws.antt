@@ -3,9 +3,7 @@ use Rattle.std.specs.Prelude.{◌≡◌, ℕ, true, Some, None, map, is_some}
 use Rattle.std.specs.List.{Contains}
 use Rattle.ob0_scan.specs.declared.lexeme.Span.{Span}
 use Rattle.ob0_tree.specs.Places.{text_at}
-use Rattle.ob0_tree.specs.Tree.{Tree, block, declares, declares_procedure, end, has_body, identifiers, item, items, more, procedure}
-use Rattle.ob0_names.specs.Parts.{formal_names, formal_sections, module_block}
-use Rattle.ob0_names.specs.Resolution.{Resolution, declaring_only, span_at, token_declaring}
+use Rattle.ob0_names.specs.Resolution.{Resolution, span_at}
 use Rattle.ob0_scope.specs.Standing.{name_on}
 use Rattle.ob0_fields.specs.Identifiers.{field_at, field_tokens}
 use Rattle.ob0_types.specs.CheckedModules.{IsWellTyped}

@@ -1,13 +1,8 @@
 -- What is shown of the name at a place: what its declaration binds it to.
 use Rattle.std.specs.Prelude.{ℕ, List, Option, option_map, option_and_then}
 use Rattle.ob0_scan.specs.declared.lexeme.Span.{Span}
-use Rattle.ob0_tree.specs.declared.tree.Role.TheVariants as role
-use Rattle.ob0_tree.specs.Parsed.{Parsed, named_tree_of, tree_of}
-use Rattle.ob0_tree.specs.Places.{text_at}
-use Rattle.ob0_tree.specs.Tree.{identifiers}
-use Rattle.ob0_names.specs.Names.{Name}
-use Rattle.ob0_names.specs.Resolution.{declaring_only, span_at}
-use Rattle.ob0_shown.specs.Hovers.{Parameter, constant_text, named_type_text, predeclared_text, procedure_text, type_text, variable_text}
+use Rattle.ob0_tree.specs.Parsed.{Parsed, named_tree_of}
+use Rattle.ob0_names.specs.Resolution.{span_at}
 use Rattle.ob0_scope.specs.Standing.{name_on}
 use Rattle.ob0_scope.specs.declared.naming.Named as named
 use Rattle.ob0_bindings.specs.Bindings.{declared_object}

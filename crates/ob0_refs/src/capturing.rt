@@ -1,16 +1,13 @@
 //! Where another name for a declaration isn't free.
 
 ghost use Rattle.std.specs.Prelude.{◌≡◌, IfOk, option_map};
-ghost use Rattle.ob0_names.specs.Occurrences.{at_occurrence};
-ghost use Rattle.ob0_scope.specs.Renames.{place_of};
 ghost use Rattle.ob0_refs.specs.Parts.{capture_at};
-ghost use Rattle.ob0_shown.specs.Captured.{capture_span, captured_span};
+ghost use Rattle.ob0_shown.specs.Captured.{captured_span};
 
 use crate::answers::Capture;
-use crate::names::declared_at;
-use ob0_names::{Resolved, token_span};
-use ob0_scan::Span;
-use ob0_scope::{Capture as Captured, captures as first_capture};
+use ob0_names::Resolved;
+use ob0_scope::captures as first_capture;
+use ob0_shown::capture_span;
 use std::alloc::{AllocError, Global};
 
 /// Where another name for a declaration isn't free: the identifier that declares it, where another declaration of its

@@ -11,12 +11,11 @@ ghost use Rattle.ob0_refs.specs.FieldParts.{selection_on};
 use crate::answers::Hover;
 use crate::hovering::hover as hover_name;
 use crate::names::is_on;
-use crate::selecting::Selection;
-use crate::selections::selections_by;
-use crate::typing::type_text;
-use ob0_names::{Resolved, token_span};
 use ob0_scan::Tokens;
-use ob0_symbols::{Known, TypeId, text_at};
+use ob0_names::{Resolved, token_span};
+use ob0_selections::{Selection, declared_by, selections_by};
+use ob0_shown::field_line;
+use ob0_symbols::{Known, text_at};
 use ob0_types::WellTyped;
 use std::alloc::{AllocError, Global};
 

@@ -1,16 +1,13 @@
 //! What is answered of a name: where it stands, and what it is a name of.
 
-ghost use Rattle.std.specs.Prelude.{◌≡◌, IfOk, map};
-ghost use Rattle.ob0_names.specs.Resolution.{span_at};
+ghost use Rattle.std.specs.Prelude.{◌≡◌};
 ghost use Rattle.ob0_names.specs.Spans.{is_on};
 ghost use Rattle.ob0_refs.specs.Answered.{at_name, of_ordinal};
-ghost use Rattle.ob0_shown.specs.Places.{declared_at, references_to};
 
 use crate::answers::{At, Of};
+use ob0_scan::Span;
 use ob0_names::{PREDECLARED, Resolved, token_span};
-use ob0_scan::{Span, Tokens};
-use ob0_scope::{Named, tokens_bound};
-use std::alloc::{AllocError, Global};
+use ob0_scope::Named;
 
 /// Where a name stands, and what it is a name of.
 pub(crate) fn at_name(names: &Resolved, name: Named) -> At

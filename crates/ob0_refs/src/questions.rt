@@ -4,10 +4,11 @@ ghost use Rattle.std.specs.Prelude.{◌≡◌, IfOk, Some};
 ghost use Rattle.ob0_refs.specs.Questions.{AreReferencesAt, at_field, definition_at, field_declared, field_named_at, field_references, index_of, stands_at, without};
 
 use crate::answers::{At, Of};
-use crate::names::{at_name, declared_at, references_to, spans_of};
-use ob0_names::token_span;
+use crate::names::at_name;
 use ob0_scan::Span;
+use ob0_names::token_span;
 use ob0_scope::name_at;
+use ob0_shown::{declared_at, references_to, spans_of};
 use ob0_symbols::text_at;
 use ob0_types::{WellTyped, declaring_field, field_at, field_place, field_tokens};
 use std::alloc::{AllocError, Global};

@@ -2,9 +2,7 @@
 -- parameter; by what this declares it is known what type the RECORD is, and its field is what the field's name selects.
 use Rattle.std.specs.Prelude.{ℕ, List, [], ◌∷◌, ◌++◌, Option, Some, None, option_and_then}
 use Rattle.ob0_names.specs.Parts.{names_listed}
-use Rattle.ob0_names.specs.Resolution.{Resolution}
-use Rattle.ob0_selections.specs.Selections.{Selected, noted, token_meaning}
-use Rattle.ob0_tree.specs.Parsed.{named_tree_of, tree_of}
+use Rattle.ob0_selections.specs.Selections.{Selected, noted}
 use Rattle.ob0_tree.specs.Tree.{Sort, Tree, names, adds, array_type, assigns, begins, branches, calls, compares, declares, declares_constant, declares_constants, declares_procedure, declares_type, declares_types, declares_variable, declares_variables, designator, else_branch, elsif_branch, empty, end, field, has_body, index, integer, is_module, listed, more, multiplies, named_type, negation, no_arguments, no_fields, no_formals, none, one, parenthesised, product, record_type, relates, repeat_loop, runs, some_arguments, some_fields, some_formals, sum, then_argument, then_fields, then_name, then_section, then_statement, value_section, variable_section, while_loop}
 use Rattle.ob0_typing.specs.Typing.{type_declared, element_type, field_type}
 use Rattle.ob0_typing.specs.Expressions.{Meanings}

@@ -7,7 +7,6 @@ use Rattle.ob0_names.specs.Names.{Name}
 use Rattle.ob0_names.specs.Occurrences.{Capture, at_declaration, at_occurrence, first_captured}
 use Rattle.ob0_names.specs.Resolution.{span_at}
 use Rattle.ob0_shown.specs.Places.{declared_at}
-use Rattle.ob0_refs.specs.declared.answers.Capture as told
 
 -- the identifier that declares d, or an occurrence by its number
 abbrev pub capture_span : Parsed → ℕ → Capture → Option Span

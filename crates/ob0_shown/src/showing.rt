@@ -8,7 +8,7 @@ ghost use Rattle.ob0_tree.specs.declared.tree.Role.TheVariants as role;
 ghost use Rattle.ob0_names.specs.Resolution.{declaring_only};
 ghost use Rattle.ob0_shown.specs.Parts.{object_of, signature_in};
 ghost use Rattle.ob0_shown.specs.Declarations.{declaration_shown, name_shown, names_behind, object_shown, parameter_shown, parameters_shown};
-ghost use Rattle.ob0_shown.specs.Hovers.{named_type_text, procedure_text, type_text, variable_text};
+ghost use Rattle.ob0_shown.specs.Hovers.{field_text, named_type_text, procedure_text, type_text, variable_text};
 ghost use Rattle.ob0_shown.specs.Parameters.{parameter_in};
 ghost use Rattle.ob0_symbols.specs.KnownTables.{declared_in, shapes_of};
 ghost use Rattle.ob0_symbols.specs.Tables.{formal_in, type_shape};
@@ -17,8 +17,8 @@ use crate::hovers::{
     Parameter, constant_text, named_type_text, predeclared_text, procedure_text, variable_text,
 };
 use crate::typing::type_text;
-use ob0_names::{PREDECLARED, Resolved};
 use ob0_scan::Tokens;
+use ob0_names::{PREDECLARED, Resolved};
 use ob0_scope::Named;
 use ob0_symbols::{Formal, Known, Object, TypeId, text_at};
 use std::alloc::{AllocError, Global};
