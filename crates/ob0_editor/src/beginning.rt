@@ -1,13 +1,15 @@
 //! How an editor begins.
-ghost use Rattle.std.specs.Prelude.{◌≡◌, Some, IfOk};
-ghost use Rattle.serde_json.specs.View.{view};
+ghost use Rattle.std.specs.Prelude.{◌≡◌, Some, IfOk, OnOk, codes};
+ghost use Rattle.serde_json.specs.View.{view, members_view};
+ghost use Rattle.ob0_text.specs.declared.positions.Unit.TheVariants.{Utf16, Utf8};
 ghost use Rattle.ob0_rpc.specs.Messages.{Reads};
 ghost use Rattle.ob0_editor.specs.Beginning.{actions_taken, versions_taken, utf8_offered, capabilities_for, initialize_message};
-ghost use Rattle.serde_json.specs.Data.{object};
+ghost use Rattle.serde_json.specs.Data.{object, member, no_members, put as with_member};
 
+use crate::members::{put_method, put_text};
 use crate::writing::content_of;
 use ob0_text::Unit;
-use serde_json::{Value, json};
+use serde_json::{Map, Value, json, put};
 use std::alloc::{AllocError, Global};
 
 /// The request that begins a conversation, of an editor that takes edits of versioned documents and code actions that
@@ -22,22 +24,58 @@ pub fn initialize(alloc: Global, unit: Unit) -> Result<Vec<u8>, AllocError>
 fn initialize_value(alloc: Global, unit: Unit) -> Result<Value, AllocError>
     ensures { IfOk result (λ v. view v ≡ initialize_message unit) }
 {
+    let params = capabilities_offered(alloc, unit)?;
+    let mut members = Map::new(alloc);
+    put(&mut members, alloc, "params", params)?;
+    put_text(&mut members, alloc, "id", "initialize")?;
+    put_method(&mut members, alloc, "initialize")?;
+    Ok(Value::Object(members))
+}
+
+fn capabilities_offered(alloc: Global, unit: Unit) -> Result<Value, AllocError>
+    ensures { IfOk result (λ v. view v ≡ object (member (codes "capabilities") (object (capabilities_for unit)) no_members)) }
+{
     let capabilities = capabilities(alloc, unit)?;
-    json!(in alloc; {"id": "initialize", "jsonrpc": "2.0", "method": "initialize", "params": {"capabilities": capabilities}})
+    let mut members = Map::new(alloc);
+    put(&mut members, alloc, "capabilities", capabilities)?;
+    Ok(Value::Object(members))
 }
 
 fn capabilities(alloc: Global, unit: Unit) -> Result<Value, AllocError>
     ensures { IfOk result (λ v. view v ≡ object (capabilities_for unit)) }
 {
-    let document = document_support(alloc)?;
-    let workspace = workspace_support(alloc)?;
     match unit {
-        Unit::Utf16 => json!(in alloc; {"textDocument": document, "workspace": workspace}),
-        Unit::Utf8 => {
-            let general = general_support(alloc)?;
-            json!(in alloc; {"general": general, "textDocument": document, "workspace": workspace})
-        }
+        Unit::Utf16 => capabilities_in_utf16(alloc),
+        Unit::Utf8 => capabilities_in_utf8(alloc),
     }
+}
+
+fn capabilities_in_utf16(alloc: Global) -> Result<Value, AllocError>
+    ensures { IfOk result (λ v. view v ≡ object (capabilities_for Utf16)) }
+{
+    let mut members = Map::new(alloc);
+    put_supports(&mut members, alloc)?;
+    Ok(Value::Object(members))
+}
+
+fn capabilities_in_utf8(alloc: Global) -> Result<Value, AllocError>
+    ensures { IfOk result (λ v. view v ≡ object (capabilities_for Utf8)) }
+{
+    let general = general_support(alloc)?;
+    let mut members = Map::new(alloc);
+    put(&mut members, alloc, "general", general)?;
+    put_supports(&mut members, alloc)?;
+    Ok(Value::Object(members))
+}
+
+fn put_supports(members: &mut Map<String, Value>, alloc: Global) -> Result<(), AllocError>
+    ensures { OnOk result (members_view members.new.entries ≡ with_member (codes "workspace") versions_taken
+        (with_member (codes "textDocument") actions_taken (members_view members.old.entries))) }
+{
+    let document = document_support(alloc)?;
+    put(members, alloc, "textDocument", document)?;
+    let workspace = workspace_support(alloc)?;
+    put(members, alloc, "workspace", workspace)
 }
 
 fn document_support(alloc: Global) -> Result<Value, AllocError>

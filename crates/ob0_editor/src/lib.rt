@@ -6,6 +6,7 @@ mod asks;
 mod beginning;
 mod documents;
 mod editor;
+mod members;
 mod reading;
 mod texts;
 mod writing;
