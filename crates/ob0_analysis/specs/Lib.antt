@@ -3,3 +3,4 @@ pub mod Diagnosed
 pub mod RunsKept
 pub mod Texts
 pub mod Pieces
+pub use Rattle.ob0_types.specs.CheckedModules

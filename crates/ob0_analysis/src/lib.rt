@@ -9,3 +9,4 @@ mod differences;
 pub use analysis::{Asked, Question, ask};
 pub use diagnoses::Diagnosis;
 pub use diagnosing::{diagnose, diagnose_again};
+pub use ob0_types::{WellTyped, declaring_field, field_at, field_tokens};

@@ -15,14 +15,13 @@ ghost use Rattle.ob0_offers.specs.Inlinings.{Inlines};
 ghost use Rattle.ob0_answers.specs.Actions.{AnswersActions, FindsInlinings, IsOffered, action_of, action_values, actions_asked, actions_value, allows_inlining as allows, is_of_kind as of_kind, place_of as place_in, title, wants_inlining as wants};
 ghost use Rattle.ob0_offers.specs.declared.inlining.Inlining.TheVariants as how;
 
-use ob0_analysis::{Asked, Question, ask};
+use ob0_analysis::{Asked, Question, WellTyped, ask};
 use ob0_inline::{inline_all, inline_here};
 use ob0_offers::Inlining;
 use ob0_results::writing::{DocumentEdits, write_action};
 use ob0_rpc::{Client, Id, Written, result, result_of, write_comma, write_piece};
 use ob0_scan::Tokens;
 use ob0_text::{Edit, EditRefusal, Position, Range, TextStore};
-use ob0_types::WellTyped;
 use serde_json::Value;
 use std::alloc::{AllocError, Global};
 

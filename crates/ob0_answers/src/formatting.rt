@@ -8,7 +8,7 @@ ghost use Rattle.ob0_analysis.specs.Analysed.{IsModuleIn};
 ghost use Rattle.ob0_analysis.specs.Texts.{utf8};
 ghost use Rattle.ob0_answers.specs.Formatted.{AnswersFormatting, Formats};
 
-use ob0_analysis::{Asked, Question, ask};
+use ob0_analysis::{Asked, Question, WellTyped, ask};
 use ob0_layout::format;
 use ob0_layout::laws::{gaps_make_the_layout, lexemes_stay, module_stays};
 use ob0_results::results::{refused, refused_ill_typed};
@@ -16,7 +16,6 @@ use ob0_results::writing::Edits;
 use ob0_rpc::{Id, result_of};
 use ob0_scan::Tokens;
 use ob0_text::{Edit, EditRefusal, Indent, TextStore};
-use ob0_types::WellTyped;
 use std::alloc::{AllocError, Global};
 
 /// How the text in a store is to be laid out.

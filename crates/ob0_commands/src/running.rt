@@ -15,9 +15,8 @@ use crate::checking::check;
 use crate::faults::{Fault, tell_fault};
 use crate::numbers::read_numbers;
 use crate::printing::{Output, print};
-use ob0_analysis::{Asked, Question, ask};
+use ob0_analysis::{Asked, Question, WellTyped, ask};
 use ob0_run::{End, Item, Outcome, run};
-use ob0_types::WellTyped;
 use std::alloc::{AllocError, Global};
 use std::io::Read;
 

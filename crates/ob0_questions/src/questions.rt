@@ -11,7 +11,7 @@ ghost use Rattle.ob0_refs.specs.Questions.{AreReferencesAt, all_shown_at, defini
 ghost use Rattle.ob0_questions.specs.Questions.{AnswersName, can_be_renamed, hover_at, renamable_in, location_at, range_at, or_null};
 ghost use Rattle.ob0_questions.specs.declared.questions.NameQuestion.TheVariants.{Hover, Definition, References, PrepareRename};
 
-use ob0_analysis::{Asked, Question, ask};
+use ob0_analysis::{Asked, Question, WellTyped, ask};
 use ob0_edits::ranges;
 use ob0_refs::{Of, at, definition, hover, references};
 use ob0_results::results::{hover_value, location_value, range_value};
@@ -19,7 +19,6 @@ use ob0_results::writing::Locations;
 use ob0_rpc::{Id, Place, result, result_of};
 use ob0_scan::{Span, Tokens};
 use ob0_text::TextStore;
-use ob0_types::WellTyped;
 use serde_json::Value;
 use std::alloc::{AllocError, Global};
 

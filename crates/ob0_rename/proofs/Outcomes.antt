@@ -21,7 +21,7 @@ use Rattle.ob0_names.specs.Resolution.{IsResolution, Resolution}
 use Rattle.ob0_names.specs.Scopes.{renamed}
 use Rattle.ob0_scope.specs.declared.capturing.Capture as told
 use Rattle.ob0_scope.specs.declared.capturing.Capture.TheVariants as tells
-use Rattle.ob0_types.specs.CheckedModules.{IsWellTyped}
+use Rattle.ob0_analysis.specs.CheckedModules.{IsWellTyped}
 use Rattle.ob0_typing.specs.WellTyped.{WellTyped}
 use Rattle.ob0_semantics.specs.EditLaws.{FreeKeepsModules, SameRuns}
 use Rattle.ob0_edits.specs.Changed.{at_each, changed, words_of}

@@ -16,6 +16,7 @@ ghost use Rattle.ob0_rename.specs.Renaming.{declaring_token, is_declared_as};
 
 use crate::fields::{field_named_at, rename_field};
 use crate::places::{token_range, tokens_renamed};
+use ob0_analysis::WellTyped;
 use ob0_edits::edits_for;
 use ob0_edits::laws::{names_stand_for_names, renamed_words_spell};
 use ob0_names::{PREDECLARED, Resolved};
@@ -23,7 +24,6 @@ use ob0_scan::is_identifier;
 use ob0_scope::{Capture, captures, name_at};
 use ob0_semantics::laws::free_keeps_modules;
 use ob0_text::{Edit, EditRefusal, Position, TextStore};
-use ob0_types::WellTyped;
 use std::alloc::Global;
 
 /// The edits that write `new` for the declaration or the field that is named at a place, in text order: one for each

@@ -5,10 +5,9 @@ ghost use Rattle.std.specs.Str.{chars};
 ghost use Rattle.ob0_rename.specs.InTexts.{FindsNewName, Settles, renaming_of};
 
 use crate::renaming::rename;
-use ob0_analysis::{Asked, Question, ask};
+use ob0_analysis::{Asked, Question, WellTyped, ask};
 use ob0_scan::Tokens;
 use ob0_text::{Edit, EditRefusal, Position, TextStore};
-use ob0_types::WellTyped;
 use std::alloc::{AllocError, Global};
 
 /// Another name for what is named at a place of the text in a store.

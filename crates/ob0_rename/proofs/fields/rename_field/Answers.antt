@@ -6,7 +6,7 @@ use Rattle.ob0_tree.specs.Parsed.{named_tree_of}
 use Rattle.ob0_tree.specs.Places.{text_at}
 use Rattle.ob0_names.specs.Names.{Name, same_name}
 use Rattle.ob0_names.specs.Resolution.{Resolution, span_at}
-use Rattle.ob0_types.specs.CheckedModules.{IsWellTyped}
+use Rattle.ob0_analysis.specs.CheckedModules.{IsWellTyped}
 use Rattle.ob0_edits.specs.Ranges.{range_of}
 use Rattle.ob0_edits.specs.Replaced.{AreNames}
 use Rattle.ob0_field_laws.specs.Renaming.{FieldFree}
