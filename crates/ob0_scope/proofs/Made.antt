@@ -1,8 +1,7 @@
 -- A module that was gone through, with the table of its marks and its faults, is resolved.
-use Rattle.std.proofs.Common.{◌≡◌, ℕ, Bool, true, false, not, ◌||◌, Option, Some, None, List, [], ◌∷◌, ◌++◌, map, length, refl, sym, ap, ◌∙◌, subst, option_map, option_and_then, is_some, slice_get, if◌then◌else◌, le_refl, replicate, ◌≤◌}
+use Rattle.std.proofs.Common.{◌≡◌, ℕ, Bool, true, false, not, ◌||◌, Option, Some, None, List, [], ◌∷◌, ◌++◌, map, length, refl, sym, ap, ◌∙◌, subst, is_some, if◌then◌else◌, le_refl, replicate, ◌≤◌}
 use Rattle.std.proofs.lemmas.List.{length-replicate}
 use Rattle.std.proofs.lemmas.List.Folds.{list_any-append}
-use Rattle.std.proofs.lemmas.Option.{slice_get-map}
 use Rattle.std.specs.List.{filter, list_any}
 use Rattle.ob0_scan.specs.declared.fault.Code.TheVariants as code
 use Rattle.ob0_scan.specs.declared.fault.Fault.{Fault}
@@ -11,12 +10,11 @@ use Rattle.ob0_scan.specs.declared.lexeme.Span.{Span}
 use Rattle.ob0_scan.specs.Scanned.{Scanned}
 use Rattle.ob0_tree.specs.declared.tree.Role.TheVariants as role
 use Rattle.ob0_tree.specs.Tree.{occurrences}
-use Rattle.ob0_tree.specs.Parsed.{Parsed, IsParsed, tree_of, named_tree_of}
-use Rattle.ob0_tree.specs.Places.{text_at, value_at}
+use Rattle.ob0_tree.specs.Parsed.{Parsed, IsParsed, tree_of}
+use Rattle.ob0_tree.specs.Places.{text_at}
 use Rattle.ob0_names.specs.DeclaredTwice.{twice_in}
 use Rattle.ob0_names.specs.Names.{Name, as_names}
-use Rattle.ob0_names.specs.Occurrences.{bindings, binds, label_ordinal}
-use Rattle.ob0_names.specs.Resolution.{AreFaultsOf, IsNumbering, IsResolution, Resolution, is_of_declarations, is_of_occurrences, is_unbound, label_at, ordinal_in, span_at, unbound_at, undeclared_at, with_ordinal}
+use Rattle.ob0_names.specs.Resolution.{AreFaultsOf, IsNumbering, IsResolution, is_of_declarations, is_of_occurrences, is_unbound, label_at, ordinal_in, span_at, unbound_at, undeclared_at, with_ordinal}
 use Rattle.ob0_names.specs.Scopes.{as_label}
 use Rattle.ob0_scope.specs.Marks.{with_marks}
 use Rattle.ob0_scope.specs.Marking.{Visit, started, visit_module}

@@ -1,7 +1,6 @@
-use Rattle.std.proofs.Common.{ap, ◌∙◌}
+use Rattle.std.proofs.Common.{◌∙◌}
 use Rattle.std.proofs.lemmas.Result.{MatchResult-weaker}
 use Rattle.ob0_tree.specs.View.{block_of}
-use Rattle.ob0_names.specs.Resolution.{Resolution}
 use Rattle.ob0_scope.specs.Searching.{found_in_block}
 use Rattle.ob0_scope.proofs.Searched.{namesake_found}
 use Rattle.ob0_scope.proofs.capturing.namesake.Goals as goal
@@ -9,7 +8,7 @@ use Rattle.ob0_scope.proofs.capturing.namesake.Goals as goal
 pub returns : goal.returns
 returns c =
     let r = c.args.names.now in
-    let ordinals = c.as_slice.ensures.value ∙ ap (λ (r : Resolution). r.ordinals) c.names.view_is in
+    let ordinals = c.ordinals.ensures in
     let block = c.block.ensures ∙ (λ i. (c.module.ensures.value i).block) in
     let searched = (λ i. found_in_block (record { source = c.tokens.ensures i; ordinals = ordinals i; declaration = c.args.declaration; new = c.args.new.now }) (c.new.ensures.items i) (block_of (block i)))
     ∙ namesake_found r c.args.declaration c.args.new.now c.module.ensures.resolved in

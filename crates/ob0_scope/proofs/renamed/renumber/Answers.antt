@@ -2,7 +2,6 @@ use Rattle.std.proofs.Common.{Some, refl, ap, ◌∙◌}
 use Rattle.ob0_tree.specs.Parsed.{tree_of}
 use Rattle.ob0_scope.specs.Marking as listing
 use Rattle.ob0_scope.specs.Renames.{renamed_in}
-use Rattle.ob0_names.specs.Resolution.{Resolution}
 use Rattle.ob0_scope.specs.Tabling.{Visit, started, visit_module}
 use Rattle.ob0_scope.proofs.Renumbered.{renumbered}
 use Rattle.ob0_scope.proofs.Tabled.{module_tabled}
@@ -13,7 +12,7 @@ returns-clause-renumbered c =
     let r = c.args.names.now in
     let parts = c.into_parts-declarations in
     let written = renamed_in r c.args.declaration c.args.new.now in
-    let ordinals = c.as_slice.ensures.value ∙ ap (λ (r : Resolution). r.ordinals) c.names.view_is in
+    let ordinals = c.ordinals.ensures in
     let gone = c.in_ok-numbering.ensures
     ∙ ((λ i. visit_module (tree_of (c.module.ensures.value i)) (started (record { source = c.tokens.ensures i; ordinals = ordinals i; declaration = Some c.args.declaration; new = c.args.new.now })))
     ∙ module_tabled (tree_of r.module_read) written) in
