@@ -1,5 +1,5 @@
 -- Publications, edits and actions have no float in them, and aren't nested deeply.
-use Rattle.std.proofs.Common.{◌≡◌, ◌≤◌, ℕ, ℤ, pos, negsuc, List, [], ◌∷◌, Bool, true, false, Option, Some, None, Vec, Global, map, arith, refl}
+use Rattle.std.proofs.Common.{◌≡◌, ◌≤◌, ℕ, ℤ, pos, negsuc, List, [], ◌∷◌, Bool, true, false, Option, Some, None, map, arith, refl}
 use Rattle.serde_json.specs.Data.{Data, array, depth, items_depth}
 use Rattle.serde_json.specs.Written.{has_float, items_have_float}
 use Rattle.serde_json.specs.View.{items_of}
