@@ -5,8 +5,8 @@ ghost use Rattle.ob0_names.specs.Spans.{is_on};
 ghost use Rattle.ob0_refs.specs.Answered.{at_name, of_ordinal};
 
 use crate::answers::{At, Of};
-use ob0_scan::Span;
 use ob0_names::{PREDECLARED, Resolved, token_span};
+use ob0_scan::Span;
 use ob0_scope::Named;
 
 /// Where a name stands, and what it is a name of.

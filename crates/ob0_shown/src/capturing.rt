@@ -6,8 +6,8 @@ ghost use Rattle.ob0_scope.specs.Renames.{place_of};
 ghost use Rattle.ob0_shown.specs.Captured.{capture_span};
 
 use crate::names::declared_at;
-use ob0_scan::Span;
 use ob0_names::{Resolved, token_span};
+use ob0_scan::Span;
 use ob0_scope::Capture;
 
 /// Where it is that a capture is: at the identifier that declares the declaration, or at an occurrence.

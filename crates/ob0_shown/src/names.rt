@@ -4,8 +4,8 @@ ghost use Rattle.std.specs.Prelude.{◌≡◌, IfOk, map};
 ghost use Rattle.ob0_names.specs.Resolution.{span_at};
 ghost use Rattle.ob0_shown.specs.Places.{declared_at, references_to};
 
-use ob0_scan::{Span, Tokens};
 use ob0_names::{Resolved, token_span};
+use ob0_scan::{Span, Tokens};
 use ob0_scope::tokens_bound;
 use std::alloc::{AllocError, Global};
 
