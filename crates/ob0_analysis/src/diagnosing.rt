@@ -1,15 +1,13 @@
 //! What is wrong with a text.
 
-ghost use Rattle.std.specs.Prelude.{IfOk, IfErr, OnOk, map};
-ghost use Rattle.ob0_scan.specs.Scanned.{IsScanOf};
-ghost use Rattle.ob0_scan.specs.Refused.{IsRightRefusal};
+ghost use Rattle.std.specs.Prelude.{◌≡◌, IfOk, OnOk, Some, map};
 ghost use Rattle.ob0_analysis.specs.Diagnosed.{Keeps, Tells, complaint_in};
 
 use crate::diagnoses::{Diagnosis, of_faults, of_refusal};
 use crate::differences::Difference;
 use ob0_parse::{one_tree, parse};
 use ob0_scan::laws::one_scan;
-use ob0_scan::{ScanRefusal, Tokens, rescan, scan};
+use ob0_scan::{NotRescanned, ScanRefusal, Tokens, rescan_in_place, scan};
 use ob0_scope::resolve;
 use ob0_tree::Module;
 use ob0_types::faults_in;
@@ -34,13 +32,33 @@ pub fn diagnose_again(
     ensures told { IfOk result (λ list. Tells text.now (map complaint_in list.items)) }
     ensures keeps { OnOk result (Keeps text.now kept.old kept.new) }
 {
-    match scan_again(alloc, text, kept.as_ref()) {
-        Ok(tokens) => {
-            *kept = None;
-            let told = diagnose_tokens(alloc, &tokens)?;
-            *kept = Some(tokens);
-            Ok(told)
-        }
+    let Some(old) = kept.take() else {
+        return diagnose_anew(alloc, text, kept);
+    };
+    let change = Difference::between(old.text(), text);
+    match rescan_in_place(alloc, old, text, change.from, change.removed, change.added) {
+        Ok(found) => diagnose_kept(alloc, found.tokens, kept),
+        Err(refusal) => match refusal {
+            NotRescanned::Faults(faults, old) => {
+                *kept = Some(old);
+                of_faults(alloc, faults.as_slice())
+            }
+            NotRescanned::Memory => Err(AllocError),
+        },
+    }
+}
+
+/// The same, where no tokens were kept.
+fn diagnose_anew(
+    alloc: Global,
+    text: &str,
+    kept: &mut Option<Tokens>,
+) -> Result<Vec<Diagnosis>, AllocError>
+    ensures told { IfOk result (λ list. Tells text.now (map complaint_in list.items)) }
+    ensures keeps { OnOk result (Keeps text.now kept.old kept.new) }
+{
+    match scan(alloc, text) {
+        Ok(tokens) => diagnose_kept(alloc, tokens, kept),
         Err(refusal) => match refusal {
             ScanRefusal::Faults(faults) => of_faults(alloc, faults.as_slice()),
             ScanRefusal::Memory => Err(AllocError),
@@ -48,19 +66,18 @@ pub fn diagnose_again(
     }
 }
 
-/// The tokens and comments of a text, or its faults.
-fn scan_again(alloc: Global, text: &str, kept: Option<&Tokens>) -> Result<Tokens, ScanRefusal>
-    ensures ok { IfOk result (IsScanOf text.now) }
-    ensures err { IfErr result (IsRightRefusal text.now) }
+/// What is wrong with a text that has these tokens, which are kept.
+fn diagnose_kept(
+    alloc: Global,
+    tokens: Tokens,
+    kept: &mut Option<Tokens>,
+) -> Result<Vec<Diagnosis>, AllocError>
+    ensures told { IfOk result (λ list. Tells tokens.text (map complaint_in list.items)) }
+    ensures keeps { OnOk result (kept.new ≡ Some tokens) }
 {
-    match kept {
-        Some(old) => {
-            let change = Difference::between(old.text(), text);
-            let found = rescan(alloc, old, text, change.from, change.removed, change.added)?;
-            Ok(found.tokens)
-        }
-        None => scan(alloc, text),
-    }
+    let told = diagnose_tokens(alloc, &tokens)?;
+    *kept = Some(tokens);
+    Ok(told)
 }
 
 fn diagnose_tokens(alloc: Global, tokens: &Tokens) -> Result<Vec<Diagnosis>, AllocError>

@@ -1,5 +1,5 @@
 -- What is read anew between the tokens and comments that are taken over.
-use Rattle.std.proofs.Common.{◌≡◌, ℕ, ◌+◌, ◌-◌, ◌≤◌, Bool, true, false, ◌||◌, List, [], ◌∷◌, ◌++◌, length, map, refl, sym, ap, ap₂, ◌∙◌, subst, arith, ◌⊎◌, inl, inr, ⊎_elim, append_assoc, append-nil, length-append, length-drop}
+use Rattle.std.proofs.Common.{◌≡◌, ℕ, ◌+◌, ◌-◌, ◌≤◌, Bool, true, false, ◌||◌, List, [], ◌∷◌, ◌++◌, length, map, refl, sym, ap, ap₂, ◌∙◌, subst, arith, ◌⊎◌, inl, inr, ⊎_elim, append_assoc, append-nil, length-drop}
 use Rattle.std.specs.List.{All}
 use Rattle.std.proofs.lemmas.List.Elements.{All-nil, All-same, All-append, All-drop}
 use Rattle.ob0_scan.specs.declared.lexeme.Span.{Span}
@@ -99,21 +99,21 @@ module _ (old : Scanned) (o : IsScan old) where
         m.border
 
 -- what was kept, read and taken over
-pub reused : (old new : Scanned) (from removed added : ℕ) (s t : Scanner) (tokens : List Token) (comments : List Span) (end : ℕ) → s.tokens.items ≡ front_tokens from old.tokens → s.comments.items ≡ front_comments from old.comments
+pub reused : (old new : Scanned) (from removed added : ℕ) (s t : Scanner) (tokens : List Token) (comments : List Span) (end : ℕ) (fs : List Token) (gs : List Span) → fs ≡ front_tokens from old.tokens → gs ≡ front_comments from old.comments → s.tokens.items ≡ [] → s.comments.items ≡ []
     → ReadsOn old from removed added s t → IsMet old end from removed added t.at tokens comments
-    → new.tokens ≡ t.tokens.items ++ map (moved_token removed added) tokens → new.comments ≡ t.comments.items ++ map (moved removed added) comments
-    → (read : ℕ) → read ≡ (length t.tokens.items - length s.tokens.items) + (length t.comments.items - length s.comments.items) → Reuses old new from removed added read
-reused old new from removed added s t tokens comments end st sc r m et ec read e =
-    let long_tokens : length t.tokens.items ≡ length s.tokens.items + length r.tokens = ap length r.tokens_are ∙ length-append s.tokens.items r.tokens in
-    let long_comments : length t.comments.items ≡ length s.comments.items + length r.comments = ap length r.comments_are ∙ length-append s.comments.items r.comments in
+    → new.tokens ≡ (fs ++ t.tokens.items) ++ map (moved_token removed added) tokens → new.comments ≡ (gs ++ t.comments.items) ++ map (moved removed added) comments
+    → (read : ℕ) → read ≡ length t.tokens.items + length t.comments.items → Reuses old new from removed added read
+reused old new from removed added s t tokens comments end fs gs ft fc st sc r m et ec read e =
+    let read_tokens : t.tokens.items ≡ r.tokens = r.tokens_are ∙ ap (λ x. x ++ r.tokens) st in
+    let read_comments : t.comments.items ≡ r.comments = r.comments_are ∙ ap (λ x. x ++ r.comments) sc in
     record {
       place = t.at + removed - added;
       behind = omega (arith, m.behind);
       tokens_between = r.tokens;
       comments_between = r.comments;
-      tokens = et ∙ ap₂ (λ x y. x ++ map (moved_token removed added) y) (r.tokens_are ∙ ap (λ x. x ++ r.tokens) st) m.tokens_are;
-      comments = ec ∙ ap₂ (λ x y. x ++ map (moved removed added) y) (r.comments_are ∙ ap (λ x. x ++ r.comments) sc) m.comments_are;
-      read_are = omega (arith, e, long_tokens, long_comments);
+      tokens = et ∙ ap₂ (λ x y. x ++ map (moved_token removed added) y) (ap₂ (λ x y. x ++ y) ft read_tokens) m.tokens_are;
+      comments = ec ∙ ap₂ (λ x y. x ++ map (moved removed added) y) (ap₂ (λ x y. x ++ y) fc read_comments) m.comments_are;
+      read_are = omega (arith, e, ap length read_tokens, ap length read_comments);
       tokens_new = r.tokens_new;
       comments_new = r.comments_new;
     }
@@ -123,7 +123,7 @@ pub record Settled (old : Scanned) (new : List ℕ) (from removed added : ℕ) (
   pub met : IsMet old (length new) from removed added t.at tokens comments
   pub tokens_move : All (λ (x : Token). IsMovable removed added x.span) tokens
   pub comments_move : All (λ (x : Span). IsMovable removed added x) comments
-  pub scan : (text : List ℕ) (us : List Token) (ds : List Span) → text ≡ new → us ≡ t.tokens.items ++ map (moved_token removed added) tokens → ds ≡ t.comments.items ++ map (moved removed added) comments → IsScan (record { text = text; tokens = us; comments = ds })
+  pub scan : IsScan (record { text = new; tokens = (t.front.tokens.now ++ t.tokens.items) ++ map (moved_token removed added) tokens; comments = (t.front.comments.now ++ t.comments.items) ++ map (moved removed added) comments })
 
 abbrev make_scan : List ℕ → List Token → List Span → Scanned
 make_scan text tokens comments = record { text = text; tokens = tokens; comments = comments }
@@ -132,19 +132,19 @@ pub settled : (old : Scanned) (o : IsScan old) (new : List ℕ) (from removed ad
     → (length t.faults.items ≡ 0 → IsMet old (length t.text.now) from removed added t.at tokens comments) → Settled old new from removed added t tokens comments
 settled old o new from removed added r t tokens comments text under none short found =
     let met : IsMet old (length new) from removed added t.at tokens comments = subst (λ x. IsMet old (length x) from removed added t.at tokens comments) text (found none) in
-    let p : Progress new t.at t.tokens.items t.comments.items t.faults.items = subst (λ x. Progress x t.at t.tokens.items t.comments.items t.faults.items) text under in
+    let ts = t.front.tokens.now ++ t.tokens.items in
+    let cs = t.front.comments.now ++ t.comments.items in
+    let p : Progress new t.at ts cs t.faults.items = subst (λ x. Progress x t.at ts cs t.faults.items) text under in
     let place : ℕ = t.at + removed - added in
     let border = met_border old o new from removed added r t.at tokens comments met in
     let low : removed ≤ place = omega (arith, met.behind) in
     let same : t.at + removed ≡ place + added = omega (arith, met.behind) in
     let move = movable old o new from removed added r place short low border in
-    let whole = finished old o new from removed added r t.at place t.tokens.items t.comments.items p.utf8 short p.place.0 met.behind same (p.cut none) border in
+    let whole = finished old o new from removed added r t.at place ts cs p.utf8 short p.place.0 met.behind same (p.cut none) border in
     record {
       met = met;
       tokens_move = All-same (λ (x : Token). IsMovable removed added x.span) tokens (back_tokens place old.tokens) met.tokens_are move.0;
       comments_move = All-same (λ (x : Span). IsMovable removed added x) comments (back_comments place old.comments) met.comments_are move.1;
-      scan = λ x us ds ex et ec.
-          subst (λ y. IsScan (make_scan y us ds)) (sym ex)
-          (subst (λ y. IsScan (make_scan new y ds)) (sym (et ∙ ap (λ y. t.tokens.items ++ map (moved_token removed added) y) met.tokens_are))
-          (subst (λ y. IsScan (make_scan new (t.tokens.items ++ map (moved_token removed added) (back_tokens place old.tokens)) y)) (sym (ec ∙ ap (λ y. t.comments.items ++ map (moved removed added) y) met.comments_are)) whole));
+      scan = subst (λ x. IsScan (make_scan new (ts ++ map (moved_token removed added) x) (cs ++ map (moved removed added) comments))) (sym met.tokens_are)
+          (subst (λ x. IsScan (make_scan new (ts ++ map (moved_token removed added) (back_tokens place old.tokens)) (cs ++ map (moved removed added) x))) (sym met.comments_are) whole);
     }

@@ -1,12 +1,13 @@
 -- A scan of a changed text that is under way.
-use Rattle.std.specs.Prelude.{◌≡◌, ℕ, ◌+◌, ◌-◌, ◌<◌, ◌≤◌, ◌^◌, ◌==◌, ◌||◌, ◌⊎◌, Bool, false, List, [], ◌∷◌, ◌++◌, Option, Some, None, IsTrue, length, max}
+use Rattle.std.specs.Prelude.{◌≡◌, ℕ, ◌+◌, ◌-◌, ◌<◌, ◌≤◌, ◌^◌, ◌==◌, ◌||◌, ◌⊎◌, Bool, false, List, [], ◌∷◌, ◌++◌, Option, Some, None, IsTrue, length, map, take, drop, max}
 use Rattle.std.specs.List.{All, slice_get}
 use Rattle.ob0_scan.specs.declared.lexeme.Span.{Span}
 use Rattle.ob0_scan.specs.declared.lexeme.Token.{Token}
 use Rattle.ob0_scan.specs.declared.lexeme.LexemeKind.{LexemeKind}
 use Rattle.ob0_scan.specs.declared.scanner.Scanner.{Scanner}
-use Rattle.ob0_scan.specs.Scanned.{Scanned, span_from, token_at, comment_at}
-use Rattle.ob0_scan.specs.Reused.{back_tokens, back_comments, IsNew}
+use Rattle.ob0_scan.specs.declared.changed.Between.{Between}
+use Rattle.ob0_scan.specs.Scanned.{Scanned, IsScan, span_from, token_at, comment_at}
+use Rattle.ob0_scan.specs.Reused.{back_tokens, back_comments, moved, moved_token, Reuses, IsNew}
 
 abbrev pub token_end : Option Token → ℕ
 token_end None = 0
@@ -58,3 +59,22 @@ pub record IsMet (old : Scanned) (end from removed added at : ℕ) (tokens : Lis
   pub tokens_are : tokens ≡ back_tokens (at + removed - added) old.tokens
   pub comments_are : comments ≡ back_comments (at + removed - added) old.comments
   pub border : (at ≡ end) ⊎ IsTrue (token_begins (at + removed - added) tokens || comment_begins (at + removed - added) comments)
+
+-- the new text with the old tokens and comments in front, those between, and the old ones behind, moved
+abbrev pub with_between : Scanned → List ℕ → ℕ → ℕ → Between → Scanned
+with_between old new removed added b = record {
+  text = new;
+  tokens = take b.front.tokens old.tokens ++ (b.tokens.items ++ map (moved_token removed added) (drop b.behind.tokens old.tokens));
+  comments = take b.front.comments old.comments ++ (b.comments.items ++ map (moved removed added) (drop b.behind.comments old.comments));
+}
+
+-- what lies between the old tokens and comments that a new text goes on to have
+pub record IsBetween (old : Scanned) (new : List ℕ) (from removed added : ℕ) (b : Between) : Type 0 where
+  pub tokens_ordered : b.front.tokens ≤ b.behind.tokens
+  pub tokens_inside : b.behind.tokens ≤ length old.tokens
+  pub comments_ordered : b.front.comments ≤ b.behind.comments
+  pub comments_inside : b.behind.comments ≤ length old.comments
+  pub tokens_move : All (λ (t : Token). IsMovable removed added t.span) (drop b.behind.tokens old.tokens)
+  pub comments_move : All (λ (c : Span). IsMovable removed added c) (drop b.behind.comments old.comments)
+  pub scan : IsScan (with_between old new removed added b)
+  pub reuses : Reuses old (with_between old new removed added b) from removed added (length b.tokens.items + length b.comments.items)

@@ -1,16 +1,17 @@
 //! Scans a text that was changed at one place, and takes over what an older scan found in front of the change and behind it.
 
-ghost use Rattle.std.specs.Prelude.{◌≡◌, ◌+◌, ◌<◌, ◌≤◌, ◌^◌, ◌++◌, ◌||◌, IfOk, IfErr, OnOk, length, map, nat_lt, option_copied};
+ghost use Rattle.std.specs.Prelude.{◌≡◌, ◌+◌, ◌<◌, ◌≤◌, ◌^◌, ◌||◌, ◌++◌, IfOk, IfErr, OnOk, length, map, take, drop, nat_lt, option_copied};
 ghost use Rattle.std.specs.List.{All, prefix_len};
 ghost use Rattle.ob0_scan.specs.declared.lexeme.Span.{Span};
 ghost use Rattle.ob0_scan.specs.declared.lexeme.Token.{Token};
+ghost use Rattle.ob0_scan.specs.declared.changed.NotRescanned.TheVariants as rescanned;
 ghost use Rattle.ob0_scan.specs.Scanned.{IsScanOf};
-ghost use Rattle.ob0_scan.specs.Refused.{IsRightRefusal};
+ghost use Rattle.ob0_scan.specs.Refused.{IsRightRefusal, IsRightRefusalOver};
 ghost use Rattle.ob0_scan.specs.UnderWay.{IsUnderWay};
 ghost use Rattle.ob0_scan.specs.Reused.{IsReplaced, Reuses, moved, moved_token, front_tokens, front_comments, back_tokens, back_comments};
-ghost use Rattle.ob0_scan.specs.Rescanning.{token_end, comment_end, last_end, token_begins, comment_begins, IsMovable, ReadsOn, IsMet};
+ghost use Rattle.ob0_scan.specs.Rescanning.{token_end, comment_end, last_end, token_begins, comment_begins, IsMovable, ReadsOn, IsMet, IsBetween};
 
-use crate::fault::ScanRefusal;
+use crate::fault::{Fault, ScanRefusal};
 use crate::lexeme::{Span, Token};
 use crate::scanner::{MAX_TEXT, Scanner, too_long};
 use crate::tokens::{Rescan, Tokens};
@@ -18,7 +19,7 @@ use std::alloc::{AllocError, Global};
 
 /// The `removed` bytes of a text from byte `from` on gave way to `added` other bytes.
 #[derive(Clone, Copy)]
-struct Change {
+pub(crate) struct Change {
     from: usize,
     removed: usize,
     added: usize,
@@ -177,6 +178,38 @@ fn comments_beginning_before(comments: &[Span], place: usize) -> usize
         .count()
 }
 
+/// How many tokens and comments there are in front of a place.
+#[derive(Clone, Copy)]
+pub(crate) struct Counts {
+    pub(crate) tokens: usize,
+    pub(crate) comments: usize,
+}
+
+/// What comes between the old tokens and comments that a changed text goes on to have: those in front, of which there are so many, and
+/// those from `behind` on.
+#[derive(Drop)]
+pub(crate) struct Between {
+    pub(crate) front: Counts,
+    pub(crate) behind: Counts,
+    pub(crate) tokens: Vec<Token>,
+    pub(crate) comments: Vec<Span>,
+}
+
+/// Why a changed text has no tokens; with the old ones, where it has faults.
+#[derive(Debug, Drop)]
+pub enum NotRescanned {
+    Faults(Vec<Fault>, Tokens),
+    Memory,
+}
+
+impl From<AllocError> for NotRescanned {
+    ghost from_gives = { λ _ e. e ≡ rescanned.Memory };
+
+    fn from(_error: AllocError) -> NotRescanned {
+        NotRescanned::Memory
+    }
+}
+
 /// The tokens and comments of `new_text`, which is the text of `old` with the `removed` bytes from byte `from` on replaced by
 /// `added` others; or its faults. What `old` has in front of the change is kept, and the scan ends where a token or comment of `old` begins again.
 pub fn rescan(
@@ -192,33 +225,88 @@ pub fn rescan(
     ensures err { IfErr result (IsRightRefusal new_text.now) }
     ensures reused { IfOk result (λ r. Reuses old.now r.tokens from removed added r.read) }
 {
-    if new_text.len() > MAX_TEXT {
-        return Err(ScanRefusal::Faults(too_long(alloc)?));
+    match rescan_in_place(alloc, old.copied(alloc)?, new_text, from, removed, added) {
+        Ok(found) => Ok(found),
+        Err(refusal) => match refusal {
+            NotRescanned::Faults(faults, _) => Err(ScanRefusal::Faults(faults)),
+            NotRescanned::Memory => Err(ScanRefusal::Memory),
+        },
     }
+}
+
+/// The same, in the place of the old tokens and comments: those in front stay where they are. A text with faults gives the old ones back.
+pub fn rescan_in_place(
+    alloc: Global,
+    old: Tokens,
+    new_text: &str,
+    from: usize,
+    removed: usize,
+    added: usize,
+) -> Result<Rescan, NotRescanned>
+    requires { IsReplaced old.text new_text.now from removed added }
+    ensures ok { IfOk result (λ r. IsScanOf new_text.now r.tokens) }
+    ensures err { IfErr result (IsRightRefusalOver old new_text.now) }
+    ensures reused { IfOk result (λ r. Reuses old r.tokens from removed added r.read) }
+{
     let change = Change {
         from,
         removed,
         added,
     };
+    match read_anew(alloc, &old, new_text, change) {
+        Ok(between) => {
+            let read = between.tokens.len() + between.comments.len();
+            let tokens = old.with(alloc, new_text, between, change)?;
+            Ok(Rescan { tokens, read })
+        }
+        Err(refusal) => match refusal {
+            ScanRefusal::Faults(faults) => Err(NotRescanned::Faults(faults, old)),
+            ScanRefusal::Memory => Err(NotRescanned::Memory),
+        },
+    }
+}
+
+/// What is read anew of a changed text.
+fn read_anew(
+    alloc: Global,
+    old: &Tokens,
+    new_text: &str,
+    change: Change,
+) -> Result<Between, ScanRefusal>
+    requires { IsReplaced old.now.text new_text.now change.from change.removed change.added }
+    ensures ok { IfOk result (IsBetween old.now new_text.now change.from change.removed change.added) }
+    ensures err { IfErr result (IsRightRefusal new_text.now) }
+{
+    if new_text.len() > MAX_TEXT {
+        return Err(ScanRefusal::Faults(too_long(alloc)?));
+    }
     let all = old.pieces();
-    let kept = all.ending_before(from);
-    let mut scanner = Scanner::behind(alloc, new_text, kept, all)?;
+    let front = all.ending_before(change.from);
+    let mut scanner = Scanner::behind(alloc, new_text, front);
     let rest = scan_on(&mut scanner, old, change)?;
     let Scanner {
         text: _,
         at: _,
-        mut tokens,
-        mut comments,
+        front: _,
+        tokens,
+        comments,
         faults,
     } = scanner;
     if !faults.is_empty() {
         return Err(ScanRefusal::Faults(faults));
     }
-    let read = (tokens.len() - kept.tokens.len()) + (comments.len() - kept.comments.len());
-    append_tokens(&mut tokens, rest.tokens, change)?;
-    append_comments(&mut comments, rest.comments, change)?;
-    let tokens = Tokens::new(String::from_str(alloc, new_text)?, tokens, comments);
-    Ok(Rescan { tokens, read })
+    Ok(Between {
+        front: Counts {
+            tokens: front.tokens.len(),
+            comments: front.comments.len(),
+        },
+        behind: Counts {
+            tokens: all.tokens.len() - rest.tokens.len(),
+            comments: all.comments.len() - rest.comments.len(),
+        },
+        tokens,
+        comments,
+    })
 }
 
 /// Scans to the end of the text, or up to the first place behind the change where an old token or comment begins again.
@@ -233,6 +321,7 @@ fn scan_on<'o>(
     requires under_way { IsUnderWay scanner.old }
     ensures under_way { OnOk result (IsUnderWay scanner.new) }
     ensures text { scanner.new.text ≡ scanner.old.text }
+    ensures front { scanner.new.front ≡ scanner.old.front }
     ensures reads { OnOk result (length scanner.new.faults.items ≡ 0 → ReadsOn old.now change.from change.removed change.added scanner.old scanner.new) }
     ensures met { IfOk result (λ rest. length scanner.new.faults.items ≡ 0 → IsMet old.now (length scanner.new.text.now) change.from change.removed change.added scanner.new.at rest.tokens.now rest.comments.now) }
     ensures end { OnOk result (0 < length scanner.new.faults.items → length scanner.new.text.now ≤ scanner.new.at) }
@@ -254,33 +343,64 @@ fn scan_on<'o>(
     })
 }
 
-/// Appends tokens of the old text, where they are now.
-fn append_tokens(tokens: &mut Vec<Token>, rest: &[Token], change: Change) -> Result<(), AllocError>
-    requires { All (λ (t : Token). IsMovable change.removed change.added t.span) rest.now }
-    ensures { OnOk result (tokens.new.items ≡ tokens.old.items ++ map (moved_token change.removed change.added) rest.now) }
+/// Puts tokens between those in front and those behind, which are moved to where they are now.
+pub(crate) fn put_tokens(
+    tokens: &mut Vec<Token>,
+    front: usize,
+    behind: usize,
+    between: Vec<Token>,
+    change: Change,
+) -> Result<(), AllocError>
+    requires ordered { front ≤ behind }
+    requires inside { behind ≤ length tokens.old.items }
+    requires movable { All (λ (t : Token). IsMovable change.removed change.added t.span) (drop behind tokens.old.items) }
+    ensures { OnOk result (tokens.new.items ≡ take front tokens.old.items ++ (between.items ++ map (moved_token change.removed change.added) (drop behind tokens.old.items))) }
 {
-    tokens.reserve(rest.len())?;
-    for token in rest {
-        tokens.push(Token {
-            kind: token.kind,
-            span: change.moved(token.span),
-        })?;
-    }
+    move_tokens(tokens, behind, change);
+    tokens.splice(front..behind, between)?;
     Ok(())
 }
 
-/// Appends comments of the old text, where they are now.
-fn append_comments(
+/// Puts comments between those in front and those behind, which are moved to where they are now.
+pub(crate) fn put_comments(
     comments: &mut Vec<Span>,
-    rest: &[Span],
+    front: usize,
+    behind: usize,
+    between: Vec<Span>,
     change: Change,
 ) -> Result<(), AllocError>
-    requires { All (λ (c : Span). IsMovable change.removed change.added c) rest.now }
-    ensures { OnOk result (comments.new.items ≡ comments.old.items ++ map (moved change.removed change.added) rest.now) }
+    requires ordered { front ≤ behind }
+    requires inside { behind ≤ length comments.old.items }
+    requires movable { All (λ (c : Span). IsMovable change.removed change.added c) (drop behind comments.old.items) }
+    ensures { OnOk result (comments.new.items ≡ take front comments.old.items ++ (between.items ++ map (moved change.removed change.added) (drop behind comments.old.items))) }
 {
-    comments.reserve(rest.len())?;
-    for comment in rest {
-        comments.push(change.moved(*comment))?;
-    }
+    move_comments(comments, behind, change);
+    comments.splice(front..behind, between)?;
     Ok(())
+}
+
+/// Moves tokens of the old text, from one on, to where they are now.
+fn move_tokens(tokens: &mut Vec<Token>, first: usize, change: Change)
+    requires inside { first ≤ length tokens.old.items }
+    requires movable { All (λ (t : Token). IsMovable change.removed change.added t.span) (drop first tokens.old.items) }
+    ensures { tokens.new.items ≡ take first tokens.old.items ++ map (moved_token change.removed change.added) (drop first tokens.old.items) }
+{
+    for index in first..tokens.len() {
+        let Token { kind, span } = tokens[index];
+        tokens[index] = Token {
+            kind,
+            span: change.moved(span),
+        };
+    }
+}
+
+/// Moves comments of the old text, from one on, to where they are now.
+fn move_comments(comments: &mut Vec<Span>, first: usize, change: Change)
+    requires inside { first ≤ length comments.old.items }
+    requires movable { All (λ (c : Span). IsMovable change.removed change.added c) (drop first comments.old.items) }
+    ensures { comments.new.items ≡ take first comments.old.items ++ map (moved change.removed change.added) (drop first comments.old.items) }
+{
+    for index in first..comments.len() {
+        comments[index] = change.moved(comments[index]);
+    }
 }

@@ -3,7 +3,7 @@
 ghost use Rattle.std.specs.Prelude.{◌≡◌, ◌++◌, IfOk, string_bytes};
 
 use ob0_scan::laws::middle_is_replaced;
-use ob0_scan::{Rescan, ScanRefusal, Tokens, rescan, scan};
+use ob0_scan::{NotRescanned, Rescan, ScanRefusal, Tokens, rescan, rescan_in_place, scan};
 use std::alloc::{AllocError, Global};
 use std::process::Abort;
 use std::test::Fail;
@@ -61,7 +61,22 @@ fn compare(again: Result<Rescan, ScanRefusal>, scanned: Result<Tokens, ScanRefus
     }
 }
 
-/// Scans a text again in which `other` comes in the place of `middle`.
+/// What is found again in place. A text with faults gives back the tokens of the one before.
+fn in_place(found: Result<Rescan, NotRescanned>, old_text: &str) -> Result<Rescan, ScanRefusal> {
+    match found {
+        Ok(found) => Ok(found),
+        Err(NotRescanned::Faults(faults, old)) => {
+            if old.text() == old_text {
+                Err(ScanRefusal::Faults(faults))
+            } else {
+                Err(ScanRefusal::Memory)
+            }
+        }
+        Err(NotRescanned::Memory) => Err(ScanRefusal::Memory),
+    }
+}
+
+/// Scans a text again in which `other` comes in the place of `middle`: beside the old tokens, and in their place.
 fn change(
     alloc: Global,
     front: &str,
@@ -76,8 +91,16 @@ fn change(
     let Ok(old) = scan(alloc, old_text.as_str()) else {
         return Ok(Outcome::Unscanned);
     };
-    let again = rescan(alloc, &old, text, front.len(), middle.len(), other.len());
-    Ok(compare(again, scan(alloc, text)))
+    let (from, removed, added) = (front.len(), middle.len(), other.len());
+    let beside = rescan(alloc, &old, text, from, removed, added);
+    let placed = rescan_in_place(alloc, old, text, from, removed, added);
+    let outcome = compare(beside, scan(alloc, text));
+    let placed = compare(in_place(placed, old_text.as_str()), scan(alloc, text));
+    Ok(if placed == outcome {
+        outcome
+    } else {
+        Outcome::Different
+    })
 }
 
 /// 5,000 statements.

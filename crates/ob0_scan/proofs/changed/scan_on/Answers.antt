@@ -13,6 +13,7 @@ pub loop-scanner-init : goal.loop-scanner-init
 loop-scanner-init c = record {
   under_way = c.requires.under_way;
   same_text = refl;
+  same_front = refl;
   reads = λ _. reads_none c.args.old.now c.args.change.from c.args.change.removed c.args.change.added c.args.scanner.now;
   tokens = λ place _. ap (back_tokens place) c.pieces-rest.ensures.tokens;
   comments = λ place _. ap (back_comments place) c.pieces-rest.ensures.comments;
@@ -29,6 +30,7 @@ loop-scanner-preserved c =
     record {
       under_way = c.in_ok-step.ensures.under_way;
       same_text = c.in_ok-step.ensures.text ∙ inv.same_text;
+      same_front = c.in_ok-step.ensures.front ∙ inv.same_front;
       reads = λ none.
           let one = c.in_ok-step.ensures.one none in
           reads_more old from removed added c.args.scanner.now here c.step.new.self (inv.reads one.clear) one (λ far. elim c.if-is_empty.branch [

@@ -1,0 +1,166 @@
+-- The old tokens and comments that a changed text goes on to have, and what lies between them.
+use Rattle.std.proofs.Common.{◌≡◌, ℕ, zero, suc, ◌+◌, ◌-◌, ◌<◌, ◌≤◌, get_or, set, Bool, true, false, cond, List, [], ◌∷◌, ◌++◌, length, map, take, drop, refl, sym, ap, ap₂, ◌∙◌, subst, arith, append_assoc, append-nil, length-drop, length-take-le, take-append-drop, drop_at, ltb}
+use Rattle.std.specs.List.{All, prefix_len, splice}
+use Rattle.std.proofs.lemmas.List.{take_all, drop_all, take-append-le, set-append_right, get_or-append_right}
+use Rattle.std.proofs.lemmas.List.Elements.{All-head, All-tail, All-same, All-weaker}
+use Rattle.std.proofs.lemmas.List.Folds.{length-prefix_len}
+use Rattle.std.proofs.lemmas.List.Sums.{prefix_len-le-length}
+use Rattle.std.proofs.lemmas.Bool.{lt-ltb, ltb-true}
+use Rattle.ob0_scan.specs.declared.lexeme.Span.{Span}
+use Rattle.ob0_scan.specs.declared.lexeme.Token.{Token}
+use Rattle.ob0_scan.specs.declared.scanner.Scanner.{Scanner}
+use Rattle.ob0_scan.specs.declared.changed.Between.{Between}
+use Rattle.ob0_scan.specs.Lexed.{Lexeme, joined}
+use Rattle.ob0_scan.specs.Scanned.{Scanned, IsScan}
+use Rattle.ob0_scan.specs.Reused.{moved, moved_token, front_tokens, front_comments}
+use Rattle.ob0_scan.specs.Rescanning.{IsMovable, IsBetween, ReadsOn, with_between}
+use Rattle.ob0_scan.proofs.Standing.{Standing, of_tokens, of_comments, Full, Lies, full, lies}
+use Rattle.ob0_scan.proofs.Between.{Settled, reused}
+
+longer_count : (b d : Bool) (n m : ℕ) → (b ≡ true → d ≡ true) → n ≤ m → cond b (1 + n) 0 ≤ cond d (1 + m) 0
+longer_count true true n m h less = omega (arith, less)
+longer_count true false n m h less = let clash : false ≡ true = h refl in cc
+longer_count false d n m h less = omega arith
+
+-- a test that passes where another does passes a front as long at least
+longer_prefix : {X : Type 0} (p q : X → Bool) (xs : List X) → All (λ x. p x ≡ true → q x ≡ true) xs → prefix_len p xs ≤ prefix_len q xs
+longer_prefix p q [] a = omega arith
+longer_prefix p q (x ∷ xs) a =
+    longer_count (p x) (q x) (prefix_len p xs) (prefix_len q xs) (All-head (λ y. p y ≡ true → q y ≡ true) x xs a) (longer_prefix p q xs (All-tail (λ y. p y ≡ true → q y ≡ true) x xs a))
+
+-- what ends before a place begins before a later one
+apart : {X : Type 0} (g : Standing X) (from place : ℕ) (ls : List Lexeme) → Full ls → from ≤ place → prefix_len (λ x. ltb (g.span x).end from) (g.all 0 ls) ≤ prefix_len (λ x. ltb (g.span x).start place) (g.all 0 ls)
+apart g from place ls f less =
+    let high : ℕ = 0 + length (joined ls) in
+    longer_prefix (λ x. ltb (g.span x).end from) (λ x. ltb (g.span x).start place) (g.all 0 ls)
+    (All-weaker (λ x. Lies 0 high (g.span x)) (λ x. ltb (g.span x).end from ≡ true → ltb (g.span x).start place ≡ true)
+    (λ x w e. lt-ltb (g.span x).start place (omega (arith, w.some, less, ltb-true (g.span x).end from e))) (g.all 0 ls) (lies g 0 ls f))
+
+-- a front and a back of a list, by their lengths
+record Parts {X : Type 0} (xs fs rs : List X) (n m : ℕ) : Type 0 where
+  pub ordered : n ≤ m
+  pub inside : m ≤ length xs
+  pub front : take n xs ≡ fs
+  pub back : drop m xs ≡ rs
+
+parts : {X : Type 0} (xs fs rs : List X) (p q : X → Bool) (n m : ℕ) → prefix_len p xs ≤ prefix_len q xs → fs ≡ take (prefix_len p xs) xs → rs ≡ drop (prefix_len q xs) xs → n ≡ length fs → m ≡ length xs - length rs → Parts xs fs rs n m
+parts xs fs rs p q n m less ef er en em =
+    let near : n ≡ prefix_len p xs = en ∙ ap length ef ∙ length-prefix_len p xs in
+    let within : prefix_len q xs ≤ length xs = prefix_len-le-length q xs in
+    let far : m ≡ prefix_len q xs = omega (arith, em, ap length er, length-drop (prefix_len q xs) xs, within) in
+    record {
+      ordered = omega (arith, near, far, less);
+      inside = omega (arith, far, within);
+      front = ap (λ k. take k xs) near ∙ sym ef;
+      back = ap (λ k. drop k xs) far ∙ sym er;
+    }
+
+module _ (old : Scanned) (o : IsScan old) (new : List ℕ) (from removed added : ℕ) (s t : Scanner) (fs rs : List Token) (gs qs : List Span) (b : Between) where
+  token_parts : fs ≡ front_tokens from old.tokens → Settled old new from removed added t rs qs → b.front.tokens ≡ length fs → b.behind.tokens ≡ length old.tokens - length rs → Parts old.tokens fs rs b.front.tokens b.behind.tokens
+  token_parts ef w en em =
+      let place : ℕ = t.at + removed - added in
+      let less = apart of_tokens from place o.lexemes (full o.lexemes [] o.lexed.each) (omega (arith, w.met.behind)) in
+      parts old.tokens fs rs (λ (x : Token). ltb x.span.end from) (λ (x : Token). ltb x.span.start place) b.front.tokens b.behind.tokens
+      (subst (λ (xs : List Token). prefix_len (λ (x : Token). ltb x.span.end from) xs ≤ prefix_len (λ (x : Token). ltb x.span.start place) xs) (sym o.tokens) less)
+      ef w.met.tokens_are en em
+
+  comment_parts : gs ≡ front_comments from old.comments → Settled old new from removed added t rs qs → b.front.comments ≡ length gs → b.behind.comments ≡ length old.comments - length qs → Parts old.comments gs qs b.front.comments b.behind.comments
+  comment_parts ef w en em =
+      let place : ℕ = t.at + removed - added in
+      let less = apart of_comments from place o.lexemes (full o.lexemes [] o.lexed.each) (omega (arith, w.met.behind)) in
+      parts old.comments gs qs (λ (x : Span). ltb x.end from) (λ (x : Span). ltb x.start place) b.front.comments b.behind.comments
+      (subst (λ (xs : List Span). prefix_len (λ (x : Span). ltb x.end from) xs ≤ prefix_len (λ (x : Span). ltb x.start place) xs) (sym o.comments) less)
+      ef w.met.comments_are en em
+
+  -- what was read by a scanner that went on behind the front lies between
+  pub lies_between : fs ≡ front_tokens from old.tokens → gs ≡ front_comments from old.comments → t.front.tokens.now ≡ fs → t.front.comments.now ≡ gs → s.tokens.items ≡ [] → s.comments.items ≡ []
+      → ReadsOn old from removed added s t → Settled old new from removed added t rs qs
+      → b.front.tokens ≡ length fs → b.behind.tokens ≡ length old.tokens - length rs → b.front.comments ≡ length gs → b.behind.comments ≡ length old.comments - length qs
+      → b.tokens.items ≡ t.tokens.items → b.comments.items ≡ t.comments.items → IsBetween old new from removed added b
+  lies_between ef eg tf tg st sc r w n m k l et ec =
+      let ts = token_parts ef w n m in
+      let cs = comment_parts eg w k l in
+      let tokens : (with_between old new removed added b).tokens ≡ (fs ++ t.tokens.items) ++ map (moved_token removed added) rs =
+      ap₂ (λ x y. x ++ (b.tokens.items ++ map (moved_token removed added) y)) ts.front ts.back ∙ ap (λ x. fs ++ (x ++ map (moved_token removed added) rs)) et ∙ sym (append_assoc fs t.tokens.items (map (moved_token removed added) rs)) in
+      let comments : (with_between old new removed added b).comments ≡ (gs ++ t.comments.items) ++ map (moved removed added) qs =
+      ap₂ (λ x y. x ++ (b.comments.items ++ map (moved removed added) y)) cs.front cs.back ∙ ap (λ x. gs ++ (x ++ map (moved removed added) qs)) ec ∙ sym (append_assoc gs t.comments.items (map (moved removed added) qs)) in
+      record {
+        tokens_ordered = ts.ordered;
+        tokens_inside = ts.inside;
+        comments_ordered = cs.ordered;
+        comments_inside = cs.inside;
+        tokens_move = All-same (λ (x : Token). IsMovable removed added x.span) (drop b.behind.tokens old.tokens) rs ts.back w.tokens_move;
+        comments_move = All-same (λ (x : Span). IsMovable removed added x) (drop b.behind.comments old.comments) qs cs.back w.comments_move;
+        scan = subst (λ (x : List Token). IsScan (record { text = new; tokens = x; comments = (with_between old new removed added b).comments })) (sym tokens)
+            (subst (λ (y : List Span). IsScan (record { text = new; tokens = (fs ++ t.tokens.items) ++ map (moved_token removed added) rs; comments = y })) (sym comments)
+            (subst (λ (x : List Token). IsScan (record { text = new; tokens = (x ++ t.tokens.items) ++ map (moved_token removed added) rs; comments = (gs ++ t.comments.items) ++ map (moved removed added) qs })) tf
+            (subst (λ (y : List Span). IsScan (record { text = new; tokens = (t.front.tokens.now ++ t.tokens.items) ++ map (moved_token removed added) rs; comments = (y ++ t.comments.items) ++ map (moved removed added) qs })) tg w.scan)));
+        reuses = reused old (with_between old new removed added b) from removed added s t rs qs (length new) fs gs ef eg st sc r w.met tokens comments (length b.tokens.items + length b.comments.items) (omega (arith, ap length et, ap length ec));
+      }
+
+-- ---- a list that is changed from the front on
+
+changed_there : {X : Type 0} (f : X → X) (xs : List X) (i n : ℕ) (d v : X) → i < length xs → n ≡ suc i → v ≡ f (get_or xs i d) → set (map f (take i xs) ++ drop i xs) i v ≡ map f (take n xs) ++ drop n xs
+changed_there f [] i n d v less e w = absurd (omega (arith, less))
+changed_there f (x ∷ xs) zero n d v less e w = rw (e, w)
+changed_there f (x ∷ xs) (suc i) n d v less e w = ap (λ ys. f x ∷ ys) (changed_there f xs i (suc i) d v (omega (arith, less)) refl w) ∙ ap (λ k. map f (take k (x ∷ xs)) ++ drop k (x ∷ xs)) (sym e)
+
+unchanged_there : {X : Type 0} (f : X → X) (xs : List X) (i : ℕ) (d : X) → i < length xs → get_or (map f (take i xs) ++ drop i xs) i d ≡ get_or xs i d
+unchanged_there f [] i d less = absurd (omega (arith, less))
+unchanged_there f (x ∷ xs) zero d less = refl
+unchanged_there f (x ∷ xs) (suc i) d less = unchanged_there f xs i d (omega (arith, less))
+
+-- a list of which those from one place on to another are changed
+pub record ChangedTo {X : Type 0} (f : X → X) (xs : List X) (first at : ℕ) (now : List X) : Type 0 where
+  pub behind : first ≤ at
+  pub inside : at ≤ length xs
+  pub are : now ≡ take first xs ++ (map f (take (at - first) (drop first xs)) ++ drop (at - first) (drop first xs))
+
+module _ {X : Type 0} (f : X → X) (xs : List X) (first : ℕ) (some : first ≤ length xs) where
+  left : length (take first xs) ≡ first
+  left = length-take-le first xs some
+
+  pub changed_none : ChangedTo f xs first first xs
+  changed_none =
+      let none : first - first ≡ 0 = omega arith in
+      record {
+        behind = omega arith;
+        inside = some;
+        are = sym (take-append-drop first xs) ∙ ap (λ n. take first xs ++ (map f (take n (drop first xs)) ++ drop n (drop first xs))) (sym none);
+      }
+
+  module _ (at : ℕ) (now : List X) (d : X) (inside : at < length xs) (c : ChangedTo f xs first at now) where
+    further : at - first < length (drop first xs)
+    further = omega (arith, length-drop first xs, c.behind)
+
+    pub still : get_or now at d ≡ get_or (drop first xs) (at - first) d
+    still =
+        ap (λ ys. get_or ys at d) c.are
+        ∙ get_or-append_right (take first xs) (map f (take (at - first) (drop first xs)) ++ drop (at - first) (drop first xs)) first at d left c.behind
+        ∙ unchanged_there f (drop first xs) (at - first) d further
+
+    pub changed_on : (v : X) → v ≡ f (get_or now at d) → ChangedTo f xs first (at + 1) (set now at v)
+    changed_on v w = record {
+      behind = omega (arith, c.behind);
+      inside = omega (arith, inside);
+      are = ap (λ ys. set ys at v) c.are
+          ∙ set-append_right (take first xs) (map f (take (at - first) (drop first xs)) ++ drop (at - first) (drop first xs)) first at v left c.behind
+          ∙ ap (λ ys. take first xs ++ ys) (changed_there f (drop first xs) (at - first) (at + 1 - first) d v further (omega (arith, c.behind)) (w ∙ ap f still));
+    }
+
+  pub changed_all : (at : ℕ) (now : List X) → length xs ≤ at → ChangedTo f xs first at now → now ≡ take first xs ++ map f (drop first xs)
+  changed_all at now end c =
+      let all : length (drop first xs) ≤ at - first = omega (arith, length-drop first xs, end) in
+      c.are ∙ ap₂ (λ x y. take first xs ++ (map f x ++ y)) (take_all (at - first) (drop first xs) all) (drop_all (at - first) (drop first xs) all) ∙ ap (λ x. take first xs ++ x) (append-nil (map f (drop first xs)))
+
+-- others are put between a front and what is behind
+pub put_between : {X : Type 0} (xs ys zs us vs now : List X) (front behind : ℕ) → front ≤ behind → behind ≤ length xs → ys ≡ take behind xs ++ zs → now ≡ splice ys front behind vs → vs ≡ us → now ≡ take front xs ++ (us ++ zs)
+put_between xs ys zs us vs now front behind less inside e s b =
+    let long : length (take behind xs) ≡ behind = length-take-le behind xs inside in
+    let short : take front ys ≡ take front xs =
+    ap (take front) e
+    ∙ take-append-le front (take behind xs) zs (omega (arith, long, less))
+    ∙ sym (take-append-le front (take behind xs) (drop behind xs) (omega (arith, long, less)))
+    ∙ ap (take front) (take-append-drop behind xs) in
+    let back : drop behind ys ≡ zs = ap (drop behind) e ∙ drop_at (take behind xs) zs behind long in
+    s ∙ ap₂ (λ x y. x ++ (vs ++ y)) short back ∙ ap (λ x. take front xs ++ (x ++ zs)) b
