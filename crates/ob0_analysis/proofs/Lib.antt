@@ -1,3 +1,4 @@
 pub mod Scanning
 pub mod Alike
+mod Refusals
 mod Pieces

@@ -49,9 +49,9 @@ unformed s i one scan h w =
 pub finds_parser : (s : Scanned) (refusal : ParseRefusal) (c : Complaint) → OneScan → IsScan s → RefusedBy s refusal → IsRefusalAt s refusal c
     → ¬ IsWellTypedModule s.text × TellsFaults s.text (c ∷ [])
 finds_parser s (Syntax i expected) c one scan by at =
-    (unformed s i one scan by.1, inr (inl (record { scanned = s; scan = record { of = refl; scan = scan }; token = i; within = by.0; none_begins = by.1; complaint = c; of_parser = at; alone = refl })))
+    (unformed s i one scan by.1, inr (inl (record { scanned = s; scan = record { of = refl; scan = scan }; refusal = Syntax i expected; refused = by; complaint = c; says = at; alone = refl })))
 finds_parser s (TooDeep i) c one scan by at =
-    (unformed s i one scan by.1, inr (inl (record { scanned = s; scan = record { of = refl; scan = scan }; token = i; within = by.0; none_begins = by.1; complaint = c; of_parser = at; alone = refl })))
+    (unformed s i one scan by.1, inr (inl (record { scanned = s; scan = record { of = refl; scan = scan }; refusal = TooDeep i; refused = by; complaint = c; says = at; alone = refl })))
 finds_parser s Memory c one scan by at = absurd at
 
 abbrev pub OneTree : Type 0

@@ -13,7 +13,8 @@ use Rattle.ob0_names.specs.Names.{Name, as_names}
 use Rattle.ob0_names.specs.Resolution.{IsResolution, Resolution}
 use Rattle.ob0_typing.specs.WellTyped.{WellTyped, fits_over}
 use Rattle.ob0_types.specs.FaultOrder.{AreFirstFaults}
-use Rattle.ob0_parse.specs.RefusedBy.{NoneBegins}
+use Rattle.ob0_parse.specs.ExpectedText.{expected_text}
+use Rattle.ob0_parse.specs.RefusedBy.{RefusedBy}
 use Rattle.ob0_parse.specs.declared.refusal.ParseRefusal.{ParseRefusal}
 use Rattle.ob0_parse.specs.declared.refusal.ParseRefusal.TheVariants.{Syntax, TooDeep, Memory}
 use Rattle.ob0_analysis.specs.declared.diagnoses.Diagnosis.{Diagnosis}
@@ -70,24 +71,20 @@ expects word place = record { code = codes "Syntax"; said = codes "expected " ++
 abbrev pub too_deep : Span → Complaint
 too_deep place = record { code = codes "TooDeep"; said = codes "nested too deep"; span = place }
 
-abbrev pub IsOfParser : Complaint → Span → Type 0
-IsOfParser c place = ((word : List ℕ) × (c ≡ expects word place)) ⊎ (c ≡ too_deep place)
-
 -- what the parser's refusal says of these tokens
 abbrev pub IsRefusalAt : Scanned → ParseRefusal → Complaint → Type 0
-IsRefusalAt s (Syntax token expected) c = IsOfParser c (place_of s token)
-IsRefusalAt s (TooDeep token) c = IsOfParser c (place_of s token)
+IsRefusalAt s (Syntax token expected) c = c ≡ expects (expected_text expected) (place_of s token)
+IsRefusalAt s (TooDeep token) c = c ≡ too_deep (place_of s token)
 IsRefusalAt s Memory c = ⊥
 
--- one complaint, at a token up to which no module begins
+-- one complaint: the token at which the descent stops, and what it expects there
 pub record TellsParser (text : List ℕ) (told : List Complaint) : Type 0 where
   pub scanned : Scanned
   pub scan : IsScanOf text scanned
-  pub token : ℕ
-  pub within : token ≤ length scanned.tokens
-  pub none_begins : NoneBegins scanned token
+  pub refusal : ParseRefusal
+  pub refused : RefusedBy scanned refusal
   pub complaint : Complaint
-  pub of_parser : IsOfParser complaint (place_of scanned token)
+  pub says : IsRefusalAt scanned refusal complaint
   pub alone : told ≡ complaint ∷ []
 
 -- ---- a text with a tree that isn't well-typed
@@ -119,3 +116,9 @@ Tells text told = (IsWellTypedModule text × (told ≡ [])) ⊎ (¬ IsWellTypedM
 -- the text's tokens and comments; what was kept before, exactly where it has no lexemes or is too long
 abbrev pub Keeps : List ℕ → Option Scanned → Option Scanned → Type 0
 Keeps text before after = ((scanned : Scanned) × IsScanOf text scanned × (after ≡ Some scanned)) ⊎ ((IsScannable text → ⊥) × (after ≡ before))
+
+-- ---- laws
+
+-- What is told of the parser is determined by the text.
+abbrev pub OneRefusal : Type 0
+OneRefusal = (text : List ℕ) (a b : List Complaint) → TellsParser text a → TellsParser text b → a ≡ b

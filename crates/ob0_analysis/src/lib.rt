@@ -5,6 +5,7 @@ mod analysis;
 mod diagnoses;
 mod diagnosing;
 mod differences;
+pub mod laws;
 
 pub use analysis::{Asked, Question, ask};
 pub use diagnoses::Diagnosis;

@@ -1,0 +1,74 @@
+-- Texts, by the kinds of their tokens, and where the descent stops in them.
+use Rattle.std.specs.Prelude.{ℕ, zero, suc, ◌+◌, List, [], ◌∷◌, ◌++◌}
+use Rattle.ob0_scan.specs.declared.lexeme.TokenKind.{TokenKind}
+use Rattle.ob0_scan.specs.declared.lexeme.TokenKind.TheVariants as kind
+use Rattle.ob0_scan.specs.declared.lexeme.Reserved.{Reserved}
+use Rattle.ob0_scan.specs.declared.lexeme.Reserved.TheVariants as reserved
+use Rattle.ob0_scan.specs.declared.lexeme.Symbol.{Symbol}
+use Rattle.ob0_scan.specs.declared.lexeme.Symbol.TheVariants as symbol
+use Rattle.ob0_tree.specs.Lexeme.{Lexeme, EndOfText}
+use Rattle.ob0_tree.specs.Places.{lexeme_of}
+use Rattle.ob0_parse.specs.Descent.{Stop, Done, Expects, Deep, DescendsText}
+use Rattle.ob0_parse.specs.declared.refusal.Expected.TheVariants as expected
+
+-- the tokens of these kinds, and the end of the text
+abbrev pub tokens_from : ℕ → List TokenKind → List (Lexeme ℕ)
+tokens_from i [] = EndOfText ∷ []
+tokens_from i (k ∷ ks) = lexeme_of i k ∷ tokens_from (i + 1) ks
+
+abbrev pub StopsIn : List TokenKind → Stop → Type 0
+StopsIn kinds stop = DescendsText (tokens_from 0 kinds) stop
+
+abbrev pub w : Reserved → TokenKind
+w r = kind.Reserved r
+
+abbrev pub s : Symbol → TokenKind
+s c = kind.Symbol c
+
+abbrev pub ident : TokenKind
+ident = kind.Identifier
+
+abbrev pub one : TokenKind
+one = kind.Integer 1
+
+-- MODULE M ;
+abbrev pub module_begins : List TokenKind
+module_begins = w reserved.Module ∷ ident ∷ s symbol.Semicolon ∷ []
+
+-- END M .
+abbrev pub module_ends : List TokenKind
+module_ends = w reserved.End ∷ ident ∷ s symbol.Dot ∷ []
+
+-- the same kinds so many times
+abbrev pub times : ℕ → List TokenKind → List TokenKind
+times zero ks = []
+times (suc n) ks = ks ++ times n ks
+
+-- the rows of syntax faults in docs/LANGUAGE.md
+pub record ExpectedRows : Type 0 where
+  pub empty : StopsIn [] (Expects 0 (expected.Token (w reserved.Module)))
+  -- MODULE M; BEGIN x = 1 END M.
+  pub equals : StopsIn (module_begins ++ (w reserved.Begin ∷ ident ∷ s symbol.Equal ∷ one ∷ module_ends)) (Expects 5 (expected.Token (w reserved.End)))
+  -- MODULE M; BEGIN x[0] END M.
+  pub selected : StopsIn (module_begins ++ (w reserved.Begin ∷ ident ∷ s symbol.LeftBracket ∷ one ∷ s symbol.RightBracket ∷ module_ends)) (Expects 8 (expected.Token (s symbol.Becomes)))
+  -- MODULE M; VAR x INTEGER; END M.
+  pub no_colon : StopsIn (module_begins ++ (w reserved.Var ∷ ident ∷ ident ∷ s symbol.Semicolon ∷ module_ends)) (Expects 5 (expected.Token (s symbol.Colon)))
+  -- MODULE M; VAR x: ; END M.
+  pub no_type : StopsIn (module_begins ++ (w reserved.Var ∷ ident ∷ s symbol.Colon ∷ s symbol.Semicolon ∷ module_ends)) (Expects 6 expected.Type)
+  -- MODULE M; END M. x
+  pub behind_end : StopsIn (module_begins ++ (module_ends ++ (ident ∷ []))) (Expects 6 expected.EndOfText)
+  -- MODULE M; BEGIN WriteLn END M
+  pub no_dot : StopsIn (module_begins ++ (w reserved.Begin ∷ ident ∷ w reserved.End ∷ ident ∷ [])) (Expects 7 (expected.Token (s symbol.Dot)))
+  -- MODULE M; VAR UNTIL: INTEGER; END M.
+  pub reserved_name : StopsIn (module_begins ++ (w reserved.Var ∷ w reserved.Until ∷ s symbol.Colon ∷ ident ∷ s symbol.Semicolon ∷ module_ends)) (Expects 4 (expected.Token (w reserved.End)))
+  -- MODULE M; BEGIN WriteLn END M.
+  pub whole : StopsIn (module_begins ++ (w reserved.Begin ∷ ident ∷ module_ends)) Done
+
+-- 100 of a construct inside one another are read, the 101st is too deep
+pub record DeepRows : Type 0 where
+  -- MODULE M; BEGIN, 101 times IF TRUE THEN, 101 times END, END M.
+  pub ifs : StopsIn (module_begins ++ (w reserved.Begin ∷ (times 101 (w reserved.If ∷ ident ∷ w reserved.Then ∷ []) ++ (times 101 (w reserved.End ∷ []) ++ module_ends)))) (Deep 304)
+  -- MODULE M; 101 times PROCEDURE P; 101 times END P; END M.
+  pub procedures : StopsIn (module_begins ++ (times 101 (w reserved.Procedure ∷ ident ∷ s symbol.Semicolon ∷ []) ++ (times 101 (w reserved.End ∷ ident ∷ s symbol.Semicolon ∷ []) ++ module_ends))) (Deep 303)
+  -- MODULE M; VAR x: 101 times ARRAY 1 OF, INTEGER; END M.
+  pub arrays : StopsIn (module_begins ++ (w reserved.Var ∷ ident ∷ s symbol.Colon ∷ (times 101 (w reserved.Array ∷ one ∷ w reserved.Of ∷ []) ++ (ident ∷ s symbol.Semicolon ∷ module_ends)))) (Deep 306)

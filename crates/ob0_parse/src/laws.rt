@@ -1,0 +1,25 @@
+//! What holds of the definitions that the contracts cite.
+
+ghost use Rattle.std.specs.Prelude.{ℕ, List};
+ghost use Rattle.ob0_scan.specs.Scanned.{Scanned};
+ghost use Rattle.ob0_tree.specs.Module.{ModuleOf};
+ghost use Rattle.ob0_tree.specs.Places.{lexemes};
+ghost use Rattle.ob0_tree.specs.Tree.{Tree, module_text};
+ghost use Rattle.ob0_parse.specs.Descent.{DescendsText, Done, OneStop};
+ghost use Rattle.ob0_parse.specs.DescentExamples.{DeepRows, ExpectedRows};
+
+/// The tokens determine where the descent stops, and what it expects there.
+pub fn one_stop()
+    ensures { OneStop }
+{}
+
+/// The descent reads each module to its end, so a text in which it stops before that is none.
+pub fn modules_are_read()
+    ensures { (text : Scanned) (tree : Tree (List ℕ) module_text) → ModuleOf text tree → DescendsText (lexemes text.tokens) Done }
+{}
+
+/// Where the descent stops in some texts.
+pub fn stops_of_examples()
+    ensures expected { ExpectedRows }
+    ensures deep { DeepRows }
+{}
