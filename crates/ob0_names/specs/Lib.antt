@@ -12,3 +12,4 @@ pub mod Laws
 pub mod RenamingLaws
 pub mod SeenNames
 pub mod Elsewhere
+pub mod Bindings

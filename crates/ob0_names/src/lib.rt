@@ -5,5 +5,5 @@
 mod resolved;
 mod table;
 
-pub use resolved::{PREDECLARED, Resolved};
+pub use resolved::{Bindings, PREDECLARED, Resolved};
 pub use table::{ordinal_at, token_span};

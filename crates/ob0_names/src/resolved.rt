@@ -8,24 +8,34 @@ ghost use Rattle.ob0_names.specs.Resolution.{IsResolution, ordinal_in, token_dec
 use crate::table::ordinal_at;
 use ob0_scan::{Fault, Tokens};
 use ob0_tree::Module;
+use std::borrow::Cow;
 use std::marker::Model;
 
 /// How many names are predeclared: INTEGER, BOOLEAN, TRUE, FALSE, Read, Write and WriteLn, with the ordinals 0 to 6.
 pub const PREDECLARED: usize = 7;
+
+/// What the names of a module are bound to, by indexes of tokens and ordinals alone: the ordinal of each token's name, the tokens
+/// that declare, those of the occurrences, and the faults. It borrows nothing.
+#[derive(Drop)]
+pub struct Bindings {
+    pub ordinals: Vec<Option<u32>>,
+    pub declarations: Vec<usize>,
+    pub occurrences: Vec<usize>,
+    pub faults: Vec<Fault>,
+}
 
 /// A module of which each name is bound to its declaration. Declarations go by ordinal: 0 to 6 are the predeclared
 /// names, from 7 on those of the text, in text order.
 #[derive(Drop)]
 pub struct Resolved<'t> {
     module: &'t Module<'t>,
-    ordinals: Vec<Option<u32>>,
-    declarations: Vec<usize>,
-    occurrences: Vec<usize>,
-    faults: Vec<Fault>,
+    bindings: Cow<'t, Bindings>,
 }
 
 impl<'t> Model for Resolved<'t> {
+    ghost use Rattle.std.specs.Cow.{cow_value};
     ghost use Rattle.ob0_names.specs.Resolution.{Resolution, IsResolution};
+    ghost use Rattle.ob0_names.specs.Bindings.{resolution_by};
 
     ghost Value = { Resolution };
 
@@ -34,29 +44,43 @@ impl<'t> Model for Resolved<'t> {
 
     ghost coded = { Prim.hlevel (codes, block_contract.the_row.coded) };
 
-    ghost view = { λ r. record { module_read = r.module.now; ordinals = r.ordinals.items; declarations = r.declarations.items; uses = r.occurrences.items; faults = r.faults.items } };
+    ghost view = { λ r. resolution_by r.module.now (cow_value r.bindings) };
 
-    ghost invariant = { λ r. IsResolution (record { module_read = r.module.now; ordinals = r.ordinals.items; declarations = r.declarations.items; uses = r.occurrences.items; faults = r.faults.items }) };
+    ghost invariant = { λ r. IsResolution (resolution_by r.module.now (cow_value r.bindings)) };
 }
 
 impl<'t> Resolved<'t> {
-    /// A module with the ordinals of its names by token, the tokens that declare, those of the occurrences, and the faults.
-    pub fn new(
-        module: &'t Module<'t>,
-        ordinals: Vec<Option<u32>>,
-        declarations: Vec<usize>,
-        occurrences: Vec<usize>,
-        faults: Vec<Fault>,
-    ) -> Resolved<'t>
-        requires { IsResolution (record { module_read = «module».now; ordinals = ordinals.items; declarations = declarations.items; uses = occurrences.items; faults = faults.items }) }
-        ensures { result ≡ record { module_read = «module».now; ordinals = ordinals.items; declarations = declarations.items; uses = occurrences.items; faults = faults.items } }
+    ghost use Rattle.ob0_names.specs.Bindings.{resolution_by};
+
+    /// Joins bindings to their module.
+    pub fn new(module: &'t Module<'t>, bindings: Bindings) -> Resolved<'t>
+        requires { IsResolution (resolution_by «module».now bindings) }
+        ensures { result ≡ resolution_by «module».now bindings }
     {
         Resolved {
             module,
-            ordinals,
-            declarations,
-            occurrences,
-            faults,
+            bindings: Cow::Owned(bindings),
+        }
+    }
+
+    /// Joins bindings that are kept elsewhere to their module.
+    pub fn lent(module: &'t Module<'t>, bindings: &'t Bindings) -> Resolved<'t>
+        requires { IsResolution (resolution_by «module».now bindings.now) }
+        ensures { result ≡ resolution_by «module».now bindings.now }
+    {
+        Resolved {
+            module,
+            bindings: Cow::Borrowed(bindings),
+        }
+    }
+
+    /// The bindings, without the module.
+    fn bindings(&self) -> &Bindings
+        ensures { resolution_by self.now.module_read result.now ≡ self.now }
+    {
+        match &self.bindings {
+            Cow::Borrowed(bindings) => bindings,
+            Cow::Owned(bindings) => bindings,
         }
     }
 
@@ -80,7 +104,7 @@ impl<'t> Resolved<'t> {
     pub fn declaration_of(&self, occurrence: usize) -> Option<usize>
         ensures { result ≡ binds (named_tree_of self.now.module_read) occurrence }
     {
-        let _ = &self.faults;
+        let _ = &self.bindings;
         match self.occurrence(occurrence) {
             Some(token) => self.ordinal_at(token),
             None => None,
@@ -91,7 +115,7 @@ impl<'t> Resolved<'t> {
     fn occurrence(&self, occurrence: usize) -> Option<usize>
         ensures { result ≡ slice_get self.now.uses occurrence }
     {
-        self.occurrences.get(occurrence).copied()
+        self.bindings().occurrences.get(occurrence).copied()
     }
 
     /// The ordinal of the declaration of the identifier at token `token`: of a name that is looked up what binds it,
@@ -100,21 +124,21 @@ impl<'t> Resolved<'t> {
     pub fn ordinal_at(&self, token: usize) -> Option<usize>
         ensures { result ≡ ordinal_in self.now.ordinals token }
     {
-        ordinal_at(&self.ordinals, token)
+        ordinal_at(&self.bindings().ordinals, token)
     }
 
     /// The ordinals by token.
     pub fn ordinals(&self) -> &[Option<u32>]
         ensures { result.now ≡ self.now.ordinals }
     {
-        self.ordinals.as_slice()
+        self.bindings().ordinals.as_slice()
     }
 
     /// The tokens of the names that declare, in text order: the first has the ordinal 7.
     pub fn declarations(&self) -> &[usize]
         ensures { result.now ≡ self.now.declarations }
     {
-        self.declarations.as_slice()
+        self.bindings().declarations.as_slice()
     }
 
     /// The token that declares what has this ordinal. None for the predeclared names, and where there is no such ordinal.
@@ -124,14 +148,17 @@ impl<'t> Resolved<'t> {
         if ordinal < PREDECLARED {
             return None;
         }
-        self.declarations.get(ordinal - PREDECLARED).copied()
+        self.bindings()
+            .declarations
+            .get(ordinal - PREDECLARED)
+            .copied()
     }
 
     /// The tokens of the occurrences, in text order.
     pub fn occurrences(&self) -> &[usize]
         ensures { result.now ≡ self.now.uses }
     {
-        self.occurrences.as_slice()
+        self.bindings().occurrences.as_slice()
     }
 
     /// Second declarations in a block or record and closing names that differ; behind these the names that no declaration
@@ -139,6 +166,6 @@ impl<'t> Resolved<'t> {
     pub fn faults(&self) -> &[Fault]
         ensures { result.now ≡ self.now.faults }
     {
-        self.faults.as_slice()
+        self.bindings().faults.as_slice()
     }
 }

@@ -2,12 +2,13 @@
 
 ghost use Rattle.std.specs.Prelude.{◌≡◌, IfOk};
 ghost use Rattle.ob0_names.specs.Resolution.{IsResolution};
+ghost use Rattle.ob0_names.specs.Bindings.{resolution_by};
 
 use crate::checks::check;
 use crate::numbering::number;
 use crate::table::undeclared;
 use crate::writing::Writing;
-use ob0_names::Resolved;
+use ob0_names::{Bindings, Resolved};
 use ob0_tree::Module;
 use std::alloc::{AllocError, Global};
 
@@ -16,10 +17,23 @@ use std::alloc::{AllocError, Global};
 pub fn resolve<'t>(alloc: Global, module: &'t Module<'t>) -> Result<Resolved<'t>, AllocError>
     ensures { IfOk result (λ r. (r.module_read ≡ «module».now) × IsResolution r) }
 {
+    let bindings = bindings_of(alloc, module)?;
+    Ok(Resolved::new(module, bindings))
+}
+
+/// What the names of a module are bound to. It borrows nothing, so that it can be kept beside the module's tree.
+pub fn bindings_of(alloc: Global, module: &Module<'_>) -> Result<Bindings, AllocError>
+    ensures { IfOk result (λ b. IsResolution (resolution_by «module».now b)) }
+{
     let tokens = module.tokens();
     let numbering = number(alloc, module, Writing::as_in(tokens))?;
     let (declarations, occurrences, ordinals) = numbering.into_parts();
     let mut faults = check(alloc, module)?;
     undeclared(&mut faults, tokens, &ordinals, &occurrences)?;
-    Ok(Resolved::new(module, ordinals, declarations, occurrences, faults))
+    Ok(Bindings {
+        ordinals,
+        declarations,
+        occurrences,
+        faults,
+    })
 }
