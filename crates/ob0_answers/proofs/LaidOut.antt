@@ -15,7 +15,7 @@ use Rattle.ob0_tree.specs.Parsed.{Parsed, named_tree_of}
 use Rattle.ob0_tree.specs.Tree.{Tree, module_text}
 use Rattle.ob0_layout.specs.Layout.{laid_out, layout}
 use Rattle.ob0_layout.specs.Sites.{said, edit_of, changed_sites, all_sites}
-use Rattle.ob0_layout.specs.Standings.{standings}
+use Rattle.ob0_layout.specs.Standings.{line_roles}
 use Rattle.ob0_text.specs.declared.refusals.EditRefusal.{EditRefusal}
 use Rattle.ob0_text.specs.declared.refusals.EditRefusal.TheVariants.{TooLong, Memory}
 use Rattle.ob0_analysis.specs.Analysed.{Finds, IsModuleIn}
@@ -61,7 +61,7 @@ lays_out unit indent text edits m changes made short u lexed law =
 -- what the maker of the edits says of a module that was read
 abbrev pub Made : Unit → Indent → List ℕ → List Edit → Parsed → Type 0
 Made unit indent text edits m =
-    ((scan : IsScan m.source) → map said edits ≡ map (edit_of indent (width_of unit) text) (changed_sites indent m.source.text (all_sites (standings 0 (named_tree_of m)) scan.lexemes)))
+    ((scan : IsScan m.source) → map said edits ≡ map (edit_of indent (width_of unit) text) (changed_sites indent m.source.text (all_sites (line_roles 0 (named_tree_of m)) scan.lexemes)))
     × ((scan : IsScan m.source) → length (layout indent (named_tree_of m) scan.lexemes) ≤ max_text)
     × ((scan : IsScan m.source) → text ≡ chars m.source.text → patched (width_of unit) text edits ≡ Some (chars (layout indent (named_tree_of m) scan.lexemes)))
 

@@ -108,7 +108,7 @@ pub struct ActionsRequest<'a> {
 
 /// The answer to a request for code actions in the text in a store. Where the tokens that were kept are the text's, it isn't
 /// scanned again.
-pub fn acted<T: TextStore>(
+pub fn code_actions<T: TextStore>(
     alloc: Global,
     store: &T,
     kept: Option<&Tokens>,

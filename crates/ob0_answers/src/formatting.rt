@@ -54,7 +54,7 @@ impl<'a, T: TextStore> Question for Formatting<'a, T> {
 }
 
 /// The answer to a request to lay out the text in a store. Where the tokens that were kept are the text's, it isn't scanned again.
-pub fn formatted<T: TextStore>(
+pub fn format_document<T: TextStore>(
     alloc: Global,
     id: &Id,
     store: &T,

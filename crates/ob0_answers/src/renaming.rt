@@ -28,7 +28,7 @@ pub struct RenameRequest<'a> {
 
 /// The answer to a request for another name in the text in a store. Where the tokens that were kept are the text's, it isn't
 /// scanned again.
-pub fn renamed<T: TextStore>(
+pub fn rename_symbol<T: TextStore>(
     alloc: Global,
     store: &T,
     kept: Option<&Tokens>,

@@ -35,7 +35,7 @@ use Rattle.ob0_lowering.specs.Scenes.{seen_from, site_at}
 use Rattle.ob0_lowering.specs.declared.scene.Scene.{Scene}
 use Rattle.ob0_lowering.specs.declared.scene.Site.TheVariants as site
 use Rattle.ob0_blocks.specs.KnownBlocks.{AreDeclared, BlockDeclared, Objects}
-use Rattle.ob0_blocks.specs.Blocks.{Goes, Grown, Later, LowersBlock, Ready, Standing}
+use Rattle.ob0_blocks.specs.Blocks.{Goes, Grown, Later, LowersBlock, Ready, BlockState}
 use Rattle.ob0_blocks.specs.Placed.{Follows, GoesBack, Holds, IsFrame, Matches, Places, declared_size, most, place_groups, place_sections, put_at, slots_at}
 use Rattle.ob0_blocks.specs.declared.lowering.Lowering.{Lowering}
 use Rattle.ob0_blocks.specs.declared.sight.Frame.{Frame}
@@ -149,7 +149,7 @@ procedure_goes t w v u after depth index o name fs b closing rest first f entry 
           let seen : seen_from depth (site.Procedure depth index) ≡ own_target index = ap (λ n. at_target (record { procedure = index; up = n })) none in
           let held_there : Holds v.sight.sites.items depth outer = holds_bound w.sight.sites.items v.sight.sites.items depth s.placing o name (site.Procedure depth index) (own_target index) (le_refl depth, seen) is.sites ready.holds in
           let matched : Matches headed outer = (refl, (record { procedure = index; up = 0 }, refl), ready.matches) in
-          let now : Standing = record { env = headed; placing = outer; next = s.next + procedure_constructors (declares_procedure x fs b closing) } in
+          let now : BlockState = record { env = headed; placing = outer; next = s.next + procedure_constructors (declares_procedure x fs b closing) } in
           let empty : Placed Label = record { placing = inward outer; cells = 0; lent_places = 0 } in
           let begun : IsFrame v.sight.sites.items first empty = record {
             holds = subst (λ d. Holds v.sight.sites.items d (inward outer)) (sym deep) (holds_inward v.sight.sites.items depth outer held_there);
@@ -218,7 +218,7 @@ block_lowers t w v inside cs ts vs ps statements f own scene entry places goes t
         declared_behind = known_parts.1;
       } in
       let gone = goes.on (record { env = inner; placing = q.placing; next = after_variables k b }) statements ready in
-      let now : Standing = gone.0 in
+      let now : BlockState = gone.0 in
       let last = gone.1 in
       let seen = sees scene now.env now.placing (subst (λ z. AreDeclared (declared_in z) now.env) (sym types) last.declared_there) last.matches
       (subst (λ d. Holds scene.sites.now d now.placing) (sym deep) (subst (λ xs. Holds xs own.depth now.placing) (sym sites) last.holds)) in (

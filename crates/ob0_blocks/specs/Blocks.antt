@@ -23,26 +23,26 @@ abbrev pub Grown : List Procedure → List Procedure → Type 0
 Grown before now = (i : ℕ) (e : Procedure) → slice_get before i ≡ Some e → slice_get now i ≡ Some e
 
 -- before some procedures of a block: what names are bound to, where that is, and the ordinal of the next ARRAY or RECORD
-pub record Standing : Type 0 where
+pub record BlockState : Type 0 where
   pub env : TypeEnvironment Label
   pub placing : Placing Label
   pub next : ℕ
 
 -- the procedures and statements that are left fit there, and all that they see is known and held
-pub record Ready (t : Tables) (sites : List Site) (depth : ℕ) (s : Standing) (statements : Tree Label (maybe body)) (ps : Tree Label (items procedure)) : Type 0 where
+pub record Ready (t : Tables) (sites : List Site) (depth : ℕ) (s : BlockState) (statements : Tree Label (maybe body)) (ps : Tree Label (items procedure)) : Type 0 where
   pub declared_there : AreDeclared (declared_in t) s.env
   pub matches : Matches s.env s.placing
   pub holds : Holds sites depth s.placing
   pub fits : procedures_fit as_labels s.env s.next statements ps ≡ true
   pub declared_behind : ProceduresDeclared (declared_in t) s.env s.next ps
 
-abbrev pub AllMean : List lowered.Procedure → Standing → lowered.Statements → Tree Label (maybe body) → Tree Label (items procedure) → Type 0
+abbrev pub AllMean : List lowered.Procedure → BlockState → lowered.Statements → Tree Label (maybe body) → Tree Label (items procedure) → Type 0
 AllMean table s code statements ps = ProceduresMean table most as_labels s.env s.placing s.next code statements ps
 
 -- procedures are lowered, of which some are left: where what is left means what stands there, all do
 pub record Goes (t : Tables) (w v : Lowering) (depth : ℕ) (ps left : Tree Label (items procedure)) : Type 0 where
-  pub on : (s : Standing) (statements : Tree Label (maybe body)) → Ready t w.sight.sites.items depth s statements ps
-      → (now : Standing) × Ready t v.sight.sites.items depth now statements left
+  pub on : (s : BlockState) (statements : Tree Label (maybe body)) → Ready t w.sight.sites.items depth s statements ps
+      → (now : BlockState) × Ready t v.sight.sites.items depth now statements left
       × ((table : List lowered.Procedure) (code : lowered.Statements) → Later table (length w.procedures.items) v.procedures.items → AllMean table now code statements left → AllMean table s code statements ps)
   pub follows : Follows w.sight v.sight
   pub longer : length w.procedures.items ≤ length v.procedures.items

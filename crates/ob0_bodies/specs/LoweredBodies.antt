@@ -11,7 +11,7 @@ use Rattle.ob0_typing.specs.WellTyped.{Signature, TypeEnvironment, Typed, argume
 use Rattle.ob0_machine.specs.Lowered as lowered
 use Rattle.ob0_cells.specs.Activations.{BodyMeans, Placing, slots_in, targets_in}
 use Rattle.ob0_cells.specs.LoweredStatements.{ArgumentsMean, ElseMeans, ElsifsMean, FurtherMean, SequenceMeans, StatementMeans, Target}
-use Rattle.ob0_cells.specs.Lowering.{Slot, TruthMeans, worth}
+use Rattle.ob0_cells.specs.Lowering.{Slot, TruthMeans, value_of_expression}
 use Rattle.ob0_lowering.specs.declared.scene.Scene.{Scene}
 use Rattle.ob0_lowering.specs.Scenes.{Sees}
 
@@ -20,7 +20,7 @@ abbrev pub InScene : Scene → (Typed Label → Bool) → (Typed Label → (Labe
 InScene scene fits Means = (checked : Typed Label) (slots : Label → Slot) (targets : Label → Target) → Sees scene checked slots targets → IsTrue (fits checked) → Means checked slots targets
 
 abbrev pub ConditionLowers : Scene → lowered.Truth → Tree Label expression → Type 0
-ConditionLowers scene t e = InScene scene (λ checked. condition_fits checked e) (λ checked slots targets. TruthMeans checked slots t (worth e))
+ConditionLowers scene t e = InScene scene (λ checked. condition_fits checked e) (λ checked slots targets. TruthMeans checked slots t (value_of_expression e))
 
 abbrev pub ArgumentsLower : Scene → Signature → List lowered.Argument → List (Tree Label expression) → Type 0
 ArgumentsLower scene signature cs es = InScene scene (λ checked. arguments_fit checked signature es) (λ checked slots targets. ArgumentsMean checked slots signature cs es)

@@ -9,7 +9,7 @@ use Rattle.ob0_typing.specs.Expressions.{Object, a_constant, a_procedure, a_stan
 use Rattle.ob0_typing.specs.WellTyped.{Signature, TypeEnvironment, TypedParameter, bind_typed, block_fits, heading, procedure_fits, signature_of, typed_parameters}
 use Rattle.ob0_values.specs.Values.{Place, Shape, Store}
 use Rattle.ob0_semantics.specs.Fitting.{ArgumentsFit, BindingFits, EnvironmentsFit, StoreFits, StoreTyping}
-use Rattle.ob0_semantics.specs.GivenUp.{call_giving_up, give_up}
+use Rattle.ob0_semantics.specs.GivenUp.{call_giving_up, drop_variables}
 use Rattle.ob0_semantics.specs.Runs.{Activation, Argument, Code, Frame, Progress, State, activate, bind_parameters, declare_block, execute_body, in_frame, running, statement_meanings, stopped}
 use Rattle.ob0_semantics.proofs.SoundCalls.{from-fit, names-fit, parameters-of_typed, some-inverse}
 use Rattle.ob0_machine.specs.Evaluation.{Level, Levels}
@@ -32,7 +32,7 @@ numbers-zero (suc n) zero = refl
 numbers-zero (suc n) (suc i) = numbers-zero n i
 
 -- what a call has of its own is given up in both
-pub give_up-represents : (typing now others : StoreTyping) (old : Store) (base : ℕ) (p : execution.Progress) (q : Progress) → now ≡ typing ++ others → StoreFits typing old → base ≡ length (all_cells old) → ProgressRepresents now p q → ProgressRepresents typing (execution.give_up base p) (give_up (length old) q)
+pub give_up-represents : (typing now others : StoreTyping) (old : Store) (base : ℕ) (p : execution.Progress) (q : Progress) → now ≡ typing ++ others → StoreFits typing old → base ≡ length (all_cells old) → ProgressRepresents now p q → ProgressRepresents typing (execution.drop_variables base p) (drop_variables (length old) q)
 give_up-represents typing now others old base (execution.running low) (running s) e fits is h =
     let (kept, cells) = variables_are_given_up-holds typing others old s.store fits (subst (λ all. StoreFits all s.store) e h.store_fits) in
     record {
@@ -73,7 +73,7 @@ module _ {N : Type 0} (table : List lowered.Procedure) (most : ℕ) (naming : Na
   pub activate-represents : (c t : ℕ) → CallsKnown c t → (typing : StoreTyping) (ls : Levels) (checked : TypeEnvironment N) (placing : Placing N) (active : Activation N) (signature : Signature) (args : List Argument) (low : execution.State) (s : State) (p : execution.Passed)
       → EnvironmentsFit naming typing checked active → PlacingFits table most naming typing ls checked placing active → sizes typing + suc c * most < 2 ^ 64 → newest checked ≡ Some (a_procedure signature) → Represents typing low s → ArgumentsFit typing signature args
       → p.cells ≡ low.cells ++ argument_cells args → p.addresses ≡ argument_addresses typing args → HaveNumbers p.cells
-      → ProgressRepresents typing (execution.call table (suc c) t (first_target placing).procedure (execution.entered ls (length low.cells) (first_target placing).up p) record low { cells = p.cells }) (give_up (length s.store) (activate naming (call_giving_up naming c t) t active args s))
+      → ProgressRepresents typing (execution.call table (suc c) t (first_target placing).procedure (execution.entered ls (length low.cells) (first_target placing).up p) record low { cells = p.cells }) (drop_variables (length s.store) (activate naming (call_giving_up naming c t) t active args s))
   unfolding execution.call activate block_fits
   activate-represents c t known typing ls [] placing active signature args low s p env placed few e h fit cells there numbers = absurd (cc)
   activate-represents c t known typing ls (b ∷ checked) [] [] signature args low s p env placed few e h fit cells there numbers = absurd env
@@ -84,7 +84,7 @@ module _ {N : Type 0} (table : List lowered.Procedure) (most : ℕ) (naming : Na
       of_text : (tg : Target) (outer : Placing N) (entry : lowered.Procedure) (j : ℕ) (text : Tree N (item procedure)) (ps : List (TypedParameter N)) → PlacingFits table most naming typing (drop tg.up ls) checked outer active → typed_parameters naming checked j (procedure_formals text) ≡ Some ps
           → slice_get table tg.procedure ≡ Some entry → signature ≡ map (λ p. p.formal) ps → procedure_fits naming (bind_typed ps (heading x ps checked)) j text ≡ true
           → ProcedureMeans table most naming (bind_typed ps (heading x ps checked)) (entered_placing ps ((x, own_target tg.procedure) ∷ outer)) j entry text
-          → ProgressRepresents typing (execution.call table (suc c) t tg.procedure (execution.entered ls (length low.cells) tg.up p) record low { cells = p.cells }) (give_up (length s.store) (activate naming (call_giving_up naming c t) t ((y, a_procedure record { first_constructor = j; text = text }) ∷ active) args s))
+          → ProgressRepresents typing (execution.call table (suc c) t tg.procedure (execution.entered ls (length low.cells) tg.up p) record low { cells = p.cells }) (drop_variables (length s.store) (activate naming (call_giving_up naming c t) t ((y, a_procedure record { first_constructor = j; text = text }) ∷ active) args s))
       of_text tg outer entry j (declares_procedure q fs b closing) ps inside eps et sig fits means =
           let text : Tree N (item procedure) = declares_procedure q fs b closing in
           let l : Level = record { base = length low.cells; addresses = p.addresses } in
@@ -116,11 +116,11 @@ module _ {N : Type 0} (table : List lowered.Procedure) (most : ℕ) (naming : Na
           let grown : rest.typing_now ≡ typing ++ (part.others ++ rest.others) = rest.is_grown ∙ (ap (λ l. l ++ rest.others) part.is_grown ∙ append_assoc typing part.others rest.others) in
           let gives_up = give_up-represents typing rest.typing_now (part.others ++ rest.others) s.store l.base (execution.execute_all (execution.call table c t) t (l ∷ seen) entry.body low₂) (execute_body naming k.env (call_giving_up naming c t k.env) t (block_statements b) s₂) grown h.store_fits (ap length h.same_cells) does in
           let frames = ap (λ l. option_and_then (declare_block naming (j + formals_constructors (formal_sections fs)) b) (bind_parameters l args f)) (parameters-of_typed naming checked j (formal_sections fs) ps eps) ∙ (ap (option_and_then (declare_block naming (j + formals_constructors (formal_sections fs)) b)) eg ∙ ek) in
-          subst (λ o. ProgressRepresents typing (execution.give_up l.base (execution.activate (execution.call table c t) t (l ∷ seen) o record low { cells = p.cells })) (give_up (length s.store) (activate naming (call_giving_up naming c t) t ((y, a_procedure record { first_constructor = j; text = text }) ∷ active) args s))) (sym et)
-          (subst (λ frame. ProgressRepresents typing (execution.give_up l.base (execution.execute_all (execution.call table c t) t (l ∷ seen) entry.body low₂)) (give_up (length s.store) (in_frame s frame (λ f. execute_body naming f.env (call_giving_up naming c t f.env) t (block_statements b))))) (sym frames) gives_up)
+          subst (λ o. ProgressRepresents typing (execution.drop_variables l.base (execution.activate (execution.call table c t) t (l ∷ seen) o record low { cells = p.cells })) (drop_variables (length s.store) (activate naming (call_giving_up naming c t) t ((y, a_procedure record { first_constructor = j; text = text }) ∷ active) args s))) (sym et)
+          (subst (λ frame. ProgressRepresents typing (execution.drop_variables l.base (execution.execute_all (execution.call table c t) t (l ∷ seen) entry.body low₂)) (drop_variables (length s.store) (in_frame s frame (λ f. execute_body naming f.env (call_giving_up naming c t f.env) t (block_statements b))))) (sym frames) gives_up)
 
       of_objects : (o : Object Shape Signature) (w : Whereabouts) (r : Object Place (Code N)) → BindingFits naming typing checked x o r → IsPlaced table most naming typing ls checked (λ ls placing. PlacingFits table most naming typing ls checked placing active) x o w r → o ≡ a_procedure signature
-          → ProgressRepresents typing (execution.call table (suc c) t (target_of w).procedure (execution.entered ls (length low.cells) (target_of w).up p) record low { cells = p.cells }) (give_up (length s.store) (activate naming (call_giving_up naming c t) t ((y, r) ∷ active) args s))
+          → ProgressRepresents typing (execution.call table (suc c) t (target_of w).procedure (execution.entered ls (length low.cells) (target_of w).up p) record low { cells = p.cells }) (drop_variables (length s.store) (activate naming (call_giving_up naming c t) t ((y, r) ∷ active) args s))
       of_objects (a_procedure sg) (at_target tg) (a_procedure code) bound at e =
           let (ps, eps, sig, fits) = bound in
           let (outer, inside, qs, entry, eqs, et, means) = at in

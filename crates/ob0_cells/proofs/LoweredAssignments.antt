@@ -13,7 +13,7 @@ use Rattle.ob0_machine.specs.Execution as execution
 use Rattle.ob0_machine.specs.Lowered as lowered
 use Rattle.ob0_cells.specs.Cells.{address, all_cells, cells_of, size, sizes}
 use Rattle.ob0_cells.specs.LoweredStatements.{HaveNumbers, IsAt, ProgressRepresents, Represents, StatementMeans, Target}
-use Rattle.ob0_cells.specs.Lowering.{Has32Bits, NumberMeans, PlaceMeans, Slot, TruthMeans, ValueAt, place_of_designator, worth}
+use Rattle.ob0_cells.specs.Lowering.{Has32Bits, NumberMeans, PlaceMeans, Slot, TruthMeans, ValueAt, place_of_designator, value_of_expression}
 use Rattle.ob0_cells.proofs.Parts.{cells-size}
 use Rattle.ob0_cells.proofs.Places.{places_are_slices-holds, store-size, writing_places_writes_slices-holds}
 use Rattle.ob0_cells.proofs.Represented.{alone-cells, moment, moment-shown, number-in, number-read, number-stored, numbers-append, numbers-drop, numbers-take, place-in, put-represents, truth-in, truth-stored, use-place, use-represents}
@@ -78,24 +78,24 @@ use-value-argument s (gives v) j = refl
 use-value-argument s (ends e) j = refl
 
 module _ {N : Type 0} (checked : Typed N) (slots : N → Slot) (targets : N → Target) where
-  pub number-assigned : (x : N) (path : Tree N (items selector)) (e : Tree N expression) (q : lowered.Place) (n : lowered.Number) → PlaceMeans checked slots q integer_shape (place_of_designator x path) → NumberMeans checked slots n (worth e) → StatementMeans checked slots targets (lowered.stores_number q n) (assigns x path e)
+  pub number-assigned : (x : N) (path : Tree N (items selector)) (e : Tree N expression) (q : lowered.Place) (n : lowered.Number) → PlaceMeans checked slots q integer_shape (place_of_designator x path) → NumberMeans checked slots n (value_of_expression e) → StatementMeans checked slots targets (lowered.stores_number q n) (assigns x path e)
   unfolding execution.execute execute
   number-assigned x path e q n hq hn b shown t low s h =
-      let (same, bits) = number-in checked slots targets b shown n (worth e) hn low s h in
+      let (same, bits) = number-in checked slots targets b shown n (value_of_expression e) hn low s h in
       use-place b.typing integer_shape low s (machine.address b.levels low.cells q) (designate b.active s.store x path) (λ a. execution.use_in low (machine.number b.levels low.cells n) (λ v. execution.running (execution.store_at low a v))) (λ p. use_in s (evaluate b.active s.store e) (store_at s p)) h
       (place-in checked slots targets b shown q integer_shape (place_of_designator x path) hq low s h)
       (λ p fit. use-represents b.typing number low s (machine.number b.levels low.cells n) (evaluate b.active s.store e) (λ v. execution.running (execution.store_at low (address b.typing p) v)) (store_at s p) h same
       (λ v is. number-stored b.typing low s p v h fit (subst Has32Bits is bits)))
 
-  pub truth-assigned : (x : N) (path : Tree N (items selector)) (e : Tree N expression) (q : lowered.Place) (u : lowered.Truth) → PlaceMeans checked slots q boolean_shape (place_of_designator x path) → TruthMeans checked slots u (worth e) → StatementMeans checked slots targets (lowered.stores_truth q u) (assigns x path e)
+  pub truth-assigned : (x : N) (path : Tree N (items selector)) (e : Tree N expression) (q : lowered.Place) (u : lowered.Truth) → PlaceMeans checked slots q boolean_shape (place_of_designator x path) → TruthMeans checked slots u (value_of_expression e) → StatementMeans checked slots targets (lowered.stores_truth q u) (assigns x path e)
   unfolding execution.execute execute
   truth-assigned x path e q u hq hu b shown t low s h =
       use-place b.typing boolean_shape low s (machine.address b.levels low.cells q) (designate b.active s.store x path) (λ a. execution.use_in low (machine.truth b.levels low.cells u) (λ v. execution.running (execution.store_at low a (machine.as_cell v)))) (λ p. use_in s (evaluate b.active s.store e) (store_at s p)) h
       (place-in checked slots targets b shown q boolean_shape (place_of_designator x path) hq low s h)
-      (λ p fit. use-represents b.typing truth low s (machine.truth b.levels low.cells u) (evaluate b.active s.store e) (λ v. execution.running (execution.store_at low (address b.typing p) (machine.as_cell v))) (store_at s p) h (truth-in checked slots targets b shown u (worth e) hu low s h)
+      (λ p fit. use-represents b.typing truth low s (machine.truth b.levels low.cells u) (evaluate b.active s.store e) (λ v. execution.running (execution.store_at low (address b.typing p) (machine.as_cell v))) (store_at s p) h (truth-in checked slots targets b shown u (value_of_expression e) hu low s h)
       (λ v is. truth-stored b.typing low s p v h fit))
 
-  pub block-assigned : (x : N) (path : Tree N (items selector)) (e : Tree N expression) (q r : lowered.Place) (shape : Shape) → PlaceMeans checked slots q shape (place_of_designator x path) → ValueAt checked slots r shape (worth e) → StatementMeans checked slots targets (lowered.copies q r (size shape)) (assigns x path e)
+  pub block-assigned : (x : N) (path : Tree N (items selector)) (e : Tree N expression) (q r : lowered.Place) (shape : Shape) → PlaceMeans checked slots q shape (place_of_designator x path) → ValueAt checked slots r shape (value_of_expression e) → StatementMeans checked slots targets (lowered.copies q r (size shape)) (assigns x path e)
   unfolding execution.execute execute
   block-assigned x path e q r shape hq hr b shown t low s h =
       let (w, hw, same) = hr in
@@ -121,7 +121,7 @@ module _ {N : Type 0} (checked : Typed N) (slots : N → Slot) (targets : N → 
       (use-place b.typing integer_shape low s (machine.address b.levels low.cells q) (designate b.active s.store y others) (λ a. execution.read_number low a low.input) (λ p. read_number s p s.input) h (place-in checked slots targets b shown q integer_shape (place_of_designator y others) hp low s h)
       (λ p fit. subst (λ input. ProgressRepresents b.typing (execution.read_number low (address b.typing p) low.input) (read_number s p input)) h.same_input (number-read b.typing low s p low.input h fit h.input_has_numbers))))))
 
-  pub writes-mean : (x : N) (es : Tree N (maybe arguments)) (e : Tree N expression) (n : lowered.Number) → checked.stands_for x ≡ Some (a_standard writes) → arguments_listed es ≡ e ∷ [] → NumberMeans checked slots n (worth e) → StatementMeans checked slots targets (lowered.writes n) (calls x es)
+  pub writes-mean : (x : N) (es : Tree N (maybe arguments)) (e : Tree N expression) (n : lowered.Number) → checked.stands_for x ≡ Some (a_standard writes) → arguments_listed es ≡ e ∷ [] → NumberMeans checked slots n (value_of_expression e) → StatementMeans checked slots targets (lowered.writes n) (calls x es)
   unfolding execution.execute execute evaluate_arguments
   writes-mean x es e n st one hn b shown t low s h =
       let stands : b.active.stands_for x ≡ Some (a_standard writes) = standard-stands b.typing writes (b.active.stands_for x) (subst (λ o. ObjectFits b.typing o (b.active.stands_for x)) st (shown.names_fit.0 x)) in
@@ -129,7 +129,7 @@ module _ {N : Type 0} (checked : Typed N) (slots : N → Slot) (targets : N → 
       (subst (λ l. ProgressRepresents b.typing (execution.use_in low (machine.number b.levels low.cells n) (λ v. execution.running (execution.put_out low (execution.number_out v)))) (use_in s (evaluate_arguments b.active s.store (by_value ∷ []) l) (λ args. perform (Some (a_standard writes)) (b.enters x) args s))) (sym one)
       (subst (λ w. ProgressRepresents b.typing (execution.use_in low (machine.number b.levels low.cells n) (λ v. execution.running (execution.put_out low (execution.number_out v)))) w) (sym (use-value-argument s (evaluate b.active s.store e) (λ args. perform (Some (a_standard writes)) (b.enters x) args s)))
       (use-represents b.typing number low s (machine.number b.levels low.cells n) (evaluate b.active s.store e) (λ v. execution.running (execution.put_out low (execution.number_out v))) (λ v. perform (Some (a_standard writes)) (b.enters x) (value_argument v ∷ []) s) h
-      (number-in checked slots targets b shown n (worth e) hn low s h).0 (λ v is. put-represents b.typing low s (execution.number_out v) h))))
+      (number-in checked slots targets b shown n (value_of_expression e) hn low s h).0 (λ v is. put-represents b.typing low s (execution.number_out v) h))))
 
   pub line-means : (x : N) (es : Tree N (maybe arguments)) → checked.stands_for x ≡ Some (a_standard writes_line) → arguments_listed es ≡ [] → StatementMeans checked slots targets lowered.writes_line (calls x es)
   unfolding execution.execute execute evaluate_arguments

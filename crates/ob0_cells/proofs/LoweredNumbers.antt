@@ -9,7 +9,7 @@ use Rattle.ob0_typing.specs.WellTyped.{Typed}
 use Rattle.ob0_values.specs.Values.{Outcome, Value, add, add_is_settled, ends, gives, multiply, multiply_is_settled, number, signed, ◌>>=◌}
 use Rattle.ob0_machine.specs.Evaluation as machine
 use Rattle.ob0_machine.specs.Lowered as lowered
-use Rattle.ob0_cells.specs.Lowering.{Evaluated, Moment, NumberLeads, NumberMeans, Rest, Slot, addends_left, cells_in, multipliers_left, worth, worth_of_factor, worth_of_simple, worth_of_term}
+use Rattle.ob0_cells.specs.Lowering.{Evaluated, Moment, NumberLeads, NumberMeans, Rest, Slot, addends_left, cells_in, multipliers_left, value_of_expression, value_of_factor, value_of_simple, value_of_term}
 use Rattle.ob0_cells.proofs.LoweredOutcomes.{Operates, bits-then, gives-then, grouped-then, in_range-bits, in_range-same, operate-bits, outcome-then, plus-same, followed_by}
 
 pub each-then : {A B : Type 0} (o : Outcome A) (f g : A → Outcome B) → ((a : A) → f a ≡ g a) → (o >>= f) ≡ (o >>= g)
@@ -45,57 +45,57 @@ module _ {N : Type 0} (checked : Typed N) (slots : N → Slot) where
       ((hv z shown).0 ∙ same, (hv z shown).1)
 
   pub addend-leads : (o : AddOperator) (op : lowered.Operator) → Operates op (add o) → ((x : Value) → add_is_settled o x ≡ false) → (m n : lowered.Number) (e : Tree N term) (rest : Tree N (items addend)) (whole : Evaluated N Value)
-      → NumberMeans checked slots n (worth_of_term e) → NumberLeads checked slots m (addends_left (more (adds o e) rest)) whole → NumberLeads checked slots (lowered.operation op m n) (addends_left rest) whole
+      → NumberMeans checked slots n (value_of_term e) → NumberLeads checked slots m (addends_left (more (adds o e) rest)) whole → NumberLeads checked slots (lowered.operation op m n) (addends_left rest) whole
   unfolding evaluate
   addend-leads o op operates never m n e rest whole hn h =
       let (v, hv, ev) = h in (
-        (λ z. v z >>= (λ x. worth_of_term e z >>= add o x)),
-        operation-means op (add o) operates m n v (worth_of_term e) hv hn,
-        λ z shown. unsettled (v z) (add_is_settled o) (λ x. worth_of_term e z >>= add o x) (addends_left rest z) never ∙ ev z shown,
+        (λ z. v z >>= (λ x. value_of_term e z >>= add o x)),
+        operation-means op (add o) operates m n v (value_of_term e) hv hn,
+        λ z shown. unsettled (v z) (add_is_settled o) (λ x. value_of_term e z >>= add o x) (addends_left rest z) never ∙ ev z shown,
       )
 
   pub multiplier-leads : (o : MultiplyOperator) (op : lowered.Operator) → Operates op (multiply o) → ((x : Value) → multiply_is_settled o x ≡ false) → (m n : lowered.Number) (f : Tree N factor) (rest : Tree N (items multiplier)) (whole : Evaluated N Value)
-      → NumberMeans checked slots n (worth_of_factor f) → NumberLeads checked slots m (multipliers_left (more (multiplies o f) rest)) whole → NumberLeads checked slots (lowered.operation op m n) (multipliers_left rest) whole
+      → NumberMeans checked slots n (value_of_factor f) → NumberLeads checked slots m (multipliers_left (more (multiplies o f) rest)) whole → NumberLeads checked slots (lowered.operation op m n) (multipliers_left rest) whole
   unfolding evaluate
   multiplier-leads o op operates never m n f rest whole hn h =
       let (v, hv, ev) = h in (
-        (λ z. v z >>= (λ x. worth_of_factor f z >>= multiply o x)),
-        operation-means op (multiply o) operates m n v (worth_of_factor f) hv hn,
-        λ z shown. unsettled (v z) (multiply_is_settled o) (λ x. worth_of_factor f z >>= multiply o x) (multipliers_left rest z) never ∙ ev z shown,
+        (λ z. v z >>= (λ x. value_of_factor f z >>= multiply o x)),
+        operation-means op (multiply o) operates m n v (value_of_factor f) hv hn,
+        λ z shown. unsettled (v z) (multiply_is_settled o) (λ x. value_of_factor f z >>= multiply o x) (multipliers_left rest z) never ∙ ev z shown,
       )
 
-  pub product-begins : (f : Tree N factor) (rest : Tree N (items multiplier)) (n : lowered.Number) → NumberMeans checked slots n (worth_of_factor f) → NumberLeads checked slots n (multipliers_left rest) (worth_of_term (product f rest))
+  pub product-begins : (f : Tree N factor) (rest : Tree N (items multiplier)) (n : lowered.Number) → NumberMeans checked slots n (value_of_factor f) → NumberLeads checked slots n (multipliers_left rest) (value_of_term (product f rest))
   unfolding evaluate
-  product-begins f rest n hn = (worth_of_factor f, hn, λ z shown. refl)
+  product-begins f rest n hn = (value_of_factor f, hn, λ z shown. refl)
 
-  pub sum-begins : (e : Tree N term) (rest : Tree N (items addend)) (n : lowered.Number) → NumberMeans checked slots n (worth_of_term e) → NumberLeads checked slots n (addends_left rest) (worth_of_simple (sum None e rest))
+  pub sum-begins : (e : Tree N term) (rest : Tree N (items addend)) (n : lowered.Number) → NumberMeans checked slots n (value_of_term e) → NumberLeads checked slots n (addends_left rest) (value_of_simple (sum None e rest))
   unfolding evaluate
-  sum-begins e rest n hn = (worth_of_term e, hn, λ z shown. refl)
+  sum-begins e rest n hn = (value_of_term e, hn, λ z shown. refl)
 
-  pub plus-begins : (e : Tree N term) (rest : Tree N (items addend)) (n : lowered.Number) → NumberMeans checked slots n (worth_of_term e) → NumberLeads checked slots n (addends_left rest) (worth_of_simple (sum (Some sign.Plus) e rest))
+  pub plus-begins : (e : Tree N term) (rest : Tree N (items addend)) (n : lowered.Number) → NumberMeans checked slots n (value_of_term e) → NumberLeads checked slots n (addends_left rest) (value_of_simple (sum (Some sign.Plus) e rest))
   unfolding evaluate
   plus-begins e rest n hn = (
-    worth_of_term e,
+    value_of_term e,
     hn,
-    λ z shown. ap (λ w. w >>= addends_left rest z) (plus-same (machine.number z.levels (cells_in z) n) (worth_of_term e z) (hn z shown).0 (hn z shown).1) ∙ grouped-then (worth_of_term e z) (signed (Some sign.Plus)) (addends_left rest z),
+    λ z shown. ap (λ w. w >>= addends_left rest z) (plus-same (machine.number z.levels (cells_in z) n) (value_of_term e z) (hn z shown).0 (hn z shown).1) ∙ grouped-then (value_of_term e z) (signed (Some sign.Plus)) (addends_left rest z),
   )
 
-  pub minus-begins : (e : Tree N term) (rest : Tree N (items addend)) (n : lowered.Number) → NumberMeans checked slots n (worth_of_term e) → NumberLeads checked slots (lowered.negative n) (addends_left rest) (worth_of_simple (sum (Some sign.Minus) e rest))
+  pub minus-begins : (e : Tree N term) (rest : Tree N (items addend)) (n : lowered.Number) → NumberMeans checked slots n (value_of_term e) → NumberLeads checked slots (lowered.negative n) (addends_left rest) (value_of_simple (sum (Some sign.Minus) e rest))
   unfolding evaluate
   minus-begins e rest n hn = (
-    (λ z. worth_of_term e z >>= signed (Some sign.Minus)),
-    negative-means n (worth_of_term e) hn,
-    λ z shown. grouped-then (worth_of_term e z) (signed (Some sign.Minus)) (addends_left rest z),
+    (λ z. value_of_term e z >>= signed (Some sign.Minus)),
+    negative-means n (value_of_term e) hn,
+    λ z shown. grouped-then (value_of_term e z) (signed (Some sign.Minus)) (addends_left rest z),
   )
 
-  pub integer-means : (n : ℕ) → machine.fits (pos n) ≡ true → NumberMeans checked slots (lowered.literal (pos n)) (worth_of_factor (integer n))
+  pub integer-means : (n : ℕ) → machine.fits (pos n) ≡ true → NumberMeans checked slots (lowered.literal (pos n)) (value_of_factor (integer n))
   unfolding evaluate
   integer-means n e z shown = (refl, e)
 
-  pub parenthesised-means : (e : Tree N expression) (n : lowered.Number) → NumberMeans checked slots n (worth e) → NumberMeans checked slots n (worth_of_factor (parenthesised e))
+  pub parenthesised-means : (e : Tree N expression) (n : lowered.Number) → NumberMeans checked slots n (value_of_expression e) → NumberMeans checked slots n (value_of_factor (parenthesised e))
   unfolding evaluate
   parenthesised-means e n hn z shown = hn z shown
 
-  pub alone-means : (e : Tree N simple) (n : lowered.Number) → NumberMeans checked slots n (worth_of_simple e) → NumberMeans checked slots n (worth (compares e none))
+  pub alone-means : (e : Tree N simple) (n : lowered.Number) → NumberMeans checked slots n (value_of_simple e) → NumberMeans checked slots n (value_of_expression (compares e none))
   unfolding evaluate
   alone-means e n hn z shown = hn z shown

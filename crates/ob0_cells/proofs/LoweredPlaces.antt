@@ -12,7 +12,7 @@ use Rattle.ob0_machine.specs.Evaluation as machine
 use Rattle.ob0_machine.specs.Evaluation.{Levels}
 use Rattle.ob0_machine.specs.Lowered as lowered
 use Rattle.ob0_cells.specs.Cells.{address, all_cells, field_offset, offset, size, sizes, step_offset, truth_cell}
-use Rattle.ob0_cells.specs.Lowering.{Evaluated, GivesPlace, Has32Bits, Moment, NumberMeans, PlaceLeads, PlaceMeans, Shows, Slot, TruthMeans, ValueAt, cells_in, further, held, lent, of_module, outcome_of, place_of_designator, selectors_left, slot_address, slot_place, worth, worth_of_factor}
+use Rattle.ob0_cells.specs.Lowering.{Evaluated, GivesPlace, Has32Bits, Moment, NumberMeans, PlaceLeads, PlaceMeans, Shows, Slot, TruthMeans, ValueAt, cells_in, further, held, lent, of_module, outcome_of, place_of_designator, selectors_left, slot_address, slot_place, value_of_expression, value_of_factor}
 use Rattle.ob0_cells.proofs.LoweredNumbers.{each-then}
 use Rattle.ob0_cells.proofs.LoweredOutcomes.{Led, addresses, forward-same, given-same, gives-then, grouped-then, led-then, same, stuck-then, followed_by}
 use Rattle.ob0_cells.proofs.Places.{numbers_are_cells-holds, parts_have_addresses-holds, place-lies, places_are_slices-holds, truths_are_cells-holds}
@@ -171,18 +171,18 @@ bits-at (machine.ends x) cells each = tt
 
 -- an index and the selectors behind it, from a place that holds something
 pub index-left : {N : Type 0} (z : Moment N) (p : Place) (e : Tree N expression) (rest : Tree N (items selector)) (u : Value) → read_place z.store p ≡ Some u
-    → ((worth e z >>= (λ x. or_stuck (read_place z.store p) >>= (λ u. element_step u x >>= (λ s. gives (further p (s ∷ [])))))) >>= selectors_left rest z) ≡ selectors_left (more (index e) rest) z p
+    → ((value_of_expression e z >>= (λ x. or_stuck (read_place z.store p) >>= (λ u. element_step u x >>= (λ s. gives (further p (s ∷ [])))))) >>= selectors_left rest z) ≡ selectors_left (more (index e) rest) z p
 unfolding evaluate
 index-left z p e rest u eu =
-    ap (λ o. (worth e z >>= (λ x. or_stuck o >>= (λ u. element_step u x >>= (λ s. gives (further p (s ∷ [])))))) >>= selectors_left rest z) eu
-    ∙ (grouped-then (worth e z) (λ x. element_step u x >>= (λ s. gives (further p (s ∷ [])))) (selectors_left rest z)
-    ∙ (each-then (worth e z) (λ x. (element_step u x >>= (λ s. gives (further p (s ∷ [])))) >>= selectors_left rest z) (λ x. (element_step u x >>= (λ s. or_stuck (part u s) >>= (λ w. follow z.active z.store w rest >>= (λ steps. gives (s ∷ steps))))) >>= (λ steps. gives (further p steps)))
+    ap (λ o. (value_of_expression e z >>= (λ x. or_stuck o >>= (λ u. element_step u x >>= (λ s. gives (further p (s ∷ [])))))) >>= selectors_left rest z) eu
+    ∙ (grouped-then (value_of_expression e z) (λ x. element_step u x >>= (λ s. gives (further p (s ∷ [])))) (selectors_left rest z)
+    ∙ (each-then (value_of_expression e z) (λ x. (element_step u x >>= (λ s. gives (further p (s ∷ [])))) >>= selectors_left rest z) (λ x. (element_step u x >>= (λ s. or_stuck (part u s) >>= (λ w. follow z.active z.store w rest >>= (λ steps. gives (s ∷ steps))))) >>= (λ steps. gives (further p steps)))
     (λ x. grouped-then (element_step u x) (λ s. gives (further p (s ∷ []))) (selectors_left rest z)
     ∙ (each-then (element_step u x) (λ s. selectors_left rest z (further p (s ∷ []))) (λ s. (or_stuck (part u s) >>= (λ w. follow z.active z.store w rest >>= (λ steps. gives (s ∷ steps)))) >>= (λ steps. gives (further p steps)))
     (λ s. left-further z p s rest ∙ (ap (λ o. or_stuck o >>= (λ u. or_stuck (part u s) >>= (λ w. follow z.active z.store w rest >>= (λ steps. gives (further p (s ∷ steps)))))) eu ∙ sym (step-first (or_stuck (part u s)) (λ w. follow z.active z.store w rest) s p)))
     ∙ sym (grouped-then (element_step u x) (λ s. or_stuck (part u s) >>= (λ w. follow z.active z.store w rest >>= (λ steps. gives (s ∷ steps)))) (λ steps. gives (further p steps)))))
-    ∙ (sym (grouped-then (worth e z) (λ x. element_step u x >>= (λ s. or_stuck (part u s) >>= (λ w. follow z.active z.store w rest >>= (λ steps. gives (s ∷ steps))))) (λ steps. gives (further p steps)))
-    ∙ sym (ap (λ o. or_stuck o >>= (λ u. (worth e z >>= (λ x. element_step u x >>= (λ s. or_stuck (part u s) >>= (λ w. follow z.active z.store w rest >>= (λ steps. gives (s ∷ steps)))))) >>= (λ steps. gives (further p steps)))) eu))))
+    ∙ (sym (grouped-then (value_of_expression e z) (λ x. element_step u x >>= (λ s. or_stuck (part u s) >>= (λ w. follow z.active z.store w rest >>= (λ steps. gives (s ∷ steps))))) (λ steps. gives (further p steps)))
+    ∙ sym (ap (λ o. or_stuck o >>= (λ u. (value_of_expression e z >>= (λ x. element_step u x >>= (λ s. or_stuck (part u s) >>= (λ w. follow z.active z.store w rest >>= (λ steps. gives (s ∷ steps)))))) >>= (λ steps. gives (further p steps)))) eu))))
 
 module _ {N : Type 0} (checked : Typed N) (slots : N → Slot) where
   pub led-at : (q : lowered.Place) (s : Shape) (v : Evaluated N Place) → PlaceMeans checked slots q s v → (z : Moment N) → Shows checked slots z → Led z.typing s (machine.address z.levels (cells_in z) q) (v z)
@@ -221,16 +221,16 @@ module _ {N : Type 0} (checked : Typed N) (slots : N → Slot) where
       )
 
   pub index-leads : (q : lowered.Place) (k n : ℕ) (t : Shape) (e : Tree N expression) (i : lowered.Number) (rest : Tree N (items selector)) (whole : Evaluated N Place)
-      → PlaceLeads checked slots q (array_shape k n t) (more (index e) rest) whole → NumberMeans checked slots i (worth e) → PlaceLeads checked slots (lowered.element q i n (size t)) t rest whole
+      → PlaceLeads checked slots q (array_shape k n t) (more (index e) rest) whole → NumberMeans checked slots i (value_of_expression e) → PlaceLeads checked slots (lowered.element q i n (size t)) t rest whole
   unfolding evaluate
   index-leads q k n t e i rest whole h hi =
       let (v, hv, ev) = h in (
-        (λ z. v z >>= (λ p. worth e z >>= (λ x. or_stuck (read_place z.store p) >>= (λ u. element_step u x >>= (λ s. gives (further p (s ∷ []))))))),
-        (λ z shown. let l = led-then z.typing (array_shape k n t) t (machine.address z.levels (cells_in z) q) (v z) (λ a. followed_by (machine.number z.levels (cells_in z) i) (machine.element_at a n (size t))) (λ p. worth e z >>= (λ x. or_stuck (read_place z.store p) >>= (λ u. element_step u x >>= (λ s. gives (further p (s ∷ []))))))
-            (led-at q (array_shape k n t) v hv z shown) (λ p fit. index-led z.typing z.store shown.store_fits shown.has_addresses p k n t fit (machine.number z.levels (cells_in z) i) (worth e z) (hi z shown).0) in
+        (λ z. v z >>= (λ p. value_of_expression e z >>= (λ x. or_stuck (read_place z.store p) >>= (λ u. element_step u x >>= (λ s. gives (further p (s ∷ []))))))),
+        (λ z shown. let l = led-then z.typing (array_shape k n t) t (machine.address z.levels (cells_in z) q) (v z) (λ a. followed_by (machine.number z.levels (cells_in z) i) (machine.element_at a n (size t))) (λ p. value_of_expression e z >>= (λ x. or_stuck (read_place z.store p) >>= (λ u. element_step u x >>= (λ s. gives (further p (s ∷ []))))))
+            (led-at q (array_shape k n t) v hv z shown) (λ p fit. index-led z.typing z.store shown.store_fits shown.has_addresses p k n t fit (machine.number z.levels (cells_in z) i) (value_of_expression e z) (hi z shown).0) in
             (l.is_same, l.is_place)),
-        λ z shown. grouped-then (v z) (λ p. worth e z >>= (λ x. or_stuck (read_place z.store p) >>= (λ u. element_step u x >>= (λ s. gives (further p (s ∷ [])))))) (selectors_left rest z)
-            ∙ (each-place z.typing (array_shape k n t) (v z) (λ p. (worth e z >>= (λ x. or_stuck (read_place z.store p) >>= (λ u. element_step u x >>= (λ s. gives (further p (s ∷ [])))))) >>= selectors_left rest z) (selectors_left (more (index e) rest) z) (hv z shown).1
+        λ z shown. grouped-then (v z) (λ p. value_of_expression e z >>= (λ x. or_stuck (read_place z.store p) >>= (λ u. element_step u x >>= (λ s. gives (further p (s ∷ [])))))) (selectors_left rest z)
+            ∙ (each-place z.typing (array_shape k n t) (v z) (λ p. (value_of_expression e z >>= (λ x. or_stuck (read_place z.store p) >>= (λ u. element_step u x >>= (λ s. gives (further p (s ∷ [])))))) >>= selectors_left rest z) (selectors_left (more (index e) rest) z) (hv z shown).1
             (λ p fit. let (u, eu, hu, write, made, keeps, lies) = place-lies z.typing z.store p (array_shape k n t) shown.store_fits fit in index-left z p e rest u eu) ∙ ev z shown),
       )
 
@@ -245,7 +245,7 @@ module _ {N : Type 0} (checked : Typed N) (slots : N → Slot) where
         subst (GivesPlace z.typing s) same_place (hv z shown).1,
       )
 
-  pub cell-means : (x : N) (s : Shape) (path : Tree N (items selector)) (q : lowered.Place) → checked.stands_for x ≡ Some (a_variable s) → PlaceMeans checked slots q integer_shape (place_of_designator x path) → NumberMeans checked slots (lowered.cell q) (worth_of_factor (designator x path))
+  pub cell-means : (x : N) (s : Shape) (path : Tree N (items selector)) (q : lowered.Place) → checked.stands_for x ≡ Some (a_variable s) → PlaceMeans checked slots q integer_shape (place_of_designator x path) → NumberMeans checked slots (lowered.cell q) (value_of_factor (designator x path))
   unfolding evaluate designate
   cell-means x s path q e h z shown =
       let (p, ep, fit) = variable-stands z.typing s (z.active.stands_for x) (subst (λ o. ObjectFits z.typing o (z.active.stands_for x)) e (shown.names_fit.0 x)) in (
@@ -253,33 +253,33 @@ module _ {N : Type 0} (checked : Typed N) (slots : N → Slot) where
         bits-at (machine.address z.levels (cells_in z) q) (cells_in z) shown.has_numbers,
       )
 
-  pub flag-means : (x : N) (s : Shape) (path : Tree N (items selector)) (q : lowered.Place) → checked.stands_for x ≡ Some (a_variable s) → PlaceMeans checked slots q boolean_shape (place_of_designator x path) → TruthMeans checked slots (lowered.flag q) (worth_of_factor (designator x path))
+  pub flag-means : (x : N) (s : Shape) (path : Tree N (items selector)) (q : lowered.Place) → checked.stands_for x ≡ Some (a_variable s) → PlaceMeans checked slots q boolean_shape (place_of_designator x path) → TruthMeans checked slots (lowered.flag q) (value_of_factor (designator x path))
   unfolding evaluate designate
   flag-means x s path q e h z shown =
       let (p, ep, fit) = variable-stands z.typing s (z.active.stands_for x) (subst (λ o. ObjectFits z.typing o (z.active.stands_for x)) e (shown.names_fit.0 x)) in
       truth-there z.typing z.store z.passed shown.store_fits (machine.address z.levels (cells_in z) q) (place_of_designator x path z) (led-at q boolean_shape (place_of_designator x path) h z shown) ∙ sym (value-there z.active z.store x path p ep)
 
-  pub number-constant : (x : N) (n : ℤ) → checked.stands_for x ≡ Some (a_constant (number n)) → machine.fits n ≡ true → NumberMeans checked slots (lowered.literal n) (worth_of_factor (designator x end))
+  pub number-constant : (x : N) (n : ℤ) → checked.stands_for x ≡ Some (a_constant (number n)) → machine.fits n ≡ true → NumberMeans checked slots (lowered.literal n) (value_of_factor (designator x end))
   unfolding evaluate
   number-constant x n e fits z shown =
       let stands : z.active.stands_for x ≡ Some (a_constant (number n)) = constant-stands z.typing (number n) (z.active.stands_for x) (subst (λ o. ObjectFits z.typing o (z.active.stands_for x)) e (shown.names_fit.0 x)) in
       (sym (ap (λ o. value_of {P = List Mode} z.store o >>= (λ v. gives [] >>= (λ steps. or_stuck (at_path steps v)))) stands), fits)
 
-  pub truth-constant : (x : N) (b : Bool) → checked.stands_for x ≡ Some (a_constant (truth b)) → TruthMeans checked slots (lowered.constant b) (worth_of_factor (designator x end))
+  pub truth-constant : (x : N) (b : Bool) → checked.stands_for x ≡ Some (a_constant (truth b)) → TruthMeans checked slots (lowered.constant b) (value_of_factor (designator x end))
   unfolding evaluate
   truth-constant x b e z shown =
       let stands : z.active.stands_for x ≡ Some (a_constant (truth b)) = constant-stands z.typing (truth b) (z.active.stands_for x) (subst (λ o. ObjectFits z.typing o (z.active.stands_for x)) e (shown.names_fit.0 x)) in
       sym (ap (λ o. value_of {P = List Mode} z.store o >>= (λ v. gives [] >>= (λ steps. or_stuck (at_path steps v)))) stands)
 
-  pub block-designator : (q : lowered.Place) (s : Shape) (x : N) (v : Shape) (path : Tree N (items selector)) → checked.stands_for x ≡ Some (a_variable v) → PlaceMeans checked slots q s (place_of_designator x path) → ValueAt checked slots q s (worth_of_factor (designator x path))
+  pub block-designator : (q : lowered.Place) (s : Shape) (x : N) (v : Shape) (path : Tree N (items selector)) → checked.stands_for x ≡ Some (a_variable v) → PlaceMeans checked slots q s (place_of_designator x path) → ValueAt checked slots q s (value_of_factor (designator x path))
   unfolding evaluate designate
   block-designator q s x v path e hq =
       (place_of_designator x path, hq, λ z shown. let (p, ep, fit) = variable-stands z.typing v (z.active.stands_for x) (subst (λ o. ObjectFits z.typing o (z.active.stands_for x)) e (shown.names_fit.0 x)) in value-there z.active z.store x path p ep)
 
-  pub block-parenthesised : (q : lowered.Place) (s : Shape) (e : Tree N expression) → ValueAt checked slots q s (worth e) → ValueAt checked slots q s (worth_of_factor (parenthesised e))
+  pub block-parenthesised : (q : lowered.Place) (s : Shape) (e : Tree N expression) → ValueAt checked slots q s (value_of_expression e) → ValueAt checked slots q s (value_of_factor (parenthesised e))
   unfolding evaluate
   block-parenthesised q s e h = (h.0, h.1, λ z shown. h.2 z shown)
 
-  pub block-alone : (q : lowered.Place) (s : Shape) (f : Tree N factor) → ValueAt checked slots q s (worth_of_factor f) → ValueAt checked slots q s (worth (compares (sum None (product f end) end) none))
+  pub block-alone : (q : lowered.Place) (s : Shape) (f : Tree N factor) → ValueAt checked slots q s (value_of_factor f) → ValueAt checked slots q s (value_of_expression (compares (sum None (product f end) end) none))
   unfolding evaluate
-  block-alone q s f h = (h.0, h.1, λ z shown. gives-then (worth_of_factor f z >>= gives) ∙ (gives-then (worth_of_factor f z) ∙ h.2 z shown))
+  block-alone q s f h = (h.0, h.1, λ z shown. gives-then (value_of_factor f z >>= gives) ∙ (gives-then (value_of_factor f z) ∙ h.2 z shown))

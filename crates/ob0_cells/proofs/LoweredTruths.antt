@@ -10,7 +10,7 @@ use Rattle.ob0_typing.specs.WellTyped.{Typed}
 use Rattle.ob0_values.specs.Values.{Outcome, Value, add, add_is_settled, gives, multiply, multiply_is_settled, negated, number, relate, truth, ◌>>=◌}
 use Rattle.ob0_machine.specs.Evaluation as machine
 use Rattle.ob0_machine.specs.Lowered as lowered
-use Rattle.ob0_cells.specs.Lowering.{Evaluated, Moment, NumberMeans, Rest, Slot, TruthLeads, TruthMeans, addends_left, cells_in, multipliers_left, outcome_of, relation_of, worth, worth_of_factor, worth_of_simple, worth_of_term}
+use Rattle.ob0_cells.specs.Lowering.{Evaluated, Moment, NumberMeans, Rest, Slot, TruthLeads, TruthMeans, addends_left, cells_in, multipliers_left, outcome_of, relation_of, value_of_expression, value_of_factor, value_of_simple, value_of_term}
 use Rattle.ob0_cells.proofs.LoweredNumbers.{each-then}
 use Rattle.ob0_cells.proofs.LoweredOutcomes.{alike-same, compare-same, gives-then, grouped-then, outcome-then, followed_by}
 
@@ -41,64 +41,64 @@ module _ {N : Type 0} (checked : Typed N) (slots : N → Slot) where
       let (v, hv, ev) = h in
       hv z shown ∙ (sym (gives-then (v z)) ∙ (each-then (v z) gives (rest z) (λ x. sym (ends_here z x)) ∙ ev z shown))
 
-  pub either-leads : (t u : lowered.Truth) (e : Tree N term) (rest : Tree N (items addend)) (whole : Evaluated N Value) → TruthMeans checked slots u (worth_of_term e)
+  pub either-leads : (t u : lowered.Truth) (e : Tree N term) (rest : Tree N (items addend)) (whole : Evaluated N Value) → TruthMeans checked slots u (value_of_term e)
       → TruthLeads checked slots t (addends_left (more (adds add_operator.Or e) rest)) whole → TruthLeads checked slots (lowered.either t u) (addends_left rest) whole
   unfolding evaluate
   either-leads t u e rest whole hu h =
       let (v, hv, ev) = h in (
-        (λ z. v z >>= (λ x. elim (add_is_settled add_operator.Or x) [ true ↦ gives x | false ↦ worth_of_term e z >>= add add_operator.Or x ])),
-        either-means t u v (worth_of_term e) hv hu,
-        λ z shown. grouped-then (v z) (λ x. elim (add_is_settled add_operator.Or x) [ true ↦ gives x | false ↦ worth_of_term e z >>= add add_operator.Or x ]) (addends_left rest z) ∙ ev z shown,
+        (λ z. v z >>= (λ x. elim (add_is_settled add_operator.Or x) [ true ↦ gives x | false ↦ value_of_term e z >>= add add_operator.Or x ])),
+        either-means t u v (value_of_term e) hv hu,
+        λ z shown. grouped-then (v z) (λ x. elim (add_is_settled add_operator.Or x) [ true ↦ gives x | false ↦ value_of_term e z >>= add add_operator.Or x ]) (addends_left rest z) ∙ ev z shown,
       )
 
-  pub both-leads : (t u : lowered.Truth) (f : Tree N factor) (rest : Tree N (items multiplier)) (whole : Evaluated N Value) → TruthMeans checked slots u (worth_of_factor f)
+  pub both-leads : (t u : lowered.Truth) (f : Tree N factor) (rest : Tree N (items multiplier)) (whole : Evaluated N Value) → TruthMeans checked slots u (value_of_factor f)
       → TruthLeads checked slots t (multipliers_left (more (multiplies multiply_operator.And f) rest)) whole → TruthLeads checked slots (lowered.both t u) (multipliers_left rest) whole
   unfolding evaluate
   both-leads t u f rest whole hu h =
       let (v, hv, ev) = h in (
-        (λ z. v z >>= (λ x. elim (multiply_is_settled multiply_operator.And x) [ true ↦ gives x | false ↦ worth_of_factor f z >>= multiply multiply_operator.And x ])),
-        both-means t u v (worth_of_factor f) hv hu,
-        λ z shown. grouped-then (v z) (λ x. elim (multiply_is_settled multiply_operator.And x) [ true ↦ gives x | false ↦ worth_of_factor f z >>= multiply multiply_operator.And x ]) (multipliers_left rest z) ∙ ev z shown,
+        (λ z. v z >>= (λ x. elim (multiply_is_settled multiply_operator.And x) [ true ↦ gives x | false ↦ value_of_factor f z >>= multiply multiply_operator.And x ])),
+        both-means t u v (value_of_factor f) hv hu,
+        λ z shown. grouped-then (v z) (λ x. elim (multiply_is_settled multiply_operator.And x) [ true ↦ gives x | false ↦ value_of_factor f z >>= multiply multiply_operator.And x ]) (multipliers_left rest z) ∙ ev z shown,
       )
 
-  pub product-begins : (f : Tree N factor) (rest : Tree N (items multiplier)) (t : lowered.Truth) → TruthMeans checked slots t (worth_of_factor f) → TruthLeads checked slots t (multipliers_left rest) (worth_of_term (product f rest))
+  pub product-begins : (f : Tree N factor) (rest : Tree N (items multiplier)) (t : lowered.Truth) → TruthMeans checked slots t (value_of_factor f) → TruthLeads checked slots t (multipliers_left rest) (value_of_term (product f rest))
   unfolding evaluate
-  product-begins f rest t ht = (worth_of_factor f, ht, λ z shown. refl)
+  product-begins f rest t ht = (value_of_factor f, ht, λ z shown. refl)
 
-  pub sum-begins : (e : Tree N term) (rest : Tree N (items addend)) (t : lowered.Truth) → TruthMeans checked slots t (worth_of_term e) → TruthLeads checked slots t (addends_left rest) (worth_of_simple (sum None e rest))
+  pub sum-begins : (e : Tree N term) (rest : Tree N (items addend)) (t : lowered.Truth) → TruthMeans checked slots t (value_of_term e) → TruthLeads checked slots t (addends_left rest) (value_of_simple (sum None e rest))
   unfolding evaluate
-  sum-begins e rest t ht = (worth_of_term e, ht, λ z shown. refl)
+  sum-begins e rest t ht = (value_of_term e, ht, λ z shown. refl)
 
-  pub parenthesised-means : (e : Tree N expression) (t : lowered.Truth) → TruthMeans checked slots t (worth e) → TruthMeans checked slots t (worth_of_factor (parenthesised e))
+  pub parenthesised-means : (e : Tree N expression) (t : lowered.Truth) → TruthMeans checked slots t (value_of_expression e) → TruthMeans checked slots t (value_of_factor (parenthesised e))
   unfolding evaluate
   parenthesised-means e t ht z shown = ht z shown
 
-  pub alone-means : (e : Tree N simple) (t : lowered.Truth) → TruthMeans checked slots t (worth_of_simple e) → TruthMeans checked slots t (worth (compares e none))
+  pub alone-means : (e : Tree N simple) (t : lowered.Truth) → TruthMeans checked slots t (value_of_simple e) → TruthMeans checked slots t (value_of_expression (compares e none))
   unfolding evaluate
   alone-means e t ht z shown = ht z shown
 
-  pub negation-means : (f : Tree N factor) (t : lowered.Truth) → TruthMeans checked slots t (worth_of_factor f) → TruthMeans checked slots (lowered.negation t) (worth_of_factor (negation f))
+  pub negation-means : (f : Tree N factor) (t : lowered.Truth) → TruthMeans checked slots t (value_of_factor f) → TruthMeans checked slots (lowered.negation t) (value_of_factor (negation f))
   unfolding evaluate
   negation-means f t ht z shown =
-      outcome-then truth truth (machine.truth z.levels (cells_in z) t) (worth_of_factor f z) (λ a. machine.gives (not a)) negated (ht z shown) (λ a. refl)
+      outcome-then truth truth (machine.truth z.levels (cells_in z) t) (value_of_factor f z) (λ a. machine.gives (not a)) negated (ht z shown) (λ a. refl)
 
-  pub related-means : (d e : Tree N simple) (r : Relation) (m n : lowered.Number) → NumberMeans checked slots m (worth_of_simple d) → NumberMeans checked slots n (worth_of_simple e)
-      → TruthMeans checked slots (lowered.related (relation_of r) m n) (worth (compares d (one (relates r e))))
+  pub related-means : (d e : Tree N simple) (r : Relation) (m n : lowered.Number) → NumberMeans checked slots m (value_of_simple d) → NumberMeans checked slots n (value_of_simple e)
+      → TruthMeans checked slots (lowered.related (relation_of r) m n) (value_of_expression (compares d (one (relates r e))))
   unfolding evaluate
   related-means d e r m n hm hn z shown =
-      outcome-then number truth (machine.number z.levels (cells_in z) m) (worth_of_simple d z) (λ a. followed_by (machine.number z.levels (cells_in z) n) (λ b. machine.gives (machine.compare (relation_of r) a b))) (λ x. worth_of_simple e z >>= relate r x) (hm z shown).0
-      (λ a. outcome-then number truth (machine.number z.levels (cells_in z) n) (worth_of_simple e z) (λ b. machine.gives (machine.compare (relation_of r) a b)) (relate r (number a)) (hn z shown).0 (compare-same r a))
+      outcome-then number truth (machine.number z.levels (cells_in z) m) (value_of_simple d z) (λ a. followed_by (machine.number z.levels (cells_in z) n) (λ b. machine.gives (machine.compare (relation_of r) a b))) (λ x. value_of_simple e z >>= relate r x) (hm z shown).0
+      (λ a. outcome-then number truth (machine.number z.levels (cells_in z) n) (value_of_simple e z) (λ b. machine.gives (machine.compare (relation_of r) a b)) (relate r (number a)) (hn z shown).0 (compare-same r a))
 
-  pub same-means : (d e : Tree N simple) (t u : lowered.Truth) → TruthMeans checked slots t (worth_of_simple d) → TruthMeans checked slots u (worth_of_simple e)
-      → TruthMeans checked slots (lowered.same t u) (worth (compares d (one (relates relation.Equal e))))
+  pub same-means : (d e : Tree N simple) (t u : lowered.Truth) → TruthMeans checked slots t (value_of_simple d) → TruthMeans checked slots u (value_of_simple e)
+      → TruthMeans checked slots (lowered.same t u) (value_of_expression (compares d (one (relates relation.Equal e))))
   unfolding evaluate
   same-means d e t u ht hu z shown =
-      outcome-then truth truth (machine.truth z.levels (cells_in z) t) (worth_of_simple d z) (λ a. followed_by (machine.truth z.levels (cells_in z) u) (λ b. machine.gives (machine.alike a b))) (λ x. worth_of_simple e z >>= relate relation.Equal x) (ht z shown)
-      (λ a. outcome-then truth truth (machine.truth z.levels (cells_in z) u) (worth_of_simple e z) (λ b. machine.gives (machine.alike a b)) (relate relation.Equal (truth a)) (hu z shown) (λ b. ap (λ c. gives (truth c)) (alike-same a b)))
+      outcome-then truth truth (machine.truth z.levels (cells_in z) t) (value_of_simple d z) (λ a. followed_by (machine.truth z.levels (cells_in z) u) (λ b. machine.gives (machine.alike a b))) (λ x. value_of_simple e z >>= relate relation.Equal x) (ht z shown)
+      (λ a. outcome-then truth truth (machine.truth z.levels (cells_in z) u) (value_of_simple e z) (λ b. machine.gives (machine.alike a b)) (relate relation.Equal (truth a)) (hu z shown) (λ b. ap (λ c. gives (truth c)) (alike-same a b)))
 
-  pub different-means : (d e : Tree N simple) (t u : lowered.Truth) → TruthMeans checked slots t (worth_of_simple d) → TruthMeans checked slots u (worth_of_simple e)
-      → TruthMeans checked slots (lowered.different t u) (worth (compares d (one (relates relation.NotEqual e))))
+  pub different-means : (d e : Tree N simple) (t u : lowered.Truth) → TruthMeans checked slots t (value_of_simple d) → TruthMeans checked slots u (value_of_simple e)
+      → TruthMeans checked slots (lowered.different t u) (value_of_expression (compares d (one (relates relation.NotEqual e))))
   unfolding evaluate
   different-means d e t u ht hu z shown =
-      outcome-then truth truth (machine.truth z.levels (cells_in z) t) (worth_of_simple d z) (λ a. followed_by (machine.truth z.levels (cells_in z) u) (λ b. machine.gives (not (machine.alike a b)))) (λ x. worth_of_simple e z >>= relate relation.NotEqual x) (ht z shown)
-      (λ a. outcome-then truth truth (machine.truth z.levels (cells_in z) u) (worth_of_simple e z) (λ b. machine.gives (not (machine.alike a b))) (relate relation.NotEqual (truth a)) (hu z shown) (λ b. ap (λ c. gives (truth (not c))) (alike-same a b)))
+      outcome-then truth truth (machine.truth z.levels (cells_in z) t) (value_of_simple d z) (λ a. followed_by (machine.truth z.levels (cells_in z) u) (λ b. machine.gives (not (machine.alike a b)))) (λ x. value_of_simple e z >>= relate relation.NotEqual x) (ht z shown)
+      (λ a. outcome-then truth truth (machine.truth z.levels (cells_in z) u) (value_of_simple e z) (λ b. machine.gives (not (machine.alike a b))) (relate relation.NotEqual (truth a)) (hu z shown) (λ b. ap (λ c. gives (truth (not c))) (alike-same a b)))

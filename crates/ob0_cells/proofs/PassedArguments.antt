@@ -15,7 +15,7 @@ use Rattle.ob0_machine.specs.Execution as execution
 use Rattle.ob0_machine.specs.Lowered as lowered
 use Rattle.ob0_cells.specs.Cells.{address, all_cells, cells_of, size, sizes}
 use Rattle.ob0_cells.specs.LoweredStatements.{ArgumentMeans, ArgumentsMean, Body, HaveNumbers, ProgressRepresents, Represents, ShowsBody, StatementMeans, Target, argument_addresses, argument_cells}
-use Rattle.ob0_cells.specs.Lowering.{Has32Bits, Slot, end_of, outcome_of, place_of_designator, worth}
+use Rattle.ob0_cells.specs.Lowering.{Has32Bits, Slot, end_of, outcome_of, place_of_designator, value_of_expression}
 use Rattle.ob0_cells.proofs.LoweredOutcomes.{Led, ended-same, given-same, grouped-then}
 use Rattle.ob0_cells.proofs.Places.{places_are_slices-holds, store-size}
 use Rattle.ob0_cells.proofs.Represented.{alone-cells, as_cell-same, moment, moment-shown, number-at, numbers-append, numbers-drop, numbers-take, place-at, truth-at, truth-number}
@@ -119,7 +119,7 @@ module _ {N : Type 0} (checked : Typed N) (slots : N → Slot) (targets : N → 
         have_numbers = numbers;
       })))
   argument-passed f (lowered.by_number n) e h done passed same numbers =
-      let (is, bits) = number-at checked slots targets b shown n (worth e) h.2 store passed done.cells fits same numbers in
+      let (is, bits) = number-at checked slots targets b shown n (value_of_expression e) h.2 store passed done.cells fits same numbers in
       subst (λ m. Both (λ p a. Passes b.typing (f ∷ []) done p (a ∷ [])) (execution.pass b.levels (lowered.by_number n) done) (evaluate_argument b.active store m e)) (sym h.0)
       (both-then (λ n v. (number n ≡ v) × (machine.fits n ≡ true)) (λ p a. Passes b.typing (f ∷ []) done p (a ∷ [])) (machine.number b.levels done.cells n) (evaluate b.active store e) (λ a. machine.gives (execution.pass_cells done (a ∷ []))) (λ v. gives (value_argument v))
       (both-number (machine.number b.levels done.cells n) (evaluate b.active store e) is bits)
@@ -132,7 +132,7 @@ module _ {N : Type 0} (checked : Typed N) (slots : N → Slot) (targets : N → 
   argument-passed f (lowered.by_truth t) e h done passed same numbers =
       subst (λ m. Both (λ p a. Passes b.typing (f ∷ []) done p (a ∷ [])) (execution.pass b.levels (lowered.by_truth t) done) (evaluate_argument b.active store m e)) (sym h.0)
       (both-then (λ b v. truth b ≡ v) (λ p a. Passes b.typing (f ∷ []) done p (a ∷ [])) (machine.truth b.levels done.cells t) (evaluate b.active store e) (λ a. machine.gives (execution.pass_cells done (machine.as_cell a ∷ []))) (λ v. gives (value_argument v))
-      (both-truth (machine.truth b.levels done.cells t) (evaluate b.active store e) (truth-at checked slots targets b shown t (worth e) h.2 store passed done.cells fits same numbers))
+      (both-truth (machine.truth b.levels done.cells t) (evaluate b.active store e) (truth-at checked slots targets b shown t (value_of_expression e) h.2 store passed done.cells fits same numbers))
       (λ a v r. record {
         arguments_fit = (h.0, subst (λ v. HasShape v f.shape) r (subst (λ s. HasShape (truth a) s) (sym h.1) tt), tt);
         cells_passed = ap (λ n. done.cells ++ n ∷ []) (as_cell-same a) ∙ ap (λ v. done.cells ++ (cells_of v ++ [])) r;

@@ -13,7 +13,7 @@ use Rattle.ob0_machine.specs.Lowered as lowered
 use Rattle.ob0_cells.specs.ActivationLaws.{run_of}
 use Rattle.ob0_cells.specs.Activations.{BodyMeans, Placed, Placing, ProgramMeans, entered_placing, in_slot, outermost_placing, own_target, place_variables, slots_in, targets_in}
 use Rattle.ob0_cells.specs.LoweredStatements.{Target}
-use Rattle.ob0_cells.specs.Lowering.{NumberMeans, PlaceMeans, Slot, of_module, place_of_designator, slot_place, worth}
+use Rattle.ob0_cells.specs.Lowering.{NumberMeans, PlaceMeans, Slot, of_module, place_of_designator, slot_place, value_of_expression}
 use Rattle.ob0_cells.proofs.Lowered.{cells_lower-holds, expressions_lower-holds, integers_lower-holds, operators_end-holds, selectors_end-holds, sums_lower-holds, terms_lower-holds, variables_lower-holds}
 use Rattle.ob0_cells.proofs.RunsLowered.{run-lowered}
 use Rattle.ob0_cells.proofs.StatementsLowered.{assignments_lower-holds, calls_lower-holds, sequences_end-holds, sequences_lower-holds, standard_calls_lower-holds}
@@ -53,14 +53,14 @@ worked_program = record {
 place-alone : (checked : Typed Label) (slots : Label → Slot) (x : Label) (s : Shape) → checked.stands_for x ≡ Some (a_variable s) → PlaceMeans checked slots (slot_place (slots x)) s (place_of_designator x end)
 place-alone checked slots x s e = selectors_end-holds checked slots (slot_place (slots x)) s (place_of_designator x end) (variables_lower-holds checked slots x s end e)
 
-number-alone : (checked : Typed Label) (slots : Label → Slot) (x : Label) → checked.stands_for x ≡ Some (a_variable integer_shape) → NumberMeans checked slots (lowered.cell (slot_place (slots x))) (worth (written_name x))
+number-alone : (checked : Typed Label) (slots : Label → Slot) (x : Label) → checked.stands_for x ≡ Some (a_variable integer_shape) → NumberMeans checked slots (lowered.cell (slot_place (slots x))) (value_of_expression (written_name x))
 number-alone checked slots x e =
     let n = lowered.cell (slot_place (slots x)) in
     let factor = (cells_lower-holds checked slots x integer_shape end (slot_place (slots x)) e).0 (place-alone checked slots x integer_shape e) in
     let term = (operators_end-holds checked slots _).0 n ((terms_lower-holds checked slots (designator x end) end).0 n factor) in
     (expressions_lower-holds checked slots (sum None (product (designator x end) end) end)).0 n ((operators_end-holds checked slots _).1 n ((sums_lower-holds checked slots (product (designator x end) end) end).0 n term).0)
 
-seven-alone : (checked : Typed Label) (slots : Label → Slot) → NumberMeans checked slots (lowered.literal (pos 7)) (worth (written_number 7))
+seven-alone : (checked : Typed Label) (slots : Label → Slot) → NumberMeans checked slots (lowered.literal (pos 7)) (value_of_expression (written_number 7))
 seven-alone checked slots =
     let n = lowered.literal (pos 7) in
     let term = (operators_end-holds checked slots _).0 n ((terms_lower-holds checked slots (integer 7) end).0 n (integers_lower-holds checked slots 7 refl)) in

@@ -12,7 +12,7 @@ use Rattle.ob0_machine.specs.Evaluation.{Levels}
 use Rattle.ob0_machine.specs.Execution as execution
 use Rattle.ob0_machine.specs.Lowered as lowered
 use Rattle.ob0_cells.specs.Cells.{address, all_cells, cells_of, size, sizes}
-use Rattle.ob0_cells.specs.Lowering.{NumberMeans, PlaceMeans, Slot, TruthMeans, ValueAt, end_of, place_of_designator, slot_address, worth}
+use Rattle.ob0_cells.specs.Lowering.{NumberMeans, PlaceMeans, Slot, TruthMeans, ValueAt, end_of, place_of_designator, slot_address, value_of_expression}
 
 abbrev pub written_of : execution.Written → Written
 written_of (execution.number_out n) = number_out n
@@ -107,9 +107,9 @@ IsAt {N} checked slots q s e =
 -- an argument by how its parameter is passed: a place, or a number, a truth or the cells of an array or a record
 abbrev pub ArgumentMeans : {N : Type 0} → Typed N → (N → Slot) → Formal → lowered.Argument → Tree N expression → Type 0
 ArgumentMeans checked slots f (lowered.by_place q) e = (f.mode ≡ by_place) × IsAt checked slots q f.shape e
-ArgumentMeans checked slots f (lowered.by_number n) e = (f.mode ≡ by_value) × (f.shape ≡ integer_shape) × NumberMeans checked slots n (worth e)
-ArgumentMeans checked slots f (lowered.by_truth t) e = (f.mode ≡ by_value) × (f.shape ≡ boolean_shape) × TruthMeans checked slots t (worth e)
-ArgumentMeans checked slots f (lowered.by_block q n) e = (f.mode ≡ by_value) × (n ≡ size f.shape) × ValueAt checked slots q f.shape (worth e)
+ArgumentMeans checked slots f (lowered.by_number n) e = (f.mode ≡ by_value) × (f.shape ≡ integer_shape) × NumberMeans checked slots n (value_of_expression e)
+ArgumentMeans checked slots f (lowered.by_truth t) e = (f.mode ≡ by_value) × (f.shape ≡ boolean_shape) × TruthMeans checked slots t (value_of_expression e)
+ArgumentMeans checked slots f (lowered.by_block q n) e = (f.mode ≡ by_value) × (n ≡ size f.shape) × ValueAt checked slots q f.shape (value_of_expression e)
 
 abbrev pub ArgumentsMean : {N : Type 0} → Typed N → (N → Slot) → Signature → List lowered.Argument → List (Tree N expression) → Type 0
 ArgumentsMean checked slots [] [] [] = Unit {0}

@@ -99,17 +99,17 @@ ValueAt {N} checked slots q s value =
     (place : Evaluated N Place) × PlaceMeans checked slots q s place × ((m : Moment N) → Shows checked slots m → value m ≡ (place m >>= (λ p. or_stuck (read_place m.store p))))
 
 -- the values of the parts of an expression, and the place of a designator
-abbrev pub worth : {N : Type 0} → Tree N expression → Evaluated N Value
-worth e m = evaluate m.active m.store e
+abbrev pub value_of_expression : {N : Type 0} → Tree N expression → Evaluated N Value
+value_of_expression e m = evaluate m.active m.store e
 
-abbrev pub worth_of_simple : {N : Type 0} → Tree N simple → Evaluated N Value
-worth_of_simple e m = evaluate_simple m.active m.store e
+abbrev pub value_of_simple : {N : Type 0} → Tree N simple → Evaluated N Value
+value_of_simple e m = evaluate_simple m.active m.store e
 
-abbrev pub worth_of_term : {N : Type 0} → Tree N term → Evaluated N Value
-worth_of_term e m = evaluate_term m.active m.store e
+abbrev pub value_of_term : {N : Type 0} → Tree N term → Evaluated N Value
+value_of_term e m = evaluate_term m.active m.store e
 
-abbrev pub worth_of_factor : {N : Type 0} → Tree N factor → Evaluated N Value
-worth_of_factor e m = evaluate_factor m.active m.store e
+abbrev pub value_of_factor : {N : Type 0} → Tree N factor → Evaluated N Value
+value_of_factor e m = evaluate_factor m.active m.store e
 
 abbrev pub place_of_designator : {N : Type 0} → N → Tree N (items selector) → Evaluated N Place
 place_of_designator x path m = designate m.active m.store x path

@@ -9,22 +9,22 @@ use Rattle.ob0_values.specs.Values.{Shape, boolean_shape, integer_shape}
 use Rattle.ob0_machine.specs.Lowered as lowered
 use Rattle.ob0_cells.specs.Cells.{size}
 use Rattle.ob0_cells.specs.LoweredStatements.{ArgumentsMean, ElseMeans, ElsifsMean, FurtherMean, IsAt, SequenceMeans, StatementMeans, Target}
-use Rattle.ob0_cells.specs.Lowering.{NumberMeans, PlaceMeans, Slot, TruthMeans, ValueAt, place_of_designator, worth}
+use Rattle.ob0_cells.specs.Lowering.{NumberMeans, PlaceMeans, Slot, TruthMeans, ValueAt, place_of_designator, value_of_expression}
 
 -- an assignment stores a number, a truth, or the cells of an array or a record
 abbrev pub AssignmentsLower : Type 0
 AssignmentsLower =
     (checked : Typed Label) (slots : Label → Slot) (targets : Label → Target) (x : Label) (path : Tree Label (items selector)) (e : Tree Label expression) (q : lowered.Place)
-    → ((n : lowered.Number) → PlaceMeans checked slots q integer_shape (place_of_designator x path) → NumberMeans checked slots n (worth e) → StatementMeans checked slots targets (lowered.stores_number q n) (assigns x path e))
-    × ((t : lowered.Truth) → PlaceMeans checked slots q boolean_shape (place_of_designator x path) → TruthMeans checked slots t (worth e) → StatementMeans checked slots targets (lowered.stores_truth q t) (assigns x path e))
-    × ((r : lowered.Place) (s : Shape) → PlaceMeans checked slots q s (place_of_designator x path) → ValueAt checked slots r s (worth e) → StatementMeans checked slots targets (lowered.copies q r (size s)) (assigns x path e))
+    → ((n : lowered.Number) → PlaceMeans checked slots q integer_shape (place_of_designator x path) → NumberMeans checked slots n (value_of_expression e) → StatementMeans checked slots targets (lowered.stores_number q n) (assigns x path e))
+    × ((t : lowered.Truth) → PlaceMeans checked slots q boolean_shape (place_of_designator x path) → TruthMeans checked slots t (value_of_expression e) → StatementMeans checked slots targets (lowered.stores_truth q t) (assigns x path e))
+    × ((r : lowered.Place) (s : Shape) → PlaceMeans checked slots q s (place_of_designator x path) → ValueAt checked slots r s (value_of_expression e) → StatementMeans checked slots targets (lowered.copies q r (size s)) (assigns x path e))
 
 -- the standard procedures
 abbrev pub StandardCallsLower : Type 0
 StandardCallsLower =
     (checked : Typed Label) (slots : Label → Slot) (targets : Label → Target) (x : Label) (es : Tree Label (maybe arguments)) (e : Tree Label expression)
     → ((q : lowered.Place) → checked.stands_for x ≡ Some (a_standard reads) → arguments_listed es ≡ e ∷ [] → IsAt checked slots q integer_shape e → StatementMeans checked slots targets (lowered.reads q) (calls x es))
-    × ((n : lowered.Number) → checked.stands_for x ≡ Some (a_standard writes) → arguments_listed es ≡ e ∷ [] → NumberMeans checked slots n (worth e) → StatementMeans checked slots targets (lowered.writes n) (calls x es))
+    × ((n : lowered.Number) → checked.stands_for x ≡ Some (a_standard writes) → arguments_listed es ≡ e ∷ [] → NumberMeans checked slots n (value_of_expression e) → StatementMeans checked slots targets (lowered.writes n) (calls x es))
     × (checked.stands_for x ≡ Some (a_standard writes_line) → arguments_listed es ≡ [] → StatementMeans checked slots targets lowered.writes_line (calls x es))
 
 -- a call passes its arguments to its procedure
@@ -39,7 +39,7 @@ abbrev pub BranchesLower : Type 0
 BranchesLower =
     (checked : Typed Label) (slots : Label → Slot) (targets : Label → Target) (e : Tree Label expression) (a : Tree Label sequence) (rest : Tree Label (items elsif_part)) (last : Tree Label (maybe else_part))
     (t : lowered.Truth) (body : lowered.Statements) (bs : lowered.Branches) (otherwise : lowered.Statements)
-    → TruthMeans checked slots t (worth e) → SequenceMeans checked slots targets body a → ElsifsMean checked slots targets bs otherwise rest last
+    → TruthMeans checked slots t (value_of_expression e) → SequenceMeans checked slots targets body a → ElsifsMean checked slots targets bs otherwise rest last
     → StatementMeans checked slots targets (lowered.chooses (lowered.branch t body bs) otherwise) (branches e a rest last)
     × ElsifsMean checked slots targets (lowered.branch t body bs) otherwise (more (elsif_branch e a) rest) last
 
@@ -53,7 +53,7 @@ ElsesLower =
 abbrev pub LoopsLower : Type 0
 LoopsLower =
     (checked : Typed Label) (slots : Label → Slot) (targets : Label → Target) (e : Tree Label expression) (a : Tree Label sequence) (t : lowered.Truth) (body : lowered.Statements)
-    → TruthMeans checked slots t (worth e) → SequenceMeans checked slots targets body a
+    → TruthMeans checked slots t (value_of_expression e) → SequenceMeans checked slots targets body a
     → StatementMeans checked slots targets (lowered.while_loop t body) (while_loop e a)
     × StatementMeans checked slots targets (lowered.repeat_loop body t) (repeat_loop a e)
 

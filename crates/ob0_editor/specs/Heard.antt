@@ -8,7 +8,7 @@ use Rattle.ob0_text.specs.OpenDocuments.{DocumentNote, Opened, Changed, Lost, Cl
 use Rattle.ob0_rpc.specs.Asks as wire
 use Rattle.ob0_rpc.specs.Asks.{call_of}
 use Rattle.ob0_rpc.specs.Messages.{Reads, Meaning, not_json, not_a_message, response, request, notice, meaning_of}
-use Rattle.ob0_rpc.specs.Notes.{Told, exits, opens, changes, closes, unreadable, other, note_of}
+use Rattle.ob0_rpc.specs.Notes.{Notification, exits, opens, changes, closes, unreadable, other, note_of}
 use Rattle.ob0_events.specs.Asks.{Ask, rename, inline_here, inline_all, format, indent_read}
 use Rattle.ob0_events.specs.Ends.{Asked, numbered, ToServer, tells, asks}
 use Rattle.ob0_editor.specs.Shapes.{method_of, empty_at}
@@ -25,7 +25,7 @@ number_of (string s) = None
 number_of (array ds) = None
 number_of (object ms) = None
 
-abbrev pub note_heard : Told → Option ToServer
+abbrev pub note_heard : Notification → Option ToServer
 note_heard exits = None
 note_heard (opens uri version text) = Some (tells (Opened uri version text))
 note_heard (changes uri version all) = Some (tells (Changed uri version all))
@@ -50,7 +50,7 @@ heard asked content = if is_utf8 content then option_and_then (λ d. message_hea
 
 -- ---- as the server reads it
 
-abbrev pub told_as : DocumentNote → Told
+abbrev pub told_as : DocumentNote → Notification
 told_as (Opened uri version text) = opens uri version text
 told_as (Changed uri version all) = changes uri version all
 told_as (Lost uri) = unreadable (Some uri)

@@ -1,7 +1,7 @@
 //! What an editor keeps, and what it does.
 ghost use Rattle.std.specs.Prelude.{◌≡◌, IfOk, OnOk, OnErr, map, option_map, is_some, ◌<◌, ◌^◌};
 ghost use Rattle.std.specs.Str.{chars};
-ghost use Rattle.ob0_text.specs.OpenDocuments.{told_change};
+ghost use Rattle.ob0_text.specs.OpenDocuments.{reported_change};
 ghost use Rattle.ob0_events.specs.Ends.{new_editor, numbered, open_at};
 ghost use Rattle.ob0_events.specs.Editing.{opens_document, changes_document, closes_document, asks_about, has_edits, keeps, held_answer, without_answer, applies_asked, applies_answer};
 ghost use Rattle.ob0_editor.specs.Code.{ask_of, message_of};
@@ -111,7 +111,7 @@ impl Editor {
     /// Changes a document; the content tells the server. None where it isn't open.
     pub fn change(&mut self, uri: &str, changes: &[Change]) -> Result<Option<Vec<u8>>, AllocError>
         requires { AreFew self.old }
-        ensures ok { IfOk result (λ content. Moves (changes_document self.old uri.now (map told_change changes.now) (open_at self.old uri.now)) self.old content self.new) }
+        ensures ok { IfOk result (λ content. Moves (changes_document self.old uri.now (map reported_change changes.now) (open_at self.old uri.now)) self.old content self.new) }
         ensures err { OnErr result (self.new.asked ≡ self.old.asked) }
     {
         let Some(open) = self.documents.get(uri) else {

@@ -2,7 +2,7 @@
 ghost use Rattle.std.specs.Prelude.{◌≡◌, Some, map, IfOk, OnOk, string_bytes};
 ghost use Rattle.std.specs.Option.{option_map};
 ghost use Rattle.std.specs.Str.{chars};
-ghost use Rattle.ob0_text.specs.OpenDocuments.{told_change, changed_text};
+ghost use Rattle.ob0_text.specs.OpenDocuments.{reported_change, changed_text};
 ghost use Rattle.ob0_events.specs.Edited.{edited, after_changes};
 ghost use Rattle.ob0_events.specs.Edited.{replacements};
 
@@ -16,7 +16,7 @@ pub fn changed<T: TextStore>(
     text: &str,
     changes: &[Change],
 ) -> Result<String, AllocError>
-    ensures { IfOk result (λ new. after_changes unit (Some (chars text.now)) (map told_change changes.now) ≡ Some (chars (string_bytes new))) }
+    ensures { IfOk result (λ new. after_changes unit (Some (chars text.now)) (map reported_change changes.now) ≡ Some (chars (string_bytes new))) }
 {
     let mut store = T::from_str_in(alloc, text, unit)?;
     for change in changes {
@@ -33,7 +33,7 @@ fn make_change<T: TextStore>(
 ) -> Result<(), AllocError>
     requires { T.unit_of store.old ≡ unit }
     ensures unit { OnOk result (T.unit_of store.new ≡ unit) }
-    ensures ok { OnOk result (changed_text unit (Some (T.content store.old)) (told_change change.now) ≡ Some (T.content store.new)) }
+    ensures ok { OnOk result (changed_text unit (Some (T.content store.old)) (reported_change change.now) ≡ Some (T.content store.new)) }
 {
     match change.range {
         None => *store = T::from_str_in(alloc, change.text.as_str(), unit)?,

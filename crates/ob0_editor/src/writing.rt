@@ -3,7 +3,7 @@ ghost use Rattle.std.specs.Prelude.{◌≡◌, ◌≤◌, ◌<◌, ◌^◌, ◌�
 ghost use Rattle.std.specs.Str.{chars};
 ghost use Rattle.serde_json.specs.Data.{array, depth, number, object, unsigned, member, no_items, no_members, put as with_member};
 ghost use Rattle.serde_json.specs.View.{view, items_view, items_of, members_view};
-ghost use Rattle.ob0_text.specs.OpenDocuments.{Opened, Changed, Closed, told_change};
+ghost use Rattle.ob0_text.specs.OpenDocuments.{Opened, Changed, Closed, reported_change};
 ghost use Rattle.ob0_text.specs.declared.edits.Change as change_type;
 ghost use Rattle.ob0_rpc.specs.Messages.{Reads};
 ghost use Rattle.ob0_rpc.specs.Shapes.{notification_message, text as text_data};
@@ -61,7 +61,7 @@ pub fn did_change(
     changes: &[Change],
 ) -> Result<Vec<u8>, AllocError>
     requires { version < 2 ^ 63 }
-    ensures { IfOk result (λ content. IsNote (Changed uri.now (pos version) (map told_change changes.now)) content.items) }
+    ensures { IfOk result (λ content. IsNote (Changed uri.now (pos version) (map reported_change changes.now)) content.items) }
 {
     let changes = change_values(alloc, changes)?;
     let params = change_params(alloc, uri, version, changes)?;

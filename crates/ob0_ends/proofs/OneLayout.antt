@@ -14,7 +14,7 @@ use Rattle.ob0_tree.specs.Tree.{Tree, module_text}
 use Rattle.ob0_names.specs.Names.{Name}
 use Rattle.ob0_layout.specs.Layout.{layout}
 use Rattle.ob0_layout.specs.Sites.{Said, said, edit_of, changed_sites, all_sites}
-use Rattle.ob0_layout.specs.Standings.{standings}
+use Rattle.ob0_layout.specs.Standings.{line_roles}
 use Rattle.ob0_offers.specs.Diagnosed.{IsTextOf, IsWellTypedModule}
 use Rattle.ob0_offers.specs.Texts.{utf8}
 use Rattle.ob0_offers.specs.Layouts.{LaysOut, IsTooLongLaidOut, changes_of, layout_of}
@@ -44,7 +44,7 @@ module _ (text : List ℕ) (m n : IsWellTypedModule (utf8 text)) where
   one_layout indent = λ i. layout indent (one_module i) (one_lexing i)
 
   one_change : (unit : Unit) (indent : Indent) → changes_of unit indent text m ≡ changes_of unit indent text n
-  one_change unit indent = λ i. map (edit_of indent (width_of unit) text) (changed_sites indent (one_source i).text (all_sites (standings 0 (one_module i)) (one_lexing i)))
+  one_change unit indent = λ i. map (edit_of indent (width_of unit) text) (changed_sites indent (one_source i).text (all_sites (line_roles 0 (one_module i)) (one_lexing i)))
 
 pub lays_out_one : (unit : Unit) (indent : Indent) (text : List ℕ) (xs ys : List Edit) → LaysOut unit indent text xs → LaysOut unit indent text ys → replacements xs ≡ replacements ys
 lays_out_one unit indent text xs ys h k = same_said xs ys (h.changes ∙ (one_change text h.before k.before unit indent ∙ sym k.changes))

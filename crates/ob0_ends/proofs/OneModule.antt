@@ -20,7 +20,7 @@ use Rattle.ob0_names.specs.Scopes.{numbered}
 use Rattle.ob0_parse.proofs.Unique.{same}
 use Rattle.ob0_edits.specs.Replaced.{parts}
 use Rattle.ob0_names.specs.Spans.{is_on}
-use Rattle.ob0_scope.specs.Standing.{Standing, name_on, named_by}
+use Rattle.ob0_scope.specs.Standing.{BoundIdentifier, name_on, named_by}
 use Rattle.ob0_scope.specs.declared.naming.Named.{Named}
 use Rattle.ob0_events.specs.Edited.{Replacement, replacements}
 
@@ -34,7 +34,7 @@ same_module text m n scan parsed other too =
     let both = same (tree_of m) (tree_of n) (EndOfText ∷ []) (EndOfText ∷ []) (omega arith) (omega arith) (parsed.places ∙ (ap (λ (s : Scanned). lexemes s.tokens) source ∙ sym too.places)) in
     record { source = source; tree = both.0 }
 
-abbrev pub standing_of : Scanned → Tree ℕ module_text → List Standing
+abbrev pub standing_of : Scanned → Tree ℕ module_text → List BoundIdentifier
 standing_of s t = zip (identifiers role.Declaring t) (leaves (numbered (named s t)))
 
 abbrev name_in : Scanned → Tree ℕ module_text → ℕ → Option Named

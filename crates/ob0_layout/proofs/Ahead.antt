@@ -18,8 +18,8 @@ use Rattle.ob0_scan.proofs.Spans.{StandFrom, next_from}
 use Rattle.ob0_layout.specs.declared.sites.Site.{Site}
 use Rattle.ob0_layout.specs.declared.sites.Next.TheVariants as next
 use Rattle.ob0_layout.specs.declared.sites.Solid.{Solid}
-use Rattle.ob0_layout.specs.declared.standing.Standing.{Standing}
-use Rattle.ob0_layout.specs.Layout.{next_line, next_standing, holds_break, comment_standing}
+use Rattle.ob0_layout.specs.declared.standing.LineRole.{LineRole}
+use Rattle.ob0_layout.specs.Layout.{next_line, next_role, holds_break, comment_role}
 use Rattle.std.specs.List.{All}
 use Rattle.std.proofs.lemmas.List.Elements.{All-nil, All-cons}
 use Rattle.ob0_layout.specs.Sites.{gap_before, last_gap, sites, all_sites, next_of, LiesIn}
@@ -68,10 +68,10 @@ make_token kind place size = record { kind = kind; span = span_from place size }
 abbrev pub make_site : ℕ → ℕ → Gap → Site
 make_site start end gap = record { start = start; end = end; gap = gap }
 
-abbrev pub make_solid : LexemeKind → Standing → Solid
+abbrev pub make_solid : LexemeKind → LineRole → Solid
 make_solid kind standing = record { kind = kind; standing = standing }
 
-module _ (text : List ℕ) (before : Option Solid) (level : ℕ) (ss : List Standing) (from : ℕ) where
+module _ (text : List ℕ) (before : Option Solid) (level : ℕ) (ss : List LineRole) (from : ℕ) where
   -- nothing but white space
   pub record NoMore (at : ℕ) (broken : Bool) (rest : List Lexeme) : Type 0 where
     pub up : at ≤ length text
@@ -91,12 +91,12 @@ module _ (text : List ℕ) (before : Option Solid) (level : ℕ) (ss : List Stan
     pub tokens : tokens_from at rest ≡ make_token kind place size ∷ tokens_from (place + size) ls
     pub comments : comments_from at rest ≡ comments_from (place + size) ls
     pub gaps : sites before level broken ss from at rest
-        ≡ make_site from place (gap_before before (lexeme.Token kind) (next_standing ss)) ∷ sites (Some (make_solid (lexeme.Token kind) (next_standing ss))) (next_line level ss) false (drop 1 ss) (place + size) (place + size) ls
+        ≡ make_site from place (gap_before before (lexeme.Token kind) (next_role ss)) ∷ sites (Some (make_solid (lexeme.Token kind) (next_role ss))) (next_line level ss) false (drop 1 ss) (place + size) (place + size) ls
 
-  abbrev standing_of : ℕ → Bool → ℕ → Standing
-  standing_of at broken place = comment_standing (broken || holds_break (slice_range text at place)) (next_line level ss)
+  abbrev standing_of : ℕ → Bool → ℕ → LineRole
+  standing_of at broken place = comment_role (broken || holds_break (slice_range text at place)) (next_line level ss)
 
-  abbrev with_comment : Standing → ℕ → ℕ → List Lexeme → List Site
+  abbrev with_comment : LineRole → ℕ → ℕ → List Lexeme → List Site
   with_comment standing place size ls =
       make_site from place (gap_before before lexeme.Comment standing) ∷ sites (Some (make_solid lexeme.Comment standing)) level false ss (place + size) (place + size) ls
 
@@ -145,7 +145,7 @@ module _ (text : List ℕ) (before : Option Solid) (level : ℕ) (ss : List Stan
         stand = n.stand;
         tokens = n.tokens;
         comments = n.comments;
-        gaps = n.gaps ∙ ap (λ b. with_comment (comment_standing b (next_line level ss)) n.place n.size n.ls) same;
+        gaps = n.gaps ∙ ap (λ b. with_comment (comment_role b (next_line level ss)) n.place n.size n.ls) same;
       }))
 
   over_kind : (k : LexemeKind) (at : ℕ) (broken : Bool) (t : List ℕ) (ls : List Lexeme) → StandFrom text at (record { kind = k; text = t } ∷ ls) []
@@ -165,7 +165,7 @@ module _ (text : List ℕ) (before : Option Solid) (level : ℕ) (ss : List Stan
         stand = s';
         tokens = refl;
         comments = refl;
-        gaps = ap (λ b. with_comment (comment_standing b (next_line level ss)) at (length t) ls) same;
+        gaps = ap (λ b. with_comment (comment_role b (next_line level ss)) at (length t) ls) same;
       }))
   over_kind (lexeme.Token k) at broken t ls s s' more =
       inr (inl (record {
@@ -217,14 +217,14 @@ module _ (text : List ℕ) (before : Option Solid) (level : ℕ) (ss : List Stan
           ap (λ b. if b then Some (next.Comment (span_from n.place n.size)) else Some (next.Token t)) test
 
 -- what a pass has written and what is left: joined they are the gaps of the whole text
-pub record Sited (text : List ℕ) (whole : List Site) (left : List Token) (comments : List Span) (ss : List Standing) (before : Option Solid) (level start : ℕ) (out : List Site) : Type 0 where
+pub record Sited (text : List ℕ) (whole : List Site) (left : List Token) (comments : List Span) (ss : List LineRole) (before : Option Solid) (level start : ℕ) (out : List Site) : Type 0 where
   pub rest : List Lexeme
   pub stand : StandFrom text start rest []
   pub left_is : left ≡ tokens_from start rest
   pub comments_is : comments ≡ comments_from start rest
   pub same : out ++ sites before level (is_none before) ss start start rest ≡ whole
 
-pub sited_at_start : (s : Scanned) (scan : IsScan s) (ss : List Standing) → Sited s.text (all_sites ss scan.lexemes) s.tokens s.comments ss None 0 0 []
+pub sited_at_start : (s : Scanned) (scan : IsScan s) (ss : List LineRole) → Sited s.text (all_sites ss scan.lexemes) s.tokens s.comments ss None 0 0 []
 sited_at_start s scan ss = record {
   rest = scan.lexemes;
   stand = record { utf8 = scan.utf8; place = IsCharBoundary-start s.text scan.utf8; each = scan.lexed.each; rest = sym (append-nil (joined scan.lexemes) ∙ scan.lexed.whole) };
@@ -246,7 +246,7 @@ same_comment e = cc
 same_token : {a b : Token} → Some (next.Token a) ≡ Some (next.Token b) → a ≡ b
 same_token e = cc
 
-module _ (text : List ℕ) (whole : List Site) (left : List Token) (comments : List Span) (ss : List Standing) (before : Option Solid) (level start : ℕ) (out : List Site) (h : Sited text whole left comments ss before level start out) where
+module _ (text : List ℕ) (whole : List Site) (left : List Token) (comments : List Span) (ss : List LineRole) (before : Option Solid) (level start : ℕ) (out : List Site) (h : Sited text whole left comments ss before level start out) where
   found_is : next_of left comments ≡ next_of (tokens_from start h.rest) (comments_from start h.rest)
   found_is = λ i. next_of (h.left_is i) (h.comments_is i)
 
@@ -268,7 +268,7 @@ module _ (text : List ℕ) (whole : List Site) (left : List Token) (comments : L
     pub ordered : span.start ≤ span.end
     pub within : span.end ≤ length text
     pub some : 0 < length comments
-    pub after : let standing = comment_standing (is_none before || holds_break (slice_range text start span.start)) (next_line level ss) in
+    pub after : let standing = comment_role (is_none before || holds_break (slice_range text start span.start)) (next_line level ss) in
         Sited text whole left (drop 1 comments) ss (Some (make_solid lexeme.Comment standing)) level span.end (out ++ (make_site start span.start (gap_before before lexeme.Comment standing) ∷ []))
 
   pub record TokenStep (token : Token) : Type 0 where
@@ -276,8 +276,8 @@ module _ (text : List ℕ) (whole : List Site) (left : List Token) (comments : L
     pub ordered : token.span.start ≤ token.span.end
     pub within : token.span.end ≤ length text
     pub some : 0 < length left
-    pub after : Sited text whole (drop 1 left) comments (drop 1 ss) (Some (make_solid (lexeme.Token token.kind) (next_standing ss))) (next_line level ss) token.span.end
-        (out ++ (make_site start token.span.start (gap_before before (lexeme.Token token.kind) (next_standing ss)) ∷ []))
+    pub after : Sited text whole (drop 1 left) comments (drop 1 ss) (Some (make_solid (lexeme.Token token.kind) (next_role ss))) (next_line level ss) token.span.end
+        (out ++ (make_site start token.span.start (gap_before before (lexeme.Token token.kind) (next_role ss)) ∷ []))
 
   over_comment : (n : CommentAhead text before level ss start start (is_none before) h.rest) → CommentStep (span_from n.place n.size)
   over_comment n = record {
@@ -336,20 +336,20 @@ module _ (text : List ℕ) (whole : List Site) (left : List Token) (comments : L
   ]
 
 -- the same of equal parts
-pub sited_moved : {text : List ℕ} {whole : List Site} {left left' : List Token} {comments comments' : List Span} {ss ss' : List Standing} {before before' : Option Solid} {level level' start : ℕ} {out out' : List Site}
+pub sited_moved : {text : List ℕ} {whole : List Site} {left left' : List Token} {comments comments' : List Span} {ss ss' : List LineRole} {before before' : Option Solid} {level level' start : ℕ} {out out' : List Site}
     → Sited text whole left comments ss before level start out → left' ≡ left → comments' ≡ comments → ss' ≡ ss → before' ≡ before → level' ≡ level → out' ≡ out
     → Sited text whole left' comments' ss' before' level' start out'
 sited_moved {text = text} {whole = whole} {left = left} {left' = left'} {comments = comments} {comments' = comments'} {ss = ss} {ss' = ss'} {before = before} {before' = before'} {level = level} {level' = level'} {start = start} {out = out} {out' = out'} h a b c d e f =
     subst (λ (o : List Site). Sited text whole left' comments' ss' before' level' start o) (sym f)
     (subst (λ (k : ℕ). Sited text whole left' comments' ss' before' k start out) (sym e)
     (subst (λ (x : Option Solid). Sited text whole left' comments' ss' x level start out) (sym d)
-    (subst (λ (xs : List Standing). Sited text whole left' comments' xs before level start out) (sym c)
+    (subst (λ (xs : List LineRole). Sited text whole left' comments' xs before level start out) (sym c)
     (subst (λ (cs : List Span). Sited text whole left' cs ss before level start out) (sym b)
     (subst (λ (ts : List Token). Sited text whole ts comments ss before level start out) (sym a) h)))))
 
 -- the gaps of a text lie in it
-lie_kind : (text : List ℕ) (k : LexemeKind) (t : List ℕ) (ls : List Lexeme) (before : Option Solid) (level : ℕ) (broken : Bool) (ss : List Standing) (from at : ℕ) → from ≤ at → at ≤ length text
-    → ((b : Option Solid) (k : ℕ) (br : Bool) (xs : List Standing) (f : ℕ) → f ≤ at + length t → All (LiesIn (length text)) (sites b k br xs f (at + length t) ls))
+lie_kind : (text : List ℕ) (k : LexemeKind) (t : List ℕ) (ls : List Lexeme) (before : Option Solid) (level : ℕ) (broken : Bool) (ss : List LineRole) (from at : ℕ) → from ≤ at → at ≤ length text
+    → ((b : Option Solid) (k : ℕ) (br : Bool) (xs : List LineRole) (f : ℕ) → f ≤ at + length t → All (LiesIn (length text)) (sites b k br xs f (at + length t) ls))
     → All (LiesIn (length text)) (sites before level broken ss from at (record { kind = k; text = t } ∷ ls))
 lie_kind text lexeme.Space t ls before level broken ss from at up in_text more = more before level (broken || holds_break t) ss from (omega arith)
 lie_kind text lexeme.Comment t ls before level broken ss from at up in_text more =
@@ -357,12 +357,12 @@ lie_kind text lexeme.Comment t ls before level broken ss from at up in_text more
 lie_kind text (lexeme.Token k) t ls before level broken ss from at up in_text more =
     All-cons (LiesIn (length text)) _ _ (record { ordered = up; within = in_text }) (more _ (next_line level ss) false (drop 1 ss) (at + length t) (omega arith))
 
-sites_lie : (text : List ℕ) (rest : List Lexeme) (at : ℕ) → StandFrom text at rest [] → (before : Option Solid) (level : ℕ) (broken : Bool) (ss : List Standing) (from : ℕ) → from ≤ at
+sites_lie : (text : List ℕ) (rest : List Lexeme) (at : ℕ) → StandFrom text at rest [] → (before : Option Solid) (level : ℕ) (broken : Bool) (ss : List LineRole) (from : ℕ) → from ≤ at
     → All (LiesIn (length text)) (sites before level broken ss from at rest)
 sites_lie text [] at s before level broken ss from up = All-cons (LiesIn (length text)) _ [] (record { ordered = up; within = s.place.0 }) (All-nil (LiesIn (length text)))
 sites_lie text (l ∷ ls) at s before level broken ss from up =
     lie_kind text l.kind l.text ls before level broken ss from at up s.place.0 (sites_lie text ls (at + length l.text) (next_from text at l ls [] s))
 
-pub all_lie : (s : Scanned) (scan : IsScan s) (ss : List Standing) → All (LiesIn (length s.text)) (all_sites ss scan.lexemes)
+pub all_lie : (s : Scanned) (scan : IsScan s) (ss : List LineRole) → All (LiesIn (length s.text)) (all_sites ss scan.lexemes)
 all_lie s scan ss =
     sites_lie s.text scan.lexemes 0 (record { utf8 = scan.utf8; place = IsCharBoundary-start s.text scan.utf8; each = scan.lexed.each; rest = sym (append-nil (joined scan.lexemes) ∙ scan.lexed.whole) }) None 0 true ss 0 (omega arith)

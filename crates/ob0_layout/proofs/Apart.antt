@@ -26,10 +26,10 @@ use Rattle.ob0_tree.specs.Lexeme.{kind_lexeme}
 use Rattle.ob0_tree.specs.Tree.{Sort, Tree, spell}
 use Rattle.ob0_layout.proofs.Named.{named_lexeme}
 use Rattle.ob0_layout.specs.declared.gap.Gap.TheVariants.{Nothing, Space}
-use Rattle.ob0_layout.specs.declared.standing.Standing.{Standing}
-use Rattle.ob0_layout.specs.declared.standing.Standing.TheVariants.{Begins, Opening, Joining, Plain}
-use Rattle.ob0_layout.specs.Standings.{standings}
-use Rattle.ob0_layout.specs.Layout.{Placed, placed, next_line, next_standing, holds_break, comment_standing, is_comment, follows_directly, precedes_directly, indentation, gap, gap_between, gap_in_line, gap_text, spaced, laid_behind, laid, laid_out}
+use Rattle.ob0_layout.specs.declared.standing.LineRole.{LineRole}
+use Rattle.ob0_layout.specs.declared.standing.LineRole.TheVariants.{Begins, Opening, Joining, Plain}
+use Rattle.ob0_layout.specs.Standings.{line_roles}
+use Rattle.ob0_layout.specs.Layout.{Placed, placed, next_line, next_role, holds_break, comment_role, is_comment, follows_directly, precedes_directly, indentation, gap, gap_between, gap_in_line, gap_text, spaced, laid_after, laid, laid_out}
 use Rattle.ob0_layout.proofs.Pairs.{Calm, calm_next, calm_paren, is_paren, is_star, calm_spelled}
 
 -- a token or comment
@@ -89,7 +89,7 @@ differ : false ≡ true → ⊥
 differ e = cc
 
 -- what follows directly goes on with nothing
-quiet_symbol : (s : Symbol) (standing : Standing) → follows_directly (lexeme.Token (token.Symbol s)) standing ≡ true → Quiet (get_or (symbol_text s) 0 0)
+quiet_symbol : (s : Symbol) (standing : LineRole) → follows_directly (lexeme.Token (token.Symbol s)) standing ≡ true → Quiet (get_or (symbol_text s) 0 0)
 quiet_symbol symbol.And standing h = absurd (differ h)
 quiet_symbol symbol.Times standing h = absurd (differ h)
 quiet_symbol symbol.Plus standing h = absurd (differ h)
@@ -111,7 +111,7 @@ quiet_symbol symbol.RightParen standing h = record { alone = refl; unequal = ref
 quiet_symbol symbol.LeftBracket standing h = record { alone = refl; unequal = refl; starless = refl }
 quiet_symbol symbol.RightBracket standing h = record { alone = refl; unequal = refl; starless = refl }
 
-quiet_first : (k : LexemeKind) (text : List ℕ) (standing : Standing) → Belongs k text → follows_directly k standing ≡ true → Quiet (get_or text 0 0)
+quiet_first : (k : LexemeKind) (text : List ℕ) (standing : LineRole) → Belongs k text → follows_directly k standing ≡ true → Quiet (get_or text 0 0)
 quiet_first lexeme.Space text standing b h = absurd (differ h)
 quiet_first lexeme.Comment text standing b h = absurd (differ h)
 quiet_first (lexeme.Token token.Identifier) text standing b h = absurd (differ h)
@@ -123,7 +123,7 @@ quiet_first (lexeme.Token (token.Symbol s)) text standing b h = subst (λ t. Qui
 abbrev left_paren : LexemeKind
 left_paren = lexeme.Token (token.Symbol symbol.LeftParen)
 
-direct_symbol : (s : Symbol) (standing : Standing) (x : ℕ) → precedes_directly (lexeme.Token (token.Symbol s)) standing ≡ true → (lexeme.Token (token.Symbol s) ≡ left_paren → (x == 42) ≡ false) → joins s x ≡ false
+direct_symbol : (s : Symbol) (standing : LineRole) (x : ℕ) → precedes_directly (lexeme.Token (token.Symbol s)) standing ≡ true → (lexeme.Token (token.Symbol s) ≡ left_paren → (x == 42) ≡ false) → joins s x ≡ false
 direct_symbol symbol.And standing x h star = refl
 direct_symbol symbol.Times standing x h star = refl
 direct_symbol symbol.Plus standing x h star = refl
@@ -145,7 +145,7 @@ direct_symbol symbol.RightParen standing x h star = refl
 direct_symbol symbol.LeftBracket standing x h star = refl
 direct_symbol symbol.RightBracket standing x h star = refl
 
-direct_ends : (k : LexemeKind) (standing : Standing) (x : ℕ) → precedes_directly k standing ≡ true → (k ≡ left_paren → (x == 42) ≡ false) → goes_on k x ≡ false
+direct_ends : (k : LexemeKind) (standing : LineRole) (x : ℕ) → precedes_directly k standing ≡ true → (k ≡ left_paren → (x == 42) ≡ false) → goes_on k x ≡ false
 direct_ends lexeme.Space standing x h star = absurd (differ h)
 direct_ends lexeme.Comment standing x h star = absurd (differ h)
 direct_ends (lexeme.Token token.Identifier) standing x h star = absurd (differ h)
@@ -233,7 +233,7 @@ gap_in_line_fits : (indent : Indent) (a b : Placed) → Neighbours a b
     → Fits a.lexeme.kind (get_or b.lexeme.text 0 0) (gap_text indent (gap_in_line a.lexeme.kind a.standing b.lexeme.kind b.standing))
 gap_in_line_fits indent a b n = in_line_fits indent a b n _ _ refl refl
 
-gap_between_fits : (indent : Indent) (a : Placed) (l : Lexeme) (s : Standing) → Neighbours a (record { lexeme = l; standing = s })
+gap_between_fits : (indent : Indent) (a : Placed) (l : Lexeme) (s : LineRole) → Neighbours a (record { lexeme = l; standing = s })
     → Fits a.lexeme.kind (get_or l.text 0 0) (gap_text indent (gap_between a.lexeme.kind a.standing l.kind s))
 gap_between_fits indent a l (Begins level) n = line_fits a.lexeme.kind (get_or l.text 0 0) indent level
 gap_between_fits indent a l Opening n = gap_in_line_fits indent a (record { lexeme = l; standing = Opening }) n
@@ -277,21 +277,21 @@ paren_of : (k : TokenKind) (text : List ℕ) → lexeme.Token k ≡ left_paren �
 paren_of k text e = let same : k ≡ token.Symbol symbol.LeftParen = cc in ap (λ k. is_paren (kind_lexeme text k)) same
 
 abbrev Spread : Indent → List Lexeme → Type 0
-Spread indent ls = (level : ℕ) (broken : Bool) (ss : List Standing) (a : Placed) → IsSolid a.lexeme.kind → Belongs a.lexeme.kind a.lexeme.text
-    → (a.lexeme.kind ≡ left_paren → NoStar (spelled ls)) → Calm (spelled ls) → AreApart ls → AreApart (a.lexeme ∷ laid_behind indent a (placed level broken ss ls))
+Spread indent ls = (level : ℕ) (broken : Bool) (ss : List LineRole) (a : Placed) → IsSolid a.lexeme.kind → Belongs a.lexeme.kind a.lexeme.text
+    → (a.lexeme.kind ≡ left_paren → NoStar (spelled ls)) → Calm (spelled ls) → AreApart ls → AreApart (a.lexeme ∷ laid_after indent a (placed level broken ss ls))
 
 comment_spread : (indent : Indent) (text : List ℕ) (ls : List Lexeme) → Spread indent ls → Spread indent (record { kind = lexeme.Comment; text = text } ∷ ls)
 comment_spread indent text ls rest level broken ss a solid h after calm apart =
-    let c : Placed = record { lexeme = record { kind = lexeme.Comment; text = text }; standing = comment_standing broken (next_line level ss) } in
+    let c : Placed = record { lexeme = record { kind = lexeme.Comment; text = text }; standing = comment_role broken (next_line level ss) } in
     let n : Neighbours a c = record { left = solid; right = tt; right_belongs = apart.0.belongs; starless = λ paren uncommented. absurd (differ (sym uncommented)) } in
-    fits_apart a c (laid_behind indent c (placed level false ss ls)) (gap indent a c) n h (gap_fits indent a c n)
+    fits_apart a c (laid_after indent c (placed level false ss ls)) (gap indent a c) n h (gap_fits indent a c n)
     (rest level false ss c tt apart.0.belongs (λ e. cc) calm apart.1)
 
 token_spread : (indent : Indent) (k : TokenKind) (text : List ℕ) (ls : List Lexeme) → Spread indent ls → Spread indent (record { kind = lexeme.Token k; text = text } ∷ ls)
 token_spread indent k text ls rest level broken ss a solid h after calm apart =
-    let t : Placed = record { lexeme = record { kind = lexeme.Token k; text = text }; standing = next_standing ss } in
+    let t : Placed = record { lexeme = record { kind = lexeme.Token k; text = text }; standing = next_role ss } in
     let n : Neighbours a t = record { left = solid; right = tt; right_belongs = apart.0.belongs; starless = λ paren uncommented. token_first k text apart.0.belongs (after paren) } in
-    fits_apart a t (laid_behind indent t (placed (next_line level ss) false (drop 1 ss) ls)) (gap indent a t) n h (gap_fits indent a t n)
+    fits_apart a t (laid_after indent t (placed (next_line level ss) false (drop 1 ss) ls)) (gap indent a t) n h (gap_fits indent a t n)
     (rest (next_line level ss) false (drop 1 ss) t tt apart.0.belongs (λ e. calm_first calm (paren_of k text e)) (calm_behind calm) apart.1)
 
 kind_spread : (indent : Indent) (k : LexemeKind) (text : List ℕ) (ls : List Lexeme) → Spread indent ls → Spread indent (record { kind = k; text = text } ∷ ls)
@@ -310,15 +310,15 @@ behind_spread indent [] = nothing_spread indent
 behind_spread indent (l ∷ ls) = kind_spread indent l.kind l.text ls (behind_spread indent ls)
 
 abbrev FirstSpread : Indent → List Lexeme → Type 0
-FirstSpread indent ls = (level : ℕ) (broken : Bool) (ss : List Standing) → Calm (spelled ls) → AreApart ls → AreApart (laid indent (placed level broken ss ls))
+FirstSpread indent ls = (level : ℕ) (broken : Bool) (ss : List LineRole) → Calm (spelled ls) → AreApart ls → AreApart (laid indent (placed level broken ss ls))
 
 kind_first_spread : (indent : Indent) (k : LexemeKind) (text : List ℕ) (ls : List Lexeme) → FirstSpread indent ls → FirstSpread indent (record { kind = k; text = text } ∷ ls)
 kind_first_spread indent lexeme.Space text ls rest = λ level broken ss calm apart. rest level (broken || holds_break text) ss calm apart.1
 kind_first_spread indent lexeme.Comment text ls rest = λ level broken ss calm apart.
-    let c : Placed = record { lexeme = record { kind = lexeme.Comment; text = text }; standing = comment_standing broken (next_line level ss) } in
+    let c : Placed = record { lexeme = record { kind = lexeme.Comment; text = text }; standing = comment_role broken (next_line level ss) } in
     behind_spread indent ls level false ss c tt apart.0.belongs (λ e. cc) calm apart.1
 kind_first_spread indent (lexeme.Token k) text ls rest = λ level broken ss calm apart.
-    let t : Placed = record { lexeme = record { kind = lexeme.Token k; text = text }; standing = next_standing ss } in
+    let t : Placed = record { lexeme = record { kind = lexeme.Token k; text = text }; standing = next_role ss } in
     behind_spread indent ls (next_line level ss) false (drop 1 ss) t tt apart.0.belongs (λ e. calm_first calm (paren_of k text e)) (calm_behind calm) apart.1
 
 first_spread : (indent : Indent) (ls : List Lexeme) → FirstSpread indent ls
@@ -327,4 +327,4 @@ first_spread indent (l ∷ ls) = kind_first_spread indent l.kind l.text ls (firs
 
 pub laid_out_apart : {s : Sort} (indent : Indent) (tree : Tree (List ℕ) s) (ls : List Lexeme) → spelled ls ≡ spell tree → AreApart ls → AreApart (laid_out indent tree ls)
 unfolding laid_out
-laid_out_apart indent tree ls e apart = first_spread indent ls 0 true (standings 0 tree) (subst Calm (sym e) (calm_spelled tree)) apart
+laid_out_apart indent tree ls e apart = first_spread indent ls 0 true (line_roles 0 tree) (subst Calm (sym e) (calm_spelled tree)) apart

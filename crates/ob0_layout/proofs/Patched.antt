@@ -20,7 +20,7 @@ use Rattle.ob0_layout.specs.declared.gap.Gap.{Gap}
 use Rattle.ob0_layout.specs.declared.gap.Gap.TheVariants.{Nothing, Space, Line}
 use Rattle.ob0_layout.specs.declared.sites.Site.{Site}
 use Rattle.ob0_layout.specs.declared.sites.Solid.{Solid}
-use Rattle.ob0_layout.specs.declared.standing.Standing.{Standing}
+use Rattle.ob0_layout.specs.declared.standing.LineRole.{LineRole}
 use Rattle.ob0_layout.specs.Layout.{placed, next_line, holds_break, indentation, gap_text, laid}
 use Rattle.ob0_layout.specs.Sites.{sites, all_sites, is_changed, changed_sites, said, edit_of}
 use Rattle.ob0_layout.specs.Cuts.{cut_of}
@@ -71,8 +71,8 @@ module _ (text : List ℕ) where
       }
 
   clear_kind : (k : LexemeKind) (at : ℕ) (t : List ℕ) (ls : List Lexeme) → StandFrom text at (record { kind = k; text = t } ∷ ls) []
-      → ((before : Option Solid) (level : ℕ) (broken : Bool) (ss : List Standing) (from : ℕ) → IsBorder from → AllClear text (sites before level broken ss from (at + length t) ls))
-      → (before : Option Solid) (level : ℕ) (broken : Bool) (ss : List Standing) (from : ℕ) → IsBorder from → AllClear text (sites before level broken ss from at (record { kind = k; text = t } ∷ ls))
+      → ((before : Option Solid) (level : ℕ) (broken : Bool) (ss : List LineRole) (from : ℕ) → IsBorder from → AllClear text (sites before level broken ss from (at + length t) ls))
+      → (before : Option Solid) (level : ℕ) (broken : Bool) (ss : List LineRole) (from : ℕ) → IsBorder from → AllClear text (sites before level broken ss from at (record { kind = k; text = t } ∷ ls))
   unfolding AllClear
   clear_kind lexeme.Space at t ls s more before level broken ss from b = more before level (broken || holds_break t) ss from b
   clear_kind lexeme.Comment at t ls s more before level broken ss from b =
@@ -82,7 +82,7 @@ module _ (text : List ℕ) where
       let e = before_solid (lexeme.Token k) at t ls tt s in
       (record { start = b.place; end = e.place; clear = b.clear; clear_end = e.clear }, more _ (next_line level ss) false (drop 1 ss) (at + length t) (behind_solid (lexeme.Token k) at t ls tt s))
 
-  clear_sites : (rest : List Lexeme) (at : ℕ) → StandFrom text at rest [] → (before : Option Solid) (level : ℕ) (broken : Bool) (ss : List Standing) (from : ℕ) → IsBorder from → AllClear text (sites before level broken ss from at rest)
+  clear_sites : (rest : List Lexeme) (at : ℕ) → StandFrom text at rest [] → (before : Option Solid) (level : ℕ) (broken : Bool) (ss : List LineRole) (from : ℕ) → IsBorder from → AllClear text (sites before level broken ss from at rest)
   unfolding AllClear
   clear_sites [] at s = λ before level broken ss from b.
       (record { start = b.place; end = s.place; clear = b.clear; clear_end = λ ending. let here : get_or text (at + 0) 0 ≡ 0 = byte_at at 0 [] s.rest in omega (arith, ending.lf, here, ap (λ n. get_or text n 0) (at_zero at)) }, tt)
@@ -136,7 +136,7 @@ same_cuts unit text u indent at (g ∷ gs) (x ∷ edits) chain clear e =
     let made = same_cut unit text u g.start g.end (gap_text indent g.gap) (gap_utf8 indent g.gap) clear.0.start clear.0.end chain.1 clear.0.clear clear.0.clear_end x.range (ap (λ y. y.range.start) first) (ap (λ y. y.range.end) first) in
     (subst (λ t. IsSameCut unit text u (cut_of indent g) (cut_at (width_of unit) (chars text) x.range (chars t))) (sym new) made, same_cuts unit text u indent g.end gs edits chain.2 clear.1 (rest_same e))
 
-all_clear : (s : Scanned) (scan : IsScan s) (ss : List Standing) → AllClear s.text (all_sites ss scan.lexemes)
+all_clear : (s : Scanned) (scan : IsScan s) (ss : List LineRole) → AllClear s.text (all_sites ss scan.lexemes)
 all_clear s scan ss =
     let from_start : StandFrom s.text 0 scan.lexemes [] = record { utf8 = scan.utf8; place = IsCharBoundary-start s.text scan.utf8; each = scan.lexed.each; rest = sym (append-nil (joined scan.lexemes) ∙ scan.lexed.whole) } in
     let border : IsBorder s.text 0 = record { place = IsCharBoundary-start s.text scan.utf8; clear = λ ending. omega (arith, ending.cr, ending.lf, ap (λ n. get_or s.text n 0) zero_less) } in
@@ -145,7 +145,7 @@ all_clear s scan ss =
     zero_less : 0 - 1 ≡ 0
     zero_less = omega arith
 
-pub gaps_patched : (unit : counting.Unit) (indent : Indent) (s : Scanned) (scan : IsScan s) (ss : List Standing) (edits : List Edit)
+pub gaps_patched : (unit : counting.Unit) (indent : Indent) (s : Scanned) (scan : IsScan s) (ss : List LineRole) (edits : List Edit)
     → map said edits ≡ map (edit_of indent (width_of unit) (chars s.text)) (changed_sites indent s.text (all_sites ss scan.lexemes))
     → patched (width_of unit) (chars s.text) edits ≡ Some (chars (joined (laid indent (placed 0 true ss scan.lexemes))))
 gaps_patched unit indent s scan ss edits e =
@@ -162,7 +162,7 @@ made_utf8 indent text u at (g ∷ gs) b chain clear =
     IsUtf8-append (take (g.start - at) (drop at text)) (gap_text indent g.gap ++ rest) (IsUtf8-between text at g.start u chain.0 b clear.0.start)
     (IsUtf8-append (gap_text indent g.gap) rest (gap_utf8 indent g.gap) (made_utf8 indent text u g.end gs clear.0.end chain.2 clear.1))
 
-pub layout_utf8 : (indent : Indent) (s : Scanned) (scan : IsScan s) (ss : List Standing) → IsUtf8 (joined (laid indent (placed 0 true ss scan.lexemes)))
+pub layout_utf8 : (indent : Indent) (s : Scanned) (scan : IsScan s) (ss : List LineRole) → IsUtf8 (joined (laid indent (placed 0 true ss scan.lexemes)))
 layout_utf8 indent s scan ss =
     subst IsUtf8 (all_made indent s scan ss)
     (made_utf8 indent s.text scan.utf8 0 (all_sites ss scan.lexemes) (IsCharBoundary-start s.text scan.utf8) (all_chain indent s scan ss) (all_clear s scan ss))

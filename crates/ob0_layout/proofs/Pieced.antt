@@ -17,8 +17,8 @@ use Rattle.ob0_text.specs.declared.edits.Indent.TheVariants as indent_by
 use Rattle.ob0_text.specs.Patches.{Cut, pieced}
 use Rattle.ob0_layout.specs.declared.sites.Site.{Site}
 use Rattle.ob0_layout.specs.declared.sites.Solid.{Solid}
-use Rattle.ob0_layout.specs.declared.standing.Standing.{Standing}
-use Rattle.ob0_layout.specs.Layout.{Placed, placed, next_line, next_standing, holds_break, comment_standing, indentation, gap, gap_text, spaced, laid_behind, laid}
+use Rattle.ob0_layout.specs.declared.standing.LineRole.{LineRole}
+use Rattle.ob0_layout.specs.Layout.{Placed, placed, next_line, next_role, holds_break, comment_role, indentation, gap, gap_text, spaced, laid_after, laid}
 use Rattle.ob0_layout.specs.Sites.{sites, all_sites, is_changed, changed_sites, laid_len, LiesIn}
 use Rattle.ob0_layout.proofs.Ahead.{all_lie}
 use Rattle.ob0_layout.specs.Cuts.{cut_of, made_of}
@@ -67,14 +67,14 @@ abbrev solid_of : Placed → Solid
 solid_of a = record { kind = a.lexeme.kind; standing = a.standing }
 
 -- the gaps from a place on are in order
-chain_kind : (indent : Indent) (k : LexemeKind) (t : List ℕ) (ls : List Lexeme) (before : Option Solid) (level : ℕ) (broken : Bool) (ss : List Standing) (from at : ℕ) → from ≤ at
-    → ((b : Option Solid) (k : ℕ) (br : Bool) (xs : List Standing) (f : ℕ) → f ≤ at + length t → Chain f (map (cut_of indent) (sites b k br xs f (at + length t) ls)))
+chain_kind : (indent : Indent) (k : LexemeKind) (t : List ℕ) (ls : List Lexeme) (before : Option Solid) (level : ℕ) (broken : Bool) (ss : List LineRole) (from at : ℕ) → from ≤ at
+    → ((b : Option Solid) (k : ℕ) (br : Bool) (xs : List LineRole) (f : ℕ) → f ≤ at + length t → Chain f (map (cut_of indent) (sites b k br xs f (at + length t) ls)))
     → Chain from (map (cut_of indent) (sites before level broken ss from at (record { kind = k; text = t } ∷ ls)))
 chain_kind indent lexeme.Space t ls before level broken ss from at up more = more before level (broken || holds_break t) ss from (omega arith)
 chain_kind indent lexeme.Comment t ls before level broken ss from at up more = (omega arith, up, earlier at (at + length t) _ (omega arith) (more _ level false ss (at + length t) (omega arith)))
 chain_kind indent (lexeme.Token k) t ls before level broken ss from at up more = (omega arith, up, earlier at (at + length t) _ (omega arith) (more _ (next_line level ss) false (drop 1 ss) (at + length t) (omega arith)))
 
-pub chain_sites : (indent : Indent) (rest : List Lexeme) (at : ℕ) (before : Option Solid) (level : ℕ) (broken : Bool) (ss : List Standing) (from : ℕ) → from ≤ at → Chain from (map (cut_of indent) (sites before level broken ss from at rest))
+pub chain_sites : (indent : Indent) (rest : List Lexeme) (at : ℕ) (before : Option Solid) (level : ℕ) (broken : Bool) (ss : List LineRole) (from : ℕ) → from ≤ at → Chain from (map (cut_of indent) (sites before level broken ss from at rest))
 chain_sites indent [] at before level broken ss from up = (omega arith, up, tt)
 chain_sites indent (l ∷ ls) at before level broken ss from up = chain_kind indent l.kind l.text ls before level broken ss from at up (chain_sites indent ls (at + length l.text))
 
@@ -88,28 +88,28 @@ module _ (indent : Indent) (text : List ℕ) where
 
   abbrev Laid : ℕ → List Lexeme → Type 0
   Laid at rest =
-      (a : Placed) (level : ℕ) (broken : Bool) (ss : List Standing) (from : ℕ) → from ≤ at
-      → pieced text from (map (cut_of indent) (sites (Some (solid_of a)) level broken ss from at rest)) ≡ joined (laid_behind indent a (placed level broken ss rest))
+      (a : Placed) (level : ℕ) (broken : Bool) (ss : List LineRole) (from : ℕ) → from ≤ at
+      → pieced text from (map (cut_of indent) (sites (Some (solid_of a)) level broken ss from at rest)) ≡ joined (laid_after indent a (placed level broken ss rest))
 
   laid_solid : (at : ℕ) (t : List ℕ) (ls : List Lexeme) → drop at text ≡ t ++ joined ls → Laid (at + length t) ls
-      → (a b : Placed) (level : ℕ) (ss : List Standing) (from : ℕ) → b.lexeme.text ≡ t
+      → (a b : Placed) (level : ℕ) (ss : List LineRole) (from : ℕ) → b.lexeme.text ≡ t
       → pieced text from (record { from = from; to = at; new = gap indent a b } ∷ map (cut_of indent) (sites (Some (solid_of b)) level false ss (at + length t) (at + length t) ls))
-      ≡ joined (laid_behind indent a (b ∷ placed level false ss ls))
+      ≡ joined (laid_after indent a (b ∷ placed level false ss ls))
   laid_solid at t ls here more a b level ss from is =
       let cs = map (cut_of indent) (sites (Some (solid_of b)) level false ss (at + length t) (at + length t) ls) in
       pieced_here text from at (gap indent a b) cs
       ∙ ap (λ xs. gap indent a b ++ xs)
       (over_text at t ls cs here (chain_sites indent ls (at + length t) (Some (solid_of b)) level false ss (at + length t) (omega arith))
       ∙ ap₂ (λ xs ys. xs ++ ys) (sym is) (more b level false ss (at + length t) (omega arith)))
-      ∙ sym (joined_spaced (gap indent a b) (b.lexeme ∷ laid_behind indent b (placed level false ss ls)))
+      ∙ sym (joined_spaced (gap indent a b) (b.lexeme ∷ laid_after indent b (placed level false ss ls)))
 
   laid_kind : (k : LexemeKind) (at : ℕ) (t : List ℕ) (ls : List Lexeme) → drop at text ≡ t ++ joined ls → Laid (at + length t) ls → Laid at (record { kind = k; text = t } ∷ ls)
   unfolding gap
   laid_kind lexeme.Space at t ls here more a level broken ss from up = more a level (broken || holds_break t) ss from (omega arith)
   laid_kind lexeme.Comment at t ls here more a level broken ss from up =
-      laid_solid at t ls here more a (record { lexeme = record { kind = lexeme.Comment; text = t }; standing = comment_standing broken (next_line level ss) }) level ss from refl
+      laid_solid at t ls here more a (record { lexeme = record { kind = lexeme.Comment; text = t }; standing = comment_role broken (next_line level ss) }) level ss from refl
   laid_kind (lexeme.Token k) at t ls here more a level broken ss from up =
-      laid_solid at t ls here more a (record { lexeme = record { kind = lexeme.Token k; text = t }; standing = next_standing ss }) (next_line level ss) (drop 1 ss) from refl
+      laid_solid at t ls here more a (record { lexeme = record { kind = lexeme.Token k; text = t }; standing = next_role ss }) (next_line level ss) (drop 1 ss) from refl
 
   pub laid_from : (rest : List Lexeme) (at : ℕ) → StandFrom text at rest [] → Laid at rest
   unfolding pieced
@@ -121,10 +121,10 @@ module _ (indent : Indent) (text : List ℕ) where
 
   abbrev FirstLaid : ℕ → List Lexeme → Type 0
   FirstLaid at rest =
-      (level : ℕ) (broken : Bool) (ss : List Standing) (from : ℕ) → from ≤ at → pieced text from (map (cut_of indent) (sites None level broken ss from at rest)) ≡ joined (laid indent (placed level broken ss rest))
+      (level : ℕ) (broken : Bool) (ss : List LineRole) (from : ℕ) → from ≤ at → pieced text from (map (cut_of indent) (sites None level broken ss from at rest)) ≡ joined (laid indent (placed level broken ss rest))
 
   first_solid : (at : ℕ) (t : List ℕ) (ls : List Lexeme) → drop at text ≡ t ++ joined ls → Laid (at + length t) ls
-      → (b : Placed) (level : ℕ) (ss : List Standing) (from : ℕ) → b.lexeme.text ≡ t
+      → (b : Placed) (level : ℕ) (ss : List LineRole) (from : ℕ) → b.lexeme.text ≡ t
       → pieced text from (record { from = from; to = at; new = [] } ∷ map (cut_of indent) (sites (Some (solid_of b)) level false ss (at + length t) (at + length t) ls))
       ≡ joined (laid indent (b ∷ placed level false ss ls))
   first_solid at t ls here more b level ss from is =
@@ -136,9 +136,9 @@ module _ (indent : Indent) (text : List ℕ) where
   first_kind : (k : LexemeKind) (at : ℕ) (t : List ℕ) (ls : List Lexeme) → drop at text ≡ t ++ joined ls → Laid (at + length t) ls → FirstLaid (at + length t) ls → FirstLaid at (record { kind = k; text = t } ∷ ls)
   first_kind lexeme.Space at t ls here behind more level broken ss from up = more level (broken || holds_break t) ss from (omega arith)
   first_kind lexeme.Comment at t ls here behind more level broken ss from up =
-      first_solid at t ls here behind (record { lexeme = record { kind = lexeme.Comment; text = t }; standing = comment_standing broken (next_line level ss) }) level ss from refl
+      first_solid at t ls here behind (record { lexeme = record { kind = lexeme.Comment; text = t }; standing = comment_role broken (next_line level ss) }) level ss from refl
   first_kind (lexeme.Token k) at t ls here behind more level broken ss from up =
-      first_solid at t ls here behind (record { lexeme = record { kind = lexeme.Token k; text = t }; standing = next_standing ss }) (next_line level ss) (drop 1 ss) from refl
+      first_solid at t ls here behind (record { lexeme = record { kind = lexeme.Token k; text = t }; standing = next_role ss }) (next_line level ss) (drop 1 ss) from refl
 
   first_laid : (rest : List Lexeme) (at : ℕ) → StandFrom text at rest [] → FirstLaid at rest
   unfolding pieced
@@ -186,7 +186,7 @@ made_length indent text at (g ∷ gs) chain all =
     ∙ ap₂ (λ a b. a + b) kept (length-append (gap_text indent g.gap) (pieced text g.end (map (cut_of indent) gs)) ∙ ap (λ n. length (gap_text indent g.gap) + n) more)
 
 -- the gaps of a scanned text
-module _ (indent : Indent) (s : Scanned) (scan : IsScan s) (ss : List Standing) where
+module _ (indent : Indent) (s : Scanned) (scan : IsScan s) (ss : List LineRole) where
   from_start : StandFrom s.text 0 scan.lexemes []
   from_start = record { utf8 = scan.utf8; place = IsCharBoundary-start s.text scan.utf8; each = scan.lexed.each; rest = sym (append-nil (joined scan.lexemes) ∙ scan.lexed.whole) }
 

@@ -1,17 +1,17 @@
 -- The standings of a tree don't depend on its names.
 use Rattle.std.proofs.Common.{◌≡◌, ℕ, [], ◌∷◌, ◌++◌, refl}
 use Rattle.ob0_tree.specs.Tree.{Sort, Tree, none, one, end, more, compares, relates, sum, adds, product, multiplies, designator, integer, parenthesised, negation, field, index, empty, assigns, calls, branches, while_loop, repeat_loop, no_arguments, some_arguments, then_argument, runs, then_statement, elsif_branch, else_branch, listed, then_name, named_type, array_type, record_type, no_fields, some_fields, then_fields, no_formals, some_formals, value_section, variable_section, then_section, declares_constant, declares_constants, declares_type, declares_types, declares_variable, declares_variables, declares_procedure, declares, begins, has_body, is_module, mapped}
-use Rattle.ob0_layout.specs.declared.standing.Standing.TheVariants.{Begins, Opening, Plain}
-use Rattle.ob0_layout.specs.Standings.{standings, deeper, in_line, sign_standing}
+use Rattle.ob0_layout.specs.declared.standing.LineRole.TheVariants.{Begins, Opening, Plain}
+use Rattle.ob0_layout.specs.Standings.{line_roles, deeper, in_line, sign_role}
 
-pub standings_mapped : {N M : Type 0} {s : Sort} (u : N → M) (v : ℕ → ℕ) (k : ℕ) (t : Tree N s) → standings k (mapped u v t) ≡ standings k t
+pub standings_mapped : {N M : Type 0} {s : Sort} (u : N → M) (v : ℕ → ℕ) (k : ℕ) (t : Tree N s) → line_roles k (mapped u v t) ≡ line_roles k t
 standings_mapped u v k none = refl
 standings_mapped u v k (one t) = λ j. standings_mapped u v k t j
 standings_mapped u v k end = refl
 standings_mapped u v k (more t ts) = λ j. standings_mapped u v k t j ++ standings_mapped u v k ts j
 standings_mapped u v k (compares left compared) = λ j. standings_mapped u v k left j ++ standings_mapped u v k compared j
 standings_mapped u v k (relates relation right) = λ j. Plain ∷ standings_mapped u v k right j
-standings_mapped u v k (sum sign first terms) = λ j. sign_standing sign ++ (standings_mapped u v k first j ++ standings_mapped u v k terms j)
+standings_mapped u v k (sum sign first terms) = λ j. sign_role sign ++ (standings_mapped u v k first j ++ standings_mapped u v k terms j)
 standings_mapped u v k (adds operator t) = λ j. Plain ∷ standings_mapped u v k t j
 standings_mapped u v k (product first factors) = λ j. standings_mapped u v k first j ++ standings_mapped u v k factors j
 standings_mapped u v k (multiplies operator f) = λ j. Plain ∷ standings_mapped u v k f j

@@ -15,11 +15,11 @@ use Rattle.ob0_layout.specs.declared.sites.Site.{Site}
 use Rattle.ob0_layout.specs.declared.sites.Next.{Next}
 use Rattle.ob0_layout.specs.declared.sites.Next.TheVariants as next
 use Rattle.ob0_layout.specs.declared.sites.Solid.{Solid}
-use Rattle.ob0_layout.specs.declared.standing.Standing.{Standing}
-use Rattle.ob0_layout.specs.Layout.{next_line, next_standing, holds_break, comment_standing, gap_between, gap_text}
+use Rattle.ob0_layout.specs.declared.standing.LineRole.{LineRole}
+use Rattle.ob0_layout.specs.Layout.{next_line, next_role, holds_break, comment_role, gap_between, gap_text}
 
 -- the gap before a token or comment, and the one behind the last: nothing at the text's start
-abbrev pub gap_before : Option Solid → LexemeKind → Standing → Gap
+abbrev pub gap_before : Option Solid → LexemeKind → LineRole → Gap
 gap_before None kind standing = Nothing
 gap_before (Some b) kind standing = gap_between b.kind b.standing kind standing
 
@@ -29,21 +29,21 @@ last_gap (Some b) = Line 0
 
 -- The gaps of a text that goes on with these lexemes at a place, each with what is to stand there. The first of them began at `from`, behind
 -- a token or comment or at the text's start; `level`, `broken` and `ss` are those of `placed`.
-abbrev pub sites : Option Solid → ℕ → Bool → List Standing → ℕ → ℕ → List Lexeme → List Site
+abbrev pub sites : Option Solid → ℕ → Bool → List LineRole → ℕ → ℕ → List Lexeme → List Site
 sites before level broken ss from at [] = record { start = from; end = at; gap = last_gap before } ∷ []
 sites before level broken ss from at (l ∷ ls) = elim (l.kind) [
   | lexeme.Space ↦ sites before level (broken || holds_break l.text) ss from (at + length l.text) ls
   | lexeme.Comment ↦
-      let standing = comment_standing broken (next_line level ss) in
+      let standing = comment_role broken (next_line level ss) in
       record { start = from; end = at; gap = gap_before before lexeme.Comment standing }
       ∷ sites (Some (record { kind = lexeme.Comment; standing = standing })) level false ss (at + length l.text) (at + length l.text) ls
   | lexeme.Token k ↦
-      record { start = from; end = at; gap = gap_before before (lexeme.Token k) (next_standing ss) }
-      ∷ sites (Some (record { kind = lexeme.Token k; standing = next_standing ss })) (next_line level ss) false (drop 1 ss) (at + length l.text) (at + length l.text) ls
+      record { start = from; end = at; gap = gap_before before (lexeme.Token k) (next_role ss) }
+      ∷ sites (Some (record { kind = lexeme.Token k; standing = next_role ss })) (next_line level ss) false (drop 1 ss) (at + length l.text) (at + length l.text) ls
 ]
 
 -- the gaps of a text with these standings of its tokens
-abbrev pub all_sites : List Standing → List Lexeme → List Site
+abbrev pub all_sites : List LineRole → List Lexeme → List Site
 all_sites ss lexemes = sites None 0 true ss 0 0 lexemes
 
 -- of a list of tokens and a list of comments, which begins first

@@ -9,11 +9,11 @@ ghost use Rattle.ob0_text.specs.Units.{width_of};
 ghost use Rattle.ob0_text.specs.declared.refusals.EditRefusal.TheVariants.{TooLong, Memory};
 ghost use Rattle.ob0_tree.specs.Parsed.{named_tree_of};
 ghost use Rattle.ob0_layout.specs.Layout.{layout};
-ghost use Rattle.ob0_layout.specs.Standings.{standings};
+ghost use Rattle.ob0_layout.specs.Standings.{line_roles};
 ghost use Rattle.ob0_layout.specs.Sites.{all_sites, is_changed, changed_sites, said, edit_of, LiesIn, laid_len};
 
 use crate::sites::{Site, all_sites};
-use crate::walk::standings;
+use crate::walk::line_roles;
 use ob0_scan::MAX_TEXT;
 use ob0_text::{Edit, EditRefusal, Indent, Range, TextStore};
 use ob0_tree::Module;
@@ -28,7 +28,7 @@ pub fn format<T: TextStore>(
     indent: Indent,
 ) -> Result<Vec<Edit>, EditRefusal>
     ensures edits { (scan : IsScan module.now.source) → IfOk result (λ edits. map said edits.items ≡
-        map (edit_of indent (width_of (T.unit_of store.now)) (T.content store.now)) (changed_sites indent module.now.source.text (all_sites (standings 0 (named_tree_of module.now)) scan.lexemes))) }
+        map (edit_of indent (width_of (T.unit_of store.now)) (T.content store.now)) (changed_sites indent module.now.source.text (all_sites (line_roles 0 (named_tree_of module.now)) scan.lexemes))) }
     ensures fits { (scan : IsScan module.now.source) → IfOk result (λ _. length (layout indent (named_tree_of module.now) scan.lexemes) ≤ max_text) }
     ensures too_long { (scan : IsScan module.now.source) → IsErrOf result TooLong → max_text < length (layout indent (named_tree_of module.now) scan.lexemes) }
     ensures patched { (scan : IsScan module.now.source) → T.content store.now ≡ chars module.now.source.text → IfOk result (λ edits.
@@ -37,7 +37,7 @@ pub fn format<T: TextStore>(
 {
     let tokens = module.tokens();
     let text = tokens.text().as_bytes();
-    let standings = standings(alloc, module)?;
+    let standings = line_roles(alloc, module)?;
     let sites = all_sites(alloc, tokens, &standings)?;
     if !fits(&sites, text.len(), indent) {
         return Err(EditRefusal::TooLong);

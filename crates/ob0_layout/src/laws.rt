@@ -10,7 +10,7 @@ ghost use Rattle.ob0_tree.specs.Module.{ModuleOf};
 ghost use Rattle.ob0_layout.specs.Cuts.{made_of};
 ghost use Rattle.ob0_layout.specs.Layout.{solid, laid_out, layout};
 ghost use Rattle.ob0_layout.specs.Sites.{all_sites, changed_sites, laid_len};
-ghost use Rattle.ob0_layout.specs.Standings.{standings};
+ghost use Rattle.ob0_layout.specs.Standings.{line_roles};
 
 /// The layout of a module's text is cut into the lexemes that are laid out, and its tokens and comments are those of the text.
 pub fn lexemes_stay()
@@ -34,7 +34,7 @@ pub fn laid_out_once()
 pub fn gaps_make_the_layout()
     ensures utf8 { (indent : Indent) (s : Scanned) (scan : IsScan s) (tree : Tree (List ℕ) module_text) → IsUtf8 (layout indent tree scan.lexemes) }
     ensures made { (indent : Indent) (s : Scanned) (scan : IsScan s) (tree : Tree (List ℕ) module_text)
-        → made_of indent s.text (changed_sites indent s.text (all_sites (standings 0 tree) scan.lexemes)) ≡ layout indent tree scan.lexemes }
+        → made_of indent s.text (changed_sites indent s.text (all_sites (line_roles 0 tree) scan.lexemes)) ≡ layout indent tree scan.lexemes }
     ensures length { (indent : Indent) (s : Scanned) (scan : IsScan s) (tree : Tree (List ℕ) module_text)
-        → laid_len indent (length s.text) 0 (all_sites (standings 0 tree) scan.lexemes) ≡ length (layout indent tree scan.lexemes) }
+        → laid_len indent (length s.text) 0 (all_sites (line_roles 0 tree) scan.lexemes) ≡ length (layout indent tree scan.lexemes) }
 {}

@@ -9,4 +9,4 @@ mod standing;
 mod walk;
 
 pub use formatting::format;
-pub use standing::Standing;
+pub use standing::LineRole;

@@ -2,11 +2,11 @@
 
 ghost use Rattle.std.specs.Prelude.{◌≡◌, ◌||◌, ◌==◌, IfOk, is_none, drop};
 ghost use Rattle.ob0_scan.specs.Scanned.{IsScan};
-ghost use Rattle.ob0_layout.specs.Layout.{next_line, next_standing, comment_standing, holds_break};
+ghost use Rattle.ob0_layout.specs.Layout.{next_line, next_role, comment_role, holds_break};
 ghost use Rattle.ob0_layout.specs.Sites.{all_sites, next_of, gap_before, last_gap};
 
 use crate::gap::{Gap, gap_between};
-use crate::standing::Standing;
+use crate::standing::LineRole;
 use ob0_scan::{LexemeKind, Span, Token, Tokens};
 use std::alloc::{AllocError, Global};
 
@@ -22,7 +22,7 @@ pub struct Site {
 #[derive(Clone, Copy)]
 pub struct Solid {
     pub kind: LexemeKind,
-    pub standing: Standing,
+    pub standing: LineRole,
 }
 
 /// What comes next in a text, white space aside.
@@ -36,7 +36,7 @@ pub enum Next {
 pub fn all_sites(
     alloc: Global,
     tokens: &Tokens,
-    standings: &[Standing],
+    standings: &[LineRole],
 ) -> Result<Vec<Site>, AllocError>
     ensures { (scan : IsScan tokens.now) → IfOk result (λ sites. sites.items ≡ all_sites standings.now scan.lexemes) }
 {
@@ -52,7 +52,7 @@ pub fn all_sites(
         match next {
             Next::Comment(span) => {
                 let broken = begins_anew(before, &text[start..span.start]);
-                let standing = comment_standing(broken, next_line(level, standings));
+                let standing = comment_role(broken, next_line(level, standings));
                 let kind = LexemeKind::Comment;
                 let gap = gap_before(before, kind, standing);
                 let end = span.start;
@@ -62,7 +62,7 @@ pub fn all_sites(
                 comments = behind_first(comments);
             }
             Next::Token(token) => {
-                let standing = next_standing(standings);
+                let standing = next_role(standings);
                 let kind = LexemeKind::Token(token.kind);
                 let gap = gap_before(before, kind, standing);
                 let end = token.span.start;
@@ -102,7 +102,7 @@ fn next_of(left: &[Token], comments: &[Span]) -> Option<Next>
 }
 
 /// The gap before a token or comment.
-fn gap_before(before: Option<Solid>, kind: LexemeKind, standing: Standing) -> Gap
+fn gap_before(before: Option<Solid>, kind: LexemeKind, standing: LineRole) -> Gap
     ensures { result ≡ gap_before before kind standing }
 {
     match before {
@@ -122,25 +122,25 @@ fn last_gap(before: Option<Solid>) -> Gap
 }
 
 /// The level of the line in which the next token stands.
-fn next_line(level: u32, standings: &[Standing]) -> u32
+fn next_line(level: u32, standings: &[LineRole]) -> u32
     ensures { result ≡ next_line level standings.now }
 {
     if standings.is_empty() {
         return 0;
     }
     match standings[0] {
-        Standing::Begins(begun) => begun,
-        Standing::Opening => level,
-        Standing::Joining => level,
-        Standing::Plain => level,
+        LineRole::Begins(begun) => begun,
+        LineRole::Opening => level,
+        LineRole::Joining => level,
+        LineRole::Plain => level,
     }
 }
 
-fn next_standing(standings: &[Standing]) -> Standing
-    ensures { result ≡ next_standing standings.now }
+fn next_role(standings: &[LineRole]) -> LineRole
+    ensures { result ≡ next_role standings.now }
 {
     if standings.is_empty() {
-        return Standing::Plain;
+        return LineRole::Plain;
     }
     standings[0]
 }
@@ -156,13 +156,13 @@ fn behind_first<T>(items: &[T]) -> &[T]
 }
 
 /// How a comment stands before which a line break stands or not.
-fn comment_standing(broken: bool, level: u32) -> Standing
-    ensures { result ≡ comment_standing broken level }
+fn comment_role(broken: bool, level: u32) -> LineRole
+    ensures { result ≡ comment_role broken level }
 {
     if broken {
-        Standing::Begins(level)
+        LineRole::Begins(level)
     } else {
-        Standing::Plain
+        LineRole::Plain
     }
 }
 

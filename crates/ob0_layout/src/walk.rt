@@ -1,13 +1,13 @@
 //! The walk over a module that tells how each of its tokens stands.
 
 ghost use Rattle.std.specs.Prelude.{◌≡◌, ◌++◌, ◌∷◌, [], IfOk};
-ghost use Rattle.ob0_layout.specs.declared.standing.Standing.TheVariants.{Begins, Plain};
-ghost use Rattle.ob0_layout.specs.Standings.{standings, deeper, sign_standing, separated};
+ghost use Rattle.ob0_layout.specs.declared.standing.LineRole.TheVariants.{Begins, Plain};
+ghost use Rattle.ob0_layout.specs.Standings.{line_roles, deeper, sign_role, separated};
 ghost use Rattle.ob0_tree.specs.Parsed.{tree_of};
 ghost use Rattle.ob0_tree.specs.Tree.{then_name};
 ghost use Rattle.ob0_tree.specs.View.{items_of, expression_of, simple_of, term_of, factor_of, selector_of, designator_of, assignment_of, arguments_in, call_of, statement_of, if_of, elsifs_in, sequence_in, type_of, record_in, fields_of, section_of, formals_of, constants_of, types_of, variables_of, body_of, procedure_of, block_of};
 
-use crate::standing::Standing;
+use crate::standing::LineRole;
 use ob0_tree::{
     Assignment, Block, Call, Constant, Designator, Elsif, Expression, Factor, Fields, If, Module,
     Names, Procedure, RecordType, Section, Selector, Sign, Simple, Statement, Term,
@@ -16,15 +16,15 @@ use ob0_tree::{
 use std::alloc::{AllocError, Global};
 
 /// How the tokens of a module stand, in text order.
-pub fn standings(alloc: Global, module: &Module) -> Result<Vec<Standing>, AllocError>
-    ensures { IfOk result (λ out. out.items ≡ standings 0 (tree_of module.now)) }
+pub fn line_roles(alloc: Global, module: &Module) -> Result<Vec<LineRole>, AllocError>
+    ensures { IfOk result (λ out. out.items ≡ line_roles 0 (tree_of module.now)) }
 {
     let mut out = Vec::new(alloc);
-    out.push(Standing::Begins(0))?;
+    out.push(LineRole::Begins(0))?;
     plain(&mut out)?;
     plain(&mut out)?;
     block(&mut out, 0, module.block())?;
-    out.push(Standing::Begins(0))?;
+    out.push(LineRole::Begins(0))?;
     plain(&mut out)?;
     plain(&mut out)?;
     Ok(out)
@@ -38,16 +38,16 @@ fn deeper(level: u32) -> u32
 }
 
 /// A token of which no more is asked than of its kind.
-fn plain(out: &mut Vec<Standing>) -> Result<(), AllocError>
+fn plain(out: &mut Vec<LineRole>) -> Result<(), AllocError>
     ensures { IfOk result (λ _. out.new.items ≡ out.old.items ++ (Plain ∷ [])) }
 {
-    out.push(Standing::Plain)?;
+    out.push(LineRole::Plain)?;
     Ok(())
 }
 
 #[cycle(expressions)]
-fn expression(out: &mut Vec<Standing>, e: &Expression) -> Result<(), AllocError>
-    ensures { IfOk result (λ _. out.new.items ≡ out.old.items ++ standings 0 (expression_of e.now)) }
+fn expression(out: &mut Vec<LineRole>, e: &Expression) -> Result<(), AllocError>
+    ensures { IfOk result (λ _. out.new.items ≡ out.old.items ++ line_roles 0 (expression_of e.now)) }
 {
     simple(out, &e.left)?;
     if let Some(compared) = &e.compared {
@@ -57,18 +57,18 @@ fn expression(out: &mut Vec<Standing>, e: &Expression) -> Result<(), AllocError>
     Ok(())
 }
 
-fn sign(out: &mut Vec<Standing>, sign: Option<Sign>) -> Result<(), AllocError>
-    ensures { IfOk result (λ _. out.new.items ≡ out.old.items ++ sign_standing sign) }
+fn sign(out: &mut Vec<LineRole>, sign: Option<Sign>) -> Result<(), AllocError>
+    ensures { IfOk result (λ _. out.new.items ≡ out.old.items ++ sign_role sign) }
 {
     if sign.is_some() {
-        out.push(Standing::Joining)?;
+        out.push(LineRole::Joining)?;
     }
     Ok(())
 }
 
 #[cycle(expressions)]
-fn simple(out: &mut Vec<Standing>, s: &Simple) -> Result<(), AllocError>
-    ensures { IfOk result (λ _. out.new.items ≡ out.old.items ++ standings 0 (simple_of s.now)) }
+fn simple(out: &mut Vec<LineRole>, s: &Simple) -> Result<(), AllocError>
+    ensures { IfOk result (λ _. out.new.items ≡ out.old.items ++ line_roles 0 (simple_of s.now)) }
 {
     sign(out, s.sign)?;
     term(out, &s.first)?;
@@ -80,8 +80,8 @@ fn simple(out: &mut Vec<Standing>, s: &Simple) -> Result<(), AllocError>
 }
 
 #[cycle(expressions)]
-fn term(out: &mut Vec<Standing>, t: &Term) -> Result<(), AllocError>
-    ensures { IfOk result (λ _. out.new.items ≡ out.old.items ++ standings 0 (term_of t.now)) }
+fn term(out: &mut Vec<LineRole>, t: &Term) -> Result<(), AllocError>
+    ensures { IfOk result (λ _. out.new.items ≡ out.old.items ++ line_roles 0 (term_of t.now)) }
 {
     factor(out, &t.first)?;
     for multiplier in &t.more {
@@ -92,8 +92,8 @@ fn term(out: &mut Vec<Standing>, t: &Term) -> Result<(), AllocError>
 }
 
 #[cycle(expressions)]
-fn factor(out: &mut Vec<Standing>, f: &Factor) -> Result<(), AllocError>
-    ensures { IfOk result (λ _. out.new.items ≡ out.old.items ++ standings 0 (factor_of f.now)) }
+fn factor(out: &mut Vec<LineRole>, f: &Factor) -> Result<(), AllocError>
+    ensures { IfOk result (λ _. out.new.items ≡ out.old.items ++ line_roles 0 (factor_of f.now)) }
 {
     match f {
         Factor::Designator(d) => designator(out, d),
@@ -111,8 +111,8 @@ fn factor(out: &mut Vec<Standing>, f: &Factor) -> Result<(), AllocError>
 }
 
 #[cycle(expressions)]
-fn designator(out: &mut Vec<Standing>, d: &Designator) -> Result<(), AllocError>
-    ensures { IfOk result (λ _. out.new.items ≡ out.old.items ++ standings 0 (designator_of d.now)) }
+fn designator(out: &mut Vec<LineRole>, d: &Designator) -> Result<(), AllocError>
+    ensures { IfOk result (λ _. out.new.items ≡ out.old.items ++ line_roles 0 (designator_of d.now)) }
 {
     plain(out)?;
     for s in &d.selectors {
@@ -122,12 +122,12 @@ fn designator(out: &mut Vec<Standing>, d: &Designator) -> Result<(), AllocError>
 }
 
 #[cycle(expressions)]
-fn selector(out: &mut Vec<Standing>, s: &Selector) -> Result<(), AllocError>
-    ensures { IfOk result (λ _. out.new.items ≡ out.old.items ++ standings 0 (selector_of s.now)) }
+fn selector(out: &mut Vec<LineRole>, s: &Selector) -> Result<(), AllocError>
+    ensures { IfOk result (λ _. out.new.items ≡ out.old.items ++ line_roles 0 (selector_of s.now)) }
 {
     match s {
         Selector::Field(_) => {
-            out.push(Standing::Joining)?;
+            out.push(LineRole::Joining)?;
             plain(out)
         }
         Selector::Index(e) => {
@@ -139,7 +139,7 @@ fn selector(out: &mut Vec<Standing>, s: &Selector) -> Result<(), AllocError>
 }
 
 /// What stands before an item of a list: nothing before the first, a `;` or `,` before the others.
-fn separator(out: &mut Vec<Standing>, first: bool) -> Result<(), AllocError>
+fn separator(out: &mut Vec<LineRole>, first: bool) -> Result<(), AllocError>
     ensures { IfOk result (λ _. out.new.items ≡ out.old.items ++ separated first) }
 {
     if !first {
@@ -151,11 +151,11 @@ fn separator(out: &mut Vec<Standing>, first: bool) -> Result<(), AllocError>
 /// Statements of this level. Between two of them stands a `;`.
 #[cycle(statements)]
 fn sequence(
-    out: &mut Vec<Standing>,
+    out: &mut Vec<LineRole>,
     level: u32,
     statements: &Vec<Statement>,
 ) -> Result<(), AllocError>
-    ensures { IfOk result (λ _. out.new.items ≡ out.old.items ++ standings level (sequence_in statements.now)) }
+    ensures { IfOk result (λ _. out.new.items ≡ out.old.items ++ line_roles level (sequence_in statements.now)) }
 {
     let mut first = true;
     for s in statements {
@@ -167,8 +167,8 @@ fn sequence(
 }
 
 #[cycle(statements)]
-fn statement(out: &mut Vec<Standing>, level: u32, s: &Statement) -> Result<(), AllocError>
-    ensures { IfOk result (λ _. out.new.items ≡ out.old.items ++ standings level (statement_of s.now)) }
+fn statement(out: &mut Vec<LineRole>, level: u32, s: &Statement) -> Result<(), AllocError>
+    ensures { IfOk result (λ _. out.new.items ≡ out.old.items ++ line_roles level (statement_of s.now)) }
 {
     match s {
         Statement::Empty => Ok(()),
@@ -176,31 +176,31 @@ fn statement(out: &mut Vec<Standing>, level: u32, s: &Statement) -> Result<(), A
         Statement::Call(c) => call(out, level, c),
         Statement::If(i) => branches(out, level, i),
         Statement::While(w) => {
-            out.push(Standing::Begins(level))?;
+            out.push(LineRole::Begins(level))?;
             expression(out, &w.condition)?;
             plain(out)?;
             sequence(out, deeper(level), &w.body)?;
             begin(out, level)
         }
         Statement::Repeat(r) => {
-            out.push(Standing::Begins(level))?;
+            out.push(LineRole::Begins(level))?;
             sequence(out, deeper(level), &r.body)?;
-            out.push(Standing::Begins(level))?;
+            out.push(LineRole::Begins(level))?;
             expression(out, &r.condition)
         }
     }
 }
 
 /// A token that begins a line.
-fn begin(out: &mut Vec<Standing>, level: u32) -> Result<(), AllocError>
+fn begin(out: &mut Vec<LineRole>, level: u32) -> Result<(), AllocError>
     ensures { IfOk result (λ _. out.new.items ≡ out.old.items ++ (Begins level ∷ [])) }
 {
-    out.push(Standing::Begins(level))?;
+    out.push(LineRole::Begins(level))?;
     Ok(())
 }
 
-fn assignment(out: &mut Vec<Standing>, level: u32, a: &Assignment) -> Result<(), AllocError>
-    ensures { IfOk result (λ _. out.new.items ≡ out.old.items ++ standings level (assignment_of a.now)) }
+fn assignment(out: &mut Vec<LineRole>, level: u32, a: &Assignment) -> Result<(), AllocError>
+    ensures { IfOk result (λ _. out.new.items ≡ out.old.items ++ line_roles level (assignment_of a.now)) }
 {
     begin(out, level)?;
     for s in &a.target.selectors {
@@ -210,8 +210,8 @@ fn assignment(out: &mut Vec<Standing>, level: u32, a: &Assignment) -> Result<(),
     expression(out, &a.value)
 }
 
-fn call(out: &mut Vec<Standing>, level: u32, c: &Call) -> Result<(), AllocError>
-    ensures { IfOk result (λ _. out.new.items ≡ out.old.items ++ standings level (call_of c.now)) }
+fn call(out: &mut Vec<LineRole>, level: u32, c: &Call) -> Result<(), AllocError>
+    ensures { IfOk result (λ _. out.new.items ≡ out.old.items ++ line_roles level (call_of c.now)) }
 {
     begin(out, level)?;
     match &c.arguments {
@@ -220,10 +220,10 @@ fn call(out: &mut Vec<Standing>, level: u32, c: &Call) -> Result<(), AllocError>
     }
 }
 
-fn arguments(out: &mut Vec<Standing>, given: &Vec<Expression>) -> Result<(), AllocError>
-    ensures { IfOk result (λ _. out.new.items ≡ out.old.items ++ standings 0 (arguments_in given.now)) }
+fn arguments(out: &mut Vec<LineRole>, given: &Vec<Expression>) -> Result<(), AllocError>
+    ensures { IfOk result (λ _. out.new.items ≡ out.old.items ++ line_roles 0 (arguments_in given.now)) }
 {
-    out.push(Standing::Opening)?;
+    out.push(LineRole::Opening)?;
     let mut first = true;
     for e in given {
         separator(out, first)?;
@@ -234,8 +234,8 @@ fn arguments(out: &mut Vec<Standing>, given: &Vec<Expression>) -> Result<(), All
 }
 
 #[cycle(statements)]
-fn branches(out: &mut Vec<Standing>, level: u32, i: &If) -> Result<(), AllocError>
-    ensures { IfOk result (λ _. out.new.items ≡ out.old.items ++ standings level (if_of i.now)) }
+fn branches(out: &mut Vec<LineRole>, level: u32, i: &If) -> Result<(), AllocError>
+    ensures { IfOk result (λ _. out.new.items ≡ out.old.items ++ line_roles level (if_of i.now)) }
 {
     begin(out, level)?;
     expression(out, &i.condition)?;
@@ -253,8 +253,8 @@ fn branches(out: &mut Vec<Standing>, level: u32, i: &If) -> Result<(), AllocErro
 }
 
 #[cycle(statements)]
-fn elsifs(out: &mut Vec<Standing>, level: u32, parts: &Vec<Elsif>) -> Result<(), AllocError>
-    ensures { IfOk result (λ _. out.new.items ≡ out.old.items ++ standings level (elsifs_in parts.now)) }
+fn elsifs(out: &mut Vec<LineRole>, level: u32, parts: &Vec<Elsif>) -> Result<(), AllocError>
+    ensures { IfOk result (λ _. out.new.items ≡ out.old.items ++ line_roles level (elsifs_in parts.now)) }
 {
     for e in parts {
         begin(out, level)?;
@@ -266,8 +266,8 @@ fn elsifs(out: &mut Vec<Standing>, level: u32, parts: &Vec<Elsif>) -> Result<(),
 }
 
 /// Names of which the first stands so.
-fn names(out: &mut Vec<Standing>, first: Standing, ns: &Names) -> Result<(), AllocError>
-    ensures { IfOk result (λ _. out.new.items ≡ out.old.items ++ (first ∷ standings 0 (items_of then_name ns.now.more.items))) }
+fn names(out: &mut Vec<LineRole>, first: LineRole, ns: &Names) -> Result<(), AllocError>
+    ensures { IfOk result (λ _. out.new.items ≡ out.old.items ++ (first ∷ line_roles 0 (items_of then_name ns.now.more.items))) }
 {
     out.push(first)?;
     for _name in &ns.more {
@@ -278,8 +278,8 @@ fn names(out: &mut Vec<Standing>, first: Standing, ns: &Names) -> Result<(), All
 }
 
 #[cycle(types)]
-fn written_type(out: &mut Vec<Standing>, t: &WrittenType) -> Result<(), AllocError>
-    ensures { IfOk result (λ _. out.new.items ≡ out.old.items ++ standings 0 (type_of t.now)) }
+fn written_type(out: &mut Vec<LineRole>, t: &WrittenType) -> Result<(), AllocError>
+    ensures { IfOk result (λ _. out.new.items ≡ out.old.items ++ line_roles 0 (type_of t.now)) }
 {
     match t {
         WrittenType::Named(_) => plain(out),
@@ -294,8 +294,8 @@ fn written_type(out: &mut Vec<Standing>, t: &WrittenType) -> Result<(), AllocErr
 }
 
 #[cycle(types)]
-fn record(out: &mut Vec<Standing>, r: &RecordType) -> Result<(), AllocError>
-    ensures { IfOk result (λ _. out.new.items ≡ out.old.items ++ standings 0 (record_in r.now)) }
+fn record(out: &mut Vec<LineRole>, r: &RecordType) -> Result<(), AllocError>
+    ensures { IfOk result (λ _. out.new.items ≡ out.old.items ++ line_roles 0 (record_in r.now)) }
 {
     plain(out)?;
     let mut first = true;
@@ -308,26 +308,26 @@ fn record(out: &mut Vec<Standing>, r: &RecordType) -> Result<(), AllocError>
 }
 
 #[cycle(types)]
-fn fields(out: &mut Vec<Standing>, f: &Fields) -> Result<(), AllocError>
-    ensures { IfOk result (λ _. out.new.items ≡ out.old.items ++ standings 0 (fields_of f.now)) }
+fn fields(out: &mut Vec<LineRole>, f: &Fields) -> Result<(), AllocError>
+    ensures { IfOk result (λ _. out.new.items ≡ out.old.items ++ line_roles 0 (fields_of f.now)) }
 {
     match f {
         Fields::Empty => Ok(()),
         Fields::Listed(l) => {
-            names(out, Standing::Plain, &l.names)?;
+            names(out, LineRole::Plain, &l.names)?;
             plain(out)?;
             written_type(out, &l.written)
         }
     }
 }
 
-fn formals(out: &mut Vec<Standing>, sections: &Option<Vec<Section>>) -> Result<(), AllocError>
-    ensures { IfOk result (λ _. out.new.items ≡ out.old.items ++ standings 0 (formals_of sections.now)) }
+fn formals(out: &mut Vec<LineRole>, sections: &Option<Vec<Section>>) -> Result<(), AllocError>
+    ensures { IfOk result (λ _. out.new.items ≡ out.old.items ++ line_roles 0 (formals_of sections.now)) }
 {
     let Some(sections) = sections else {
         return Ok(());
     };
-    out.push(Standing::Opening)?;
+    out.push(LineRole::Opening)?;
     let mut first = true;
     for s in sections {
         separator(out, first)?;
@@ -337,24 +337,24 @@ fn formals(out: &mut Vec<Standing>, sections: &Option<Vec<Section>>) -> Result<(
     plain(out)
 }
 
-fn section(out: &mut Vec<Standing>, s: &Section) -> Result<(), AllocError>
-    ensures { IfOk result (λ _. out.new.items ≡ out.old.items ++ standings 0 (section_of s.now)) }
+fn section(out: &mut Vec<LineRole>, s: &Section) -> Result<(), AllocError>
+    ensures { IfOk result (λ _. out.new.items ≡ out.old.items ++ line_roles 0 (section_of s.now)) }
 {
     if s.by_reference {
         plain(out)?;
     }
-    names(out, Standing::Plain, &s.names)?;
+    names(out, LineRole::Plain, &s.names)?;
     plain(out)?;
     written_type(out, &s.written)
 }
 
 /// The constants of a block of this level.
 fn constants(
-    out: &mut Vec<Standing>,
+    out: &mut Vec<LineRole>,
     level: u32,
     declared: &Option<Vec<Constant>>,
 ) -> Result<(), AllocError>
-    ensures { IfOk result (λ _. out.new.items ≡ out.old.items ++ standings level (constants_of declared.now)) }
+    ensures { IfOk result (λ _. out.new.items ≡ out.old.items ++ line_roles level (constants_of declared.now)) }
 {
     let Some(declared) = declared else {
         return Ok(());
@@ -370,11 +370,11 @@ fn constants(
 }
 
 fn types(
-    out: &mut Vec<Standing>,
+    out: &mut Vec<LineRole>,
     level: u32,
     declared: &Option<Vec<TypeDeclaration>>,
 ) -> Result<(), AllocError>
-    ensures { IfOk result (λ _. out.new.items ≡ out.old.items ++ standings level (types_of declared.now)) }
+    ensures { IfOk result (λ _. out.new.items ≡ out.old.items ++ line_roles level (types_of declared.now)) }
 {
     let Some(declared) = declared else {
         return Ok(());
@@ -390,18 +390,18 @@ fn types(
 }
 
 fn variables(
-    out: &mut Vec<Standing>,
+    out: &mut Vec<LineRole>,
     level: u32,
     declared: &Option<Vec<Variables>>,
 ) -> Result<(), AllocError>
-    ensures { IfOk result (λ _. out.new.items ≡ out.old.items ++ standings level (variables_of declared.now)) }
+    ensures { IfOk result (λ _. out.new.items ≡ out.old.items ++ line_roles level (variables_of declared.now)) }
 {
     let Some(declared) = declared else {
         return Ok(());
     };
     begin(out, level)?;
     for v in declared {
-        names(out, Standing::Begins(deeper(level)), &v.names)?;
+        names(out, LineRole::Begins(deeper(level)), &v.names)?;
         plain(out)?;
         written_type(out, &v.written)?;
         plain(out)?;
@@ -410,11 +410,11 @@ fn variables(
 }
 
 fn body(
-    out: &mut Vec<Standing>,
+    out: &mut Vec<LineRole>,
     level: u32,
     statements: &Option<Vec<Statement>>,
 ) -> Result<(), AllocError>
-    ensures { IfOk result (λ _. out.new.items ≡ out.old.items ++ standings level (body_of statements.now)) }
+    ensures { IfOk result (λ _. out.new.items ≡ out.old.items ++ line_roles level (body_of statements.now)) }
 {
     match statements {
         Some(statements) => {
@@ -427,8 +427,8 @@ fn body(
 
 /// A block of this level.
 #[cycle(blocks)]
-fn block(out: &mut Vec<Standing>, level: u32, b: &Block) -> Result<(), AllocError>
-    ensures { IfOk result (λ _. out.new.items ≡ out.old.items ++ standings level (block_of b.now)) }
+fn block(out: &mut Vec<LineRole>, level: u32, b: &Block) -> Result<(), AllocError>
+    ensures { IfOk result (λ _. out.new.items ≡ out.old.items ++ line_roles level (block_of b.now)) }
 {
     constants(out, level, &b.constants)?;
     types(out, level, &b.types)?;
@@ -441,8 +441,8 @@ fn block(out: &mut Vec<Standing>, level: u32, b: &Block) -> Result<(), AllocErro
 
 /// A procedure that a block of this level declares.
 #[cycle(blocks)]
-fn procedure(out: &mut Vec<Standing>, level: u32, p: &Procedure) -> Result<(), AllocError>
-    ensures { IfOk result (λ _. out.new.items ≡ out.old.items ++ standings level (procedure_of p.now)) }
+fn procedure(out: &mut Vec<LineRole>, level: u32, p: &Procedure) -> Result<(), AllocError>
+    ensures { IfOk result (λ _. out.new.items ≡ out.old.items ++ line_roles level (procedure_of p.now)) }
 {
     let inner = deeper(level);
     begin(out, inner)?;

@@ -27,7 +27,7 @@ use Rattle.ob0_machine.specs.declared.code.Place.{Place}
 use Rattle.ob0_machine.specs.declared.code.Truth.{Truth}
 use Rattle.ob0_cells.specs.Cells.{size}
 use Rattle.ob0_cells.specs.LoweredStatements.{ArgumentMeans, IsAt}
-use Rattle.ob0_cells.specs.Lowering.{NumberMeans, PlaceMeans, Slot, TruthMeans, ValueAt, place_of_designator, worth}
+use Rattle.ob0_cells.specs.Lowering.{NumberMeans, PlaceMeans, Slot, TruthMeans, ValueAt, place_of_designator, value_of_expression}
 use Rattle.ob0_lowering.specs.Codes.{Code, CodeMeans, Found, a_block, a_number, a_truth, no_code}
 use Rattle.ob0_lowering.specs.Means.{Locates, LocatesAlone, Lowers, LowersArgument, LowersNumber, LowersTruth}
 use Rattle.ob0_lowering.specs.Parts.{IsNumberOf, IsPlaceOf, IsTruthOf, IsValueOf}
@@ -64,16 +64,16 @@ small-scene scene source same scan constants = record {
 
 pub lowers-by : (scene : Scene) (e : Tree ℕ expression) (l : Lowered) → HasSmall scene → code_of l ≡ expression_code scene (in_labels scene.resolved.now e) → Lowers scene e l
 lowers-by scene e l small same checked slots targets sees s h =
-    subst (λ c. CodeMeans checked slots c s (worth (in_labels scene.resolved.now e))) (sym same) (expression-means scene checked slots targets sees small e s h)
+    subst (λ c. CodeMeans checked slots c s (value_of_expression (in_labels scene.resolved.now e))) (sym same) (expression-means scene checked slots targets sees small e s h)
 
 pub number-by : (scene : Scene) (e : Tree ℕ expression) (l : Lowered) (n : Number) → IsNumberOf l n → Lowers scene e l → LowersNumber scene e n
-number-by scene e (code.Number m) n same h checked slots targets sees typed = subst (λ n. NumberMeans checked slots (number_of n) (worth (in_labels scene.resolved.now e))) same (h checked slots targets sees integer_shape typed)
+number-by scene e (code.Number m) n same h checked slots targets sees typed = subst (λ n. NumberMeans checked slots (number_of n) (value_of_expression (in_labels scene.resolved.now e))) same (h checked slots targets sees integer_shape typed)
 number-by scene e (code.Truth t) n same h checked slots targets sees typed = absurd (h checked slots targets sees integer_shape typed)
 number-by scene e (code.Block q k) n same h checked slots targets sees typed = absurd (h checked slots targets sees integer_shape typed)
 number-by scene e code.Nothing n same h checked slots targets sees typed = absurd (h checked slots targets sees integer_shape typed)
 
 pub truth-by : (scene : Scene) (e : Tree ℕ expression) (l : Lowered) (t : Truth) → IsTruthOf l t → Lowers scene e l → LowersTruth scene e t
-truth-by scene e (code.Truth u) t same h checked slots targets sees typed = subst (λ t. TruthMeans checked slots (truth_of t) (worth (in_labels scene.resolved.now e))) same (h checked slots targets sees boolean_shape typed)
+truth-by scene e (code.Truth u) t same h checked slots targets sees typed = subst (λ t. TruthMeans checked slots (truth_of t) (value_of_expression (in_labels scene.resolved.now e))) same (h checked slots targets sees boolean_shape typed)
 truth-by scene e (code.Number n) t same h checked slots targets sees typed = absurd (h checked slots targets sees boolean_shape typed)
 truth-by scene e (code.Block q k) t same h checked slots targets sees typed = absurd (h checked slots targets sees boolean_shape typed)
 truth-by scene e code.Nothing t same h checked slots targets sees typed = absurd (h checked slots targets sees boolean_shape typed)
@@ -140,14 +140,14 @@ place-argument scene f e l by h checked slots targets sees fits =
     let mode : formal.mode ≡ by_place = ap mode_of by in
     (mode, (h checked slots targets sees formal.shape (fits-place checked formal (in_labels scene.resolved.now e) mode fits)).1)
 
-value-means : (checked : Typed Label) (slots : Label → Slot) (f : typing.Formal) (e : Tree Label expression) (s : Shape) (l : Lowered) → f.mode ≡ by_value → f.shape ≡ s → CodeMeans checked slots (code_of l) s (worth e) → (a : Argument) → IsValueOf l a → ArgumentMeans checked slots f (argument_of a) e
+value-means : (checked : Typed Label) (slots : Label → Slot) (f : typing.Formal) (e : Tree Label expression) (s : Shape) (l : Lowered) → f.mode ≡ by_value → f.shape ≡ s → CodeMeans checked slots (code_of l) s (value_of_expression e) → (a : Argument) → IsValueOf l a → ArgumentMeans checked slots f (argument_of a) e
 value-means checked slots f e integer_shape (code.Number n) mode shape h a same = subst (λ a. ArgumentMeans checked slots f (argument_of a) e) same (mode, shape, h)
 value-means checked slots f e boolean_shape (code.Truth t) mode shape h a same = subst (λ a. ArgumentMeans checked slots f (argument_of a) e) same (mode, shape, h)
 value-means checked slots f e (array_shape k m s) (code.Block q n) mode shape h a same =
-    let there : (n ≡ size f.shape) × ValueAt checked slots (place_of q) f.shape (worth e) = subst (λ z. (n ≡ size z) × ValueAt checked slots (place_of q) z (worth e)) (sym shape) h in
+    let there : (n ≡ size f.shape) × ValueAt checked slots (place_of q) f.shape (value_of_expression e) = subst (λ z. (n ≡ size z) × ValueAt checked slots (place_of q) z (value_of_expression e)) (sym shape) h in
     subst (λ a. ArgumentMeans checked slots f (argument_of a) e) same (mode, there.0, there.1)
 value-means checked slots f e (record_shape k fs) (code.Block q n) mode shape h a same =
-    let there : (n ≡ size f.shape) × ValueAt checked slots (place_of q) f.shape (worth e) = subst (λ z. (n ≡ size z) × ValueAt checked slots (place_of q) z (worth e)) (sym shape) h in
+    let there : (n ≡ size f.shape) × ValueAt checked slots (place_of q) f.shape (value_of_expression e) = subst (λ z. (n ≡ size z) × ValueAt checked slots (place_of q) z (value_of_expression e)) (sym shape) h in
     subst (λ a. ArgumentMeans checked slots f (argument_of a) e) same (mode, there.0, there.1)
 value-means checked slots f e boolean_shape (code.Number n) mode shape h a same = absurd h
 value-means checked slots f e (array_shape k m s) (code.Number n) mode shape h a same = absurd h

@@ -13,7 +13,7 @@ use Rattle.ob0_machine.specs.Evaluation as machine
 use Rattle.ob0_machine.specs.Lowered as lowered
 use Rattle.ob0_cells.specs.Cells.{field_offset, size}
 use Rattle.ob0_cells.specs.LoweredStatements.{Target}
-use Rattle.ob0_cells.specs.Lowering.{Evaluated, PlaceLeads, PlaceMeans, Slot, place_of_designator, slot_place, worth, worth_of_factor, worth_of_simple, worth_of_term}
+use Rattle.ob0_cells.specs.Lowering.{Evaluated, PlaceLeads, PlaceMeans, Slot, place_of_designator, slot_place, value_of_expression, value_of_factor, value_of_simple, value_of_term}
 use Rattle.ob0_cells.specs.Lowering as lowering
 use Rattle.ob0_cells.proofs.Lowered.{blocks_lower-holds, cells_lower-holds, constants_lower-holds, fields_lower-holds, indexes_lower-holds, integers_lower-holds, selectors_end-holds, variables_lower-holds}
 use Rattle.ob0_lowering.specs.Codes.{Code, CodeMeans, Found, a_block, a_number, a_truth, added, constant_code, element_found, element_of, field_found, multiplied, named_code, negated, no_code, related, signed, standing}
@@ -45,17 +45,17 @@ module _ (checked : Typed Label) (slots : Label → Slot) where
   -- the code of a constant
 
   number-constant : (x : Label) (n : ℤ) (path : Tree Label (items selector)) (s : Shape) → checked.stands_for x ≡ Some (a_constant (number n)) → machine.fits n ≡ true → type_at checked integer_shape path ≡ Some s
-      → CodeMeans checked slots (a_number (lowered.literal n)) s (worth_of_factor (designator x path))
-  number-constant x n end s e fit h = subst (λ s. CodeMeans checked slots (a_number (lowered.literal n)) s (worth_of_factor (designator x end))) (type-end checked integer_shape s h) ((constants_lower-holds checked slots x).0 n e fit)
+      → CodeMeans checked slots (a_number (lowered.literal n)) s (value_of_factor (designator x path))
+  number-constant x n end s e fit h = subst (λ s. CodeMeans checked slots (a_number (lowered.literal n)) s (value_of_factor (designator x end))) (type-end checked integer_shape s h) ((constants_lower-holds checked slots x).0 n e fit)
   number-constant x n (more a rest) s e fit h = let no_type : None ≡ Some s = sym (integer-alone checked a rest) ∙ h in absurd (cc)
 
   truth-constant : (x : Label) (b : Bool) (path : Tree Label (items selector)) (s : Shape) → checked.stands_for x ≡ Some (a_constant (truth b)) → type_at checked boolean_shape path ≡ Some s
-      → CodeMeans checked slots (a_truth (lowered.constant b)) s (worth_of_factor (designator x path))
-  truth-constant x b end s e h = subst (λ s. CodeMeans checked slots (a_truth (lowered.constant b)) s (worth_of_factor (designator x end))) (type-end checked boolean_shape s h) ((constants_lower-holds checked slots x).1 b e)
+      → CodeMeans checked slots (a_truth (lowered.constant b)) s (value_of_factor (designator x path))
+  truth-constant x b end s e h = subst (λ s. CodeMeans checked slots (a_truth (lowered.constant b)) s (value_of_factor (designator x end))) (type-end checked boolean_shape s h) ((constants_lower-holds checked slots x).1 b e)
   truth-constant x b (more a rest) s e h = let no_type : None ≡ Some s = sym (boolean-alone checked a rest) ∙ h in absurd (cc)
 
   constant-means : (x : Label) (v : Value) (path : Tree Label (items selector)) (s : Shape) → checked.stands_for x ≡ Some (a_constant v) → ((n : ℤ) → v ≡ number n → machine.fits n ≡ true) → option_and_then (λ t. type_at checked t path) (value_type v) ≡ Some s
-      → CodeMeans checked slots (constant_code v) s (worth_of_factor (designator x path))
+      → CodeMeans checked slots (constant_code v) s (value_of_factor (designator x path))
   constant-means x (number n) path s e fit h = number-constant x n path s e (fit n refl) h
   constant-means x (truth b) path s e fit h = truth-constant x b path s e h
   constant-means x (elements vs) path s e fit h = absurd (cc)
@@ -64,7 +64,7 @@ module _ (checked : Typed Label) (slots : Label → Slot) where
   -- what stands at the place of a designator
 
   standing-means : (x : Label) (v : Shape) (path : Tree Label (items selector)) (q : lowered.Place) (s : Shape) → checked.stands_for x ≡ Some (a_variable v) → PlaceMeans checked slots q s (place_of_designator x path)
-      → CodeMeans checked slots (standing q s) s (worth_of_factor (designator x path))
+      → CodeMeans checked slots (standing q s) s (value_of_factor (designator x path))
   standing-means x v path q integer_shape e h = (cells_lower-holds checked slots x v path q e).0 h
   standing-means x v path q boolean_shape e h = (cells_lower-holds checked slots x v path q e).1 h
   standing-means x v path q (array_shape k n t) e h = (refl, (blocks_lower-holds checked slots q (array_shape k n t)).0 x v path e h)
@@ -86,10 +86,10 @@ module _ (checked : Typed Label) (slots : Label → Slot) where
   field-step written q (array_shape k n u) x t rest whole leads h = absurd (cc)
 
   element-step : (c : Code) (q : lowered.Place) (z i t : Shape) (e : Tree Label expression) (rest : Tree Label (items selector)) (whole : Evaluated Label Place)
-      → PlaceLeads checked slots q z (more (index e) rest) whole → element_type z i ≡ Some t → CodeMeans checked slots c i (worth e)
+      → PlaceLeads checked slots q z (more (index e) rest) whole → element_type z i ≡ Some t → CodeMeans checked slots c i (value_of_expression e)
       → (p : lowered.Place) × (element_of c (Some (found_at q z)) ≡ Some (found_at p t)) × PlaceLeads checked slots p t rest whole
   element-step c q (array_shape k n u) integer_shape t e rest whole leads h hc =
-      let (m, em, hm) = number-code checked slots c (worth e) hc in (
+      let (m, em, hm) = number-code checked slots c (value_of_expression e) hc in (
         lowered.element q m n (size u),
         ap (λ c. element_found c q (array_shape k n u)) em ∙ ap (λ t. Some (found_at (lowered.element q m n (size u)) t)) (some_inj h),
         subst (λ t. PlaceLeads checked slots (lowered.element q m n (size u)) t rest whole) (some_inj h) (indexes_lower-holds checked slots q k n u e m rest whole leads hm),
@@ -118,16 +118,16 @@ module _ (scene : Scene) (checked : Typed Label) (slots : Label → Slot) (targe
       (q, ap (λ o. selected_place scene (variable_found (slot_place (slot_at scene x)) o) (in_labels scene.resolved.now path)) (sees.bound x (a_variable v) e) ∙ eq, hq)
 
   named-means : (x : Label) (path : Tree ℕ (items selector)) (s : Shape) (o : Option (Object Shape Signature)) → Selected path → checked.stands_for x ≡ o → option_and_then (λ t. type_at checked t (in_labels scene.resolved.now path)) (object_type o) ≡ Some s
-      → CodeMeans checked slots (named_code (constant_of (object_at scene.types.now x)) (selected_place scene (base_found scene x) (in_labels scene.resolved.now path))) s (worth_of_factor (designator x (in_labels scene.resolved.now path)))
+      → CodeMeans checked slots (named_code (constant_of (object_at scene.types.now x)) (selected_place scene (base_found scene x) (in_labels scene.resolved.now path))) s (value_of_factor (designator x (in_labels scene.resolved.now path)))
   named-means x path s (Some (a_variable v)) selected e h =
       let (q, eq, hq) = variable-means x path s v selected e h in
       let there = sees.bound x (a_variable v) e in
-      subst (λ c. CodeMeans checked slots c s (worth_of_factor (designator x (in_labels scene.resolved.now path))))
+      subst (λ c. CodeMeans checked slots c s (value_of_factor (designator x (in_labels scene.resolved.now path))))
       (sym (ap (λ o. named_code (constant_of o) (selected_place scene (base_found scene x) (in_labels scene.resolved.now path))) there ∙ ap (named_code None) eq))
       (standing-means checked slots x v (in_labels scene.resolved.now path) q s e hq)
   named-means x path s (Some (a_constant v)) selected e h =
       let there = sees.bound x (a_constant v) e in
-      subst (λ c. CodeMeans checked slots c s (worth_of_factor (designator x (in_labels scene.resolved.now path))))
+      subst (λ c. CodeMeans checked slots c s (value_of_factor (designator x (in_labels scene.resolved.now path))))
       (sym (ap (λ o. named_code (constant_of o) (selected_place scene (base_found scene x) (in_labels scene.resolved.now path))) there))
       (constant-means checked slots x v (in_labels scene.resolved.now path) s e (λ n en. small.constants x n (there ∙ ap (λ v. Some (a_constant v)) en)) h)
   named-means x path s None selected e h = absurd (cc)
@@ -138,18 +138,18 @@ module _ (scene : Scene) (checked : Typed Label) (slots : Label → Slot) (targe
   mutual
     unfolding type_of
 
-    pub expression-means : (e : Tree ℕ expression) (s : Shape) → type_of checked (in_labels scene.resolved.now e) ≡ Some s → CodeMeans checked slots (expression_code scene (in_labels scene.resolved.now e)) s (worth (in_labels scene.resolved.now e))
+    pub expression-means : (e : Tree ℕ expression) (s : Shape) → type_of checked (in_labels scene.resolved.now e) ≡ Some s → CodeMeans checked slots (expression_code scene (in_labels scene.resolved.now e)) s (value_of_expression (in_labels scene.resolved.now e))
     expression-means (compares a none) s h = alone-means checked slots (simple_code scene (in_labels scene.resolved.now a)) s (in_labels scene.resolved.now a) (simple-means a s h)
     expression-means (compares a (one (relates r b))) s h =
         let (x, ex, h₁) = then_some (type_of_simple checked (in_labels scene.resolved.now a)) (λ x. option_and_then (λ y. relation_type r x y) (type_of_simple checked (in_labels scene.resolved.now b))) s h in
         let (y, ey, h₂) = then_some (type_of_simple checked (in_labels scene.resolved.now b)) (λ y. relation_type r x y) s h₁ in
         related-means checked slots (in_labels scene.resolved.now a) (in_labels scene.resolved.now b) r (simple_code scene (in_labels scene.resolved.now a)) (simple_code scene (in_labels scene.resolved.now b)) x y s h₂ (simple-means a x ex) (simple-means b y ey)
 
-    pub simple-means : (a : Tree ℕ simple) (s : Shape) → type_of_simple checked (in_labels scene.resolved.now a) ≡ Some s → CodeMeans checked slots (simple_code scene (in_labels scene.resolved.now a)) s (worth_of_simple (in_labels scene.resolved.now a))
+    pub simple-means : (a : Tree ℕ simple) (s : Shape) → type_of_simple checked (in_labels scene.resolved.now a) ≡ Some s → CodeMeans checked slots (simple_code scene (in_labels scene.resolved.now a)) s (value_of_simple (in_labels scene.resolved.now a))
     simple-means (sum g t rest) s h =
         let (x, ex, h₁) = then_some (type_of_term checked (in_labels scene.resolved.now t)) (λ x. option_and_then (λ y. type_of_addends checked y (in_labels scene.resolved.now rest)) (sign_type g x)) s h in
         let (y, ey, h₂) = then_some (sign_type g x) (λ y. type_of_addends checked y (in_labels scene.resolved.now rest)) s h₁ in
-        addends-mean (signed g (term_code scene (in_labels scene.resolved.now t))) y rest (worth_of_simple (sum g (in_labels scene.resolved.now t) (in_labels scene.resolved.now rest))) s
+        addends-mean (signed g (term_code scene (in_labels scene.resolved.now t))) y rest (value_of_simple (sum g (in_labels scene.resolved.now t) (in_labels scene.resolved.now rest))) s
         (sum-begins checked slots (in_labels scene.resolved.now t) (in_labels scene.resolved.now rest) g (term_code scene (in_labels scene.resolved.now t)) x y ey (term-means t x ex)) h₂
 
     addends-mean : (c : Code) (x : Shape) (rest : Tree ℕ (items addend)) (whole : Evaluated Label Value) (s : Shape) → CodeLeads checked slots c x (lowering.addends_left (in_labels scene.resolved.now rest)) whole → type_of_addends checked x (in_labels scene.resolved.now rest) ≡ Some s
@@ -161,10 +161,10 @@ module _ (scene : Scene) (checked : Typed Label) (slots : Label → Slot) (targe
         addends-mean (added o c (term_code scene (in_labels scene.resolved.now t))) z rest whole s
         (added-leads checked slots (in_labels scene.resolved.now t) (in_labels scene.resolved.now rest) whole o c (term_code scene (in_labels scene.resolved.now t)) x y z ez hc (term-means t y ey)) h₂
 
-    pub term-means : (t : Tree ℕ term) (s : Shape) → type_of_term checked (in_labels scene.resolved.now t) ≡ Some s → CodeMeans checked slots (term_code scene (in_labels scene.resolved.now t)) s (worth_of_term (in_labels scene.resolved.now t))
+    pub term-means : (t : Tree ℕ term) (s : Shape) → type_of_term checked (in_labels scene.resolved.now t) ≡ Some s → CodeMeans checked slots (term_code scene (in_labels scene.resolved.now t)) s (value_of_term (in_labels scene.resolved.now t))
     term-means (product f rest) s h =
         let (x, ex, h₁) = then_some (type_of_factor checked (in_labels scene.resolved.now f)) (λ x. type_of_multipliers checked x (in_labels scene.resolved.now rest)) s h in
-        multipliers-mean (factor_code scene (in_labels scene.resolved.now f)) x rest (worth_of_term (product (in_labels scene.resolved.now f) (in_labels scene.resolved.now rest))) s
+        multipliers-mean (factor_code scene (in_labels scene.resolved.now f)) x rest (value_of_term (product (in_labels scene.resolved.now f) (in_labels scene.resolved.now rest))) s
         (term-begins checked slots (factor_code scene (in_labels scene.resolved.now f)) x (in_labels scene.resolved.now f) (in_labels scene.resolved.now rest) (factor-means f x ex)) h₁
 
     multipliers-mean : (c : Code) (x : Shape) (rest : Tree ℕ (items multiplier)) (whole : Evaluated Label Value) (s : Shape) → CodeLeads checked slots c x (lowering.multipliers_left (in_labels scene.resolved.now rest)) whole → type_of_multipliers checked x (in_labels scene.resolved.now rest) ≡ Some s
@@ -176,9 +176,9 @@ module _ (scene : Scene) (checked : Typed Label) (slots : Label → Slot) (targe
         multipliers-mean (multiplied o c (factor_code scene (in_labels scene.resolved.now f))) z rest whole s
         (multiplied-leads checked slots (in_labels scene.resolved.now f) (in_labels scene.resolved.now rest) whole o c (factor_code scene (in_labels scene.resolved.now f)) x y z ez hc (factor-means f y ey)) h₂
 
-    pub factor-means : (f : Tree ℕ factor) (s : Shape) → type_of_factor checked (in_labels scene.resolved.now f) ≡ Some s → CodeMeans checked slots (factor_code scene (in_labels scene.resolved.now f)) s (worth_of_factor (in_labels scene.resolved.now f))
+    pub factor-means : (f : Tree ℕ factor) (s : Shape) → type_of_factor checked (in_labels scene.resolved.now f) ≡ Some s → CodeMeans checked slots (factor_code scene (in_labels scene.resolved.now f)) s (value_of_factor (in_labels scene.resolved.now f))
     factor-means (designator x path) s h = named-means (label_in scene.resolved.now x) path s (checked.stands_for (label_in scene.resolved.now x)) (λ q z s whole. selected-means q z path s whole) refl h
-    factor-means (integer n) s h = subst (λ s. CodeMeans checked slots (a_number (lowered.literal (pos (value_at scene.resolved.now.module_read.source n)))) s (worth_of_factor (integer (value_at scene.resolved.now.module_read.source n)))) (some_inj h) (integers_lower-holds checked slots (value_at scene.resolved.now.module_read.source n) (small.numbers n))
+    factor-means (integer n) s h = subst (λ s. CodeMeans checked slots (a_number (lowered.literal (pos (value_at scene.resolved.now.module_read.source n)))) s (value_of_factor (integer (value_at scene.resolved.now.module_read.source n)))) (some_inj h) (integers_lower-holds checked slots (value_at scene.resolved.now.module_read.source n) (small.numbers n))
     factor-means (parenthesised e) s h = parenthesised-means checked slots (expression_code scene (in_labels scene.resolved.now e)) s (in_labels scene.resolved.now e) (expression-means e s h)
     factor-means (negation f) s h =
         let (x, ex, h₁) = then_some (type_of_factor checked (in_labels scene.resolved.now f)) complement_type s h in

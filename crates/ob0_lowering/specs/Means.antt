@@ -15,7 +15,7 @@ use Rattle.ob0_machine.specs.declared.code.Number.{Number}
 use Rattle.ob0_machine.specs.declared.code.Truth.{Truth}
 use Rattle.ob0_cells.specs.Cells.{size}
 use Rattle.ob0_cells.specs.LoweredStatements.{ArgumentMeans, IsAt, Target}
-use Rattle.ob0_cells.specs.Lowering.{Evaluated, NumberMeans, PlaceMeans, Slot, TruthMeans, ValueAt, place_of_designator, worth}
+use Rattle.ob0_cells.specs.Lowering.{Evaluated, NumberMeans, PlaceMeans, Slot, TruthMeans, ValueAt, place_of_designator, value_of_expression}
 use Rattle.ob0_lowering.specs.Codes.{CodeMeans}
 use Rattle.ob0_lowering.specs.Scenes.{Sees}
 use Rattle.ob0_lowering.specs.Trees.{code_of}
@@ -34,15 +34,15 @@ WhereSeen scene P = (checked : Typed Label) (slots : Label → Slot) (targets : 
 -- the code of an expression, where it has a type
 abbrev pub Lowers : Scene → Tree ℕ expression → Lowered → Type 0
 Lowers scene e l =
-    WhereSeen scene (λ checked slots. (s : Shape) → type_of checked (in_labels scene.resolved.now e) ≡ Some s → Means checked slots l s (worth (in_labels scene.resolved.now e)))
+    WhereSeen scene (λ checked slots. (s : Shape) → type_of checked (in_labels scene.resolved.now e) ≡ Some s → Means checked slots l s (value_of_expression (in_labels scene.resolved.now e)))
 
 abbrev pub LowersNumber : Scene → Tree ℕ expression → Number → Type 0
 LowersNumber scene e n =
-    WhereSeen scene (λ checked slots. type_of checked (in_labels scene.resolved.now e) ≡ Some integer_shape → NumberMeans checked slots (number_of n) (worth (in_labels scene.resolved.now e)))
+    WhereSeen scene (λ checked slots. type_of checked (in_labels scene.resolved.now e) ≡ Some integer_shape → NumberMeans checked slots (number_of n) (value_of_expression (in_labels scene.resolved.now e)))
 
 abbrev pub LowersTruth : Scene → Tree ℕ expression → Truth → Type 0
 LowersTruth scene e t =
-    WhereSeen scene (λ checked slots. type_of checked (in_labels scene.resolved.now e) ≡ Some boolean_shape → TruthMeans checked slots (truth_of t) (worth (in_labels scene.resolved.now e)))
+    WhereSeen scene (λ checked slots. type_of checked (in_labels scene.resolved.now e) ≡ Some boolean_shape → TruthMeans checked slots (truth_of t) (value_of_expression (in_labels scene.resolved.now e)))
 
 -- the place of a variable with its selectors, and its type
 abbrev pub Locates : Scene → ℕ → Tree ℕ (items selector) → Located → Type 0

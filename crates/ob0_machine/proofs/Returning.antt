@@ -7,7 +7,7 @@ use Rattle.ob0_machine.specs.declared.ending.Stop.TheVariants as stop
 use Rattle.ob0_machine.specs.declared.level.Level as level
 use Rattle.ob0_machine.specs.declared.machine.Machine.{Machine}
 use Rattle.ob0_machine.specs.Evaluation.{CallBound, Levels, innermost}
-use Rattle.ob0_machine.specs.Execution.{Progress, State, Written, activate, call, execute_all, finished, give_up, outermost, run, running, stopped, zeros}
+use Rattle.ob0_machine.specs.Execution.{Progress, State, Written, activate, call, execute_all, finished, drop_variables, outermost, run, running, stopped, zeros}
 use Rattle.ob0_machine.specs.Levels.{levels_of}
 use Rattle.ob0_machine.specs.Lowered.{Procedure}
 use Rattle.ob0_machine.specs.Machines.{Does, Enters, Performs, Post, Steps, activated, executed_all, items_out, state_of}
@@ -28,7 +28,7 @@ one_less : (n : ℕ) → n ≢ 0 → n ≡ suc (n - 1)
 one_less zero h = absurd (h refl)
 one_less (suc n) h = omega arith
 
-call-goes : (ps : List Procedure) (c t k : ℕ) (ls : Levels) (s : State) → c ≢ 0 → call ps c t k ls s ≡ give_up (innermost ls).base (activate (call ps (c - 1) t) t ls (slice_get ps k) s)
+call-goes : (ps : List Procedure) (c t k : ℕ) (ls : Levels) (s : State) → c ≢ 0 → call ps c t k ls s ≡ drop_variables (innermost ls).base (activate (call ps (c - 1) t) t ls (slice_get ps k) s)
 unfolding call
 call-goes ps c t k ls s e = ap (λ c. call ps c t k ls s) (one_less c e)
 
@@ -37,16 +37,16 @@ call_ends m program c t k l e = call-none (program_of program).procedures c t k 
 
 module _ (m m₂ : Machine) (program : Program) (c t k : ℕ) (l : level.Level) (o : Option Procedure) (post : Post) (more : c ≢ 0) (found : o ≡ slice_get (program_of program).procedures k)
     (performs : Performs post (call (program_of program).procedures (c - 1) t)) where
-  goes : call (program_of program).procedures c t k (levels_of l) (state_of m) ≡ give_up (innermost (levels_of l)).base (activate (call (program_of program).procedures (c - 1) t) t (levels_of l) o (state_of m))
+  goes : call (program_of program).procedures c t k (levels_of l) (state_of m) ≡ drop_variables (innermost (levels_of l)).base (activate (call (program_of program).procedures (c - 1) t) t (levels_of l) o (state_of m))
   goes = call-goes (program_of program).procedures c t k (levels_of l) (state_of m) more
-      ∙ ap (λ o. give_up (innermost (levels_of l)).base (activate (call (program_of program).procedures (c - 1) t) t (levels_of l) o (state_of m))) (sym found)
+      ∙ ap (λ o. drop_variables (innermost (levels_of l)).base (activate (call (program_of program).procedures (c - 1) t) t (levels_of l) o (state_of m))) (sym found)
 
   pub call_fails : (e : Stop) → Does post (Err e) m m₂ (activated o t (levels_of l)) → Enters (Err e) m m₂ program c t k l
-  call_fails (stop.Ended x) d = goes ∙ ap (give_up (innermost (levels_of l)).base) (d.as_defined _ performs)
+  call_fails (stop.Ended x) d = goes ∙ ap (drop_variables (innermost (levels_of l)).base) (d.as_defined _ performs)
   call_fails stop.Memory d = tt
 
   pub call_returns : (m₃ : Machine) (u v : Unit {0}) → Does post (Ok u) m m₂ (activated o t (levels_of l)) → state_of m₃ ≡ record (state_of m₂) { cells = take (innermost (levels_of l)).base m₂.cells.items } → Enters (Ok v) m m₃ program c t k l
-  call_returns m₃ u v d cut = goes ∙ ap (give_up (innermost (levels_of l)).base) (d.as_defined _ performs) ∙ ap running (sym cut)
+  call_returns m₃ u v d cut = goes ∙ ap (drop_variables (innermost (levels_of l)).base) (d.as_defined _ performs) ∙ ap running (sym cut)
 
 -- the body
 pub activates_none : {post : Post} {m : Machine} {o : Option Procedure} (u : Unit {0}) (t : ℕ) (ls : Levels) → o ≡ None → Does post (Ok u) m m (activated o t ls)

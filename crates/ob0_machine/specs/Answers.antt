@@ -19,9 +19,9 @@ end_of ending.CallBound = evaluation.CallBound
 end_of ending.TurnBound = evaluation.TurnBound
 
 -- an answer is what a step gives or how it ends the run
-abbrev pub told : {A : Type 0} → Result A Ending → Outcome A
-told (Ok a) = gives a
-told (Err e) = ends (end_of e)
+abbrev pub outcome_of_result : {A : Type 0} → Result A Ending → Outcome A
+outcome_of_result (Ok a) = gives a
+outcome_of_result (Err e) = ends (end_of e)
 
 -- the same where memory may be refused
 abbrev pub Answers : {A B : Type 0} → (A → B) → Result A Stop → Outcome B → Type 0

@@ -130,9 +130,9 @@ unfoldable mutual
       choose s (truth ls s.cells c) (execute_all enter t ls body) (execute_branches enter t ls rest otherwise)
 
 -- a call that returns gives up its cells: the first n stay
-abbrev pub give_up : ℕ → Progress → Progress
-give_up n (running s) = running record s { cells = take n s.cells }
-give_up n (stopped e out) = stopped e out
+abbrev pub drop_variables : ℕ → Progress → Progress
+drop_variables n (running s) = running record s { cells = take n s.cells }
+drop_variables n (stopped e out) = stopped e out
 
 -- the body of a procedure runs with its own cells behind its arguments; what isn't there does nothing
 unfoldable pub activate : Calls → ℕ → Levels → Option Procedure → State → Progress
@@ -144,7 +144,7 @@ activate enter t ls (Some p) s = execute_all enter t ls p.body record s { cells 
 unfoldable pub call : List Procedure → ℕ → ℕ → Calls
 unfolding activate
 call procedures zero t k ls s = stopped CallBound s.output
-call procedures (suc c) t k ls s = give_up (innermost ls).base (activate (call procedures c t) t ls (slice_get procedures k) s)
+call procedures (suc c) t k ls s = drop_variables (innermost ls).base (activate (call procedures c t) t ls (slice_get procedures k) s)
 
 pub record Run : Type 0 where
   pub output : List Written

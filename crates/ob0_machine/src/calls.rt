@@ -44,7 +44,7 @@ fn activate<F: Fn(&mut Machine<'_>, usize, &Level<'_>) -> Result<(), Stop>>(
 }
 
 /// Gives up the cells of an activation.
-fn give_up(machine: &mut Machine<'_>, level: &Level<'_>)
+fn drop_variables(machine: &mut Machine<'_>, level: &Level<'_>)
     ensures { state_of machine.new ≡ record (state_of machine.old) { cells = take (innermost (levels_of level.now)).base machine.old.cells.items } }
 {
     machine.cells.truncate(level.base);
@@ -70,6 +70,6 @@ pub(crate) fn call(
     { call(program, left, turns, machine, procedure, level) };
     let called = procedure_at(program.procedures.as_slice(), procedure);
     activate(called, level, turns, machine, &enter)?;
-    give_up(machine, level);
+    drop_variables(machine, level);
     Ok(())
 }

@@ -1,7 +1,7 @@
 //! Places, numbers and truths, evaluated in an activation and over the cells.
 
 ghost use Rattle.std.specs.Prelude.{◌≡◌, false, if◌then◌else◌, true};
-ghost use Rattle.ob0_machine.specs.Answers.{linked, told};
+ghost use Rattle.ob0_machine.specs.Answers.{linked, outcome_of_result};
 ghost use Rattle.ob0_machine.specs.Evaluation.{address, cell_at, gives, number, truth};
 ghost use Rattle.ob0_machine.specs.declared.code.Truths.{out-Truths};
 ghost use Rattle.ob0_machine.specs.Lowered as lowered;
@@ -30,7 +30,7 @@ pub fn cell_at(cells: &[i32], address: usize) -> i32
 /// The address of a place.
 #[cycle(evaluation)]
 pub fn address(place: &Place, level: &Level<'_>, cells: &[i32]) -> Result<usize, Ending>
-    ensures { told result ≡ address (levels_of level.now) cells.now (place_of place.now) }
+    ensures { outcome_of_result result ≡ address (levels_of level.now) cells.now (place_of place.now) }
 {
     match place {
         Place::Module(offset) => Ok(*offset),
@@ -48,7 +48,7 @@ pub fn address(place: &Place, level: &Level<'_>, cells: &[i32]) -> Result<usize,
 /// The address of an element.
 #[cycle(evaluation)]
 fn element(e: &Element, level: &Level<'_>, cells: &[i32]) -> Result<usize, Ending>
-    ensures { told result ≡ address (levels_of level.now) cells.now (element_of e.now) }
+    ensures { outcome_of_result result ≡ address (levels_of level.now) cells.now (element_of e.now) }
 {
     let a = address(&e.array, level, cells)?;
     let i = number(&e.index, level, cells)?;
@@ -57,7 +57,7 @@ fn element(e: &Element, level: &Level<'_>, cells: &[i32]) -> Result<usize, Endin
 
 #[cycle(evaluation)]
 pub fn number(n: &Number, level: &Level<'_>, cells: &[i32]) -> Result<i32, Ending>
-    ensures { told result ≡ number (levels_of level.now) cells.now (number_of n.now) }
+    ensures { outcome_of_result result ≡ number (levels_of level.now) cells.now (number_of n.now) }
 {
     match n {
         Number::Literal(n) => Ok(*n),
@@ -81,7 +81,7 @@ fn operation(
     level: &Level<'_>,
     cells: &[i32],
 ) -> Result<i32, Ending>
-    ensures { told result ≡ number (levels_of level.now) cells.now (operation_of operator operands.now) }
+    ensures { outcome_of_result result ≡ number (levels_of level.now) cells.now (operation_of operator operands.now) }
 {
     let left = number(&operands.left, level, cells)?;
     let right = number(&operands.right, level, cells)?;
@@ -90,7 +90,7 @@ fn operation(
 
 #[cycle(evaluation)]
 fn chain(c: &Chain, level: &Level<'_>, cells: &[i32]) -> Result<i32, Ending>
-    ensures { told result ≡ number (levels_of level.now) cells.now (chained_in c.now) }
+    ensures { outcome_of_result result ≡ number (levels_of level.now) cells.now (chained_in c.now) }
 {
     let mut left = number(&c.first, level, cells)?;
     for link in &c.rest {
@@ -103,7 +103,7 @@ fn chain(c: &Chain, level: &Level<'_>, cells: &[i32]) -> Result<i32, Ending>
 #[inline(always)]
 #[cycle(evaluation)]
 fn linked(link: &Link, left: i32, level: &Level<'_>, cells: &[i32]) -> Result<i32, Ending>
-    ensures { told result ≡ linked (levels_of level.now) cells.now link.now left }
+    ensures { outcome_of_result result ≡ linked (levels_of level.now) cells.now link.now left }
 {
     let right = number(&link.operand, level, cells)?;
     operate(link.operator, left, right)
@@ -111,8 +111,8 @@ fn linked(link: &Link, left: i32, level: &Level<'_>, cells: &[i32]) -> Result<i3
 
 /// The address of a place: found quickly, or else told with the rule that it breaks.
 #[inline(always)]
-pub fn located(place: &Place, level: &Level<'_>, cells: &[i32]) -> Result<usize, Ending>
-    ensures { told result ≡ address (levels_of level.now) cells.now (place_of place.now) }
+pub fn locate(place: &Place, level: &Level<'_>, cells: &[i32]) -> Result<usize, Ending>
+    ensures { outcome_of_result result ≡ address (levels_of level.now) cells.now (place_of place.now) }
 {
     match quick_address(place, level, cells) {
         Some(a) => Ok(a),
@@ -122,8 +122,8 @@ pub fn located(place: &Place, level: &Level<'_>, cells: &[i32]) -> Result<usize,
 
 /// What a number is worth: found quickly, or else told with the rule that it breaks.
 #[inline(always)]
-pub fn worth(n: &Number, level: &Level<'_>, cells: &[i32]) -> Result<i32, Ending>
-    ensures { told result ≡ number (levels_of level.now) cells.now (number_of n.now) }
+pub fn evaluate_number(n: &Number, level: &Level<'_>, cells: &[i32]) -> Result<i32, Ending>
+    ensures { outcome_of_result result ≡ number (levels_of level.now) cells.now (number_of n.now) }
 {
     match quick_number(n, level, cells) {
         Some(v) => Ok(v),
@@ -134,12 +134,12 @@ pub fn worth(n: &Number, level: &Level<'_>, cells: &[i32]) -> Result<i32, Ending
 /// Whether a truth is TRUE.
 #[cycle(truths)]
 pub fn truth(t: &Truth, level: &Level<'_>, cells: &[i32]) -> Result<bool, Ending>
-    ensures { told result ≡ truth (levels_of level.now) cells.now (truth_of t.now) }
+    ensures { outcome_of_result result ≡ truth (levels_of level.now) cells.now (truth_of t.now) }
 {
     match t {
         Truth::Constant(b) => Ok(*b),
         Truth::Flag(place) => {
-            let a = located(place, level, cells)?;
+            let a = locate(place, level, cells)?;
             Ok(is_true(cell_at(cells, a)))
         }
         Truth::Negation(operand) => {
@@ -163,16 +163,16 @@ fn related(
     level: &Level<'_>,
     cells: &[i32],
 ) -> Result<bool, Ending>
-    ensures { told result ≡ truth (levels_of level.now) cells.now (related_by relation operands.now) }
+    ensures { outcome_of_result result ≡ truth (levels_of level.now) cells.now (related_by relation operands.now) }
 {
-    let left = worth(&operands.left, level, cells)?;
-    let right = worth(&operands.right, level, cells)?;
+    let left = evaluate_number(&operands.left, level, cells)?;
+    let right = evaluate_number(&operands.right, level, cells)?;
     Ok(compare(relation, left, right))
 }
 
 #[cycle(truths)]
 fn both(operands: &Truths, level: &Level<'_>, cells: &[i32]) -> Result<bool, Ending>
-    ensures { told result ≡ truth (levels_of level.now) cells.now (lowered.both (truth_of (out-Truths operands.now).left) (truth_of (out-Truths operands.now).right)) }
+    ensures { outcome_of_result result ≡ truth (levels_of level.now) cells.now (lowered.both (truth_of (out-Truths operands.now).left) (truth_of (out-Truths operands.now).right)) }
 {
     if truth(&operands.left, level, cells)? {
         truth(&operands.right, level, cells)
@@ -183,7 +183,7 @@ fn both(operands: &Truths, level: &Level<'_>, cells: &[i32]) -> Result<bool, End
 
 #[cycle(truths)]
 fn either(operands: &Truths, level: &Level<'_>, cells: &[i32]) -> Result<bool, Ending>
-    ensures { told result ≡ truth (levels_of level.now) cells.now (lowered.either (truth_of (out-Truths operands.now).left) (truth_of (out-Truths operands.now).right)) }
+    ensures { outcome_of_result result ≡ truth (levels_of level.now) cells.now (lowered.either (truth_of (out-Truths operands.now).left) (truth_of (out-Truths operands.now).right)) }
 {
     if truth(&operands.left, level, cells)? {
         Ok(true)
@@ -194,7 +194,7 @@ fn either(operands: &Truths, level: &Level<'_>, cells: &[i32]) -> Result<bool, E
 
 #[cycle(truths)]
 fn same(operands: &Truths, level: &Level<'_>, cells: &[i32]) -> Result<bool, Ending>
-    ensures { told result ≡ truth (levels_of level.now) cells.now (lowered.same (truth_of (out-Truths operands.now).left) (truth_of (out-Truths operands.now).right)) }
+    ensures { outcome_of_result result ≡ truth (levels_of level.now) cells.now (lowered.same (truth_of (out-Truths operands.now).left) (truth_of (out-Truths operands.now).right)) }
 {
     let left = truth(&operands.left, level, cells)?;
     let right = truth(&operands.right, level, cells)?;
@@ -203,7 +203,7 @@ fn same(operands: &Truths, level: &Level<'_>, cells: &[i32]) -> Result<bool, End
 
 #[cycle(truths)]
 fn different(operands: &Truths, level: &Level<'_>, cells: &[i32]) -> Result<bool, Ending>
-    ensures { told result ≡ truth (levels_of level.now) cells.now (lowered.different (truth_of (out-Truths operands.now).left) (truth_of (out-Truths operands.now).right)) }
+    ensures { outcome_of_result result ≡ truth (levels_of level.now) cells.now (lowered.different (truth_of (out-Truths operands.now).left) (truth_of (out-Truths operands.now).right)) }
 {
     let left = truth(&operands.left, level, cells)?;
     let right = truth(&operands.right, level, cells)?;
@@ -213,7 +213,7 @@ fn different(operands: &Truths, level: &Level<'_>, cells: &[i32]) -> Result<bool
 /// `&` between many: from the first FALSE on nothing is evaluated.
 #[cycle(truths)]
 fn all(several: &Several, level: &Level<'_>, cells: &[i32]) -> Result<bool, Ending>
-    ensures { told result ≡ truth (levels_of level.now) cells.now (all_in several.now) }
+    ensures { outcome_of_result result ≡ truth (levels_of level.now) cells.now (all_in several.now) }
 {
     let mut left = truth(&several.first, level, cells)?;
     for t in &several.rest {
@@ -225,7 +225,7 @@ fn all(several: &Several, level: &Level<'_>, cells: &[i32]) -> Result<bool, Endi
 #[inline(always)]
 #[cycle(truths)]
 fn and(left: bool, t: &Truth, level: &Level<'_>, cells: &[i32]) -> Result<bool, Ending>
-    ensures { told result ≡ (if left then truth (levels_of level.now) cells.now (truth_of t.now) else gives false) }
+    ensures { outcome_of_result result ≡ (if left then truth (levels_of level.now) cells.now (truth_of t.now) else gives false) }
 {
     if left {
         truth(t, level, cells)
@@ -237,7 +237,7 @@ fn and(left: bool, t: &Truth, level: &Level<'_>, cells: &[i32]) -> Result<bool, 
 /// `OR` between many: from the first TRUE on nothing is evaluated.
 #[cycle(truths)]
 fn any(several: &Several, level: &Level<'_>, cells: &[i32]) -> Result<bool, Ending>
-    ensures { told result ≡ truth (levels_of level.now) cells.now (any_in several.now) }
+    ensures { outcome_of_result result ≡ truth (levels_of level.now) cells.now (any_in several.now) }
 {
     let mut left = truth(&several.first, level, cells)?;
     for t in &several.rest {
@@ -249,7 +249,7 @@ fn any(several: &Several, level: &Level<'_>, cells: &[i32]) -> Result<bool, Endi
 #[inline(always)]
 #[cycle(truths)]
 fn or(left: bool, t: &Truth, level: &Level<'_>, cells: &[i32]) -> Result<bool, Ending>
-    ensures { told result ≡ (if left then gives true else truth (levels_of level.now) cells.now (truth_of t.now)) }
+    ensures { outcome_of_result result ≡ (if left then gives true else truth (levels_of level.now) cells.now (truth_of t.now)) }
 {
     if left {
         Ok(true)

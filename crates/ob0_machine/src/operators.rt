@@ -1,7 +1,7 @@
 //! What the operators give of numbers and truths.
 
 ghost use Rattle.std.specs.Prelude.{◌≡◌, neg_ℤ};
-ghost use Rattle.ob0_machine.specs.Answers.{if_there, told};
+ghost use Rattle.ob0_machine.specs.Answers.{if_there, outcome_of_result};
 ghost use Rattle.ob0_machine.specs.Evaluation.{alike, compare, divided_by, element_at, forward, in_range, is_true, as_cell, operate, quotient_of, remainder_of};
 ghost use Rattle.ob0_machine.specs.View.{operator_of, relation_of};
 
@@ -11,7 +11,7 @@ use crate::ending::Ending;
 /// A number where it could be computed in 32 bits, else an overflow.
 #[inline(always)]
 fn in_range(number: Option<i32>) -> Result<i32, Ending>
-    ensures { told result ≡ if_there number }
+    ensures { outcome_of_result result ≡ if_there number }
 {
     match number {
         Some(number) => Ok(number),
@@ -22,7 +22,7 @@ fn in_range(number: Option<i32>) -> Result<i32, Ending>
 /// DIV, which rounds down, for a divisor from 1 on.
 #[inline(always)]
 fn divide(left: i32, right: i32) -> Result<i32, Ending>
-    ensures { told result ≡ divided_by quotient_of left right }
+    ensures { outcome_of_result result ≡ divided_by quotient_of left right }
 {
     if right < 1 {
         return Err(Ending::Divisor);
@@ -33,7 +33,7 @@ fn divide(left: i32, right: i32) -> Result<i32, Ending>
 /// MOD, the rest from 0 on, for a divisor from 1 on.
 #[inline(always)]
 fn modulo(left: i32, right: i32) -> Result<i32, Ending>
-    ensures { told result ≡ divided_by remainder_of left right }
+    ensures { outcome_of_result result ≡ divided_by remainder_of left right }
 {
     if right < 1 {
         return Err(Ending::Divisor);
@@ -43,7 +43,7 @@ fn modulo(left: i32, right: i32) -> Result<i32, Ending>
 
 #[inline(always)]
 pub fn operate(operator: Operator, left: i32, right: i32) -> Result<i32, Ending>
-    ensures { told result ≡ operate (operator_of operator) left right }
+    ensures { outcome_of_result result ≡ operate (operator_of operator) left right }
 {
     match operator {
         Operator::Sum => in_range(left.checked_add(right)),
@@ -56,7 +56,7 @@ pub fn operate(operator: Operator, left: i32, right: i32) -> Result<i32, Ending>
 
 #[inline(always)]
 pub fn negative(number: i32) -> Result<i32, Ending>
-    ensures { told result ≡ in_range (neg_ℤ number) }
+    ensures { outcome_of_result result ≡ in_range (neg_ℤ number) }
 {
     in_range(number.checked_neg())
 }
@@ -107,7 +107,7 @@ pub fn forward(address: usize, offset: usize) -> usize
 /// The address of an array's element.
 #[inline(always)]
 pub fn element_at(address: usize, length: usize, stride: usize, index: i32) -> Result<usize, Ending>
-    ensures { told result ≡ element_at address length stride index }
+    ensures { outcome_of_result result ≡ element_at address length stride index }
 {
     if index < 0 {
         return Err(Ending::Index);

@@ -9,7 +9,7 @@ ghost use Rattle.ob0_machine.specs.View.{argument_of};
 use crate::addresses::Addresses;
 use crate::code::Argument;
 use crate::ending::Stop;
-use crate::evaluating::{located, truth, worth};
+use crate::evaluating::{locate, truth, evaluate_number};
 use crate::level::Level;
 use crate::machine::push_block;
 use crate::operators::as_cell;
@@ -27,11 +27,11 @@ fn pass(
 {
     match argument {
         Argument::Place(place) => {
-            let a = located(place, level, cells.as_slice())?;
+            let a = locate(place, level, cells.as_slice())?;
             addresses.push(alloc, a)?;
         }
         Argument::Number(n) => {
-            let a = worth(n, level, cells.as_slice())?;
+            let a = evaluate_number(n, level, cells.as_slice())?;
             cells.push(a)?;
         }
         Argument::Truth(t) => {
@@ -39,7 +39,7 @@ fn pass(
             cells.push(as_cell(a))?;
         }
         Argument::Block(place, count) => {
-            let a = located(place, level, cells.as_slice())?;
+            let a = locate(place, level, cells.as_slice())?;
             push_block(cells, a, *count)?;
         }
     }

@@ -1,7 +1,7 @@
 //! Statements. What calls do is handed in.
 
 ghost use Rattle.std.specs.Prelude.{◌≡◌, ℕ};
-ghost use Rattle.ob0_machine.specs.Answers.{told};
+ghost use Rattle.ob0_machine.specs.Answers.{outcome_of_result};
 ghost use Rattle.ob0_machine.specs.Evaluation.{truth};
 ghost use Rattle.ob0_machine.specs.Execution.{Calls, execute};
 ghost use Rattle.ob0_machine.specs.Levels.{levels_of};
@@ -12,7 +12,7 @@ ghost use Rattle.ob0_machine.specs.View.{branches_in, call_of, number_of, place_
 use crate::addresses::Addresses;
 use crate::code::{Call, If, Number, Place, Repeat, Statement, Truth, While};
 use crate::ending::{Ending, Stop};
-use crate::evaluating::{located, truth, worth};
+use crate::evaluating::{locate, truth, evaluate_number};
 use crate::level::{Level, outside};
 use crate::machine::{Item, Machine, copy, store};
 use crate::operators::as_cell;
@@ -28,8 +28,8 @@ fn store_number(
 ) -> Result<(), Ending>
     ensures { (enters : Calls) (t : ℕ) → moved result machine.new ≡ execute enters t (levels_of level.now) (lowered.stores_number (place_of place.now) (number_of n.now)) (state_of machine.old) }
 {
-    let a = located(place, level, machine.cells.as_slice())?;
-    let v = worth(n, level, machine.cells.as_slice())?;
+    let a = locate(place, level, machine.cells.as_slice())?;
+    let v = evaluate_number(n, level, machine.cells.as_slice())?;
     store(&mut machine.cells, a, v);
     Ok(())
 }
@@ -44,7 +44,7 @@ fn store_truth(
 ) -> Result<(), Ending>
     ensures { (enters : Calls) (turns : ℕ) → moved result machine.new ≡ execute enters turns (levels_of level.now) (lowered.stores_truth (place_of place.now) (truth_of t.now)) (state_of machine.old) }
 {
-    let a = located(place, level, machine.cells.as_slice())?;
+    let a = locate(place, level, machine.cells.as_slice())?;
     let v = truth(t, level, machine.cells.as_slice())?;
     store(&mut machine.cells, a, as_cell(v));
     Ok(())
@@ -60,8 +60,8 @@ fn copy_block(
 ) -> Result<(), Ending>
     ensures { (enters : Calls) (t : ℕ) → moved result machine.new ≡ execute enters t (levels_of level.now) (lowered.copies (place_of to.now) (place_of from.now) count) (state_of machine.old) }
 {
-    let a = located(to, level, machine.cells.as_slice())?;
-    let b = located(from, level, machine.cells.as_slice())?;
+    let a = locate(to, level, machine.cells.as_slice())?;
+    let b = locate(from, level, machine.cells.as_slice())?;
     copy(&mut machine.cells, a, b, count);
     Ok(())
 }
@@ -70,7 +70,7 @@ fn copy_block(
 fn read(place: &Place, level: &Level<'_>, machine: &mut Machine<'_>) -> Result<(), Ending>
     ensures { (enters : Calls) (t : ℕ) → moved result machine.new ≡ execute enters t (levels_of level.now) (lowered.reads (place_of place.now)) (state_of machine.old) }
 {
-    let a = located(place, level, machine.cells.as_slice())?;
+    let a = locate(place, level, machine.cells.as_slice())?;
     machine.read_number(a)
 }
 
@@ -78,7 +78,7 @@ fn read(place: &Place, level: &Level<'_>, machine: &mut Machine<'_>) -> Result<(
 fn write(n: &Number, level: &Level<'_>, machine: &mut Machine<'_>) -> Result<(), Stop>
     ensures { (enters : Calls) (t : ℕ) → Steps result machine.new (execute enters t (levels_of level.now) (lowered.writes (number_of n.now)) (state_of machine.old)) }
 {
-    let v = worth(n, level, machine.cells.as_slice())?;
+    let v = evaluate_number(n, level, machine.cells.as_slice())?;
     machine.put_out(Item::Number(v))?;
     Ok(())
 }
@@ -114,7 +114,7 @@ fn go_in<F: Fn(&mut Machine<'_>, usize, &Level<'_>) -> Result<(), Stop>>(
 
 /// A call: its arguments are passed, then the procedure is entered.
 #[inline(never)]
-fn called<F: Fn(&mut Machine<'_>, usize, &Level<'_>) -> Result<(), Stop>>(
+fn run_call<F: Fn(&mut Machine<'_>, usize, &Level<'_>) -> Result<(), Stop>>(
     c: &Call,
     level: &Level<'_>,
     machine: &mut Machine<'_>,
@@ -143,7 +143,7 @@ fn called<F: Fn(&mut Machine<'_>, usize, &Level<'_>) -> Result<(), Stop>>(
 /// Whether a condition holds, now.
 #[inline(always)]
 fn holds(condition: &Truth, level: &Level<'_>, machine: &Machine<'_>) -> Result<bool, Ending>
-    ensures { told result ≡ truth (levels_of level.now) machine.now.cells.items (truth_of condition.now) }
+    ensures { outcome_of_result result ≡ truth (levels_of level.now) machine.now.cells.items (truth_of condition.now) }
 {
     truth(condition, level, machine.cells.as_slice())
 }
@@ -168,9 +168,9 @@ fn statement<F: Fn(&mut Machine<'_>, usize, &Level<'_>) -> Result<(), Stop>>(
         Statement::Write(n) => write(n, level, machine),
         Statement::WriteLine => write_line(level, machine),
         Statement::If(i) => branches(i, level, turns, machine, enter),
-        Statement::While(w) => repeated(w, level, turns, machine, enter),
+        Statement::While(w) => run_loop(w, level, turns, machine, enter),
         Statement::Repeat(r) => until(r, level, turns, machine, enter),
-        Statement::Call(c) => called(c, level, machine, enter),
+        Statement::Call(c) => run_call(c, level, machine, enter),
     }
 }
 
@@ -216,7 +216,7 @@ fn branches<F: Fn(&mut Machine<'_>, usize, &Level<'_>) -> Result<(), Stop>>(
 /// WHILE: where the condition is TRUE and this execution has made as many turns as it may, it ends with TurnBound.
 #[inline(never)]
 #[cycle(execution)]
-fn repeated<F: Fn(&mut Machine<'_>, usize, &Level<'_>) -> Result<(), Stop>>(
+fn run_loop<F: Fn(&mut Machine<'_>, usize, &Level<'_>) -> Result<(), Stop>>(
     w: &While,
     level: &Level<'_>,
     turns: u32,

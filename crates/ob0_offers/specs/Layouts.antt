@@ -8,7 +8,7 @@ use Rattle.ob0_text.specs.declared.edits.Indent.{Indent}
 use Rattle.ob0_text.specs.declared.positions.Unit.{Unit}
 use Rattle.ob0_layout.specs.Layout.{layout}
 use Rattle.ob0_layout.specs.Sites.{Said, said, edit_of, changed_sites, all_sites}
-use Rattle.ob0_layout.specs.Standings.{standings}
+use Rattle.ob0_layout.specs.Standings.{line_roles}
 use Rattle.ob0_analysis.specs.Diagnosed.{IsTextOf, IsWellTypedModule}
 use Rattle.ob0_analysis.specs.Texts.{utf8}
 use Rattle.ob0_analysis.specs.RunsKept.{RunsAsBefore}
@@ -21,7 +21,7 @@ layout_of indent m = layout indent m.tree m.text_of.scan.scan.lexemes
 abbrev pub changes_of : {text : List ℕ} → Unit → Indent → List ℕ → IsWellTypedModule text → List Said
 changes_of unit indent characters m =
     let source = m.text_of.scanned in
-    map (edit_of indent (width_of unit) characters) (changed_sites indent source.text (all_sites (standings 0 m.tree) m.text_of.scan.scan.lexemes))
+    map (edit_of indent (width_of unit) characters) (changed_sites indent source.text (all_sites (line_roles 0 m.tree) m.text_of.scan.scan.lexemes))
 
 -- These edits lay out a text: one for each gap that changes, which it replaces. Made at once they leave the layout, a text of the same module, which runs as before.
 pub record LaysOut (unit : Unit) (indent : Indent) (text : List ℕ) (edits : List Edit) : Type 0 where

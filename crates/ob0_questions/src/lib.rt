@@ -3,4 +3,4 @@
 
 mod questions;
 
-pub use questions::{NameQuestion, answered};
+pub use questions::{NameQuestion, answer_question};

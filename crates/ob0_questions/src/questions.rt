@@ -123,7 +123,7 @@ fn renamable(of: Of, span: Span) -> Option<Span>
 
 /// The answer to a question about what stands at a position of the text in a store. Where the tokens that were kept are the text's,
 /// it isn't scanned again.
-pub fn answered<T: TextStore>(
+pub fn answer_question<T: TextStore>(
     alloc: Global,
     id: &Id,
     store: &T,

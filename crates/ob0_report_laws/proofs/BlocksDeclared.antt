@@ -13,8 +13,8 @@ use Rattle.ob0_typing.specs.Expressions as meant
 use Rattle.ob0_typing.specs.Typing.{constant_value, constructors, denoted}
 use Rattle.ob0_typing.specs.WellTyped.{TypeEnvironment, bind_names, declare_typed}
 use Rattle.ob0_values.specs.Values.{Shape, Value}
-use Rattle.ob0_reports.specs.DeclarationFaults.{constant_declared, told_constants, told_types, told_variables, type_declared, variables_declared}
-use Rattle.ob0_reports.specs.Known.{Told, a_constant, a_type, a_variable}
+use Rattle.ob0_reports.specs.DeclarationFaults.{constant_declared, reported_constants, told_types, told_variables, type_declared, variables_declared}
+use Rattle.ob0_reports.specs.Known.{Reported, a_constant, a_type, a_variable}
 use Rattle.ob0_reports.specs.SoFar.{SoFar, Typed, define, define_all, facts_at}
 use Rattle.ob0_reports.specs.TypeFaults.{told_constant}
 use Rattle.ob0_reports.specs.WrittenTypeFaults.{told_type}
@@ -49,19 +49,19 @@ pub next_le : (n : ℕ) → n ≤ suc n
 next_le n = le_of_lt (le_refl (suc n))
 
 module _ (w : Numbering) (fit : PartsFit) where
-  pub constants_declare : (cs : Tree ℕ (items constant)) (n : ℕ) (p : SoFar) (before : List Shape) (scope : Scope Name) (env : TypeEnvironment Name) → Stands w p before n scope env → ConstantsPlaced w scope n cs → (told_constants p cs).faults ≡ []
-      → Declared w n (after_names n (constant_names cs)) p (told_constants p cs).known before (scope_behind w n (constant_names cs) scope) (declare_constants as_names env (named w.source cs))
-  unfolding told_constants constant_declared declare_constants
+  pub constants_declare : (cs : Tree ℕ (items constant)) (n : ℕ) (p : SoFar) (before : List Shape) (scope : Scope Name) (env : TypeEnvironment Name) → Stands w p before n scope env → ConstantsPlaced w scope n cs → (reported_constants p cs).faults ≡ []
+      → Declared w n (after_names n (constant_names cs)) p (reported_constants p cs).known before (scope_behind w n (constant_names cs) scope) (declare_constants as_names env (named w.source cs))
+  unfolding reported_constants constant_declared declare_constants
   constants_declare end n p before scope env st placed h = nothing_declared w n p before scope env st
   constants_declare (more (declares_constant x e) cs) n p before scope env st placed h =
-      let v : Told (Option Value) = told_constant (facts_at p true) e in
+      let v : Reported (Option Value) = told_constant (facts_at p true) e in
       let q : SoFar = define p (a_constant v.known) x in
-      let a = none_both (v.faults ++ []) (told_constants q cs).faults h in
+      let a = none_both (v.faults ++ []) (reported_constants q cs).faults h in
       let c = fit.constants p before (text_at w.source) (meanings as_names env) e (agrees_where_seen w p true before n scope env st fit e placed.1) (none_both v.faults [] a.0).0 in
       let given : constant_value (meanings as_names env) (named w.source e) ≡ Some c.value = ap (λ s. constant_value (meanings as_names env) (mapped (text_at w.source) (value_at s) e)) (sym st.source) ∙ c.given in
       let d = defined w p before n (a_constant v.known) x st.ordinals st.room st.table placed.0 in
       let next = stands_defined w p q before n scope env (a_constant v.known) (text_at w.source x) (meant.a_constant c.value) st d (c.value, c.known, refl, c.scalar) in
-      declared_then w n (suc n) (after_names (suc n) (constant_names cs)) p q (told_constants q cs).known before before (scope_behind w (suc n) (constant_names cs) ((text_at w.source x, n) ∷ scope))
+      declared_then w n (suc n) (after_names (suc n) (constant_names cs)) p q (reported_constants q cs).known before before (scope_behind w (suc n) (constant_names cs) ((text_at w.source x, n) ∷ scope))
       (constant_value (meanings as_names env) (named w.source e)) c.value (λ v. declare_constants as_names ((text_at w.source x, meant.a_constant v) ∷ env) (named w.source cs)) (next_le n) given d.later
       (constants_declare cs (suc n) q before ((text_at w.source x, n) ∷ scope) ((text_at w.source x, meant.a_constant c.value) ∷ env) next placed.2 a.1)
 
@@ -70,7 +70,7 @@ module _ (w : Numbering) (fit : PartsFit) where
   unfolding told_types type_declared declare_types
   types_declare end k n p before scope env st placed h = nothing_declared w n p before scope env st
   types_declare (more (declares_type x t) ds) k n p before scope env st placed h =
-      let u : Told Typed = told_type p t in
+      let u : Reported Typed = told_type p t in
       let q : SoFar = define u.known.behind (a_type u.known.of) x in
       let a = none_both (u.faults ++ []) (told_types q ds).faults h in
       let s = type_denotes w fit n scope env k t p before st placed.1 (none_both u.faults [] a.0).0 in
@@ -93,7 +93,7 @@ module _ (w : Numbering) (fit : PartsFit) where
   variables_declare end k n p before scope env st placed h = nothing_declared w n p before scope env st
   variables_declare (more (declares_variable ns t) gs) k n p before scope env st placed h =
       let xs : List ℕ = names_listed ns in
-      let u : Told Typed = told_type p t in
+      let u : Reported Typed = told_type p t in
       let q : SoFar = define_all u.known.behind (a_variable u.known.of) xs in
       let a = none_both (u.faults ++ []) (told_variables q gs).faults h in
       let s = type_denotes w fit n scope env k t p before st placed.1 (none_both u.faults [] a.0).0 in

@@ -15,8 +15,8 @@ use Rattle.ob0_typing.specs.Environments.{meanings, outermost}
 use Rattle.ob0_typing.specs.Expressions as meant
 use Rattle.ob0_typing.specs.WellTyped.{Signature, TypeEnvironment, TypedParameter, bind_typed, block_fits, body_fits, by_place, by_value, declare_typed, fits_over, heading, hold, procedure_fits, procedures_fit, sequence_fits, typed_parameters}
 use Rattle.ob0_values.specs.Values.{Shape, boolean_shape, integer_shape, truth}
-use Rattle.ob0_reports.specs.DeclarationFaults.{Heading, behind_heading, told_block, told_body, told_constants, told_module, told_procedure, told_procedures, told_sections, told_types, told_variables}
-use Rattle.ob0_reports.specs.Known.{Meaning, Told, a_procedure}
+use Rattle.ob0_reports.specs.DeclarationFaults.{Heading, behind_heading, told_block, told_body, reported_constants, reported_module, told_procedure, told_procedures, told_sections, told_types, told_variables}
+use Rattle.ob0_reports.specs.Known.{Meaning, Reported, a_procedure}
 use Rattle.ob0_symbols.specs.declared.types.TypeId.{TypeId}
 use Rattle.ob0_reports.specs.SoFar.{SoFar, at_first, predeclared_meanings}
 use Rattle.ob0_report_laws.proofs.PartsFitting.{PartsFit, parts_fit}
@@ -64,10 +64,10 @@ module _ (w : Numbering) (fit : PartsFit) where
       → ConstantsPlaced w scope n (section_constants cs)
       → TypesPlaced w (behind_constants w scope n (has_body (declares cs ts vs ps) statements)) (first_type n (has_body (declares cs ts vs ps) statements)) (section_types ts)
       → VariablesPlaced w (behind_types w scope n (has_body (declares cs ts vs ps) statements)) (first_variable n (has_body (declares cs ts vs ps) statements)) (section_variables vs)
-      → (told_constants p (section_constants cs)).faults ≡ []
-      → (told_types (told_constants p (section_constants cs)).known (section_types ts)).faults ≡ []
-      → (told_variables (told_types (told_constants p (section_constants cs)).known (section_types ts)).known (section_variables vs)).faults ≡ []
-      → Declared w n (first_procedure n (has_body (declares cs ts vs ps) statements)) p (told_variables (told_types (told_constants p (section_constants cs)).known (section_types ts)).known (section_variables vs)).known before (behind_variables w scope n (has_body (declares cs ts vs ps) statements))
+      → (reported_constants p (section_constants cs)).faults ≡ []
+      → (told_types (reported_constants p (section_constants cs)).known (section_types ts)).faults ≡ []
+      → (told_variables (told_types (reported_constants p (section_constants cs)).known (section_types ts)).known (section_variables vs)).faults ≡ []
+      → Declared w n (first_procedure n (has_body (declares cs ts vs ps) statements)) p (told_variables (told_types (reported_constants p (section_constants cs)).known (section_types ts)).known (section_variables vs)).known before (behind_variables w scope n (has_body (declares cs ts vs ps) statements))
       (option_and_then (declare_typed as_names (after_types k (named w.source (has_body (declares cs ts vs ps) statements))) (section_variables (named w.source vs))) (declare_first as_names env k (named w.source (has_body (declares cs ts vs ps) statements))))
   unfolding declare_first
   declarations_told cs ts vs ps statements k n p before scope env st placed₀ placed₁ placed₂ none₀ none₁ none₂ =
@@ -75,7 +75,7 @@ module _ (w : Numbering) (fit : PartsFit) where
       let value : ℕ → ℕ = value_at w.source in
       let b : Tree ℕ block = has_body (declares cs ts vs ps) statements in
       let nb : Tree Name block = named w.source b in
-      let p₁ : SoFar = (told_constants p (section_constants cs)).known in
+      let p₁ : SoFar = (reported_constants p (section_constants cs)).known in
       let p₂ : SoFar = (told_types p₁ (section_types ts)).known in
       let p₃ : SoFar = (told_variables p₂ (section_variables vs)).known in
       let dc = constants_declare w fit (section_constants cs) n p before scope env st placed₀ none₀ in
@@ -108,11 +108,11 @@ module _ (w : Numbering) (fit : PartsFit) where
     block_told (has_body (declares cs ts vs ps) statements) k n p before scope env st placed h =
         let b : Tree ℕ block = has_body (declares cs ts vs ps) statements in
         let nb : Tree Name block = named w.source b in
-        let t₁ : Told SoFar = told_constants p (section_constants cs) in
-        let t₂ : Told SoFar = told_types t₁.known (section_types ts) in
-        let t₃ : Told SoFar = told_variables t₂.known (section_variables vs) in
-        let t₄ : Told SoFar = told_procedures t₃.known ps in
-        let t₅ : Told SoFar = told_body t₄.known statements in
+        let t₁ : Reported SoFar = reported_constants p (section_constants cs) in
+        let t₂ : Reported SoFar = told_types t₁.known (section_types ts) in
+        let t₃ : Reported SoFar = told_variables t₂.known (section_variables vs) in
+        let t₄ : Reported SoFar = told_procedures t₃.known ps in
+        let t₅ : Reported SoFar = told_body t₄.known statements in
         let a₁ = none_both t₁.faults (t₂.faults ++ (t₃.faults ++ (t₄.faults ++ t₅.faults))) h in
         let a₂ = none_both t₂.faults (t₃.faults ++ (t₄.faults ++ t₅.faults)) a₁.1 in
         let a₃ = none_both t₃.faults (t₄.faults ++ t₅.faults) a₂.1 in
@@ -225,7 +225,7 @@ first_stands r = record {
 }
 
 pub modules_fit-holds : ModulesFit
-unfolding told_module fits_over
+unfolding reported_module fits_over
 modules_fit-holds r is h =
     let m = r.module_read in
     let a = none_both (filter is_of_occurrences r.faults) (told_block (at_first r) (module_block (tree_of m))).faults h in

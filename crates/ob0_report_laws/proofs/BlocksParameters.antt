@@ -15,7 +15,7 @@ use Rattle.ob0_typing.specs.Typing.{constructors, denoted}
 use Rattle.ob0_typing.specs.WellTyped.{Mode, Signature, TypeEnvironment, TypedParameter, bind_names, bind_typed, by_place, by_value, typed_parameters}
 use Rattle.ob0_values.specs.Values.{Shape}
 use Rattle.ob0_reports.specs.DeclarationFaults.{Heading, told_parameters, told_section, told_sections, with_parameters}
-use Rattle.ob0_reports.specs.Known.{Formal, Meaning, Told, a_variable}
+use Rattle.ob0_reports.specs.Known.{Formal, Meaning, Reported, a_variable}
 use Rattle.ob0_reports.specs.SoFar.{SoFar, Typed, define, define_all}
 use Rattle.ob0_reports.specs.WrittenTypeFaults.{told_type}
 use Rattle.ob0_report_laws.specs.Agreement.{FormalsAgree, StandsAlike, shape_in}
@@ -169,7 +169,7 @@ module _ (w : Numbering) (fit : PartsFit) where
   }
   sections_declare (more (then_section (value_section ns t)) fs) k n h before scope env st placed none =
       let xs : List ℕ = names_listed ns in
-      let u : Told Typed = told_type h.behind t in
+      let u : Reported Typed = told_type h.behind t in
       let g : Heading = with_parameters h false xs u.known in
       let a = none_both (u.faults ++ []) (told_sections g fs).faults none in
       let one = one_type false xs t k n h before scope env st placed.0 placed.1 (none_both u.faults [] a.0).0 in
@@ -179,7 +179,7 @@ module _ (w : Numbering) (fit : PartsFit) where
       (λ e. typed_parameters as_names e (k + constructors (named w.source t)) (named w.source fs)) (names_listed-mapped (text_at w.source) (value_at w.source) ns) one rest)
   sections_declare (more (then_section (variable_section ns t)) fs) k n h before scope env st placed none =
       let xs : List ℕ = names_listed ns in
-      let u : Told Typed = told_type h.behind t in
+      let u : Reported Typed = told_type h.behind t in
       let g : Heading = with_parameters h true xs u.known in
       let a = none_both (u.faults ++ []) (told_sections g fs).faults none in
       let one = one_type true xs t k n h before scope env st placed.0 placed.1 (none_both u.faults [] a.0).0 in

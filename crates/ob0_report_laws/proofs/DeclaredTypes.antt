@@ -13,7 +13,7 @@ use Rattle.ob0_typing.specs.Typing.{array_length, constant_value, denoted, denot
 use Rattle.ob0_typing.specs.WellTyped.{Signature, TypeEnvironment}
 use Rattle.ob0_values.specs.Values.{FieldShapes, Shape, Value, array_shape, no_field_shape, record_shape}
 use Rattle.ob0_reports.specs.ExpressionFaults.{told_expression}
-use Rattle.ob0_reports.specs.Known.{Meaning, Operand, Told, a_constant, a_procedure, a_type, a_variable}
+use Rattle.ob0_reports.specs.Known.{Meaning, Operand, Reported, a_constant, a_procedure, a_type, a_variable}
 use Rattle.ob0_reports.specs.Operations.{right}
 use Rattle.ob0_reports.specs.SoFar.{Parts, Size, SoFar, Typed, facts_at, is_within, made, make, of_elements, of_fields, size_at, too_large, type_with}
 use Rattle.ob0_reports.specs.TypeFaults.{length_of, type_meant}
@@ -194,8 +194,8 @@ module _ (w : Numbering) (fit : PartsFit) (n : ℕ) (scope : Scope Name) (env : 
     type_denotes k (array_type e u) p before st seen h =
         let parts = each_part (IsSeen w scope) (occurrences e) (occurrences u) seen in
         let o : Operand TypeId = (told_expression (facts_at p true) e).known in
-        let l : Told (Option ℕ) = length_of (facts_at p false) o in
-        let el : Told Typed = told_type p u in
+        let l : Reported (Option ℕ) = length_of (facts_at p false) o in
+        let el : Reported Typed = told_type p u in
         let a = none_both (told_expression (facts_at p true) e).faults (l.faults ++ (el.faults ++ (array_made o l.known el.known).faults)) h in
         let b = none_both l.faults (el.faults ++ (array_made o l.known el.known).faults) a.1 in
         let c = none_both el.faults (array_made o l.known el.known).faults b.1 in
@@ -207,8 +207,8 @@ module _ (w : Numbering) (fit : PartsFit) (n : ℕ) (scope : Scope Name) (env : 
     type_denotes k (record_type g rest) p before st seen h =
         let parts = each_part (IsSeen w scope) (occurrences g) (occurrences rest) seen in
         let word : ℕ = word_before g (record_word rest) in
-        let first : Told Gathered = told_fields (nothing_gathered p) g in
-        let all : Told Gathered = told_groups first.known rest in
+        let first : Reported Gathered = told_fields (nothing_gathered p) g in
+        let all : Reported Gathered = told_groups first.known rest in
         let a = none_both first.faults (all.faults ++ (record_made word all.known).faults) h in
         let b = none_both all.faults (record_made word all.known).faults a.1 in
         let one = group_gathers (suc k) g (nothing_gathered p) before no_field_shape st parts.0 (nothing_agrees before p) a.0 in
@@ -222,7 +222,7 @@ module _ (w : Numbering) (fit : PartsFit) (n : ℕ) (scope : Scope Name) (env : 
         → GroupGathers n g.behind before first (λ ys. denoted_group (meanings as_names env) k ys (named w.source t)) (told_fields g t).known
     group_gathers k no_fields g before first st seen agrees h = record { own = no_field_shape; given_is = λ ys. refl; gathers = nothing_more n g before first st.table agrees }
     group_gathers k (some_fields ns t) g before first st seen agrees h =
-        let u : Told Typed = told_type g.behind t in
+        let u : Reported Typed = told_type g.behind t in
         let d = type_denotes k t g.behind before st seen (none_both u.faults [] h).0 in
         names_gather n w g before first (names_listed ns) (map (λ x. x) (names_listed (named w.source ns))) (denoted (meanings as_names env) k (named w.source t)) u.known st.source
         (map-same (names_listed (named w.source ns)) ∙ names_listed-mapped (text_at w.source) (value_at w.source) ns) agrees d
@@ -232,8 +232,8 @@ module _ (w : Numbering) (fit : PartsFit) (n : ℕ) (scope : Scope Name) (env : 
     groups_gather k end g before first st seen agrees h = record { own = no_field_shape; given_is = refl; gathers = nothing_more n g before first st.table agrees }
     groups_gather k (more (then_fields f) rest) g before first st seen agrees h =
         let parts = each_part (IsSeen w scope) (occurrences f) (occurrences rest) seen in
-        let next : Told Gathered = told_fields g f in
-        let all : Told Gathered = told_groups next.known rest in
+        let next : Reported Gathered = told_fields g f in
+        let all : Reported Gathered = told_groups next.known rest in
         let a = none_both next.faults all.faults h in
         let one = group_gathers k f g before first st parts.0 agrees a.0 in
         let later = stands_later w n n n g.behind next.known.behind before one.gathers.after scope env (le_refl n) (le_refl n) st one.gathers.later in

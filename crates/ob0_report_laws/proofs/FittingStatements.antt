@@ -14,11 +14,11 @@ use Rattle.ob0_typing.specs.Typing.{designated, type_of}
 use Rattle.ob0_typing.specs.WellTyped.{Formal, Signature, Typed, agree, argument_fits, arguments_fit, by_place, by_value, call_fits, condition_fits, else_fits, elsifs_fit, sequence_fits, signature_of, statement_fits, statements_fit, variable_type}
 use Rattle.ob0_values.specs.Values.{Shape, boolean_shape}
 use Rattle.ob0_reports.specs.ExpressionFaults.{told_expression}
-use Rattle.ob0_reports.specs.Known.{Facts, Meaning, Operand, Told, a_constant, a_procedure, a_type, a_variable}
+use Rattle.ob0_reports.specs.Known.{Facts, Meaning, Operand, Reported, a_constant, a_procedure, a_type, a_variable}
 use Rattle.ob0_reports.specs.Known as known
-use Rattle.ob0_reports.specs.Operations.{a_name, asked, at_operand}
+use Rattle.ob0_reports.specs.Operations.{a_name, required, at_operand}
 use Rattle.ob0_reports.specs.SoFar.{facts_at}
-use Rattle.ob0_reports.specs.StatementFaults.{assigned, assigned_meaning, called, told_argument, told_arguments, told_asked, told_assigned, told_call, told_condition, told_else, told_elsifs, told_sequence, told_statement, told_statements, told_target}
+use Rattle.ob0_reports.specs.StatementFaults.{assigned, assigned_meaning, called, told_argument, told_arguments, told_asked, told_assigned, reported_call, reported_condition, told_else, told_elsifs, told_sequence, told_statement, told_statements, told_target}
 use Rattle.ob0_report_laws.specs.Agreement.{FormalsAgree, StandsAlike, TokensAgree, TypesAgree, shape_in}
 use Rattle.ob0_report_laws.specs.ReportLaws.{OperandFits, StatementsFit}
 use Rattle.ob0_report_laws.proofs.FittingExpressions.{FitsSelectors, selectors-fit}
@@ -65,13 +65,13 @@ module _ {T N : Type 0} (facts : Facts T) (shape : T → Option Shape) (types : 
       let (given, same) = asked-fits facts shape types wanted (told_expression facts e).known o.of w o.known hw parts.1 in
       o.typed ∙ ap (λ s. Some s) same
 
-  condition-fits : (e : Tree ℕ expression) → Agreed e → told_condition facts e ≡ [] → condition_fits meaning (here e) ≡ true
+  condition-fits : (e : Tree ℕ expression) → Agreed e → reported_condition facts e ≡ [] → condition_fits meaning (here e) ≡ true
   unfolding condition_fits
   condition-fits e k h = ap (agree (Some boolean_shape)) (asked-typed facts.types.boolean boolean_shape e types.boolean k h)
 
   -- assignments
 
-  pub record IsAssigned (told : Told T) (o : Option (Object Shape Signature)) : Type 0 where
+  pub record IsAssigned (told : Reported T) (o : Option (Object Shape Signature)) : Type 0 where
     pub of : Shape
     pub known : shape told.known ≡ Some of
     pub stands : o ≡ Some (meant.a_variable of)
@@ -99,10 +99,10 @@ module _ {T N : Type 0} (facts : Facts T) (shape : T → Option Shape) (types : 
   -- calls
 
   passed-fits : (b : Bool) (of : T) (g : Formal) (e : Tree ℕ expression) (o : Operand T) → OperandFits shape meaning o (here e) → g.mode ≡ mode_of b → shape of ≡ Some g.shape
-      → (if b && not o.is_place then record { known = facts.types.unknown; faults = at_operand facts code.NotVariable o } else asked facts of o).faults ≡ [] → argument_fits meaning g (here e) ≡ true
+      → (if b && not o.is_place then record { known = facts.types.unknown; faults = at_operand facts code.NotVariable o } else required facts of o).faults ≡ [] → argument_fits meaning g (here e) ≡ true
   unfolding argument_fits
   passed-fits true of g e o fe mode wanted h =
-      let parts = second-told (not o.is_place) (record { known = facts.types.unknown; faults = at_operand facts code.NotVariable o }) (asked facts of o) _ refl h in
+      let parts = second-told (not o.is_place) (record { known = facts.types.unknown; faults = at_operand facts code.NotVariable o }) (required facts of o) _ refl h in
       let (given, same) = asked-fits facts shape types of o fe.of g.shape fe.known wanted parts.1 in
       (λ i. agree (Some g.shape) (elim (mode i) [ by_value ↦ type_of meaning (here e) | by_place ↦ variable_type meaning (designated (here e)) ]))
       ∙ agree-same g.shape (Some g.shape) (variable_type meaning (designated (here e))) refl (fe.placed (not-false o.is_place parts.0) ∙ ap (λ s. Some s) same)
@@ -161,7 +161,7 @@ module _ {T N : Type 0} (facts : Facts T) (shape : T → Option Shape) (types : 
       let parts = counted (nat_eq (length fs) (length es)) (told_arguments facts fs es) _ h in
       ap (λ s. call_fits meaning s (map here es)) stands ∙ arguments-fit fs signature es formals (eqb-true (length fs) (length es) parts.0) k parts.1
 
-  call-fits : (x : ℕ) (es : Tree ℕ (maybe arguments)) → Agreed (calls x es) → told_call facts x (arguments_listed es) ≡ [] → statement_fits meaning (here (calls x es)) ≡ true
+  call-fits : (x : ℕ) (es : Tree ℕ (maybe arguments)) → Agreed (calls x es) → reported_call facts x (arguments_listed es) ≡ [] → statement_fits meaning (here (calls x es)) ≡ true
   unfolding statement_fits
   call-fits x es k h =
       ap (call_fits meaning (signature_of (meaning.stands_for (label x)))) (arguments-mapped es)
@@ -178,14 +178,14 @@ module _ {T N : Type 0} (facts : Facts T) (shape : T → Option Shape) (types : 
         let tokens = split (ids e) _ k in
         let others = split (ids statements) _ tokens.1 in
         let ends = split (ids rest) (ids last) others.1 in
-        let first = none-told (told_condition facts e) _ h in
+        let first = none-told (reported_condition facts e) _ h in
         let second = none-told (told_sequence facts statements) _ first.1 in
         let third = none-told (told_elsifs facts rest) _ second.1 in
         both-true _ _ (condition-fits e tokens.0 first.0)
         (both-true _ _ (sequence-fits statements others.0 second.0) (both-true _ _ (elsifs-fit rest ends.0 third.0) (else-fits last ends.1 third.1)))
     statement-fits (while_loop e statements) k h =
         let tokens = split (ids e) (ids statements) k in
-        let parts = none-told (told_condition facts e) _ h in
+        let parts = none-told (reported_condition facts e) _ h in
         both-true _ _ (condition-fits e tokens.0 parts.0) (sequence-fits statements tokens.1 parts.1)
     statement-fits (repeat_loop statements e) k h =
         let tokens = split (ids statements) (ids e) k in
@@ -210,7 +210,7 @@ module _ {T N : Type 0} (facts : Facts T) (shape : T → Option Shape) (types : 
     elsifs-fit (more (elsif_branch e statements) rest) k h =
         let tokens = split (ids (elsif_branch e statements)) (ids rest) k in
         let inner = split (ids e) (ids statements) tokens.0 in
-        let first = none-told (told_condition facts e) _ h in
+        let first = none-told (reported_condition facts e) _ h in
         let second = none-told (told_sequence facts statements) _ first.1 in
         both-true _ _ (condition-fits e inner.0 first.0) (both-true _ _ (sequence-fits statements inner.1 second.0) (elsifs-fit rest tokens.1 second.1))
 

@@ -15,8 +15,8 @@ use Rattle.ob0_typing.specs.Selected.{both}
 use Rattle.ob0_typing.specs.Typing.{add_type, complement_type, element_type, field_type, given_value, multiply_type, relation_type, shape_of_field, sign_type, value_type}
 use Rattle.ob0_values.specs.Values.{FieldShapes, Outcome, Overflow, Shape, Value, add, add_is_settled, array_shape, boolean_shape, divided_by, ends, gives, in_range, integer_shape, multiply, multiply_is_settled, negated, number, quotient, record_shape, relate, remainder, truth}
 use Rattle.ob0_values.specs.Values as values
-use Rattle.ob0_reports.specs.Known.{Facts, Form, Operand, Told, a_record, a_scalar, an_array, unknown_form}
-use Rattle.ob0_reports.specs.Operations.{added, asked, asked_both, at_operand, complemented, element_in, element_selected, field_in, field_selected, fits, found_field, multiplied, related, signed, truth_of, wanted_by_add, wanted_by_equality, wanted_by_multiply, wanted_by_relation}
+use Rattle.ob0_reports.specs.Known.{Facts, Form, Operand, Reported, a_record, a_scalar, an_array, unknown_form}
+use Rattle.ob0_reports.specs.Operations.{added, required, asked_both, at_operand, complemented, element_in, element_selected, field_in, field_selected, fits, found_field, multiplied, related, signed, truth_of, wanted_by_add, wanted_by_equality, wanted_by_multiply, wanted_by_relation}
 use Rattle.ob0_report_laws.specs.Agreement.{FormAgrees, TypesAgree}
 use Rattle.ob0_report_laws.proofs.Untold.{first-of, first-told, none-if, none-told, not-true, some-none, some-same}
 
@@ -136,7 +136,7 @@ module _ {T : Type 0} (facts : Facts T) (shape : T → Option Shape) (types : Ty
   same-where-fits t u s w ht hu e =
       first-of (facts.types.same t u) (facts.types.same t facts.types.unknown) (facts.types.same u facts.types.unknown) e (is-known t s ht) (is-known u w hu)
 
-  pub asked-fits : (wanted : T) (o : Operand T) (s w : Shape) → shape o.of ≡ Some s → shape wanted ≡ Some w → (asked facts wanted o).faults ≡ [] → ((asked facts wanted o).known ≡ wanted) × (s ≡ w)
+  pub asked-fits : (wanted : T) (o : Operand T) (s w : Shape) → shape o.of ≡ Some s → shape wanted ≡ Some w → (required facts wanted o).faults ≡ [] → ((required facts wanted o).known ≡ wanted) × (s ≡ w)
   asked-fits wanted o s w hs hw h =
       let same : facts.types.same o.of wanted ≡ true = same-where-fits o.of wanted s w hs hw (none-if (fits facts.types o.of wanted) _ h) in
       (ap (λ b. if b then wanted else facts.types.unknown) same, same-shape o.of wanted s w hs hw same)
@@ -144,12 +144,12 @@ module _ {T : Type 0} (facts : Facts T) (shape : T → Option Shape) (types : Ty
   both-asked : (wanted : T) (a b : Operand T) (s t w : Shape) → shape a.of ≡ Some s → shape b.of ≡ Some t → shape wanted ≡ Some w → (asked_both facts wanted a b).faults ≡ []
       → ((asked_both facts wanted a b).known ≡ wanted) × (s ≡ w) × (t ≡ w)
   both-asked wanted a b s t w hs ht hw h =
-      let left : Told T = record { known = if facts.types.same a.of wanted then (asked facts wanted b).known else facts.types.unknown; faults = (asked facts wanted b).faults } in
-      let wrong : Told T = record { known = facts.types.unknown; faults = at_operand facts code.TypeMismatch a } in
+      let left : Reported T = record { known = if facts.types.same a.of wanted then (required facts wanted b).known else facts.types.unknown; faults = (required facts wanted b).faults } in
+      let wrong : Reported T = record { known = facts.types.unknown; faults = at_operand facts code.TypeMismatch a } in
       let (fit, none) = first-told (fits facts.types a.of wanted) left wrong _ refl h in
       let same : facts.types.same a.of wanted ≡ true = same-where-fits a.of wanted s w hs hw fit in
       let (known, right) = asked-fits wanted b t w ht hw none in
-      (ap (λ c. (if c then left else wrong).known) fit ∙ (ap (λ c. if c then (asked facts wanted b).known else facts.types.unknown) same ∙ known), same-shape a.of wanted s w hs hw same, right)
+      (ap (λ c. (if c then left else wrong).known) fit ∙ (ap (λ c. if c then (required facts wanted b).known else facts.types.unknown) same ∙ known), same-shape a.of wanted s w hs hw same, right)
 
   -- what operators ask for has a shape
 
@@ -248,7 +248,7 @@ module _ {T : Type 0} (facts : Facts T) (shape : T → Option Shape) (types : Ty
   pub element-fits : (o i : Operand T) (s t : Shape) → shape o.of ≡ Some s → shape i.of ≡ Some t → (element_selected facts o i).faults ≡ []
       → (u : Shape) × (shape (element_selected facts o i).known.of ≡ Some u) × (element_type s t ≡ Some u)
   element-fits o i s t hs ht h =
-      let parts = none-told (asked facts facts.types.integer i).faults _ h in
+      let parts = none-told (required facts facts.types.integer i).faults _ h in
       let (known, index) = asked-fits facts.types.integer i t integer_shape ht types.integer parts.0 in
-      let (u, found, typed) = element-found (facts.types.form o.of) s (types.formed o.of s hs) i (asked facts facts.types.integer i).known known (none-told _ _ parts.1).0 in
+      let (u, found, typed) = element-found (facts.types.form o.of) s (types.formed o.of s hs) i (required facts facts.types.integer i).known known (none-told _ _ parts.1).0 in
       (u, found, ap (element_type s) index ∙ typed)

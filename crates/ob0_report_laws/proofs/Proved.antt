@@ -9,7 +9,7 @@ use Rattle.ob0_typing.specs.WellTyped.{Typed}
 use Rattle.ob0_values.specs.Values.{Place, Shape, Value, integer_shape}
 use Rattle.ob0_reports.specs.ExpressionFaults.{told_expression}
 use Rattle.ob0_reports.specs.Known.{Facts, Operand}
-use Rattle.ob0_reports.specs.Operations.{asked, right}
+use Rattle.ob0_reports.specs.Operations.{required, right}
 use Rattle.ob0_reports.specs.SoFar.{facts_at}
 use Rattle.ob0_reports.specs.TypeFaults.{evaluated, in_bounds, length_given, length_of, told_constant, valued}
 use Rattle.ob0_report_laws.specs.Agreement.{Agrees, TypesAgree, shape_in}
@@ -97,9 +97,9 @@ length-given facts o (Some v) e h = bounded facts o v (array_length v) e refl h
 
 pub length-there : {T : Type 0} (facts : Facts T) (shape : T → Option Shape) (types : TypesAgree facts.types shape) (o : Operand T) (s : Shape) → shape o.of ≡ Some s → (length_of facts o).faults ≡ [] → IsLong o (length_of facts o).known
 length-there facts shape types o s hs h =
-    let parts = none-told (asked facts facts.types.integer o).faults _ h in
+    let parts = none-told (required facts facts.types.integer o).faults _ h in
     let (given, same) = asked-fits facts shape types facts.types.integer o s integer_shape hs types.integer parts.0 in
-    let alone : facts.types.same (asked facts facts.types.integer o).known facts.types.integer ≡ true = ap (λ t. facts.types.same t facts.types.integer) given ∙ types.alone in
+    let alone : facts.types.same (required facts facts.types.integer o).known facts.types.integer ≡ true = ap (λ t. facts.types.same t facts.types.integer) given ∙ types.alone in
     let long : IsLong o (length_given facts o o.value).known = length-given facts o o.value refl (sym (ap (λ b. (if b then length_given facts o o.value else right None).faults) alone) ∙ parts.1) in
     record {
       value = long.value;

@@ -1,7 +1,7 @@
 -- Where nothing is told of a whole, nothing is told of its parts.
 use Rattle.std.proofs.Common.{◌≡◌, Bool, true, false, ◌||◌, ◌&&◌, List, [], ◌∷◌, ◌++◌, if◌then◌else◌, Option, Some, None, option_and_then, refl, ap, ◌∙◌}
 use Rattle.ob0_scan.specs.declared.fault.Fault.{Fault}
-use Rattle.ob0_reports.specs.Known.{Told}
+use Rattle.ob0_reports.specs.Known.{Reported}
 
 pub none-told : {A : Type 0} (xs ys : List A) → xs ++ ys ≡ [] → (xs ≡ []) × (ys ≡ [])
 none-told [] ys h = (refl, h)
@@ -12,12 +12,12 @@ none-if true x h = refl
 none-if false x h = absurd (cc)
 
 -- the first of two, where of the second something is told
-pub first-told : {A : Type 0} (b : Bool) (one other : Told A) (x : Fault) → other.faults ≡ x ∷ [] → (if b then one else other).faults ≡ [] → (b ≡ true) × (one.faults ≡ [])
+pub first-told : {A : Type 0} (b : Bool) (one other : Reported A) (x : Fault) → other.faults ≡ x ∷ [] → (if b then one else other).faults ≡ [] → (b ≡ true) × (one.faults ≡ [])
 first-told true one other x e h = (refl, h)
 first-told false one other x e h = absurd (cc)
 
 -- and the second, where of the first something is told
-pub second-told : {A : Type 0} (b : Bool) (one other : Told A) (x : Fault) → one.faults ≡ x ∷ [] → (if b then one else other).faults ≡ [] → (b ≡ false) × (other.faults ≡ [])
+pub second-told : {A : Type 0} (b : Bool) (one other : Reported A) (x : Fault) → one.faults ≡ x ∷ [] → (if b then one else other).faults ≡ [] → (b ≡ false) × (other.faults ≡ [])
 second-told true one other x e h = absurd (cc)
 second-told false one other x e h = (refl, h)
 

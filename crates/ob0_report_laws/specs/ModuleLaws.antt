@@ -4,8 +4,8 @@ use Rattle.ob0_names.specs.Names.{as_names}
 use Rattle.ob0_names.specs.Resolution.{IsResolution, Resolution}
 use Rattle.ob0_tree.specs.Parsed.{named_tree_of}
 use Rattle.ob0_typing.specs.WellTyped.{fits_over}
-use Rattle.ob0_reports.specs.DeclarationFaults.{told_module}
+use Rattle.ob0_reports.specs.DeclarationFaults.{reported_module}
 
 -- a module of which nothing is told fits
 abbrev pub ModulesFit : Type 0
-ModulesFit = (r : Resolution) → IsResolution r → told_module r ≡ [] → fits_over as_names (named_tree_of r.module_read) ≡ true
+ModulesFit = (r : Resolution) → IsResolution r → reported_module r ≡ [] → fits_over as_names (named_tree_of r.module_read) ≡ true

@@ -13,7 +13,7 @@ use Rattle.ob0_tree.specs.View.{fields_of, further_fields_of_group}
 use Rattle.ob0_tree.specs.declared.tree.Fields.{Fields}
 use Rattle.ob0_reports.specs.declared.telling.supposed.Supposed.{Supposed}
 use Rattle.ob0_reports.specs.declared.telling.written_types.Gathered as gathering
-use Rattle.ob0_reports.specs.Known.{Told}
+use Rattle.ob0_reports.specs.Known.{Reported}
 use Rattle.ob0_reports.specs.Operations.{Tells}
 use Rattle.ob0_reports.specs.SoFar.{Size, no_scalar, size_at}
 use Rattle.ob0_reports.specs.SupposedFacts.{Gathers, IsGathered, counted, fields_in, size_of, so_far_in}
@@ -70,7 +70,7 @@ pub record GroupsGathered (start : Gathered) (before : List Fault) (xs : List Fi
   pub is : IsGathered out s gathered
   pub told : Chained told_groups further_fields_of_group before start xs done now out
 
-pub gathers : {before after : List Fault} {s : Supposed} {gathered : gathering.Gathered} {x : Gathered} {t : Told Gathered} → Tells before after x t → IsGathered x s gathered → Gathers before after s gathered t
+pub gathers : {before after : List Fault} {s : Supposed} {gathered : gathering.Gathered} {x : Gathered} {t : Reported Gathered} → Tells before after x t → IsGathered x s gathered → Gathers before after s gathered t
 gathers {s = s} {gathered = gathered} tells is = record { told = tells.told; now = subst (λ z. IsGathered z s gathered) tells.known is }
 
 pub groups_begin : {before : List Fault} {xs : List Fields} (s : Supposed) (gathered : gathering.Gathered) → ((x : Name) → fields_in gathered.fields x ≡ None) → size_of gathered.size ≡ no_scalar

@@ -2,14 +2,14 @@
 use Rattle.std.proofs.Common.{◌≡◌, ℕ, ◌+◌, ◌<◌, ◌≤◌, List, [], ◌∷◌, ◌++◌, length, get_or, drop, map, refl, sym, ap, ◌∙◌, append-nil, append_assoc}
 use Rattle.std.proofs.lemmas.List.{drop_all, drop_more}
 use Rattle.ob0_scan.specs.declared.fault.Fault.{Fault}
-use Rattle.ob0_reports.specs.Known.{Told}
+use Rattle.ob0_reports.specs.Known.{Reported}
 use Rattle.ob0_reports.specs.Operations.{Tells}
 
 pub told_both : (before a b : List Fault) {between after : List Fault} → between ≡ before ++ a → after ≡ between ++ b → after ≡ before ++ (a ++ b)
 told_both before a b p q = q ∙ ap (λ f. f ++ b) p ∙ append_assoc before a b
 
 -- what is told behind something that is known
-pub told_behind : {A : Type 0} {before between after : List Fault} {x : A} {t : Told A} (next : A → List Fault) → Tells before between x t → after ≡ between ++ next x → after ≡ before ++ (t.faults ++ next t.known)
+pub told_behind : {A : Type 0} {before between after : List Fault} {x : A} {t : Reported A} (next : A → List Fault) → Tells before between x t → after ≡ between ++ next x → after ≡ before ++ (t.faults ++ next t.known)
 told_behind {before = before} {x = x} {t = t} next s q = told_both before t.faults (next x) s.told q ∙ ap (λ z. before ++ (t.faults ++ next z)) s.known
 
 -- all of a list, from its head on

@@ -13,7 +13,7 @@ use Rattle.ob0_tree.specs.declared.tree.Names.{Names}
 use Rattle.ob0_tree.specs.declared.tree.Procedure.{Procedure, out-Procedure, roll-out-Procedure}
 use Rattle.ob0_tree.specs.declared.tree.Section.{Section}
 use Rattle.ob0_tree.proofs.Viewed.{procedure_made}
-use Rattle.ob0_reports.specs.DeclarationFaults.{Heading, behind_heading, constant_declared, told_block, told_body, told_constants, told_module, told_parameters, told_procedure, told_procedures, told_section, told_sections, told_types, told_variables, type_declared, variables_declared, with_parameters}
+use Rattle.ob0_reports.specs.DeclarationFaults.{Heading, behind_heading, constant_declared, told_block, told_body, reported_constants, reported_module, told_parameters, told_procedure, told_procedures, told_section, told_sections, told_types, told_variables, type_declared, variables_declared, with_parameters}
 use Rattle.ob0_reports.specs.Known.{Meaning, a_constant, a_type, a_variable}
 use Rattle.ob0_reports.specs.Operations.{right, ◌>>=◌}
 use Rattle.ob0_reports.specs.SoFar.{SoFar, at_first, define, define_all, facts_at}
@@ -45,15 +45,15 @@ pub constant_told : (p : SoFar) (x : ℕ) (e : Tree ℕ expression) → constant
 unfolding constant_declared
 constant_told p x e = refl
 
-pub constants_ended : (p : SoFar) → told_constants p end ≡ right p
-unfolding told_constants
+pub constants_ended : (p : SoFar) → reported_constants p end ≡ right p
+unfolding reported_constants
 constants_ended p = refl
 
-constants_stepped : (p : SoFar) (t : Tree ℕ (item constant)) (ts : Tree ℕ (items constant)) → told_constants p (more t ts) ≡ (constant_declared p t >>= (λ q. told_constants q ts))
-unfolding told_constants
+constants_stepped : (p : SoFar) (t : Tree ℕ (item constant)) (ts : Tree ℕ (items constant)) → reported_constants p (more t ts) ≡ (constant_declared p t >>= (λ q. reported_constants q ts))
+unfolding reported_constants
 constants_stepped p t ts = refl
 
-pub constants_chain : IsChain told_constants constant_declared
+pub constants_chain : IsChain reported_constants constant_declared
 constants_chain = record { ended = constants_ended; stepped = constants_stepped }
 
 pub type_told : (p : SoFar) (x : ℕ) (t : Tree ℕ written_type) → type_declared p (declares_type x t) ≡ (told_type p t >>= (λ u. right (define u.behind (a_type u.of) x)))
@@ -120,7 +120,7 @@ body_told p a = refl
 
 pub block_told : (p : SoFar) (cs : Tree ℕ (maybe constants)) (ts : Tree ℕ (maybe type_names)) (vs : Tree ℕ (maybe variables)) (ps : Tree ℕ (items procedure)) (a : Tree ℕ (maybe body))
     → told_block p (has_body (declares cs ts vs ps) a)
-    ≡ (told_constants p (section_constants cs) >>= (λ q. told_types q (section_types ts) >>= (λ r. told_variables r (section_variables vs) >>= (λ s. told_procedures s ps >>= (λ t. told_body t a)))))
+    ≡ (reported_constants p (section_constants cs) >>= (λ q. told_types q (section_types ts) >>= (λ r. told_variables r (section_variables vs) >>= (λ s. told_procedures s ps >>= (λ t. told_body t a)))))
 unfolding told_block
 block_told p cs ts vs ps a = refl
 
@@ -146,6 +146,6 @@ procedure_told p d =
     let x = out-Procedure d in
     ap (told_procedure p) (sym (ap procedure_of (roll-out-Procedure d)) ∙ procedure_made x) ∙ with_parts p x.name (formals_of x.formals) (block_of x.block) x.closing
 
-pub module_told : (r : Resolution) → told_module r ≡ filter is_of_occurrences r.faults ++ (told_block (at_first r) (module_block (tree_of r.module_read))).faults
-unfolding told_module
+pub module_told : (r : Resolution) → reported_module r ≡ filter is_of_occurrences r.faults ++ (told_block (at_first r) (module_block (tree_of r.module_read))).faults
+unfolding reported_module
 module_told r = refl

@@ -3,17 +3,17 @@ use Rattle.std.proofs.Common.{◌≡◌, ℕ, Option, refl}
 use Rattle.ob0_tree.specs.declared.tree.Relation.{Relation}
 use Rattle.ob0_tree.specs.declared.tree.Sign.{Sign}
 use Rattle.ob0_tree.specs.Tree.{Tree, addend, adds, compares, designator, end, expression, factor, field, index, integer, item, items, more, multiplier, multiplies, negation, none, one, parenthesised, product, relates, selector, simple, sum, term}
-use Rattle.ob0_reports.specs.Known.{Facts, Operand, Told}
-use Rattle.ob0_reports.specs.ExpressionFaults.{told_addends, told_expression, told_factor, told_multipliers, told_selector, told_selectors, told_simple, told_term}
+use Rattle.ob0_reports.specs.Known.{Facts, Operand, Reported}
+use Rattle.ob0_reports.specs.ExpressionFaults.{told_addends, told_expression, told_factor, told_multipliers, reported_selector, told_selectors, told_simple, told_term}
 use Rattle.ob0_reports.specs.Operations.{a_number, added, complemented, element_selected, enclosed, field_selected, multiplied, named, related, right, signed, ◌>>=◌}
 use Rattle.ob0_reports.specs.TypeFaults.{evaluated, told_constant}
 use Rattle.ob0_reports.proofs.Chains.{IsChain, then_assoc}
 
 -- one more operand
-abbrev pub told_added : {T : Type 0} → Facts T → Operand T → Tree ℕ (item addend) → Told (Operand T)
+abbrev pub told_added : {T : Type 0} → Facts T → Operand T → Tree ℕ (item addend) → Reported (Operand T)
 told_added facts x (adds o t) = told_term facts t >>= added facts o x
 
-abbrev pub told_multiplied : {T : Type 0} → Facts T → Operand T → Tree ℕ (item multiplier) → Told (Operand T)
+abbrev pub told_multiplied : {T : Type 0} → Facts T → Operand T → Tree ℕ (item multiplier) → Reported (Operand T)
 told_multiplied facts x (multiplies o f) = told_factor facts f >>= multiplied facts o x
 
 module _ {T : Type 0} (facts : Facts T) where
@@ -49,12 +49,12 @@ module _ {T : Type 0} (facts : Facts T) where
   unfolding told_expression
   negation_told f = refl
 
-  pub field_told : (x : Operand T) (n : ℕ) → told_selector facts x (field n) ≡ field_selected facts x n
-  unfolding told_selector
+  pub field_told : (x : Operand T) (n : ℕ) → reported_selector facts x (field n) ≡ field_selected facts x n
+  unfolding reported_selector
   field_told x n = refl
 
-  pub index_told : (x : Operand T) (e : Tree ℕ expression) → told_selector facts x (index e) ≡ (told_expression facts e >>= element_selected facts x)
-  unfolding told_selector
+  pub index_told : (x : Operand T) (e : Tree ℕ expression) → reported_selector facts x (index e) ≡ (told_expression facts e >>= element_selected facts x)
+  unfolding reported_selector
   index_told x e = refl
 
   added_ended : (x : Operand T) → told_addends facts x end ≡ right x
@@ -83,12 +83,12 @@ module _ {T : Type 0} (facts : Facts T) where
   unfolding told_expression
   selected_ended x = refl
 
-  selected_stepped : (x : Operand T) (t : Tree ℕ (item selector)) (ts : Tree ℕ (items selector)) → told_selectors facts x (more t ts) ≡ (told_selector facts x t >>= (λ y. told_selectors facts y ts))
-  unfolding told_expression told_selector
+  selected_stepped : (x : Operand T) (t : Tree ℕ (item selector)) (ts : Tree ℕ (items selector)) → told_selectors facts x (more t ts) ≡ (reported_selector facts x t >>= (λ y. told_selectors facts y ts))
+  unfolding told_expression reported_selector
   selected_stepped x (field n) ts = refl
   selected_stepped x (index e) ts = then_assoc (told_expression facts e) (element_selected facts x) (λ y. told_selectors facts y ts)
 
-  pub selected_chain : IsChain (told_selectors facts) (told_selector facts)
+  pub selected_chain : IsChain (told_selectors facts) (reported_selector facts)
   selected_chain = record { ended = selected_ended; stepped = selected_stepped }
 
   pub constant_told : (e : Tree ℕ expression) → told_constant facts e ≡ (told_expression facts e >>= evaluated facts)

@@ -13,8 +13,8 @@ use Rattle.ob0_tree.specs.declared.tree.Statement.{Statement}
 use Rattle.ob0_typing.specs.Arguments.{arguments_listed, further_arguments}
 use Rattle.ob0_reports.specs.ExpressionFaults.{told_expression, told_selectors}
 use Rattle.ob0_reports.specs.Known.{Facts, Formal, a_procedure}
-use Rattle.ob0_reports.specs.Operations.{a_name, asked, at_token, ◌>>=◌}
-use Rattle.ob0_reports.specs.StatementFaults.{assigned, called, passed, told_argument, told_arguments, told_asked, told_assigned, told_call, told_condition, told_else, told_elsifs, told_parts, told_sequence, told_statement, told_statements, told_target}
+use Rattle.ob0_reports.specs.Operations.{a_name, required, at_token, ◌>>=◌}
+use Rattle.ob0_reports.specs.StatementFaults.{assigned, called, passed, told_argument, told_arguments, told_asked, told_assigned, reported_call, reported_condition, told_else, told_elsifs, told_parts, told_sequence, told_statement, told_statements, told_target}
 use Rattle.ob0_reports.specs.SupposedFacts.{formal_of}
 use Rattle.ob0_reports.proofs.Listed.{IsEach, IsPairwise}
 
@@ -27,7 +27,7 @@ all_listed [] = refl
 all_listed (e ∷ es) = ap (λ z. expression_of e ∷ z) (further_listed es)
 
 module _ {T : Type 0} (facts : Facts T) where
-  pub asked_told : (wanted : T) (e : Tree ℕ expression) → told_asked facts wanted e ≡ (told_expression facts e >>= asked facts wanted).faults
+  pub asked_told : (wanted : T) (e : Tree ℕ expression) → told_asked facts wanted e ≡ (told_expression facts e >>= required facts wanted).faults
   unfolding told_asked
   asked_told wanted e = refl
 
@@ -47,20 +47,20 @@ module _ {T : Type 0} (facts : Facts T) where
   unfolding told_statement
   assigned_told x path e = refl
 
-  pub called_told : (p : ℕ) (es : Tree ℕ (maybe arguments)) → told_statement facts (calls p es) ≡ told_call facts p (arguments_listed es)
+  pub called_told : (p : ℕ) (es : Tree ℕ (maybe arguments)) → told_statement facts (calls p es) ≡ reported_call facts p (arguments_listed es)
   unfolding told_statement
   called_told p es = refl
 
   pub branches_told : (e : Tree ℕ expression) (a : Tree ℕ sequence) (rest : Tree ℕ (items elsif_part)) (last : Tree ℕ (maybe else_part))
-      → told_statement facts (branches e a rest last) ≡ told_condition facts e ++ (told_sequence facts a ++ (told_elsifs facts rest ++ told_else facts last))
+      → told_statement facts (branches e a rest last) ≡ reported_condition facts e ++ (told_sequence facts a ++ (told_elsifs facts rest ++ told_else facts last))
   unfolding told_statement
   branches_told e a rest last = refl
 
-  pub while_told : (e : Tree ℕ expression) (a : Tree ℕ sequence) → told_statement facts (while_loop e a) ≡ told_condition facts e ++ told_sequence facts a
+  pub while_told : (e : Tree ℕ expression) (a : Tree ℕ sequence) → told_statement facts (while_loop e a) ≡ reported_condition facts e ++ told_sequence facts a
   unfolding told_statement
   while_told e a = refl
 
-  pub repeat_told : (e : Tree ℕ expression) (a : Tree ℕ sequence) → told_statement facts (repeat_loop a e) ≡ told_sequence facts a ++ told_condition facts e
+  pub repeat_told : (e : Tree ℕ expression) (a : Tree ℕ sequence) → told_statement facts (repeat_loop a e) ≡ told_sequence facts a ++ reported_condition facts e
   unfolding told_statement
   repeat_told e a = refl
 
@@ -96,15 +96,15 @@ module _ {T : Type 0} (facts : Facts T) where
   unfolding told_statement
   no_elsifs = refl
 
-  some_elsifs : (e : Tree ℕ expression) (a : Tree ℕ sequence) (rest : Tree ℕ (items elsif_part)) → told_elsifs facts (more (elsif_branch e a) rest) ≡ told_condition facts e ++ (told_sequence facts a ++ told_elsifs facts rest)
+  some_elsifs : (e : Tree ℕ expression) (a : Tree ℕ sequence) (rest : Tree ℕ (items elsif_part)) → told_elsifs facts (more (elsif_branch e a) rest) ≡ reported_condition facts e ++ (told_sequence facts a ++ told_elsifs facts rest)
   unfolding told_statement
   some_elsifs e a rest = refl
 
-  pub elsifs_each : IsEach (λ es. told_elsifs facts (items_of elsif_of es)) (λ e. told_condition facts (expression_of e.condition) ++ told_sequence facts (sequence_listed e.then.items))
+  pub elsifs_each : IsEach (λ es. told_elsifs facts (items_of elsif_of es)) (λ e. reported_condition facts (expression_of e.condition) ++ told_sequence facts (sequence_listed e.then.items))
   elsifs_each = record {
     ended = no_elsifs;
     stepped = λ e es. some_elsifs (expression_of e.condition) (sequence_listed e.then.items) (items_of elsif_of es)
-        ∙ sym (append_assoc (told_condition facts (expression_of e.condition)) (told_sequence facts (sequence_listed e.then.items)) (told_elsifs facts (items_of elsif_of es)));
+        ∙ sym (append_assoc (reported_condition facts (expression_of e.condition)) (told_sequence facts (sequence_listed e.then.items)) (told_elsifs facts (items_of elsif_of es)));
   }
 
   pub parts_each : IsEach (λ (es : List Expression). told_parts facts (map expression_of es)) (λ e. (told_expression facts (expression_of e)).faults)

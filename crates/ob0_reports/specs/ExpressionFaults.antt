@@ -2,44 +2,44 @@
 -- parts of an operation its own.
 use Rattle.std.specs.Prelude.{ℕ}
 use Rattle.ob0_tree.specs.Tree.{Tree, addend, adds, compares, designator, end, expression, factor, field, index, integer, item, items, more, multiplier, multiplies, negation, none, one, parenthesised, product, relates, selector, simple, sum, term}
-use Rattle.ob0_reports.specs.Known.{Facts, Operand, Told}
+use Rattle.ob0_reports.specs.Known.{Facts, Operand, Reported}
 use Rattle.ob0_reports.specs.Operations.{a_number, added, complemented, element_selected, enclosed, field_selected, multiplied, named, related, right, signed, ◌>>=◌}
 
 unfoldable mutual
-  pub told_expression : {T : Type 0} → Facts T → Tree ℕ expression → Told (Operand T)
+  pub told_expression : {T : Type 0} → Facts T → Tree ℕ expression → Reported (Operand T)
   told_expression facts (compares a none) = told_simple facts a
   told_expression facts (compares a (one (relates r b))) = do
     x ← told_simple facts a
     y ← told_simple facts b
     related facts r x y
 
-  pub told_simple : {T : Type 0} → Facts T → Tree ℕ simple → Told (Operand T)
+  pub told_simple : {T : Type 0} → Facts T → Tree ℕ simple → Reported (Operand T)
   told_simple facts (sum s t rest) = do
     x ← told_term facts t
     y ← signed facts s x
     told_addends facts y rest
 
   -- operators of one level group to the left
-  pub told_addends : {T : Type 0} → Facts T → Operand T → Tree ℕ (items addend) → Told (Operand T)
+  pub told_addends : {T : Type 0} → Facts T → Operand T → Tree ℕ (items addend) → Reported (Operand T)
   told_addends facts x end = right x
   told_addends facts x (more (adds o t) rest) = do
     y ← told_term facts t
     z ← added facts o x y
     told_addends facts z rest
 
-  pub told_term : {T : Type 0} → Facts T → Tree ℕ term → Told (Operand T)
+  pub told_term : {T : Type 0} → Facts T → Tree ℕ term → Reported (Operand T)
   told_term facts (product f rest) = do
     x ← told_factor facts f
     told_multipliers facts x rest
 
-  pub told_multipliers : {T : Type 0} → Facts T → Operand T → Tree ℕ (items multiplier) → Told (Operand T)
+  pub told_multipliers : {T : Type 0} → Facts T → Operand T → Tree ℕ (items multiplier) → Reported (Operand T)
   told_multipliers facts x end = right x
   told_multipliers facts x (more (multiplies o f) rest) = do
     y ← told_factor facts f
     z ← multiplied facts o x y
     told_multipliers facts z rest
 
-  pub told_factor : {T : Type 0} → Facts T → Tree ℕ factor → Told (Operand T)
+  pub told_factor : {T : Type 0} → Facts T → Tree ℕ factor → Reported (Operand T)
   told_factor facts (designator x path) = do
     base ← named facts x
     told_selectors facts base path
@@ -52,7 +52,7 @@ unfoldable mutual
     complemented facts x
 
   -- a designator up to here, and the selectors that follow
-  pub told_selectors : {T : Type 0} → Facts T → Operand T → Tree ℕ (items selector) → Told (Operand T)
+  pub told_selectors : {T : Type 0} → Facts T → Operand T → Tree ℕ (items selector) → Reported (Operand T)
   told_selectors facts x end = right x
   told_selectors facts x (more (field n) rest) = do
     y ← field_selected facts x n
@@ -63,7 +63,7 @@ unfoldable mutual
     told_selectors facts y rest
 
 -- one selector
-unfoldable pub told_selector : {T : Type 0} → Facts T → Operand T → Tree ℕ (item selector) → Told (Operand T)
+unfoldable pub reported_selector : {T : Type 0} → Facts T → Operand T → Tree ℕ (item selector) → Reported (Operand T)
 unfolding told_expression
-told_selector facts x (field n) = field_selected facts x n
-told_selector facts x (index e) = told_expression facts e >>= element_selected facts x
+reported_selector facts x (field n) = field_selected facts x n
+reported_selector facts x (index e) = told_expression facts e >>= element_selected facts x

@@ -50,6 +50,6 @@ pub record Operand (T : Type 0) : Type 0 where
   pub last : ℕ
 
 -- what is known of something, and the faults that are told of it
-pub record Told (A : Type 0) : Type 0 where
+pub record Reported (A : Type 0) : Type 0 where
   pub known : A
   pub faults : List Fault

@@ -18,23 +18,23 @@ use Rattle.ob0_typing.specs.Selected.{both}
 use Rattle.ob0_typing.specs.Typing.{given_value}
 use Rattle.ob0_values.specs.Values.{Value, elements, members, negated, number, relate, truth}
 use Rattle.ob0_values.specs.Values.{signed as with_sign}
-use Rattle.ob0_reports.specs.Known.{Facts, Form, Meaning, Operand, Told, Types, a_constant, a_procedure, a_record, a_scalar, a_type, a_variable, an_array, unknown_form}
+use Rattle.ob0_reports.specs.Known.{Facts, Form, Meaning, Operand, Reported, Types, a_constant, a_procedure, a_record, a_scalar, a_type, a_variable, an_array, unknown_form}
 
 -- the same behind faults that were told before
-abbrev pub behind : {A : Type 0} → List Fault → Told A → Told A
-behind before t = record { known = t.known; faults = before ++ t.faults }
+abbrev pub preceded_by : {A : Type 0} → List Fault → Reported A → Reported A
+preceded_by before t = record { known = t.known; faults = before ++ t.faults }
 
 -- what has no fault
-abbrev pub right : {A : Type 0} → A → Told A
+abbrev pub right : {A : Type 0} → A → Reported A
 right x = record { known = x; faults = [] }
 
 -- one after the other: the faults of both, in order
 infixl 20 ◌>>=◌
-abbrev pub ◌>>=◌ : {A B : Type 0} → Told A → (A → Told B) → Told B
-t >>= next = behind t.faults (next t.known)
+abbrev pub ◌>>=◌ : {A B : Type 0} → Reported A → (A → Reported B) → Reported B
+t >>= next = preceded_by t.faults (next t.known)
 
 -- x is what is known, and what is told stands behind the faults from before
-pub record Tells {A : Type 0} (before after : List Fault) (x : A) (t : Told A) : Type 0 where
+pub record Tells {A : Type 0} (before after : List Fault) (x : A) (t : Reported A) : Type 0 where
   pub known : x ≡ t.known
   pub told : after ≡ before ++ t.faults
 
@@ -63,16 +63,16 @@ abbrev pub fits : {T : Type 0} → Types T → T → T → Bool
 fits types s t = types.same s t || (types.same s types.unknown || types.same t types.unknown)
 
 -- a type is asked of an operand: the operand is told where it has another one
-abbrev pub asked : {T : Type 0} → Facts T → T → Operand T → Told T
-asked facts wanted o = record {
+abbrev pub required : {T : Type 0} → Facts T → T → Operand T → Reported T
+required facts wanted o = record {
   known = if facts.types.same o.of wanted then wanted else facts.types.unknown;
   faults = if fits facts.types o.of wanted then [] else at_operand facts code.TypeMismatch o;
 }
 
 -- a type is asked of two operands: the left one is told where it is wrong, else the right one
-abbrev pub asked_both : {T : Type 0} → Facts T → T → Operand T → Operand T → Told T
+abbrev pub asked_both : {T : Type 0} → Facts T → T → Operand T → Operand T → Reported T
 asked_both facts wanted a b =
-    if fits facts.types a.of wanted then record { known = if facts.types.same a.of wanted then (asked facts wanted b).known else facts.types.unknown; faults = (asked facts wanted b).faults }
+    if fits facts.types a.of wanted then record { known = if facts.types.same a.of wanted then (required facts wanted b).known else facts.types.unknown; faults = (required facts wanted b).faults }
     else record { known = facts.types.unknown; faults = at_operand facts code.TypeMismatch a }
 
 -- INTEGER is asked of both sides of `+` and `-`, BOOLEAN of those of OR
@@ -114,31 +114,31 @@ joined of value a b = record { of = of; value = value; is_place = false; first =
 abbrev pub behind_sign : {T : Type 0} → T → Option Value → Operand T → Operand T
 behind_sign of value o = record { of = of; value = value; is_place = false; first = token_before o.first; last = o.last }
 
-abbrev pub added : {T : Type 0} → Facts T → AddOperator → Operand T → Operand T → Told (Operand T)
+abbrev pub added : {T : Type 0} → Facts T → AddOperator → Operand T → Operand T → Reported (Operand T)
 added facts o a b = do
   t ← asked_both facts (wanted_by_add facts.types o) a b
   right (joined t (option_and_then (sum_value o b.value) a.value) a b)
 
-abbrev pub multiplied : {T : Type 0} → Facts T → MultiplyOperator → Operand T → Operand T → Told (Operand T)
+abbrev pub multiplied : {T : Type 0} → Facts T → MultiplyOperator → Operand T → Operand T → Reported (Operand T)
 multiplied facts o a b = do
   t ← asked_both facts (wanted_by_multiply facts.types o) a b
   right (joined t (option_and_then (product_value o b.value) a.value) a b)
 
-abbrev pub related : {T : Type 0} → Facts T → Relation → Operand T → Operand T → Told (Operand T)
+abbrev pub related : {T : Type 0} → Facts T → Relation → Operand T → Operand T → Reported (Operand T)
 related facts r a b = do
   t ← asked_both facts (wanted_by_relation facts.types r a.of) a b
   right (joined (truth_of facts.types t) (both (λ x y. given_value (relate r x y)) a.value b.value) a b)
 
 -- a sign asks for INTEGER, `~` for BOOLEAN
-abbrev pub signed : {T : Type 0} → Facts T → Option Sign → Operand T → Told (Operand T)
+abbrev pub signed : {T : Type 0} → Facts T → Option Sign → Operand T → Reported (Operand T)
 signed facts None o = right o
 signed facts (Some s) o = do
-  t ← asked facts facts.types.integer o
+  t ← required facts facts.types.integer o
   right (behind_sign t (option_and_then (λ x. given_value (with_sign (Some s) x)) o.value) o)
 
-abbrev pub complemented : {T : Type 0} → Facts T → Operand T → Told (Operand T)
+abbrev pub complemented : {T : Type 0} → Facts T → Operand T → Reported (Operand T)
 complemented facts o = do
-  t ← asked facts facts.types.boolean o
+  t ← required facts facts.types.boolean o
   right (behind_sign t (option_and_then (λ x. given_value (negated x)) o.value) o)
 
 -- a number, and an expression in parentheses
@@ -152,19 +152,19 @@ enclosed facts o = record { of = o.of; value = o.value; is_place = false; first 
 abbrev pub a_name : {T : Type 0} → T → ℕ → Operand T
 a_name of token = record { of = of; value = None; is_place = true; first = token; last = token }
 
-abbrev pub worth_type : {T : Type 0} → Types T → Option Value → T
-worth_type types None = types.unknown
-worth_type types (Some (number n)) = types.integer
-worth_type types (Some (truth b)) = types.boolean
-worth_type types (Some (elements vs)) = types.unknown
-worth_type types (Some (members k ms)) = types.unknown
+abbrev pub value_type : {T : Type 0} → Types T → Option Value → T
+value_type types None = types.unknown
+value_type types (Some (number n)) = types.integer
+value_type types (Some (truth b)) = types.boolean
+value_type types (Some (elements vs)) = types.unknown
+value_type types (Some (members k ms)) = types.unknown
 
 abbrev pub a_constant_name : {T : Type 0} → Types T → Option Value → ℕ → Operand T
-a_constant_name types v token = record { of = worth_type types v; value = v; is_place = false; first = token; last = token }
+a_constant_name types v token = record { of = value_type types v; value = v; is_place = false; first = token; last = token }
 
 -- A name where a value is asked for: no type and no procedure, and in a constant expression no variable. Names that nothing
 -- binds are told by themselves.
-abbrev pub named_value : {T : Type 0} → Facts T → ℕ → Option (Meaning T) → Told (Operand T)
+abbrev pub named_value : {T : Type 0} → Facts T → ℕ → Option (Meaning T) → Reported (Operand T)
 named_value facts token None = right (a_name facts.types.unknown token)
 named_value facts token (Some (a_constant v)) = right (a_constant_name facts.types v token)
 named_value facts token (Some (a_variable t)) =
@@ -173,7 +173,7 @@ named_value facts token (Some (a_variable t)) =
 named_value facts token (Some (a_type t)) = record { known = a_name facts.types.unknown token; faults = at_token facts code.WrongKind token }
 named_value facts token (Some (a_procedure fs)) = record { known = a_name facts.types.unknown token; faults = at_token facts code.WrongKind token }
 
-abbrev pub named : {T : Type 0} → Facts T → ℕ → Told (Operand T)
+abbrev pub named : {T : Type 0} → Facts T → ℕ → Reported (Operand T)
 named facts token = named_value facts token (facts.stands_for token)
 
 -- the part of a designator up to this token, of this type; a constant has no parts
@@ -181,31 +181,31 @@ abbrev pub part_of : {T : Type 0} → Operand T → T → ℕ → Operand T
 part_of o of last = record { of = of; value = None; is_place = o.is_place; first = o.first; last = last }
 
 -- a field that a record has; where there is no record, the `.` is told
-abbrev pub found_field : {T : Type 0} → Facts T → ℕ → Option T → Told T
+abbrev pub found_field : {T : Type 0} → Facts T → ℕ → Option T → Reported T
 found_field facts token None = record { known = facts.types.unknown; faults = at_token facts code.NoField token }
 found_field facts token (Some t) = right t
 
-abbrev pub field_in : {T : Type 0} → Facts T → ℕ → Form T → Told T
+abbrev pub field_in : {T : Type 0} → Facts T → ℕ → Form T → Reported T
 field_in facts token (a_record fields) = found_field facts token (fields (text_at facts.source token))
 field_in facts token unknown_form = right facts.types.unknown
 field_in facts token a_scalar = record { known = facts.types.unknown; faults = at_token facts code.NotRecord (token_before token) }
 field_in facts token (an_array t) = record { known = facts.types.unknown; faults = at_token facts code.NotRecord (token_before token) }
 
-abbrev pub field_selected : {T : Type 0} → Facts T → Operand T → ℕ → Told (Operand T)
+abbrev pub field_selected : {T : Type 0} → Facts T → Operand T → ℕ → Reported (Operand T)
 field_selected facts o token = do
   t ← field_in facts token (facts.types.form o.of)
   right (part_of o t token)
 
 -- an element of an array; where there is no array, the `[` before the index is told
-abbrev pub element_in : {T : Type 0} → Facts T → Operand T → T → Form T → Told T
+abbrev pub element_in : {T : Type 0} → Facts T → Operand T → T → Form T → Reported T
 element_in facts i of (an_array t) = right (if facts.types.same of facts.types.integer then t else facts.types.unknown)
 element_in facts i of unknown_form = right facts.types.unknown
 element_in facts i of a_scalar = record { known = facts.types.unknown; faults = at_token facts code.NotArray (token_before i.first) }
 element_in facts i of (a_record fields) = record { known = facts.types.unknown; faults = at_token facts code.NotArray (token_before i.first) }
 
 -- an index is asked to be INTEGER also where there is no array
-abbrev pub element_selected : {T : Type 0} → Facts T → Operand T → Operand T → Told (Operand T)
+abbrev pub element_selected : {T : Type 0} → Facts T → Operand T → Operand T → Reported (Operand T)
 element_selected facts o i = do
-  n ← asked facts facts.types.integer i
+  n ← required facts facts.types.integer i
   t ← element_in facts i n (facts.types.form o.of)
   right (part_of o t (token_behind facts.source i.last))

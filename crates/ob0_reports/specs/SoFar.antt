@@ -8,7 +8,7 @@ use Rattle.ob0_names.specs.Resolution.{Resolution, ordinal_in}
 use Rattle.ob0_symbols.specs.declared.types.TypeId.{TypeId}
 use Rattle.ob0_symbols.specs.declared.types.TypeId.TheVariants as type
 use Rattle.ob0_values.specs.Values.{truth}
-use Rattle.ob0_reports.specs.Known.{Facts, Form, Meaning, Told, Types, a_constant, a_procedure, a_record, a_scalar, a_type, an_array, unknown_form}
+use Rattle.ob0_reports.specs.Known.{Facts, Form, Meaning, Reported, Types, a_constant, a_procedure, a_record, a_scalar, a_type, an_array, unknown_form}
 use Rattle.ob0_reports.specs.Operations.{at_token, right}
 
 -- how many scalars a type has, and how many arrays and records stand inside one another
@@ -125,10 +125,10 @@ made p parts size = record {
   behind = record { source = p.source; ordinals = p.ordinals; declared = p.declared; made = p.made ++ record { parts = parts; size = size } ∷ [] };
 }
 
-abbrev pub too_large : SoFar → ℕ → Told Typed
+abbrev pub too_large : SoFar → ℕ → Reported Typed
 too_large p word = record { known = record { of = type.Unknown; behind = p }; faults = at_token (facts_at p false) code.TypeTooLarge word }
 
-abbrev pub make : SoFar → ℕ → Parts → Size → Told Typed
+abbrev pub make : SoFar → ℕ → Parts → Size → Reported Typed
 make p word parts size = if is_within size then right (made p parts size) else too_large p word
 
 -- the predeclared names: INTEGER, BOOLEAN, TRUE, FALSE, Read, Write, WriteLn

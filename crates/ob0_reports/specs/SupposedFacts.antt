@@ -20,7 +20,7 @@ use Rattle.ob0_reports.specs.declared.telling.supposed.Parts.{Parts}
 use Rattle.ob0_reports.specs.declared.telling.supposed.Size as code_size
 use Rattle.ob0_reports.specs.declared.telling.supposed.Supposed.{Supposed}
 use Rattle.ob0_reports.specs.declared.telling.written_types.Gathered as gathering
-use Rattle.ob0_reports.specs.Known.{Facts, Form, Formal, Meaning, Operand, Told, Types, a_constant, a_procedure, a_record, a_scalar, a_type, a_variable, an_array, unknown_form}
+use Rattle.ob0_reports.specs.Known.{Facts, Form, Formal, Meaning, Operand, Reported, Types, a_constant, a_procedure, a_record, a_scalar, a_type, a_variable, an_array, unknown_form}
 use Rattle.ob0_reports.specs.DeclarationFaults.{Heading}
 use Rattle.ob0_reports.specs.SoFar.{Made, Size, SoFar, of_elements, of_fields, same_type}
 use Rattle.ob0_reports.specs.SoFar as so_far
@@ -111,6 +111,6 @@ pub record IsGathered (g : Gathered) (s : Supposed) (now : gathering.Gathered) :
   pub size : size_of now.size ≡ counted g.size
   pub behind : so_far_in s ≡ g.behind
 
-pub record Gathers (before after : List Fault) (s : Supposed) (gathered : gathering.Gathered) (t : Told Gathered) : Type 0 where
+pub record Gathers (before after : List Fault) (s : Supposed) (gathered : gathering.Gathered) (t : Reported Gathered) : Type 0 where
   pub told : after ≡ before ++ t.faults
   pub now : IsGathered t.known s gathered

@@ -8,7 +8,7 @@ use Rattle.ob0_symbols.specs.declared.types.TypeId.TheVariants as type
 use Rattle.ob0_tree.specs.Places.{text_at}
 use Rattle.ob0_tree.specs.Tree.{Tree, array_type, end, fields, further_fields, item, items, listed, more, named_type, names, no_fields, record_type, some_fields, then_fields, written_type}
 use Rattle.ob0_reports.specs.ExpressionFaults.{told_expression}
-use Rattle.ob0_reports.specs.Known.{Operand, Told}
+use Rattle.ob0_reports.specs.Known.{Operand, Reported}
 use Rattle.ob0_reports.specs.Operations.{right, token_before, ◌>>=◌}
 use Rattle.ob0_reports.specs.SoFar.{Size, SoFar, Typed, facts_at, make, no_scalar, of_elements, of_fields, size_at}
 use Rattle.ob0_reports.specs.TypeFaults.{length_of, type_named}
@@ -19,7 +19,7 @@ array_size n z = record { scalars = z.scalars * n; depth = z.depth + 1 }
 
 -- An array of a faulty length is unknown as a whole; the type of its elements is looked at all the same. The word ARRAY stands
 -- before the length.
-abbrev pub array_made : Operand TypeId → Option ℕ → Typed → Told Typed
+abbrev pub array_made : Operand TypeId → Option ℕ → Typed → Reported Typed
 array_made o None element = right (record { of = type.Unknown; behind = element.behind })
 array_made o (Some n) element = make element.behind (token_before o.first) (of_elements element.of) (array_size n (size_at element.behind.made element.of))
 
@@ -67,13 +67,13 @@ abbrev pub record_word : Tree ℕ (items further_fields) → ℕ
 record_word end = 0
 record_word (more (then_fields g) rest) = word_before g (record_word rest)
 
-abbrev pub record_made : ℕ → Gathered → Told Typed
+abbrev pub record_made : ℕ → Gathered → Reported Typed
 record_made word g = make g.behind word (of_fields g.fields) (record_size g.size)
 
 unfoldable mutual
   unfolding told_expression
 
-  pub told_type : SoFar → Tree ℕ written_type → Told Typed
+  pub told_type : SoFar → Tree ℕ written_type → Reported Typed
   told_type p (named_type x) = do
     t ← type_named (facts_at p false) x
     right (record { of = t; behind = p })
@@ -87,19 +87,19 @@ unfoldable mutual
     all ← told_groups first rest
     record_made (word_before g (record_word rest)) all
 
-  pub told_fields : Gathered → Tree ℕ fields → Told Gathered
+  pub told_fields : Gathered → Tree ℕ fields → Reported Gathered
   told_fields so_far no_fields = right so_far
   told_fields so_far (some_fields ns t) = do
     u ← told_type so_far.behind t
     right (gathered_behind so_far (names_listed ns) u)
 
-  pub told_groups : Gathered → Tree ℕ (items further_fields) → Told Gathered
+  pub told_groups : Gathered → Tree ℕ (items further_fields) → Reported Gathered
   told_groups so_far end = right so_far
   told_groups so_far (more (then_fields g) rest) = do
     next ← told_fields so_far g
     told_groups next rest
 
 -- one group more
-unfoldable pub told_group : Gathered → Tree ℕ (item further_fields) → Told Gathered
+unfoldable pub told_group : Gathered → Tree ℕ (item further_fields) → Reported Gathered
 unfolding told_type
 told_group so_far (then_fields g) = told_fields so_far g

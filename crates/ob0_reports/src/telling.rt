@@ -12,7 +12,7 @@ mod written_types;
 ghost use Rattle.std.specs.Prelude.{◌≡◌, ◌++◌, IfOk, OnOk, map, option_map, None};
 ghost use Rattle.std.specs.List.{filter};
 ghost use Rattle.ob0_names.specs.Resolution.{is_of_occurrences};
-ghost use Rattle.ob0_reports.specs.DeclarationFaults.{told_module};
+ghost use Rattle.ob0_reports.specs.DeclarationFaults.{reported_module};
 ghost use Rattle.ob0_reports.specs.SoFar.{at_first};
 ghost use Rattle.ob0_reports.specs.SupposedFacts.{meaning_of, so_far_in};
 
@@ -24,23 +24,23 @@ use std::alloc::{AllocError, Global};
 /// The names of a module that nothing binds, in text order, and then the faults of its types. Its second declarations and closing names
 /// aren't looked at.
 pub fn tell<'t>(alloc: Global, resolved: &'t Resolved<'t>) -> Result<Vec<Fault>, AllocError>
-    ensures { IfOk result (λ faults. faults.items ≡ told_module resolved.now) }
+    ensures { IfOk result (λ faults. faults.items ≡ reported_module resolved.now) }
 {
-    let mut teller = Teller::new(alloc, resolved)?;
+    let mut teller = Reporter::new(alloc, resolved)?;
     teller.block(resolved.module().block())?;
     Ok(teller.into_faults())
 }
 
 /// A module on its way through the telling.
 #[derive(Drop)]
-struct Teller<'t> {
+struct Reporter<'t> {
     alloc: Global,
     supposed: Supposed<'t>,
     faults: Vec<Fault>,
 }
 
-impl<'t> Teller<'t> {
-    fn new(alloc: Global, resolved: &'t Resolved<'t>) -> Result<Teller<'t>, AllocError>
+impl<'t> Reporter<'t> {
+    fn new(alloc: Global, resolved: &'t Resolved<'t>) -> Result<Reporter<'t>, AllocError>
         ensures supposed { IfOk result (λ t. so_far_in t.supposed ≡ at_first resolved.now) }
         ensures faults { IfOk result (λ t. t.faults.items ≡ filter is_of_occurrences resolved.now.faults) }
     {
@@ -51,7 +51,7 @@ impl<'t> Teller<'t> {
             meanings,
             composites: Vec::new(alloc),
         };
-        Ok(Teller {
+        Ok(Reporter {
             alloc,
             supposed,
             faults: unbound(alloc, resolved)?,
@@ -61,7 +61,7 @@ impl<'t> Teller<'t> {
     fn into_faults(self) -> Vec<Fault>
         ensures { result.items ≡ self.entry.faults.items }
     {
-        let Teller {
+        let Reporter {
             alloc: _,
             supposed: _,
             faults,

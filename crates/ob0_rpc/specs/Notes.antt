@@ -7,16 +7,16 @@ use Rattle.ob0_text.specs.OpenDocuments.{TextChange}
 use Rattle.ob0_text.specs.declared.positions.Range.{Range}
 use Rattle.ob0_rpc.specs.Members.{is_absent, text_in, uri_of, version_of, text_of, range_of}
 
-pub data Told : Type 0 where
-  exits : Told
+pub data Notification : Type 0 where
+  exits : Notification
   -- the uri, the version and the characters of the text
-  opens : List ℕ → ℤ → List ℕ → Told
+  opens : List ℕ → ℤ → List ℕ → Notification
   -- the uri, the version and the changes in order
-  changes : List ℕ → ℤ → List TextChange → Told
-  closes : List ℕ → Told
+  changes : List ℕ → ℤ → List TextChange → Notification
+  closes : List ℕ → Notification
   -- an open, a change or a close that can't be read, with its uri where that can be read
-  unreadable : Option (List ℕ) → Told
-  other : Told
+  unreadable : Option (List ℕ) → Notification
+  other : Notification
 
 -- the range that a change has, or that it has none; none where it can't be read
 abbrev pub range_by : Option Data → Option (Option Range)
@@ -39,24 +39,24 @@ all_changes (item entry later) = option_and_then (λ change. option_map (λ chan
 abbrev pub changes_of : Data → Option (List TextChange)
 changes_of params = option_and_then all_changes (option_and_then as_array (get (codes "contentChanges") params))
 
-abbrev pub open_of : Option (List ℕ) → Option ℤ → Option (List ℕ) → Told
+abbrev pub open_of : Option (List ℕ) → Option ℤ → Option (List ℕ) → Notification
 open_of None version text = unreadable None
 open_of (Some uri) (Some version) (Some text) = opens uri version text
 open_of (Some uri) (Some version) None = unreadable (Some uri)
 open_of (Some uri) None text = unreadable (Some uri)
 
-abbrev pub change_of : Option (List ℕ) → Option ℤ → Option (List TextChange) → Told
+abbrev pub change_of : Option (List ℕ) → Option ℤ → Option (List TextChange) → Notification
 change_of None version all = unreadable None
 change_of (Some uri) (Some version) (Some all) = changes uri version all
 change_of (Some uri) (Some version) None = unreadable (Some uri)
 change_of (Some uri) None all = unreadable (Some uri)
 
-abbrev pub close_of : Option (List ℕ) → Told
+abbrev pub close_of : Option (List ℕ) → Notification
 close_of None = unreadable None
 close_of (Some uri) = closes uri
 
 -- a notification by its method
-abbrev pub note_of : List ℕ → Data → Told
+abbrev pub note_of : List ℕ → Data → Notification
 note_of method params =
     if bytes_eq method (codes "exit") then exits
     else if bytes_eq method (codes "textDocument/didOpen") then open_of (uri_of params) (version_of params) (text_of params)

@@ -5,10 +5,10 @@ use Rattle.std.specs.declared.alloc.Global.{Global}
 use Rattle.serde_json.specs.Data.{Data, null, number, string, unsigned}
 use Rattle.serde_json.specs.Find.{of_integer}
 use Rattle.serde_json.specs.View.{view}
-use Rattle.ob0_text.specs.OpenDocuments.{told_change}
+use Rattle.ob0_text.specs.OpenDocuments.{reported_change}
 use Rattle.ob0_rpc.specs.Asks.{At, Ask, initialize, shutdown, hover, definition, references, prepare_rename, rename, code_action, formatting}
 use Rattle.ob0_rpc.specs.Messages.{Reads, Meaning, not_a_message, response, request, notice, meaning_of}
-use Rattle.ob0_rpc.specs.Notes.{Told, exits, opens, changes, closes, unreadable, other, note_of}
+use Rattle.ob0_rpc.specs.Notes.{Notification, exits, opens, changes, closes, unreadable, other, note_of}
 use Rattle.ob0_rpc.specs.declared.calls.Call as called
 use Rattle.ob0_rpc.specs.declared.calls.Place.{Place}
 use Rattle.ob0_rpc.specs.declared.incoming.Id.{Id}
@@ -76,19 +76,19 @@ AsksFor asked (Err Memory) = Unit {0}
 AsksFor asked (Err NotJson) = ⊥
 AsksFor asked (Err NotAMessage) = ⊥
 
-abbrev pub seen_note : noted.Note → Told
+abbrev pub seen_note : noted.Note → Notification
 seen_note noted.TheVariants.Exit = exits
 seen_note (noted.TheVariants.Open uri version text) = opens (string_bytes uri) version (chars (string_bytes text))
-seen_note (noted.TheVariants.Change uri version cs) = changes (string_bytes uri) version (map told_change cs.items)
+seen_note (noted.TheVariants.Change uri version cs) = changes (string_bytes uri) version (map reported_change cs.items)
 seen_note (noted.TheVariants.Close uri) = closes (string_bytes uri)
 seen_note (noted.TheVariants.Unreadable uri) = unreadable (option_map string_bytes uri)
 seen_note noted.TheVariants.Other = other
 
 -- what the code makes of a notification
-abbrev pub TellsAs : List ℕ → Data → Result noted.Note RpcFault → Type 0
-TellsAs method params (Ok note) = note_of method params ≡ seen_note note
-TellsAs method params (Err Memory) = Unit {0}
-TellsAs method params (Err NotJson) = ⊥
-TellsAs method params (Err NotAMessage) = ⊥
-TellsAs method params (Err UnknownMethod) = ⊥
-TellsAs method params (Err BadParams) = ⊥
+abbrev pub ReportsAs : List ℕ → Data → Result noted.Note RpcFault → Type 0
+ReportsAs method params (Ok note) = note_of method params ≡ seen_note note
+ReportsAs method params (Err Memory) = Unit {0}
+ReportsAs method params (Err NotJson) = ⊥
+ReportsAs method params (Err NotAMessage) = ⊥
+ReportsAs method params (Err UnknownMethod) = ⊥
+ReportsAs method params (Err BadParams) = ⊥

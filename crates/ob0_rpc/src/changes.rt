@@ -1,6 +1,6 @@
 //! The changes of a document, as they are told.
 ghost use Rattle.std.specs.Prelude.{◌≡◌, IfOk, codes, option_and_then, option_map, map};
-ghost use Rattle.ob0_text.specs.OpenDocuments.{told_change};
+ghost use Rattle.ob0_text.specs.OpenDocuments.{reported_change};
 ghost use Rattle.serde_json.specs.Find.{get, as_array};
 ghost use Rattle.serde_json.specs.View.{view, items_view};
 ghost use Rattle.ob0_rpc.specs.Notes.{changes_of as changes_in, change_in, range_by};
@@ -12,7 +12,7 @@ use std::alloc::{AllocError, Global};
 
 /// The changes, none where an entry can't be read.
 pub fn read_changes(alloc: Global, params: Value) -> Result<Option<Vec<Change>>, AllocError>
-    ensures { IfOk result (λ found. option_map (λ cs. map told_change cs.items) found ≡ changes_in (view params)) }
+    ensures { IfOk result (λ found. option_map (λ cs. map reported_change cs.items) found ≡ changes_in (view params)) }
 {
     let Some(entries) = entries_of(params) else {
         return Ok(None);
@@ -49,15 +49,15 @@ fn into_list(value: Value) -> Option<Vec<Value>>
 
 /// A change of a range, or one of the whole text.
 fn read_change_in(entry: Value) -> Option<Change>
-    ensures { option_map told_change result ≡ change_in (view entry) }
+    ensures { option_map reported_change result ≡ change_in (view entry) }
 {
-    let range = range_told(entry.get("range"))?;
+    let range = read_range(entry.get("range"))?;
     let text = into_text_in(entry, "text")?;
     Some(Change { range, text })
 }
 
 /// The range that is told, or that none is; none where it can't be read.
-fn range_told(member: Option<&Value>) -> Option<Option<Range>>
+fn read_range(member: Option<&Value>) -> Option<Option<Range>>
     ensures { result ≡ range_by (option_map (λ v. view v.now) member.entry) }
 {
     if is_absent(member) {

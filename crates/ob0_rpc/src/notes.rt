@@ -3,7 +3,7 @@ ghost use Rattle.std.specs.Prelude.{◌≡◌, IfOk};
 ghost use Rattle.serde_json.specs.View.{view};
 ghost use Rattle.ob0_rpc.specs.Members.{uri_of as uri_in, version_of as version_in, text_of as text_in};
 ghost use Rattle.ob0_rpc.specs.Notes.{open_of, change_of, close_of, changes_of as changes_in};
-ghost use Rattle.ob0_rpc.specs.Seen.{TellsAs, seen_note};
+ghost use Rattle.ob0_rpc.specs.Seen.{ReportsAs, seen_note};
 
 use crate::changes::read_changes;
 use crate::incoming::RpcFault;
@@ -38,7 +38,7 @@ pub enum Note {
 
 /// Reads a notification by its method, and takes its texts out of the params. The only fault is running out of memory.
 pub fn notice(alloc: Global, method: &str, params: Value) -> Result<Note, RpcFault>
-    ensures { TellsAs method.now (view params) result }
+    ensures { ReportsAs method.now (view params) result }
 {
     if method == "exit" {
         Ok(Note::Exit)

@@ -253,7 +253,7 @@ pub fn rescan_in_place(
         removed,
         added,
     };
-    match read_anew(alloc, &old, new_text, change) {
+    match scan_again(alloc, &old, new_text, change) {
         Ok(between) => {
             let read = between.tokens.len() + between.comments.len();
             let tokens = old.with(alloc, new_text, between, change)?;
@@ -267,7 +267,7 @@ pub fn rescan_in_place(
 }
 
 /// What is read anew of a changed text.
-fn read_anew(
+fn scan_again(
     alloc: Global,
     old: &Tokens,
     new_text: &str,

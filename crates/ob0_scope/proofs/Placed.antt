@@ -23,7 +23,7 @@ use Rattle.ob0_names.specs.Scopes.{as_label, same_ordinal}
 use Rattle.ob0_scope.specs.declared.naming.Named as named
 use Rattle.ob0_scope.specs.Listing.{is_identifier, is_listed, is_name_on, tokens_listed}
 use Rattle.ob0_names.specs.Spans.{is_on}
-use Rattle.ob0_scope.specs.Standing.{Standing, is_declaring, name_on, named_by, refers, standing_in, tokens_bound}
+use Rattle.ob0_scope.specs.Standing.{BoundIdentifier, is_declaring, name_on, named_by, refers, bound_identifiers, tokens_bound}
 
 names_mapped : {N M : Type 0} (f : N → M) (g : ℕ → ℕ) (xs : List (Lexeme N)) → lexeme_names (map (relabelled f g) xs) ≡ map f (lexeme_names xs)
 names_mapped f g [] = refl
@@ -38,14 +38,14 @@ leaves-mapped f g t =
     ∙ (ap lexeme_names (spell_mapped f g t) ∙ (names_mapped f g (spell t) ∙ ap (map f) (sym (leaves_spelled role.Declaring t))))
 
 -- each identifier with the label of its token
-abbrev standing_by : (ℕ → Label) → Role × ℕ → Standing
+abbrev standing_by : (ℕ → Label) → Role × ℕ → BoundIdentifier
 standing_by label x = (x, label x.1)
 
 zipped : (label : ℕ → Label) (xs : List (Role × ℕ)) → zip xs (map label (names_only xs)) ≡ map (standing_by label) xs
 zipped label [] = refl
 zipped label (x ∷ xs) = λ i. standing_by label x ∷ zipped label xs i
 
-pub standing_by_table : (r : Resolution) → IsResolution r → standing_in r.module_read ≡ map (standing_by (label_at r.module_read.source r.ordinals)) (identifiers role.Declaring (tree_of r.module_read))
+pub standing_by_table : (r : Resolution) → IsResolution r → bound_identifiers r.module_read ≡ map (standing_by (label_at r.module_read.source r.ordinals)) (identifiers role.Declaring (tree_of r.module_read))
 standing_by_table r is =
     let m = r.module_read in
     let ids = identifiers role.Declaring (tree_of m) in
@@ -63,15 +63,15 @@ bound_to source ordinals d i = one (ordinal_in ordinals i)
 
 -- what is kept of one list and what is kept of another
 listed : (source : Scanned) (ordinals : List (Option ℕ)) (include : Bool) (d : ℕ) (xs : List (Role × ℕ))
-    → tokens_listed ordinals include d xs ≡ map (λ (s : Standing). s.0.1) (filter (refers include d) (map (standing_by (label_at source ordinals)) xs))
+    → tokens_listed ordinals include d xs ≡ map (λ (s : BoundIdentifier). s.0.1) (filter (refers include d) (map (standing_by (label_at source ordinals)) xs))
 listed source ordinals include d [] = refl
 listed source ordinals include d (x ∷ xs) =
     let found = filter (refers include d) (map (standing_by (label_at source ordinals)) xs) in
     one (is_listed ordinals include d x) (filter (is_listed ordinals include d) xs) found (listed source ordinals include d xs)
-    ∙ ap (λ b. map (λ (s : Standing). s.0.1) (cond (b && (include || not (is_declaring x.0))) (standing_by (label_at source ordinals) x ∷ found) found)) (sym (bound_to source ordinals d x.1))
+    ∙ ap (λ b. map (λ (s : BoundIdentifier). s.0.1) (cond (b && (include || not (is_declaring x.0))) (standing_by (label_at source ordinals) x ∷ found) found)) (sym (bound_to source ordinals d x.1))
   where
-    one : (b : Bool) (later : List (Role × ℕ)) (found : List Standing) → map (λ (x : Role × ℕ). x.1) later ≡ map (λ (s : Standing). s.0.1) found
-        → map (λ (x : Role × ℕ). x.1) (cond b (x ∷ later) later) ≡ map (λ (s : Standing). s.0.1) (cond b (standing_by (label_at source ordinals) x ∷ found) found)
+    one : (b : Bool) (later : List (Role × ℕ)) (found : List BoundIdentifier) → map (λ (x : Role × ℕ). x.1) later ≡ map (λ (s : BoundIdentifier). s.0.1) found
+        → map (λ (x : Role × ℕ). x.1) (cond b (x ∷ later) later) ≡ map (λ (s : BoundIdentifier). s.0.1) (cond b (standing_by (label_at source ordinals) x ∷ found) found)
     one true later found e = ap (λ z. x.1 ∷ z) e
     one false later found e = e
 
@@ -80,7 +80,7 @@ pub bound_listed : (r : Resolution) (d : ℕ) (include : Bool) → IsResolution 
 bound_listed r d include is =
     let m = r.module_read in
     listed m.source r.ordinals include d (identifiers role.Declaring (tree_of m))
-    ∙ ap (λ xs. map (λ (s : Standing). s.0.1) (filter (refers include d) xs)) (sym (standing_by_table r is))
+    ∙ ap (λ xs. map (λ (s : BoundIdentifier). s.0.1) (filter (refers include d) xs)) (sym (standing_by_table r is))
 
 -- places
 
@@ -132,12 +132,12 @@ label_back source ordinals x = one (ordinal_in ordinals x.1)
     one (Some k) = refl
 
 found_named : (source : Scanned) (ordinals : List (Option ℕ)) (offset : ℕ) (xs : List (Role × ℕ))
-    → option_and_then named_by (find (λ (s : Standing). is_on offset (span_at source s.0.1)) (map (standing_by (label_at source ordinals)) xs))
+    → option_and_then named_by (find (λ (s : BoundIdentifier). is_on offset (span_at source s.0.1)) (map (standing_by (label_at source ordinals)) xs))
     ≡ option_and_then (named_so ordinals) (find (λ i. is_on offset (span_at source i)) (names_only xs))
 found_named source ordinals offset [] = refl
 found_named source ordinals offset (x ∷ xs) = one (is_on offset (span_at source x.1)) _ _ (found_named source ordinals offset xs)
   where
-    one : (b : Bool) (found : Option Standing) (later : Option ℕ) → option_and_then named_by found ≡ option_and_then (named_so ordinals) later
+    one : (b : Bool) (found : Option BoundIdentifier) (later : Option ℕ) → option_and_then named_by found ≡ option_and_then (named_so ordinals) later
         → option_and_then named_by (cond b (Some (standing_by (label_at source ordinals) x)) found) ≡ option_and_then (named_so ordinals) (cond b (Some x.1) later)
     one true found later e = label_back source ordinals x
     one false found later e = e
@@ -147,6 +147,6 @@ pub name_found : (r : Resolution) (offset : ℕ) → IsResolution r → option_a
 name_found r offset is =
     let m = r.module_read in
     let stand = all_stand [] m.source.tokens in
-    sym (ap (λ xs. option_and_then named_by (find (λ (s : Standing). is_on offset (span_at m.source s.0.1)) xs)) (standing_by_table r is)
+    sym (ap (λ xs. option_and_then named_by (find (λ (s : BoundIdentifier). is_on offset (span_at m.source s.0.1)) xs)) (standing_by_table r is)
     ∙ (found_named m.source r.ordinals offset (identifiers role.Declaring (tree_of m))
     ∙ ap (option_and_then (named_so r.ordinals)) (ap (find (λ i. is_on offset (span_at m.source i))) (leaves_parsed m is.parsed) ∙ found_from offset (span_at m.source) 0 m.source.tokens stand)))

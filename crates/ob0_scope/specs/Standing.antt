@@ -15,24 +15,24 @@ use Rattle.ob0_names.specs.Scopes.{numbered, renamed}
 use Rattle.ob0_scope.specs.declared.naming.Named as named
 
 -- an identifier: what it is where it stands, its token, and what it is bound to
-abbrev pub Standing : Type 0
-Standing = (Role × ℕ) × Label
+abbrev pub BoundIdentifier : Type 0
+BoundIdentifier = (Role × ℕ) × Label
 
 -- the identifiers of a module, in text order
-abbrev pub standing_in : Parsed → List Standing
-standing_in m = zip (identifiers role.Declaring (tree_of m)) (leaves (numbered (named_tree_of m)))
+abbrev pub bound_identifiers : Parsed → List BoundIdentifier
+bound_identifiers m = zip (identifiers role.Declaring (tree_of m)) (leaves (numbered (named_tree_of m)))
 
 -- the identifier that a place is on
-abbrev pub standing_on : Parsed → ℕ → Option Standing
-standing_on m offset = find (λ s. is_on offset (span_at m.source s.0.1)) (standing_in m)
+abbrev pub identifier_on : Parsed → ℕ → Option BoundIdentifier
+identifier_on m offset = find (λ s. is_on offset (span_at m.source s.0.1)) (bound_identifiers m)
 
 -- its token and the ordinal of its declaration, where it is bound to one
-abbrev pub named_by : Standing → Option named.Named
+abbrev pub named_by : BoundIdentifier → Option named.Named
 named_by s = option_map (λ ordinal. record { token = s.0.1; ordinal = ordinal }) (label_ordinal s.1)
 
 -- the name that a place is on: no field, no module's name
 abbrev pub name_on : Parsed → ℕ → Option named.Named
-name_on m offset = option_and_then named_by (standing_on m offset)
+name_on m offset = option_and_then named_by (identifier_on m offset)
 
 abbrev pub is_declaring : Role → Bool
 is_declaring role.Declaring = true
@@ -42,12 +42,12 @@ is_declaring role.FieldName = false
 is_declaring role.ModuleName = false
 
 -- an identifier is bound to d, and isn't the one that declares it unless that is asked for
-abbrev pub refers : Bool → ℕ → Standing → Bool
+abbrev pub refers : Bool → ℕ → BoundIdentifier → Bool
 refers include d s = same_label s.1 (declared d) && (include || not (is_declaring s.0.0))
 
 -- the tokens of the identifiers that are bound to d
 abbrev pub tokens_bound : Parsed → ℕ → Bool → List ℕ
-tokens_bound m d include = map (λ s. s.0.1) (filter (refers include d) (standing_in m))
+tokens_bound m d include = map (λ s. s.0.1) (filter (refers include d) (bound_identifiers m))
 
 abbrev pub is_among : ℕ → List ℕ → Bool
 is_among i [] = false

@@ -11,7 +11,7 @@ use Rattle.ob0_typing.specs.Typing.{constant_of, constant_value, constructors, d
 use Rattle.ob0_typing.specs.WellTyped.{by_place, by_value}
 use Rattle.ob0_typing.proofs.TypeNaturality.{constant_value-map, denoted-map}
 use Rattle.ob0_values.specs.Values.{Place, Value, initial}
-use Rattle.ob0_semantics.specs.GivenUp.{call_giving_up, give_up, run_giving_up}
+use Rattle.ob0_semantics.specs.GivenUp.{call_giving_up, drop_variables, run_giving_up}
 use Rattle.ob0_semantics.specs.Laws.{GivingUpKeepsRuns}
 use Rattle.ob0_semantics.specs.Runs.{Activation, Argument, Calls, Code, Frame, Parameter, Progress, State, activate, allocate, bind_parameter, bind_parameters, call, declare_block, declare_procedures, declare_variables, execute_body, finished, formal_modes, in_frame, parameters, passing, place_argument, run_over, running, statement_meanings, stopped, value_argument, with_procedures}
 use Rattle.ob0_semantics.proofs.OtherPlaces.{Alike, ArgumentIs, ArgumentsAre, EntersAlike, MeaningIs, ObjectIs, PlaceIs, ProgressIs, StateIs, StoreIs, execute_all-alike, variable-added, variable-last, variables-cut}
@@ -285,7 +285,7 @@ module _ {N : Type 0} (naming : Naming N) where
       go (a_standard v) (a_standard w) is = ([], (refl, h.same_output))
       go _ _ is = absurd is
 
-  give_up-is : (at others : List ℕ) (s u : State) (p q : Progress) → StateIs at s u → ProgressIs (at ++ others) p q → ProgressIs at (give_up (length s.store) p) q
+  give_up-is : (at others : List ℕ) (s u : State) (p q : Progress) → StateIs at s u → ProgressIs (at ++ others) p q → ProgressIs at (drop_variables (length s.store) p) q
   give_up-is at others s u (running s₁) (running u₁) h is =
       record { same_variables = variables-cut at others s.store s₁.store u.store u₁.store h.same_variables is.same_variables; same_input = is.same_input; same_output = is.same_output }
   give_up-is at others s u (stopped e out) (stopped x written) h is = is

@@ -7,16 +7,16 @@ use Rattle.ob0_values.specs.Values.{CallBound}
 use Rattle.ob0_semantics.specs.Runs.{Activation, Calls, Progress, Run, activate, run_by, running, stopped}
 
 -- the first n of the store stay
-abbrev pub give_up : ℕ → Progress → Progress
-give_up n (running s) = running record s { store = take n s.store }
-give_up n (stopped e out) = stopped e out
+abbrev pub drop_variables : ℕ → Progress → Progress
+drop_variables n (running s) = running record s { store = take n s.store }
+drop_variables n (stopped e out) = stopped e out
 
 -- calls, of which c more may be open; the store is as long after one that returns as it was before
 unfoldable pub call_giving_up : {N : Type 0} → Naming N → ℕ → ℕ → Activation N → Calls N
 unfolding activate
 call_giving_up naming zero t env x args s = stopped CallBound s.output
 call_giving_up naming (suc c) t env x args s =
-    give_up (length s.store) (activate naming (call_giving_up naming c t) t (from_binding naming env x) args s)
+    drop_variables (length s.store) (activate naming (call_giving_up naming c t) t (from_binding naming env x) args s)
 
 unfoldable pub run_giving_up : {N : Type 0} → Naming N → Tree N module_text → List ℤ → ℕ → ℕ → Run
 unfolding run_by call_giving_up

@@ -9,7 +9,7 @@ use Rattle.std.proofs.lemmas.Bool.Decides.{nat_tests}
 use Rattle.std.specs.Char.{len_utf8}
 use Rattle.std.proofs.lemmas.Str.{length-encode, len_utf8_ascii, encode_ascii, inside_one, encodes-append, encodes-chars}
 use Rattle.ob0_text.specs.Texts.{LF, CR, Line, starts_with_lf, ends_line, in_front, in_front_of_ending, lines, byte_len}
-use Rattle.ob0_text.specs.LineStarts.{with_ending, starts_from, line_starts, starts_behind, AllUnder, AllFrom}
+use Rattle.ob0_text.specs.LineStarts.{with_ending, starts_from, line_starts, starts_after, AllUnder, AllFrom}
 use Rattle.ob0_text.proofs.LineLaws.{has_line, lines-ends, lines-before_lf, lines-in_front, no_line_end, lf_ends}
 use Rattle.ob0_text.proofs.FirstBytes.{lf_byte}
 use Rattle.ob0_text.proofs.PlaceSteps.{byte_len-cons}
@@ -18,19 +18,19 @@ pub append_nil : (xs : List ℕ) → xs ++ [] ≡ xs
 append_nil [] = refl
 append_nil (x ∷ xs) = ap (λ t. x ∷ t) (append_nil xs)
 
--- the equations of `starts_behind`
-pub behind-starts : (at b : ℕ) (bs next : List ℕ) → ends_line b (bs ++ next) ≡ true → starts_behind at (b ∷ bs) next ≡ at ∷ starts_behind (suc at) bs next
-unfolding starts_behind
+-- the equations of `starts_after`
+pub behind-starts : (at b : ℕ) (bs next : List ℕ) → ends_line b (bs ++ next) ≡ true → starts_after at (b ∷ bs) next ≡ at ∷ starts_after (suc at) bs next
+unfolding starts_after
 behind-starts at b bs next e = rw e refl
 
-pub behind-none : (at b : ℕ) (bs next : List ℕ) → ends_line b (bs ++ next) ≡ false → starts_behind at (b ∷ bs) next ≡ starts_behind (suc at) bs next
-unfolding starts_behind
+pub behind-none : (at b : ℕ) (bs next : List ℕ) → ends_line b (bs ++ next) ≡ false → starts_after at (b ∷ bs) next ≡ starts_after (suc at) bs next
+unfolding starts_after
 behind-none at b bs next e = rw e refl
 
 -- bytes in two parts
-pub behind-append : (at : ℕ) (xs ys next : List ℕ) → starts_behind at (xs ++ ys) next ≡ starts_behind at xs (ys ++ next) ++ starts_behind (at + length xs) ys next
-unfolding starts_behind
-behind-append at [] ys next = ap (λ k. starts_behind k ys next) (omega arith)
+pub behind-append : (at : ℕ) (xs ys next : List ℕ) → starts_after at (xs ++ ys) next ≡ starts_after at xs (ys ++ next) ++ starts_after (at + length xs) ys next
+unfolding starts_after
+behind-append at [] ys next = ap (λ k. starts_after k ys next) (omega arith)
 behind-append at (x ∷ xs) ys next = by_end (behind-append (suc at) xs ys next) (ends_line x (xs ++ (ys ++ next))) refl
   where
     same : ends_line x ((xs ++ ys) ++ next) ≡ ends_line x (xs ++ (ys ++ next))
@@ -39,13 +39,13 @@ behind-append at (x ∷ xs) ys next = by_end (behind-append (suc at) xs ys next)
     there : suc at + length xs ≡ at + suc (length xs)
     there = omega arith
 
-    by_end : starts_behind (suc at) (xs ++ ys) next ≡ starts_behind (suc at) xs (ys ++ next) ++ starts_behind (suc at + length xs) ys next → (b : Bool) → ends_line x (xs ++ (ys ++ next)) ≡ b → starts_behind at ((x ∷ xs) ++ ys) next ≡ starts_behind at (x ∷ xs) (ys ++ next) ++ starts_behind (at + length (x ∷ xs)) ys next
+    by_end : starts_after (suc at) (xs ++ ys) next ≡ starts_after (suc at) xs (ys ++ next) ++ starts_after (suc at + length xs) ys next → (b : Bool) → ends_line x (xs ++ (ys ++ next)) ≡ b → starts_after at ((x ∷ xs) ++ ys) next ≡ starts_after at (x ∷ xs) (ys ++ next) ++ starts_after (at + length (x ∷ xs)) ys next
     by_end more true e =
-        behind-starts at x (xs ++ ys) next (same ∙ e) ∙ ap (λ t. at ∷ t) (more ∙ ap (λ k. starts_behind (suc at) xs (ys ++ next) ++ starts_behind k ys next) there)
-        ∙ sym (ap (λ t. t ++ starts_behind (at + length (x ∷ xs)) ys next) (behind-starts at x xs (ys ++ next) e))
+        behind-starts at x (xs ++ ys) next (same ∙ e) ∙ ap (λ t. at ∷ t) (more ∙ ap (λ k. starts_after (suc at) xs (ys ++ next) ++ starts_after k ys next) there)
+        ∙ sym (ap (λ t. t ++ starts_after (at + length (x ∷ xs)) ys next) (behind-starts at x xs (ys ++ next) e))
     by_end more false e =
-        behind-none at x (xs ++ ys) next (same ∙ e) ∙ more ∙ ap (λ k. starts_behind (suc at) xs (ys ++ next) ++ starts_behind k ys next) there
-        ∙ sym (ap (λ t. t ++ starts_behind (at + length (x ∷ xs)) ys next) (behind-none at x xs (ys ++ next) e))
+        behind-none at x (xs ++ ys) next (same ∙ e) ∙ more ∙ ap (λ k. starts_after (suc at) xs (ys ++ next) ++ starts_after k ys next) there
+        ∙ sym (ap (λ t. t ++ starts_after (at + length (x ∷ xs)) ys next) (behind-none at x xs (ys ++ next) e))
 
 -- of what follows the first byte alone counts
 same_end : (x : ℕ) (xs next other : List ℕ) → starts_with_lf next ≡ starts_with_lf other → ends_line x (xs ++ next) ≡ ends_line x (xs ++ other)
@@ -53,18 +53,18 @@ unfolding ends_line starts_with_lf
 same_end x [] next other h = ap (λ b. x == LF || (x == CR && not b)) h
 same_end x (y ∷ ys) next other h = refl
 
-pub behind-next : (at : ℕ) (xs next other : List ℕ) → starts_with_lf next ≡ starts_with_lf other → starts_behind at xs next ≡ starts_behind at xs other
-unfolding starts_behind
+pub behind-next : (at : ℕ) (xs next other : List ℕ) → starts_with_lf next ≡ starts_with_lf other → starts_after at xs next ≡ starts_after at xs other
+unfolding starts_after
 behind-next at [] next other h = refl
 behind-next at (x ∷ xs) next other h =
     (λ i. if same_end x xs next other h i then at ∷ behind-next (suc at) xs next other h i else behind-next (suc at) xs next other h i)
 
 -- bytes that stand elsewhere
-pub behind-moved : (at there to by : ℕ) (xs next : List ℕ) → to ≤ at → at - to + by ≡ there → map (λ s. s - to + by) (starts_behind at xs next) ≡ starts_behind there xs next
-unfolding starts_behind
+pub behind-moved : (at there to by : ℕ) (xs next : List ℕ) → to ≤ at → at - to + by ≡ there → map (λ s. s - to + by) (starts_after at xs next) ≡ starts_after there xs next
+unfolding starts_after
 behind-moved at there to by [] next up e = refl
 behind-moved at there to by (x ∷ xs) next up e =
-    elim (ends_line x (xs ++ next)) as (λ b. map (λ s. s - to + by) (if b then at ∷ starts_behind (suc at) xs next else starts_behind (suc at) xs next) ≡ (if b then there ∷ starts_behind (suc there) xs next else starts_behind (suc there) xs next)) [
+    elim (ends_line x (xs ++ next)) as (λ b. map (λ s. s - to + by) (if b then at ∷ starts_after (suc at) xs next else starts_after (suc at) xs next) ≡ (if b then there ∷ starts_after (suc there) xs next else starts_after (suc there) xs next)) [
       | true ↦ (λ i. e i ∷ behind-moved (suc at) (suc there) to by xs next (omega arith) (omega (arith, e)) i)
       | false ↦ behind-moved (suc at) (suc there) to by xs next (omega arith) (omega (arith, e))
     ]
@@ -74,37 +74,37 @@ from_next : (at : ℕ) (ns : List ℕ) → AllFrom (suc at) ns → AllFrom at (a
 from_next at ns more zero h = omega arith
 from_next at ns more (suc k) h = let here : suc at ≤ get_or ns k 0 = more k (omega arith) in omega (arith, here)
 
-pub behind-from : (at : ℕ) (xs next : List ℕ) → AllFrom at (starts_behind at xs next)
-unfolding starts_behind
+pub behind-from : (at : ℕ) (xs next : List ℕ) → AllFrom at (starts_after at xs next)
+unfolding starts_after
 behind-from at [] next = λ k h. absurd (omega arith)
 behind-from at (x ∷ xs) next =
-    elim (ends_line x (xs ++ next)) as (λ b. AllFrom at (if b then at ∷ starts_behind (suc at) xs next else starts_behind (suc at) xs next)) [
-      | true ↦ from_next at (starts_behind (suc at) xs next) (behind-from (suc at) xs next)
-      | false ↦ λ k h. let more : suc at ≤ get_or (starts_behind (suc at) xs next) k 0 = behind-from (suc at) xs next k h in omega (arith, more)
+    elim (ends_line x (xs ++ next)) as (λ b. AllFrom at (if b then at ∷ starts_after (suc at) xs next else starts_after (suc at) xs next)) [
+      | true ↦ from_next at (starts_after (suc at) xs next) (behind-from (suc at) xs next)
+      | false ↦ λ k h. let more : suc at ≤ get_or (starts_after (suc at) xs next) k 0 = behind-from (suc at) xs next k h in omega (arith, more)
     ]
 
 under_next : (at bound : ℕ) (ns : List ℕ) → at < bound → AllUnder bound ns → AllUnder bound (at ∷ ns)
 under_next at bound ns low more zero h = low
 under_next at bound ns low more (suc k) h = more k (omega arith)
 
-pub behind-under : (at bound : ℕ) (xs next : List ℕ) → at + length xs ≡ bound → AllUnder bound (starts_behind at xs next)
-unfolding starts_behind
+pub behind-under : (at bound : ℕ) (xs next : List ℕ) → at + length xs ≡ bound → AllUnder bound (starts_after at xs next)
+unfolding starts_after
 behind-under at bound [] next e = λ k h. absurd (omega arith)
 behind-under at bound (x ∷ xs) next e =
-    elim (ends_line x (xs ++ next)) as (λ b. AllUnder bound (if b then at ∷ starts_behind (suc at) xs next else starts_behind (suc at) xs next)) [
-      | true ↦ under_next at bound (starts_behind (suc at) xs next) (omega (arith, e)) (behind-under (suc at) bound xs next (omega (arith, e)))
+    elim (ends_line x (xs ++ next)) as (λ b. AllUnder bound (if b then at ∷ starts_after (suc at) xs next else starts_after (suc at) xs next)) [
+      | true ↦ under_next at bound (starts_after (suc at) xs next) (omega (arith, e)) (behind-under (suc at) bound xs next (omega (arith, e)))
       | false ↦ behind-under (suc at) bound xs next (omega (arith, e))
     ]
 
 -- bytes that no line ends at
-skipped : (at : ℕ) (hs bs next : List ℕ) → ((k : ℕ) → k < length hs → 128 ≤ get_or hs k 0) → starts_behind at (hs ++ bs) next ≡ starts_behind (at + length hs) bs next
-skipped at [] bs next high = ap (λ k. starts_behind k bs next) (omega arith)
+skipped : (at : ℕ) (hs bs next : List ℕ) → ((k : ℕ) → k < length hs → 128 ≤ get_or hs k 0) → starts_after at (hs ++ bs) next ≡ starts_after (at + length hs) bs next
+skipped at [] bs next high = ap (λ k. starts_after k bs next) (omega arith)
 skipped at (h ∷ hs) bs next high =
     let up : 128 ≤ h = high 0 (omega arith) in
     let plain : (h == LF || h == CR) ≡ false = grind (arith, nat_tests) in
     behind-none at h (hs ++ bs) next (no_line_end h ((hs ++ bs) ++ next) plain)
     ∙ skipped (suc at) hs bs next (λ k l. high (suc k) (omega arith))
-    ∙ ap (λ k. starts_behind k bs next) (omega arith)
+    ∙ ap (λ k. starts_after k bs next) (omega arith)
 
 lf_first : (bs : List ℕ) → starts_with_lf bs ≡ eqb (get_or bs 0 0) LF
 unfolding starts_with_lf
@@ -142,7 +142,7 @@ high_bytes c k up l = by_low (nat_lt (get_or (encode_utf8 c) k 0) 128) refl
         absurd (omega arith)
     by_low false e = ltb-false (get_or (encode_utf8 c) k 0) 128 e
 
-one_byte : (at c : ℕ) (cs : List ℕ) → c < 128 → starts_behind (suc (at + len_utf8 c)) (encode_utf8_all cs) [] ≡ behind_ends (at + len_utf8 c) cs → starts_behind (suc at) (encode_utf8_all (c ∷ cs)) [] ≡ behind_ends at (c ∷ cs)
+one_byte : (at c : ℕ) (cs : List ℕ) → c < 128 → starts_after (suc (at + len_utf8 c)) (encode_utf8_all cs) [] ≡ behind_ends (at + len_utf8 c) cs → starts_after (suc at) (encode_utf8_all (c ∷ cs)) [] ≡ behind_ends at (c ∷ cs)
 one_byte at c cs low more = by_end (ends_line c cs) refl
   where
     bytes : encode_utf8_all (c ∷ cs) ≡ c ∷ encode_utf8_all cs
@@ -151,30 +151,30 @@ one_byte at c cs low more = by_end (ends_line c cs) refl
     next : at + len_utf8 c ≡ suc at
     next = ap (λ n. at + n) (len_utf8_ascii c low) ∙ omega arith
 
-    rest : starts_behind (suc (suc at)) (encode_utf8_all cs) [] ≡ behind_ends (at + len_utf8 c) cs
-    rest = ap (λ k. starts_behind (suc k) (encode_utf8_all cs) []) (sym next) ∙ more
+    rest : starts_after (suc (suc at)) (encode_utf8_all cs) [] ≡ behind_ends (at + len_utf8 c) cs
+    rest = ap (λ k. starts_after (suc k) (encode_utf8_all cs) []) (sym next) ∙ more
 
-    by_end : (b : Bool) → ends_line c cs ≡ b → starts_behind (suc at) (encode_utf8_all (c ∷ cs)) [] ≡ behind_ends at (c ∷ cs)
+    by_end : (b : Bool) → ends_line c cs ≡ b → starts_after (suc at) (encode_utf8_all (c ∷ cs)) [] ≡ behind_ends at (c ∷ cs)
     by_end true e =
-        ap (λ t. starts_behind (suc at) t []) bytes ∙ behind-starts (suc at) c (encode_utf8_all cs) [] (ends_line-encoded c cs ∙ e)
+        ap (λ t. starts_after (suc at) t []) bytes ∙ behind-starts (suc at) c (encode_utf8_all cs) [] (ends_line-encoded c cs ∙ e)
         ∙ (λ i. sym next i ∷ rest i) ∙ sym (ends-here at c cs e)
     by_end false e =
-        ap (λ t. starts_behind (suc at) t []) bytes ∙ behind-none (suc at) c (encode_utf8_all cs) [] (ends_line-encoded c cs ∙ e)
+        ap (λ t. starts_after (suc at) t []) bytes ∙ behind-none (suc at) c (encode_utf8_all cs) [] (ends_line-encoded c cs ∙ e)
         ∙ rest ∙ sym (ends-on at c cs e)
 
-more_bytes : (at c : ℕ) (cs : List ℕ) → 128 ≤ c → starts_behind (suc (at + len_utf8 c)) (encode_utf8_all cs) [] ≡ behind_ends (at + len_utf8 c) cs → starts_behind (suc at) (encode_utf8_all (c ∷ cs)) [] ≡ behind_ends at (c ∷ cs)
+more_bytes : (at c : ℕ) (cs : List ℕ) → 128 ≤ c → starts_after (suc (at + len_utf8 c)) (encode_utf8_all cs) [] ≡ behind_ends (at + len_utf8 c) cs → starts_after (suc at) (encode_utf8_all (c ∷ cs)) [] ≡ behind_ends at (c ∷ cs)
 more_bytes at c cs up more =
     let plain : (c == LF || c == CR) ≡ false = grind (arith, nat_tests) in
     let long : suc at + length (encode_utf8 c) ≡ suc (at + len_utf8 c) = omega (arith, length-encode c) in
     skipped (suc at) (encode_utf8 c) (encode_utf8_all cs) [] (λ k l. high_bytes c k up l)
-    ∙ ap (λ k. starts_behind k (encode_utf8_all cs) []) long ∙ more ∙ sym (ends-on at c cs (no_line_end c cs plain))
+    ∙ ap (λ k. starts_after k (encode_utf8_all cs) []) long ∙ more ∙ sym (ends-on at c cs (no_line_end c cs plain))
 
-pub ends-bytes : (at : ℕ) (cs : List ℕ) → starts_behind (suc at) (encode_utf8_all cs) [] ≡ behind_ends at cs
-unfolding starts_behind behind_ends
+pub ends-bytes : (at : ℕ) (cs : List ℕ) → starts_after (suc at) (encode_utf8_all cs) [] ≡ behind_ends at cs
+unfolding starts_after behind_ends
 ends-bytes at [] = refl
 ends-bytes at (c ∷ cs) = by_low (ends-bytes (at + len_utf8 c) cs) (nat_lt c 128) refl
   where
-    by_low : starts_behind (suc (at + len_utf8 c)) (encode_utf8_all cs) [] ≡ behind_ends (at + len_utf8 c) cs → (b : Bool) → nat_lt c 128 ≡ b → starts_behind (suc at) (encode_utf8_all (c ∷ cs)) [] ≡ behind_ends at (c ∷ cs)
+    by_low : starts_after (suc (at + len_utf8 c)) (encode_utf8_all cs) [] ≡ behind_ends (at + len_utf8 c) cs → (b : Bool) → nat_lt c 128 ≡ b → starts_after (suc at) (encode_utf8_all (c ∷ cs)) [] ≡ behind_ends at (c ∷ cs)
     by_low more true e = one_byte at c cs (ltb-true c 128 e) more
     by_low more false e = more_bytes at c cs (ltb-false c 128 e) more
 
@@ -214,9 +214,9 @@ starts-lines at (c ∷ cs) = by_end (starts-lines (at + len_utf8 c) cs) (ends_li
         ∙ ap (λ t. at ∷ t) (sym (ends-on at c cs e))
 
 -- the table, found in the bytes of a text as if an LF stood before it
-pub table : (bs : List ℕ) → IsUtf8 bs → line_starts (chars bs) ≡ starts_behind 0 (LF ∷ bs) []
+pub table : (bs : List ℕ) → IsUtf8 bs → line_starts (chars bs) ≡ starts_after 0 (LF ∷ bs) []
 table bs u =
-    starts-lines 0 (chars bs) ∙ ap (λ t. 0 ∷ t) (sym (ends-bytes 0 (chars bs)) ∙ ap (λ b. starts_behind 1 b []) (encodes-chars bs u))
+    starts-lines 0 (chars bs) ∙ ap (λ t. 0 ∷ t) (sym (ends-bytes 0 (chars bs)) ∙ ap (λ b. starts_after 1 b []) (encodes-chars bs u))
     ∙ sym (behind-starts 0 LF bs [] (lf_ends LF (bs ++ []) refl))
 
 -- the starts before some place and those from it on
@@ -225,43 +225,43 @@ pub record IsSplit (starts : List ℕ) (m : ℕ) (front back : List ℕ) : Type 
   pub under : AllUnder m front
   pub from : AllFrom m back
 
-pub table-split : (xs : List ℕ) (m : ℕ) → m ≤ length xs → IsSplit (starts_behind 0 xs []) m (starts_behind 0 (take m xs) (drop m xs)) (starts_behind m (drop m xs) [])
+pub table-split : (xs : List ℕ) (m : ℕ) → m ≤ length xs → IsSplit (starts_after 0 xs []) m (starts_after 0 (take m xs) (drop m xs)) (starts_after m (drop m xs) [])
 table-split xs m within =
     let here : 0 + length (take m xs) ≡ m = omega (arith, length-take-le m xs within) in
     record {
-      whole = ap (λ t. starts_behind 0 t []) (sym (take-append-drop m xs)) ∙ behind-append 0 (take m xs) (drop m xs) []
-          ∙ (λ i. starts_behind 0 (take m xs) (append_nil (drop m xs) i) ++ starts_behind (here i) (drop m xs) []);
+      whole = ap (λ t. starts_after 0 t []) (sym (take-append-drop m xs)) ∙ behind-append 0 (take m xs) (drop m xs) []
+          ∙ (λ i. starts_after 0 (take m xs) (append_nil (drop m xs) i) ++ starts_after (here i) (drop m xs) []);
       under = behind-under 0 m (take m xs) (drop m xs) here;
       from = behind-from m (drop m xs) [];
     }
 
 -- a text's first line starts before each place but 0
-pub start_before : (bs next : List ℕ) (m : ℕ) → 0 < length (starts_behind 0 (take (suc m) (LF ∷ bs)) next)
+pub start_before : (bs next : List ℕ) (m : ℕ) → 0 < length (starts_after 0 (take (suc m) (LF ∷ bs)) next)
 start_before bs next m = subst (λ t. 0 < length t) (sym (behind-starts 0 LF (take m bs) next (lf_ends LF (take m bs ++ next) refl))) (omega arith)
 
 -- a text of which some bytes were replaced
 module _ (bs new : List ℕ) (from to : ℕ) (inside : from < length (LF ∷ bs)) where
-  mended_bytes : starts_behind 0 (LF ∷ ((take from bs ++ new) ++ drop to bs)) [] ≡ starts_behind 0 (take from (LF ∷ bs) ++ ((get_or (LF ∷ bs) from 0 ∷ new) ++ drop to bs)) []
+  mended_bytes : starts_after 0 (LF ∷ ((take from bs ++ new) ++ drop to bs)) [] ≡ starts_after 0 (take from (LF ∷ bs) ++ ((get_or (LF ∷ bs) from 0 ∷ new) ++ drop to bs)) []
   mended_bytes =
       let up : LF ∷ take from bs ≡ take from (LF ∷ bs) ++ (get_or (LF ∷ bs) from 0 ∷ []) = take-suc (LF ∷ bs) from 0 inside in
-      ap (λ t. starts_behind 0 t []) (ap (λ t. (t ++ new) ++ drop to bs) up ∙ append_assoc (take from (LF ∷ bs) ++ (get_or (LF ∷ bs) from 0 ∷ [])) new (drop to bs) ∙ append_assoc (take from (LF ∷ bs)) (get_or (LF ∷ bs) from 0 ∷ []) (new ++ drop to bs))
+      ap (λ t. starts_after 0 t []) (ap (λ t. (t ++ new) ++ drop to bs) up ∙ append_assoc (take from (LF ∷ bs) ++ (get_or (LF ∷ bs) from 0 ∷ [])) new (drop to bs) ∙ append_assoc (take from (LF ∷ bs)) (get_or (LF ∷ bs) from 0 ∷ []) (new ++ drop to bs))
 
-  mended_front : starts_behind 0 (take from (LF ∷ bs)) (((get_or (LF ∷ bs) from 0 ∷ new) ++ drop to bs) ++ []) ≡ starts_behind 0 (take from (LF ∷ bs)) (drop from (LF ∷ bs))
+  mended_front : starts_after 0 (take from (LF ∷ bs)) (((get_or (LF ∷ bs) from 0 ∷ new) ++ drop to bs) ++ []) ≡ starts_after 0 (take from (LF ∷ bs)) (drop from (LF ∷ bs))
   unfolding starts_with_lf
   mended_front =
       behind-next 0 (take from (LF ∷ bs)) (((get_or (LF ∷ bs) from 0 ∷ new) ++ drop to bs) ++ []) (drop from (LF ∷ bs))
       (sym (ap starts_with_lf (drop-cons (LF ∷ bs) from 0 inside)))
 
-  mended_back : starts_behind (0 + length (take from (LF ∷ bs))) ((get_or (LF ∷ bs) from 0 ∷ new) ++ drop to bs) [] ≡ starts_behind from (get_or (LF ∷ bs) from 0 ∷ new) (drop to bs) ++ map (λ s. s - to + (from + length new)) (starts_behind (suc to) (drop to bs) [])
+  mended_back : starts_after (0 + length (take from (LF ∷ bs))) ((get_or (LF ∷ bs) from 0 ∷ new) ++ drop to bs) [] ≡ starts_after from (get_or (LF ∷ bs) from 0 ∷ new) (drop to bs) ++ map (λ s. s - to + (from + length new)) (starts_after (suc to) (drop to bs) [])
   mended_back =
       let here : 0 + length (take from (LF ∷ bs)) ≡ from = omega (arith, length-take-le from (LF ∷ bs)) in
       let there : suc to - to + (from + length new) ≡ from + suc (length new) = omega arith in
-      ap (λ k. starts_behind k ((get_or (LF ∷ bs) from 0 ∷ new) ++ drop to bs) []) here
+      ap (λ k. starts_after k ((get_or (LF ∷ bs) from 0 ∷ new) ++ drop to bs) []) here
       ∙ behind-append from (get_or (LF ∷ bs) from 0 ∷ new) (drop to bs) []
-      ∙ (λ i. starts_behind from (get_or (LF ∷ bs) from 0 ∷ new) (append_nil (drop to bs) i) ++ sym (behind-moved (suc to) (from + suc (length new)) to (from + length new) (drop to bs) [] (omega arith) there) i)
+      ∙ (λ i. starts_after from (get_or (LF ∷ bs) from 0 ∷ new) (append_nil (drop to bs) i) ++ sym (behind-moved (suc to) (from + suc (length new)) to (from + length new) (drop to bs) [] (omega arith) there) i)
 
 -- the table of a text of which some bytes were replaced
-pub table-mended : (bs new : List ℕ) (from to : ℕ) → from ≤ length bs → starts_behind 0 (LF ∷ ((take from bs ++ new) ++ drop to bs)) [] ≡ starts_behind 0 (take from (LF ∷ bs)) (drop from (LF ∷ bs)) ++ (starts_behind from (get_or (LF ∷ bs) from 0 ∷ new) (drop to bs) ++ map (λ s. s - to + (from + length new)) (starts_behind (suc to) (drop to bs) []))
+pub table-mended : (bs new : List ℕ) (from to : ℕ) → from ≤ length bs → starts_after 0 (LF ∷ ((take from bs ++ new) ++ drop to bs)) [] ≡ starts_after 0 (take from (LF ∷ bs)) (drop from (LF ∷ bs)) ++ (starts_after from (get_or (LF ∷ bs) from 0 ∷ new) (drop to bs) ++ map (λ s. s - to + (from + length new)) (starts_after (suc to) (drop to bs) []))
 table-mended bs new from to within =
     let inside : from < length (LF ∷ bs) = omega arith in
     mended_bytes bs new from to inside
@@ -274,15 +274,15 @@ module _ (found bytes next : List ℕ) (at last i : ℕ) (h : i < length bytes) 
   unfolding ends_line starts_with_lf
   same_test = ap (λ t. ends_line last (t ++ next)) (sym (drop_more bytes i 0 h))
 
-  pub start_pushed : ends_line last (get_or bytes i 0 ∷ []) ≡ true → (found ++ at ∷ []) ++ starts_behind (at + 1) (get_or bytes i 0 ∷ drop (i + 1) bytes) next ≡ found ++ starts_behind at (last ∷ drop i bytes) next
+  pub start_pushed : ends_line last (get_or bytes i 0 ∷ []) ≡ true → (found ++ at ∷ []) ++ starts_after (at + 1) (get_or bytes i 0 ∷ drop (i + 1) bytes) next ≡ found ++ starts_after at (last ∷ drop i bytes) next
   start_pushed e =
       append_assoc found (at ∷ []) _
-      ∙ ap (λ t. found ++ at ∷ t) (ap (λ k. starts_behind k (get_or bytes i 0 ∷ drop (i + 1) bytes) next) (add-one at) ∙ ap (λ t. starts_behind (suc at) t next) (sym (drop_more bytes i 0 h)))
+      ∙ ap (λ t. found ++ at ∷ t) (ap (λ k. starts_after k (get_or bytes i 0 ∷ drop (i + 1) bytes) next) (add-one at) ∙ ap (λ t. starts_after (suc at) t next) (sym (drop_more bytes i 0 h)))
       ∙ ap (λ t. found ++ t) (sym (behind-starts at last (drop i bytes) next (sym same_test ∙ e)))
 
-  pub start_passed : ends_line last (get_or bytes i 0 ∷ []) ≡ false → found ++ starts_behind (at + 1) (get_or bytes i 0 ∷ drop (i + 1) bytes) next ≡ found ++ starts_behind at (last ∷ drop i bytes) next
+  pub start_passed : ends_line last (get_or bytes i 0 ∷ []) ≡ false → found ++ starts_after (at + 1) (get_or bytes i 0 ∷ drop (i + 1) bytes) next ≡ found ++ starts_after at (last ∷ drop i bytes) next
   start_passed e =
-      ap (λ t. found ++ t) (ap (λ k. starts_behind k (get_or bytes i 0 ∷ drop (i + 1) bytes) next) (add-one at) ∙ ap (λ t. starts_behind (suc at) t next) (sym (drop_more bytes i 0 h))
+      ap (λ t. found ++ t) (ap (λ k. starts_after k (get_or bytes i 0 ∷ drop (i + 1) bytes) next) (add-one at) ∙ ap (λ t. starts_after (suc at) t next) (sym (drop_more bytes i 0 h))
       ∙ sym (behind-none at last (drop i bytes) next (sym same_test ∙ e)))
 
 -- its end
@@ -291,10 +291,10 @@ unfolding ends_line starts_with_lf
 last_test last [] = refl
 last_test last (b ∷ bs) = refl
 
-pub start_last : (found next : List ℕ) (at last : ℕ) → ends_line last next ≡ true → found ++ at ∷ [] ≡ found ++ starts_behind at (last ∷ []) next
-unfolding starts_behind
+pub start_last : (found next : List ℕ) (at last : ℕ) → ends_line last next ≡ true → found ++ at ∷ [] ≡ found ++ starts_after at (last ∷ []) next
+unfolding starts_after
 start_last found next at last e = rw e refl
 
-pub no_start_last : (found next : List ℕ) (at last : ℕ) → ends_line last next ≡ false → found ≡ found ++ starts_behind at (last ∷ []) next
-unfolding starts_behind
+pub no_start_last : (found next : List ℕ) (at last : ℕ) → ends_line last next ≡ false → found ≡ found ++ starts_after at (last ∷ []) next
+unfolding starts_after
 no_start_last found next at last e = rw e (sym (append_nil found))

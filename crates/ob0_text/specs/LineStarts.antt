@@ -20,10 +20,10 @@ line_starts text = starts_from 0 (lines text)
 
 -- The offsets at which a line starts right behind one of these bytes. The first byte stands before the offset `at`,
 -- and `next` follows on the last
-unfoldable pub starts_behind : ℕ → List ℕ → List ℕ → List ℕ
-starts_behind at [] next = []
-starts_behind at (b ∷ bs) next =
-    if ends_line b (bs ++ next) then at ∷ starts_behind (suc at) bs next else starts_behind (suc at) bs next
+unfoldable pub starts_after : ℕ → List ℕ → List ℕ → List ℕ
+starts_after at [] next = []
+starts_after at (b ∷ bs) next =
+    if ends_line b (bs ++ next) then at ∷ starts_after (suc at) bs next else starts_after (suc at) bs next
 
 -- each number of a list is below a bound, or from it on
 abbrev pub AllUnder : ℕ → List ℕ → Type 0

@@ -3,7 +3,7 @@
 ghost use Rattle.std.specs.Prelude.{◌≡◌, ◌+◌, ◌-◌, ◌^◌, ◌<◌, ◌≤◌, List, ℕ, ◌∷◌, ◌++◌, IfOk, OnOk, drop, length, map, min, option_to_list, slice_index};
 ghost use Rattle.std.specs.Str.{chars};
 ghost use Rattle.ob0_text.specs.Texts.{LF, ends_line};
-ghost use Rattle.ob0_text.specs.LineStarts.{line_starts, starts_behind, AllUnder, AllFrom};
+ghost use Rattle.ob0_text.specs.LineStarts.{line_starts, starts_after, AllUnder, AllFrom};
 
 use crate::places::Place;
 use std::alloc::{AllocError, Global};
@@ -32,7 +32,7 @@ pub fn starts_from_change(
     requires behind { AllFrom to later.now }
     requires within { AllUnder (length text.now + 1) later.now }
     requires order { from ≤ to }
-    ensures { IfOk result (λ starts. starts.items ≡ starts_behind from (slice_index (LF ∷ text.now) from ∷ new.now) (drop to text.now) ++ map (λ s. s - to + (from + length new.now)) later.now) }
+    ensures { IfOk result (λ starts. starts.items ≡ starts_after from (slice_index (LF ∷ text.now) from ∷ new.now) (drop to text.now) ++ map (λ s. s - to + (from + length new.now)) later.now) }
 {
     let bytes = text.as_bytes();
     let mut starts = Vec::new(alloc);
@@ -71,7 +71,7 @@ fn add_starts(
     behind: &[u8],
 ) -> Result<(), AllocError>
     requires { from + length bytes.now < 2 ^ 64 }
-    ensures { OnOk result (starts.new.items ≡ starts.old.items ++ starts_behind from (before ∷ bytes.now) behind.now) }
+    ensures { OnOk result (starts.new.items ≡ starts.old.items ++ starts_after from (before ∷ bytes.now) behind.now) }
 {
     let mut last = before;
     let mut at = from;

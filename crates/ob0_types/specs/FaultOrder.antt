@@ -8,7 +8,7 @@ use Rattle.ob0_scan.specs.declared.fault.Code.{Code}
 use Rattle.ob0_scan.specs.declared.fault.Code.TheVariants as code
 use Rattle.ob0_scan.specs.declared.fault.Fault.{Fault}
 use Rattle.ob0_names.specs.Resolution.{Resolution, is_of_declarations}
-use Rattle.ob0_reports.specs.DeclarationFaults.{told_module}
+use Rattle.ob0_reports.specs.DeclarationFaults.{reported_module}
 
 -- the numbers of the codes: of lexemes, of scopes, of types
 abbrev pub code_number : Code → ℕ
@@ -43,7 +43,7 @@ fault_cmp x y = ordering_then (place_cmp x y) (nat_cmp (code_number x.code) (cod
 -- The faults of types: none where the types of the module fit, else its names that nothing binds, and then what is wrong with its
 -- declarations and its statements.
 abbrev pub faults_of_types : Bool → Resolution → List Fault
-faults_of_types fits r = if fits then [] else told_module r
+faults_of_types fits r = if fits then [] else reported_module r
 
 -- These are the first 100, in that order, of the faults of types and of names that are declared twice or close what another
 -- name opened.

@@ -24,7 +24,7 @@ use Rattle.ob0_rpc.specs.Shapes.{result_message, error_message}
 use Rattle.ob0_rpc.specs.declared.clients.Client.{Client}
 use Rattle.ob0_session.specs.Actions.{ActionsAsked, ListsActions, Offers, wants_inlining, place_of, actions_value}
 use Rattle.ob0_session.specs.Answers as answers_of
-use Rattle.ob0_session.specs.Answers.{State, Say, Says, Sends, Reaction, reacts, told, hears, requested, asked as asked_in, calls, of_document, lays_out, renames, offers_actions, published, Answers, AnswersIn, AnswersGoingOn, says}
+use Rattle.ob0_session.specs.Answers.{State, Say, Says, Sends, Reaction, reacts, reaction_to, hears, requested, asked as asked_in, calls, of_document, lays_out, renames, offers_actions, published, Answers, AnswersIn, AnswersGoingOn, says}
 use Rattle.ob0_session.specs.Diagnosed.{Complaint, IsWellTypedModule, Tells, TellsFaults, complaint_of}
 use Rattle.ob0_session.specs.Diagnostics.{Diagnoses, diagnostic_of}
 use Rattle.ob0_session.specs.Texts.{utf8}
@@ -164,7 +164,7 @@ pub record Served (asked : List Asked) (m : ToServer) (before after : State) (se
   pub may : MaySend before.held m said (option_to_list (made_first after.held said))
 
 -- the reaction to a note, and what it saying
-note_served : (asked : List Asked) (note : DocumentNote) (before after : State) (sent : List (List ℕ)) → IsRunning before → HasVersion note → after ≡ (told before (told_as note)).after → Says (told before (told_as note)).say sent
+note_served : (asked : List Asked) (note : DocumentNote) (before after : State) (sent : List (List ℕ)) → IsRunning before → HasVersion note → after ≡ (reaction_to before (told_as note)).after → Says (reaction_to before (told_as note)).say sent
     → Served asked (tells note) before after sent
 note_served asked (Opened uri version text) before after sent running fits is saying =
     let held : OpenDocuments = opened before.held uri version text in
@@ -189,7 +189,7 @@ note_served asked (Lost uri) before after sent running fits is saying =
 note_served asked (Closed uri) before after sent running fits is saying =
     subst (λ a. Served asked (tells (Closed uri)) before a sent) (sym is) (go (is_some (document_at before.held uri)) refl saying)
   where
-    go : (b : Bool) → is_some (document_at before.held uri) ≡ b → Says (cond b (says (publication uri None [])) answers_of.nothing) sent → Served asked (tells (Closed uri)) before (told before (told_as (Closed uri))).after sent
+    go : (b : Bool) → is_some (document_at before.held uri) ≡ b → Says (cond b (says (publication uri None [])) answers_of.nothing) sent → Served asked (tells (Closed uri)) before (reaction_to before (told_as (Closed uri))).after sent
     go true was saying = record {
       running = running;
       held = refl;
@@ -438,8 +438,8 @@ reacts_so before after content sent d (json, reads, answer) known =
 pub served : (asked : List Asked) (m : ToServer) (before after : State) (content : List ℕ) (sent : List (List ℕ)) → IsRunning before → heard_as.Says asked m content → Answers before content sent after → Served asked m before after sent
 served asked (tells note) before after content sent running is h =
     let answer = reacts_so before after content sent is.json (going_on before after content sent running h) is.reads in
-    let so : reacts before (meaning_of is.json) ≡ told before (told_as note) =
-    ap (reacts before) is.means ∙ ap (λ phase. hears phase before is.method is.params) running.0 ∙ ap (told before) is.told in
+    let so : reacts before (meaning_of is.json) ≡ reaction_to before (told_as note) =
+    ap (reacts before) is.means ∙ ap (λ phase. hears phase before is.method is.params) running.0 ∙ ap (reaction_to before) is.told in
     note_served asked note before after sent running is.fits (answer.0 ∙ ap (λ (x : Reaction). x.after) so) (subst (λ (x : Reaction). Says x.say sent) so answer.1)
 served asked (asks k uri ask) before after content sent running (is, of) h =
     let answer = reacts_so before after content sent is.json (going_on before after content sent running h) is.reads in

@@ -5,7 +5,7 @@ use Rattle.ob0_text.specs.declared.positions.Unit.{Unit}
 use Rattle.ob0_text.specs.declared.positions.Unit.TheVariants.{Utf16, Utf8}
 use Rattle.ob0_rpc.specs.Messages.{Reads, meaning_of}
 use Rattle.ob0_session.specs.Answers.{State, start, begins, reacts, Answers}
-use Rattle.ob0_session.specs.Standing.{Standing, serving, failed}
+use Rattle.ob0_session.specs.Standing.{SessionState, serving, failed}
 use Rattle.ob0_editor.specs.Beginning.{initialize_message, client_for}
 use Rattle.ob0_world.specs.Queues.{Contents, bytes, Stands, held_by, IsInitialized, new_session, Both, new_both, IsAnswered}
 use Rattle.ob0_world.proofs.Answering.{reacts_so}
@@ -24,16 +24,16 @@ is_initialized unit = record { state = begins (client_for unit); serves = refl; 
 pub begins_initialized : (unit : Unit) (w : Both) → w ≡ new_both unit → IsInitialized unit w.session
 begins_initialized unit w is = subst (λ (w : Both). IsInitialized unit w.session) (sym is) (is_initialized unit)
 
-abbrev state_of : Standing → State → State
+abbrev state_of : SessionState → State → State
 state_of (serving s) other = s
 state_of failed other = other
 
-pub record Begun (unit : Unit) (session : Standing) : Type 0 where
+pub record Begun (unit : Unit) (session : SessionState) : Type 0 where
   pub is : session ≡ new_session unit
   pub stands : Stands session
   pub held : held_by session ≡ none_open unit
 
-pub begins_so : (unit : Unit) (content : List ℕ) (sent : Contents) (session : Standing) → Reads content (Some (initialize_message unit)) → IsAnswered (serving start) content sent session → Begun unit session
+pub begins_so : (unit : Unit) (content : List ℕ) (sent : Contents) (session : SessionState) → Reads content (Some (initialize_message unit)) → IsAnswered (serving start) content sent session → Begun unit session
 begins_so unit content sent session reads (before, after, was, is, how) =
     let same : start ≡ before = ap (λ s. state_of s start) was in
     let from_start : Answers start content (bytes sent) after = subst (λ s. Answers s content (bytes sent) after) (sym same) how in

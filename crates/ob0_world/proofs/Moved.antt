@@ -5,7 +5,7 @@ use Rattle.std.specs.declared.alloc.Global.{Global}
 use Rattle.std.proofs.lemmas.List.{append-nil, map-append}
 use Rattle.std.proofs.lemmas.List.Elements.{All-push, All-tail}
 use Rattle.ob0_text.specs.OpenDocuments.{TextChange}
-use Rattle.ob0_session.specs.Standing.{Standing}
+use Rattle.ob0_session.specs.Standing.{SessionState}
 use Rattle.ob0_editor.specs.Code.{applied_of}
 use Rattle.ob0_editor.specs.Heard.{heard, Says}
 use Rattle.ob0_editor.specs.Moves.{Moves, ComesOf}
@@ -69,20 +69,20 @@ moves_grow e new (sends f m) (Some c) extends is = (extends.0, ap (λ (x : Edito
 
 -- ---- what waits stays sound
 
-pub grown_sound : (e new : Editor) (q r : Contents) (s : Standing) → Grows e new → Sound e.asked q r s → Sound new.asked q r s
+pub grown_sound : (e new : Editor) (q r : Contents) (s : SessionState) → Grows e new → Sound e.asked q r s → Sound new.asked q r s
 grown_sound e new q r s (more, is) sound =
     subst (λ asked. Sound asked q r s) (sym is)
     (record { heard_all = all_heard_still e.asked more q sound.heard_all; understood_all = all_understood_still e.asked more r sound.understood_all; stands = sound.stands })
 
-pub same_sound : (e new : Editor) (q r : Contents) (s : Standing) → new.asked ≡ e.asked → Sound e.asked q r s → Sound new.asked q r s
+pub same_sound : (e new : Editor) (q r : Contents) (s : SessionState) → new.asked ≡ e.asked → Sound e.asked q r s → Sound new.asked q r s
 same_sound e new q r s is sound = subst (λ asked. Sound asked q r s) (sym is) sound
 
-pushed_sound : (asked : List Asked) (q r : Contents) (s : Standing) (c : Vec ℕ Global) (m : ToServer) → Says asked m c.items → Sound asked q r s → Sound asked (q ++ c ∷ []) r s
+pushed_sound : (asked : List Asked) (q r : Contents) (s : SessionState) (c : Vec ℕ Global) (m : ToServer) → Says asked m c.items → Sound asked q r s → Sound asked (q ++ c ∷ []) r s
 pushed_sound asked q r s c m says sound =
     record { heard_all = All-push (IsHeard asked) q c sound.heard_all (m, says); understood_all = sound.understood_all; stands = sound.stands }
 
 -- the editor has moved, and its message, if any, waits
-pub moved_sound : (e new : Editor) (m : Move) (content : Option (Vec ℕ Global)) (q q' r : Contents) (s : Standing) (shown : seen.Seen) → Extends e m → Moves m e content new → IsSent q content shown q' → Sound e.asked q r s → Sound new.asked q' r s
+pub moved_sound : (e new : Editor) (m : Move) (content : Option (Vec ℕ Global)) (q q' r : Contents) (s : SessionState) (shown : seen.Seen) → Extends e m → Moves m e content new → IsSent q content shown q' → Sound e.asked q r s → Sound new.asked q' r s
 moved_sound e new idle None q q' r s shown extends is sent sound =
     subst (λ x. Sound new.asked x r s) (sym sent.1) (same_sound e new q r s (ap (λ (x : Editor). x.asked) is) sound)
 moved_sound e new idle (Some c) q q' r s shown extends is sent sound = absurd is
@@ -93,7 +93,7 @@ moved_sound e new (sends f m) (Some c) q q' r s shown extends is sent sound =
     (grown_sound e new q r s (moves_grow e new (sends f m) (Some c) extends is) sound))
 
 -- the same queues, where more was asked
-queues_grown : (e new : Editor) (q r : Contents) (s : Standing) (ap_list : List applied.Applied) (md : List made.Made) → Grows e new → Sound e.asked q r s
+queues_grown : (e new : Editor) (q r : Contents) (s : SessionState) (ap_list : List applied.Applied) (md : List made.Made) → Grows e new → Sound e.asked q r s
     → ends_from new q s r ap_list md ≡ record (ends_from e q s r ap_list md) { editor = new }
 queues_grown e new q r s ap_list md (more, is) sound =
     (λ i. record (ends_from new q s r ap_list md) {
@@ -101,7 +101,7 @@ queues_grown e new q r s ap_list md (more, is) sound =
       to_editor = (ap (λ asked. all_understood asked r) is ∙ understood_same e.asked more r sound.understood_all) i;
     })
 
-pub moved_happens : (e new : Editor) (m : Move) (content : Option (Vec ℕ Global)) (q q' r : Contents) (s : Standing) (ap_list : List applied.Applied) (md : List made.Made) (shown : seen.Seen) → Extends e m → Moves m e content new → IsSent q content shown q'
+pub moved_happens : (e new : Editor) (m : Move) (content : Option (Vec ℕ Global)) (q q' r : Contents) (s : SessionState) (ap_list : List applied.Applied) (md : List made.Made) (shown : seen.Seen) → Extends e m → Moves m e content new → IsSent q content shown q'
     → Sound e.asked q r s → Is (moved (ends_from e q s r ap_list md) m) (seen_of shown) (ends_from new q' s r ap_list md)
 moved_happens e new idle None q q' r s ap_list md shown extends is sent sound = (sent.0, (λ i. ends_from (is i) (sent.1 i) s r ap_list md))
 moved_happens e new idle (Some c) q q' r s ap_list md shown extends is sent sound = absurd is
@@ -144,14 +144,14 @@ apply_keeps_asks e k (Some edits) = of_asked (numbered e.asked k)
     of_asked (Some a) = of_document a.uri (if_same a (open_at f a.uri))
 
 -- nothing was sent
-pub let_go_happens : (e new : Editor) (k : ℕ) (o : Outcome) (q r : Contents) (s : Standing) (ap_list : List applied.Applied) (md : List made.Made) → KeepsAsks e o → ComesOf o e applying.TheVariants.Dropped new
+pub let_go_happens : (e new : Editor) (k : ℕ) (o : Outcome) (q r : Contents) (s : SessionState) (ap_list : List applied.Applied) (md : List made.Made) → KeepsAsks e o → ComesOf o e applying.TheVariants.Dropped new
     → Is (comes_of (ends_from e q s r ap_list md) k o) (drops k) (ends_from new q s r ap_list md)
 let_go_happens e new k not_held q r s ap_list md keeps is = absurd is
 let_go_happens e new k (lets_go f) q r s ap_list md keeps is =
     (refl, (λ i. ends_from (is i) q s r ap_list md) ∙ (λ i. record (ends_from e q s r ap_list md) { editor = f; to_server = all_heard (keeps i) q; to_editor = all_understood (keeps i) r }))
 let_go_happens e new k (makes f a m) q r s ap_list md keeps is = absurd is
 
-pub not_held_happens : (e new : Editor) (k : ℕ) (o : Outcome) (q r : Contents) (s : Standing) (ap_list : List applied.Applied) (md : List made.Made) → ComesOf o e applying.TheVariants.NotHeld new
+pub not_held_happens : (e new : Editor) (k : ℕ) (o : Outcome) (q r : Contents) (s : SessionState) (ap_list : List applied.Applied) (md : List made.Made) → ComesOf o e applying.TheVariants.NotHeld new
     → Is (comes_of (ends_from e q s r ap_list md) k o) nothing (ends_from new q s r ap_list md)
 not_held_happens e new k not_held q r s ap_list md is = (refl, (λ i. ends_from (is i) q s r ap_list md))
 not_held_happens e new k (lets_go f) q r s ap_list md is = absurd is
@@ -174,7 +174,7 @@ made_says e new not_held a c is = absurd is
 made_says e new (lets_go f) a c is = absurd is
 made_says e new (makes f b m) a c (is_new, is_a, says) = (m, subst (λ (x : Editor). Says x.asked m c.items) (sym is_new) says)
 
-pub made_happens : (e new : Editor) (k : ℕ) (o : Outcome) (a : applied.Applied) (c : Vec ℕ Global) (q q' r : Contents) (s : Standing) (ap_list ap_new : List applied.Applied) (md : List made.Made) → KeepsAsks e o → ComesOf o e (applying.TheVariants.Made a c) new
+pub made_happens : (e new : Editor) (k : ℕ) (o : Outcome) (a : applied.Applied) (c : Vec ℕ Global) (q q' r : Contents) (s : SessionState) (ap_list ap_new : List applied.Applied) (md : List made.Made) → KeepsAsks e o → ComesOf o e (applying.TheVariants.Made a c) new
     → q' ≡ q ++ c ∷ [] → ap_new ≡ ap_list ++ a ∷ [] → Is (comes_of (ends_from e q s r ap_list md) k o) (applies k) (ends_from new q' s r ap_new md)
 made_happens e new k not_held a c q q' r s ap_list ap_new md keeps is is_q is_ap = absurd is
 made_happens e new k (lets_go f) a c q q' r s ap_list ap_new md keeps is is_q is_ap = absurd is
@@ -193,18 +193,18 @@ pub keep_asks : (e : Editor) (number : ℕ) (edits : List Replacement) → (keep
 keep_asks e number [] = refl
 keep_asks e number (edit ∷ edits) = refl
 
-pub take_nothing : (e : Editor) (q r : Contents) (s : Standing) (ap_list : List applied.Applied) (md : List made.Made) → r ≡ [] → Is (takes (ends_from e q s r ap_list md) (all_understood e.asked r)) nothing (ends_from e q s r ap_list md)
+pub take_nothing : (e : Editor) (q r : Contents) (s : SessionState) (ap_list : List applied.Applied) (md : List made.Made) → r ≡ [] → Is (takes (ends_from e q s r ap_list md) (all_understood e.asked r)) nothing (ends_from e q s r ap_list md)
 take_nothing e q r s ap_list md none = subst (λ x. Is (takes (ends_from e q s r ap_list md) (all_understood e.asked x)) nothing (ends_from e q s r ap_list md)) (sym none) (refl, refl)
 
 first_taken : (e : Editor) (c : Vec ℕ Global) (rest r : Contents) (m : ToEditor) → r ≡ c ∷ rest → understood e.asked c.items ≡ Some m → all_understood e.asked r ≡ m ∷ all_understood e.asked rest
 first_taken e c rest r m is says = ap (all_understood e.asked) is ∙ said_first (understood e.asked) c rest m says
 
-pub take_published : (e : Editor) (q r rest : Contents) (s : Standing) (ap_list : List applied.Applied) (md : List made.Made) (c : Vec ℕ Global) (uri : List ℕ) (version : Option ℤ) (empty : Bool) → r ≡ c ∷ rest
+pub take_published : (e : Editor) (q r rest : Contents) (s : SessionState) (ap_list : List applied.Applied) (md : List made.Made) (c : Vec ℕ Global) (uri : List ℕ) (version : Option ℤ) (empty : Bool) → r ≡ c ∷ rest
     → understood e.asked c.items ≡ Some (publishes uri version empty) → Is (takes (ends_from e q s r ap_list md) (all_understood e.asked r)) (published uri empty) (ends_from e q s rest ap_list md)
 take_published e q r rest s ap_list md c uri version empty is says =
     subst (λ x. Is (takes (ends_from e q s r ap_list md) x) (published uri empty) (ends_from e q s rest ap_list md)) (sym (first_taken e c rest r (publishes uri version empty) is says)) (refl, refl)
 
-pub take_answered : (e new : Editor) (q r rest : Contents) (s : Standing) (ap_list : List applied.Applied) (md : List made.Made) (c : Vec ℕ Global) (number : ℕ) (edits : List Replacement) (kept : Bool) → r ≡ c ∷ rest
+pub take_answered : (e new : Editor) (q r rest : Contents) (s : SessionState) (ap_list : List applied.Applied) (md : List made.Made) (c : Vec ℕ Global) (number : ℕ) (edits : List Replacement) (kept : Bool) → r ≡ c ∷ rest
     → understood e.asked c.items ≡ Some (answers number edits) → new ≡ keeps e number edits → kept ≡ has_edits edits
     → Is (takes (ends_from e q s r ap_list md) (all_understood e.asked r)) (answered number kept) (ends_from new q s rest ap_list md)
 take_answered e new q r rest s ap_list md c number edits kept is says is_new is_kept =
@@ -214,34 +214,34 @@ take_answered e new q r rest s ap_list md c number edits kept is says is_new is_
 
 -- ---- sending
 
-pub sent_sound : {X : Type 0} (f : Editor → Move) (e new : Editor) (content : Option (Vec ℕ Global)) (q q' r : Contents) (s : Standing) (result : Result seen.Seen X) → Extends e (f e) → Moves (f e) e content new
+pub sent_sound : {X : Type 0} (f : Editor → Move) (e new : Editor) (content : Option (Vec ℕ Global)) (q q' r : Contents) (s : SessionState) (result : Result seen.Seen X) → Extends e (f e) → Moves (f e) e content new
     → IfOk result (λ shown. IsSent q content shown q') → OnErr result (q' ≡ q) → Sound e.asked q r s → Sound new.asked q' r s
 sent_sound f e new content q q' r s (Ok shown) extends is sent none sound = moved_sound e new (f e) content q q' r s shown extends is sent sound
 sent_sound f e new content q q' r s (Err x) extends is sent none sound =
     subst (λ x. Sound new.asked x r s) (sym none) (grown_sound e new q r s (moves_grow e new (f e) content extends is) sound)
 
-pub sent_happens : {X : Type 0} (f : Editor → Move) (old : Ends) (e new : Editor) (content : Option (Vec ℕ Global)) (q q' r : Contents) (s : Standing) (ap_list : List applied.Applied) (md : List made.Made) (result : Result seen.Seen X)
+pub sent_happens : {X : Type 0} (f : Editor → Move) (old : Ends) (e new : Editor) (content : Option (Vec ℕ Global)) (q q' r : Contents) (s : SessionState) (ap_list : List applied.Applied) (md : List made.Made) (result : Result seen.Seen X)
     → ends_from e q s r ap_list md ≡ old → Extends e (f e) → Moves (f e) e content new → IfOk result (λ shown. IsSent q content shown q') → Sound e.asked q r s
     → IfOk result (λ shown. Is (moved old (f old.editor)) (seen_of shown) (ends_from new q' s r ap_list md))
 sent_happens f old e new content q q' r s ap_list md (Ok shown) was extends is sent sound =
     subst (λ (w : Ends). Is (moved w (f w.editor)) (seen_of shown) (ends_from new q' s r ap_list md)) was (moved_happens e new (f e) content q q' r s ap_list md shown extends is sent sound)
 sent_happens f old e new content q q' r s ap_list md (Err x) was extends is sent sound = tt
 
-pub taken_sound : (asked : List Asked) (q r rest : Contents) (s : Standing) (c : Vec ℕ Global) → r ≡ c ∷ rest → Sound asked q r s → Sound asked q rest s
+pub taken_sound : (asked : List Asked) (q r rest : Contents) (s : SessionState) (c : Vec ℕ Global) → r ≡ c ∷ rest → Sound asked q r s → Sound asked q rest s
 taken_sound asked q r rest s c is sound =
     record { heard_all = sound.heard_all; understood_all = All-tail (IsUnderstood asked) c rest (subst (All (IsUnderstood asked)) is sound.understood_all); stands = sound.stands }
 
 -- a content may have been put behind the others
-pub maybe_pushed : (asked : List Asked) (q q' r : Contents) (s : Standing) (c : Vec ℕ Global) (b : Bool) → q' ≡ cond b (q ++ c ∷ []) q → IsHeard asked c → Sound asked q r s → Sound asked q' r s
+pub maybe_pushed : (asked : List Asked) (q q' r : Contents) (s : SessionState) (c : Vec ℕ Global) (b : Bool) → q' ≡ cond b (q ++ c ∷ []) q → IsHeard asked c → Sound asked q r s → Sound asked q' r s
 maybe_pushed asked q q' r s c true is says sound = subst (λ x. Sound asked x r s) (sym is) (pushed_sound asked q r s c says.0 says.1 sound)
 maybe_pushed asked q q' r s c false is says sound = subst (λ x. Sound asked x r s) (sym is) sound
 
-discarded : (e : Editor) (k : ℕ) (o : Option (List Replacement)) (q r : Contents) (s : Standing) (ap_list : List applied.Applied) (md : List made.Made) (shown : Bool) (new : Editor) → o ≡ held_answer k e.answers → shown ≡ is_some o → new ≡ without_answer e k
+discarded : (e : Editor) (k : ℕ) (o : Option (List Replacement)) (q r : Contents) (s : SessionState) (ap_list : List applied.Applied) (md : List made.Made) (shown : Bool) (new : Editor) → o ≡ held_answer k e.answers → shown ≡ is_some o → new ≡ without_answer e k
     → Is (comes_of (ends_from e q s r ap_list md) k (discards e k o)) (cond shown (drops k) nothing) (ends_from new q s r ap_list md)
 discarded e k (Some edits) q r s ap_list md shown new is held after = (ap (λ b. cond b (drops k) nothing) held, (λ i. ends_from (after i) q s r ap_list md))
 discarded e k None q r s ap_list md shown new is held after =
     (ap (λ b. cond b (drops k) nothing) held, (λ i. ends_from (after i) q s r ap_list md) ∙ (λ i. ends_from (record e { answers = none_goes k e.answers (sym is) i }) q s r ap_list md))
 
-pub discard_happens : (e new : Editor) (k : ℕ) (q r : Contents) (s : Standing) (ap_list : List applied.Applied) (md : List made.Made) (shown : Bool) → shown ≡ is_some (held_answer k e.answers) → new ≡ without_answer e k
+pub discard_happens : (e new : Editor) (k : ℕ) (q r : Contents) (s : SessionState) (ap_list : List applied.Applied) (md : List made.Made) (shown : Bool) → shown ≡ is_some (held_answer k e.answers) → new ≡ without_answer e k
     → Is (comes_of (ends_from e q s r ap_list md) k (discards e k (held_answer k e.answers))) (cond shown (drops k) nothing) (ends_from new q s r ap_list md)
 discard_happens e new k q r s ap_list md shown held after = discarded e k (held_answer k e.answers) q r s ap_list md shown new refl held after

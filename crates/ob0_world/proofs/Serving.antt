@@ -7,7 +7,7 @@ use Rattle.std.proofs.lemmas.List.{map-append, length-map}
 use Rattle.std.proofs.lemmas.List.Elements.{All-nil, All-cons, All-head, All-tail}
 use Rattle.ob0_text.specs.OpenDocuments.{OpenDocuments}
 use Rattle.ob0_session.specs.Answers.{State}
-use Rattle.ob0_session.specs.Standing.{Standing, serving, failed}
+use Rattle.ob0_session.specs.Standing.{SessionState, serving, failed}
 use Rattle.ob0_session.specs.Steps.{Steps}
 use Rattle.ob0_session.specs.declared.session.Step.{Step}
 use Rattle.ob0_editor.specs.Heard.{heard, Says}
@@ -40,15 +40,15 @@ made_as_sent held asked (c ∷ sent) all =
     ap (option_and_then (made_for held)) first.1 ∙ ap (made_first held) (sym (said_first (understood asked) c sent first.0 first.1))
 
 -- one that serves goes on as what it is
-session_is : (s : Standing) (before : State) → s ≡ serving before → Stands s → IsRunning before
+session_is : (s : SessionState) (before : State) → s ≡ serving before → Stands s → IsRunning before
 session_is s before is stands = subst Stands is stands
 
-pub nothing_served : (e : Editor) (q q' r : Contents) (s : Standing) (ap_list : List applied.Applied) (md : List made.Made) → q ≡ [] → q' ≡ q → Serves (ends_from e q s r ap_list md) (all_heard e.asked q) nothing (ends_from e q' s r ap_list md)
+pub nothing_served : (e : Editor) (q q' r : Contents) (s : SessionState) (ap_list : List applied.Applied) (md : List made.Made) → q ≡ [] → q' ≡ q → Serves (ends_from e q s r ap_list md) (all_heard e.asked q) nothing (ends_from e q' s r ap_list md)
 nothing_served e q q' r s ap_list md none same =
     subst (λ x. Serves (ends_from e q s r ap_list md) (all_heard e.asked x) nothing (ends_from e q' s r ap_list md)) (sym none) (refl, ap (λ x. ends_from e x s r ap_list md) same)
 
 -- the session was handed the first content
-pub record Turn (e : Editor) (q rest : Contents) (s s' : Standing) (content : Vec ℕ Global) (sent : Contents) : Type 0 where
+pub record Turn (e : Editor) (q rest : Contents) (s s' : SessionState) (content : Vec ℕ Global) (sent : Contents) : Type 0 where
   pub message : ToServer
   pub says : Says e.asked message content.items
   pub before : State
@@ -57,7 +57,7 @@ pub record Turn (e : Editor) (q rest : Contents) (s s' : Standing) (content : Ve
   pub is : s' ≡ serving after
   pub served_so : Served e.asked message before after (bytes sent)
 
-pub turn : (e : Editor) (q rest r : Contents) (s s' : Standing) (content : Vec ℕ Global) (sent : Contents) → q ≡ content ∷ rest → Sound e.asked q r s → IsAnswered s content.items sent s' → Turn e q rest s s' content sent
+pub turn : (e : Editor) (q rest r : Contents) (s s' : SessionState) (content : Vec ℕ Global) (sent : Contents) → q ≡ content ∷ rest → Sound e.asked q r s → IsAnswered s content.items sent s' → Turn e q rest s s' content sent
 turn e q rest r s s' content sent first sound (before, after, was, is, how) =
     let heard_first : IsHeard e.asked content = All-head (IsHeard e.asked) content rest (subst (All (IsHeard e.asked)) first sound.heard_all) in
     record {
@@ -70,14 +70,14 @@ turn e q rest r s s' content sent first sound (before, after, was, is, how) =
       served_so = served e.asked heard_first.0 before after content.items (bytes sent) (session_is s before was sound.stands) heard_first.1 how;
     }
 
-pub rest_sound : (asked : List Asked) (q rest r : Contents) (s s' : Standing) (content : Vec ℕ Global) → q ≡ content ∷ rest → Sound asked q r s → Stands s' → Sound asked rest r s'
+pub rest_sound : (asked : List Asked) (q rest r : Contents) (s s' : SessionState) (content : Vec ℕ Global) → q ≡ content ∷ rest → Sound asked q r s → Stands s' → Sound asked rest r s'
 rest_sound asked q rest r s s' content first sound stands =
     record { heard_all = All-tail (IsHeard asked) content rest (subst (All (IsHeard asked)) first sound.heard_all); understood_all = sound.understood_all; stands = stands }
 
-pub turn_stands : (e : Editor) (q rest : Contents) (s s' : Standing) (content : Vec ℕ Global) (sent : Contents) → Turn e q rest s s' content sent → Stands s'
+pub turn_stands : (e : Editor) (q rest : Contents) (s s' : SessionState) (content : Vec ℕ Global) (sent : Contents) → Turn e q rest s s' content sent → Stands s'
 turn_stands e q rest s s' content sent t = subst Stands (sym t.is) t.served_so.running
 
-pub turn_sound : (e : Editor) (q rest r r' : Contents) (s s' : Standing) (content : Vec ℕ Global) (sent : Contents) (b : Bool) → q ≡ content ∷ rest → Sound e.asked q r s → Turn e q rest s s' content sent → r' ≡ cond b (r ++ sent) r → Sound e.asked rest r' s'
+pub turn_sound : (e : Editor) (q rest r r' : Contents) (s s' : SessionState) (content : Vec ℕ Global) (sent : Contents) (b : Bool) → q ≡ content ∷ rest → Sound e.asked q r s → Turn e q rest s s' content sent → r' ≡ cond b (r ++ sent) r → Sound e.asked rest r' s'
 turn_sound e q rest r r' s s' content sent b first sound t grown =
     let rested : Sound e.asked rest r s' = rest_sound e.asked q rest r s s' content first sound (turn_stands e q rest s s' content sent t) in
     record {
@@ -90,7 +90,7 @@ as_list : (o : Option made.Made) (p : Option Made) → option_map made_of o ≡ 
 as_list None p is = ap option_to_list is
 as_list (Some m) p is = ap option_to_list is
 
-pub turn_happens : (e : Editor) (q rest r r' : Contents) (s s' : Standing) (ap_list : List applied.Applied) (md md' : List made.Made) (content : Vec ℕ Global) (sent : Contents) (held : OpenDocuments) (o : Option made.Made) (n : ℕ)
+pub turn_happens : (e : Editor) (q rest r r' : Contents) (s s' : SessionState) (ap_list : List applied.Applied) (md md' : List made.Made) (content : Vec ℕ Global) (sent : Contents) (held : OpenDocuments) (o : Option made.Made) (n : ℕ)
     → q ≡ content ∷ rest → Turn e q rest s s' content sent → ((st : State) → s' ≡ serving st → held ≡ st.held) → option_map made_of o ≡ made_sent held e.asked sent → r' ≡ r ++ sent → md' ≡ md ++ option_to_list o → n ≡ length sent
     → Serves (ends_from e q s r ap_list md) (all_heard e.asked q) (events.served n) (ends_from e rest s' r' ap_list md')
 turn_happens e q rest r r' s s' ap_list md md' content sent held o n first t lent is_made grown more count =
@@ -118,6 +118,6 @@ turn_happens e q rest r r' s s' ap_list md md' content sent held o n first t len
     subst (λ x. Serves w x (events.served n) (ends_from e rest s' r' ap_list md'))
     (sym (ap (all_heard e.asked) first ∙ said_first (heard e.asked) content rest t.message (says_heard e.asked t.message content.items t.says))) this
 
-pub answered_so : (old : Standing) (content : List ℕ) (step : Step) (new : Standing) → Steps old content step new → IsAnswered old content step.send.items new
+pub answered_so : (old : SessionState) (content : List ℕ) (step : Step) (new : SessionState) → Steps old content step new → IsAnswered old content step.send.items new
 answered_so (serving before) content step new (after, is, how, next) = (before, after, refl, is, how)
 answered_so failed content step new h = absurd h

@@ -1,7 +1,7 @@
 -- What the values of the code stand for.
 use Rattle.std.specs.Prelude.{List, map, string_bytes}
 use Rattle.std.specs.Str.{chars}
-use Rattle.ob0_text.specs.OpenDocuments.{told_change}
+use Rattle.ob0_text.specs.OpenDocuments.{reported_change}
 use Rattle.ob0_editor.specs.Code.{ask_of, applied_of}
 use Rattle.ob0_world.specs.declared.events.Event as event
 use Rattle.ob0_world.specs.declared.events.Seen as seen
@@ -12,7 +12,7 @@ use Rattle.ob0_events.specs.Events.{Event, open_document, change_document, close
 
 abbrev pub event_of : event.Event → Event
 event_of (event.TheVariants.OpenDoc uri text) = open_document (string_bytes uri) (chars (string_bytes text))
-event_of (event.TheVariants.ChangeDoc uri changes) = change_document (string_bytes uri) (map told_change changes.items)
+event_of (event.TheVariants.ChangeDoc uri changes) = change_document (string_bytes uri) (map reported_change changes.items)
 event_of (event.TheVariants.CloseDoc uri) = close_document (string_bytes uri)
 event_of (event.TheVariants.Ask uri ask) = ask_about (string_bytes uri) (ask_of ask)
 event_of event.TheVariants.Serve = serve

@@ -5,7 +5,7 @@ use Rattle.ob0_text.specs.OpenDocuments.{OpenDocuments, Document, InStep, OutOfS
 use Rattle.ob0_text.specs.declared.positions.Unit.{Unit}
 use Rattle.ob0_text.specs.declared.positions.Unit.TheVariants.{Utf16}
 use Rattle.ob0_session.specs.Answers.{State, begins, Answers}
-use Rattle.ob0_session.specs.Standing.{Standing, serving, failed}
+use Rattle.ob0_session.specs.Standing.{SessionState, serving, failed}
 use Rattle.ob0_session.specs.declared.server.Phase.TheVariants.{Running}
 use Rattle.ob0_editor.specs.Beginning.{client_for}
 use Rattle.ob0_editor.specs.Heard.{heard, Says}
@@ -45,25 +45,25 @@ IsUnderstood asked content = (m : ToEditor) × (understood asked content.items �
 abbrev pub IsRunning : State → Type 0
 IsRunning s = (s.phase ≡ Running) × (s.client.takes_document_changes ≡ true) × (s.client.takes_literal_actions ≡ true)
 
-abbrev pub Stands : Standing → Type 0
+abbrev pub Stands : SessionState → Type 0
 Stands (serving s) = IsRunning s
 Stands failed = ⊤
 
 -- the documents that it holds, of which nothing is said once memory was refused
-abbrev pub held_by : Standing → OpenDocuments
+abbrev pub held_by : SessionState → OpenDocuments
 held_by (serving s) = s.held
 held_by failed = none_open Utf16
 
 -- A session that was initialized by this editor, and was told nothing else: it runs with such a client, counts positions in
 -- this unit and holds no document.
-pub record IsInitialized (unit : Unit) (session : Standing) : Type 0 where
+pub record IsInitialized (unit : Unit) (session : SessionState) : Type 0 where
   pub state : State
   pub serves : session ≡ serving state
   pub runs : IsRunning state
   pub holds_none : state.held ≡ none_open unit
 
 -- the session that the editor's `initialize` makes
-abbrev pub new_session : Unit → Standing
+abbrev pub new_session : Unit → SessionState
 new_session unit = serving (begins (client_for unit))
 
 -- ---- publications
@@ -86,13 +86,13 @@ made_first held (m ∷ ms) = made_for held m
 -- ---- the whole
 
 -- what waits at both ends says something, and the session serves if memory wasn't refused
-pub record Sound (asked : List Asked) (to_server to_editor : Contents) (session : Standing) : Type 0 where
+pub record Sound (asked : List Asked) (to_server to_editor : Contents) (session : SessionState) : Type 0 where
   pub heard_all : All (IsHeard asked) to_server
   pub understood_all : All (IsUnderstood asked) to_editor
   pub stands : Stands session
 
 -- the two ends, from what the code keeps of them
-abbrev pub ends_from : Editor → Contents → Standing → Contents → List applied.Applied → List made.Made → Ends
+abbrev pub ends_from : Editor → Contents → SessionState → Contents → List applied.Applied → List made.Made → Ends
 ends_from e to_server session to_editor applied made =
     record {
       editor = e;
@@ -106,9 +106,9 @@ ends_from e to_server session to_editor applied made =
 -- both ends, and the session that the server is
 pub record Both : Type 0 where
   pub ends : Ends
-  pub session : Standing
+  pub session : SessionState
 
-abbrev pub both_from : Editor → Contents → Standing → Contents → List applied.Applied → List made.Made → Both
+abbrev pub both_from : Editor → Contents → SessionState → Contents → List applied.Applied → List made.Made → Both
 both_from e to_server session to_editor applied made = record { ends = ends_from e to_server session to_editor applied made; session = session }
 
 -- nothing has happened yet
@@ -118,7 +118,7 @@ new_both unit = record { ends = start unit; session = new_session unit }
 -- ---- the steps of a server's turn
 
 -- the session has answered a content
-abbrev pub IsAnswered : Standing → List ℕ → Contents → Standing → Type 0
+abbrev pub IsAnswered : SessionState → List ℕ → Contents → SessionState → Type 0
 IsAnswered old content replies new =
     (before : State) × (after : State) × (old ≡ serving before) × (new ≡ serving after) × Answers before content (bytes replies) after
 

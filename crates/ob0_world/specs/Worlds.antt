@@ -5,7 +5,7 @@ use Rattle.ob0_world.specs.declared.events.Event as event
 use Rattle.ob0_world.specs.declared.played.Played as played
 use Rattle.ob0_world.specs.declared.faults.WorldFault.{WorldFault}
 use Rattle.ob0_world.specs.declared.faults.WorldFault.TheVariants.{Memory, Ended}
-use Rattle.ob0_session.specs.Standing.{Standing}
+use Rattle.ob0_session.specs.Standing.{SessionState}
 use Rattle.ob0_world.specs.Code.{event_of, all_applied, all_made}
 use Rattle.ob0_world.specs.Queues.{new_session}
 use Rattle.ob0_events.specs.Ends.{Open, Editor, open_at, Ends, start}
@@ -16,7 +16,7 @@ use Rattle.ob0_ends.specs.Headline.{Holds}
 pub record World : Type 0 where
   pub ends : Ends
   -- the server, as its session stands
-  pub session : Standing
+  pub session : SessionState
   -- how many steps were made
   pub steps : ℕ
   -- whether memory was refused

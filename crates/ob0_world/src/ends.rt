@@ -1,7 +1,7 @@
 //! Both ends, and what stands between them.
 ghost use Rattle.std.specs.Prelude.{◌≡◌, IfOk, OnErr, map, option_map, option_and_then, string_bytes};
 ghost use Rattle.std.specs.Str.{chars};
-ghost use Rattle.ob0_text.specs.OpenDocuments.{told_change, document_at};
+ghost use Rattle.ob0_text.specs.OpenDocuments.{reported_change, document_at};
 ghost use Rattle.ob0_session.specs.Standing.{failed};
 ghost use Rattle.ob0_editor.specs.Code.{ask_of};
 ghost use Rattle.ob0_editor.specs.Moves.{AreFew};
@@ -17,7 +17,7 @@ use crate::events::{Event, Seen};
 use crate::played::{Made, Played};
 use ob0_editor::{Applied, Applying, Ask, Editor, Message, initialize};
 use ob0_session::{Session, SessionFault};
-use ob0_text::{Change, Documents, Held, TextStore, Unit};
+use ob0_text::{Change, Documents, StoredText, TextStore, Unit};
 use std::alloc::{AllocError, Global};
 use std::collections::VecDeque;
 use std::marker::Model;
@@ -107,7 +107,7 @@ impl<T: TextStore> Ends<T> {
 
     fn change(&mut self, uri: &str, changes: &[Change]) -> Result<Seen, AllocError>
         requires { AreFew self.old.ends.editor }
-        ensures ok { IfOk result (λ seen. Happens self.old.ends (change_document uri.now (map told_change changes.now)) (seen_of seen) self.new.ends) }
+        ensures ok { IfOk result (λ seen. Happens self.old.ends (change_document uri.now (map reported_change changes.now)) (seen_of seen) self.new.ends) }
         ensures err { OnErr result (SameHistory self.old.ends self.new.ends) }
     {
         let content = self.editor.change(uri, changes)?;
@@ -290,7 +290,7 @@ fn made_with<T: TextStore>(
 {
     match documents.get(uri.as_str()) {
         Some(held) => match held {
-            Held::InStep {
+            StoredText::InStep {
                 version: _version,
                 text,
             } => {
@@ -302,7 +302,7 @@ fn made_with<T: TextStore>(
                     empty,
                 }))
             }
-            Held::OutOfStep => Ok(None),
+            StoredText::OutOfStep => Ok(None),
         },
         None => Ok(None),
     }

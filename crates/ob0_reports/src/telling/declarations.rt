@@ -3,13 +3,13 @@
 ghost use Rattle.std.specs.Prelude.{◌≡◌, ◌∷◌, ◌++◌, [], map, IfOk, OnOk};
 ghost use Rattle.ob0_names.specs.Parts.{formal_sections, section_constants, section_types, section_variables};
 ghost use Rattle.ob0_tree.specs.View.{block_of, body_of, constant_of, constants_of, formals_of, further_section_of, items_of, procedure_of, type_declaration_of, types_of, variable_of, variables_of};
-ghost use Rattle.ob0_reports.specs.DeclarationFaults.{constant_declared, told_block, told_body, told_constants, told_procedure, told_procedures, told_section, told_sections, told_types, told_variables, type_declared, variables_declared};
+ghost use Rattle.ob0_reports.specs.DeclarationFaults.{constant_declared, told_block, told_body, reported_constants, told_procedure, told_procedures, told_section, told_sections, told_types, told_variables, type_declared, variables_declared};
 ghost use Rattle.ob0_reports.specs.Known.{a_variable};
 ghost use Rattle.ob0_reports.specs.Operations.{Tells};
 ghost use Rattle.ob0_reports.specs.SoFar.{define, define_all};
 ghost use Rattle.ob0_reports.specs.SupposedFacts.{heading_in, meaning_of, so_far_in};
 
-use crate::telling::Teller;
+use crate::telling::Reporter;
 use crate::telling::supposed::{Meaning, Supposed};
 use ob0_symbols::{Formal, TypeId};
 use ob0_tree::{Block, Constant, Names, Procedure, Section, Statement, TypeDeclaration, Variables};
@@ -37,7 +37,7 @@ impl<'t> Supposed<'t> {
     }
 }
 
-impl<'t> Teller<'t> {
+impl<'t> Reporter<'t> {
     /// Constants, types, variables, procedures, and then the statements.
     #[cycle(blocks)]
     pub(crate) fn block(&mut self, b: &Block) -> Result<(), AllocError>
@@ -127,7 +127,7 @@ impl<'t> Teller<'t> {
     }
 
     fn constants_of(&mut self, section: &Option<Vec<Constant>>) -> Result<(), AllocError>
-        ensures { OnOk result (Tells self.old.faults.items self.new.faults.items (so_far_in self.new.supposed) (told_constants (so_far_in self.old.supposed) (section_constants (constants_of section.now)))) }
+        ensures { OnOk result (Tells self.old.faults.items self.new.faults.items (so_far_in self.new.supposed) (reported_constants (so_far_in self.old.supposed) (section_constants (constants_of section.now)))) }
     {
         match section {
             None => Ok(()),
@@ -136,7 +136,7 @@ impl<'t> Teller<'t> {
     }
 
     fn constants(&mut self, constants: &[Constant]) -> Result<(), AllocError>
-        ensures { OnOk result (Tells self.old.faults.items self.new.faults.items (so_far_in self.new.supposed) (told_constants (so_far_in self.old.supposed) (items_of constant_of constants.now))) }
+        ensures { OnOk result (Tells self.old.faults.items self.new.faults.items (so_far_in self.new.supposed) (reported_constants (so_far_in self.old.supposed) (items_of constant_of constants.now))) }
     {
         for c in constants {
             self.constant(c)?;

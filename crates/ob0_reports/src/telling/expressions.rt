@@ -5,9 +5,9 @@ ghost use Rattle.ob0_values.specs.Scalars.{scalar_value};
 ghost use Rattle.ob0_symbols.specs.declared.types.TypeId.TheVariants as type;
 ghost use Rattle.ob0_tree.specs.View.{expression_of, factor_of, selector_of, simple_of, term_of};
 ghost use Rattle.ob0_typing.specs.Selected.{selectors_in};
-ghost use Rattle.ob0_reports.specs.ExpressionFaults.{told_expression, told_factor, told_selector, told_selectors, told_simple, told_term};
+ghost use Rattle.ob0_reports.specs.ExpressionFaults.{told_expression, told_factor, reported_selector, told_selectors, told_simple, told_term};
 ghost use Rattle.ob0_reports.specs.Known.{Types};
-ghost use Rattle.ob0_reports.specs.Operations.{Tells, a_constant_name, a_number, added, asked, asked_both, at_operand, behind_sign, complemented, element_in, element_selected, enclosed, field_in, field_selected, fits, joined, multiplied, named, part_of, related, signed, truth_of, wanted_by_add, wanted_by_equality, wanted_by_multiply, wanted_by_relation, worth_type};
+ghost use Rattle.ob0_reports.specs.Operations.{Tells, a_constant_name, a_number, added, required, asked_both, at_operand, behind_sign, complemented, element_in, element_selected, enclosed, field_in, field_selected, fits, joined, multiplied, named, part_of, related, signed, truth_of, wanted_by_add, wanted_by_equality, wanted_by_multiply, wanted_by_relation, value_type};
 ghost use Rattle.ob0_reports.specs.TypeFaults.{evaluated, told_constant};
 ghost use Rattle.ob0_reports.specs.SoFar.{same_type};
 ghost use Rattle.ob0_reports.specs.SupposedFacts.{facts_in, form_in, operand_of, types_in};
@@ -170,7 +170,7 @@ impl<'t> Supposed<'t> {
     ) -> Result<(), AllocError>
         ensures { OnOk result (faults.new.items ≡ faults.old.items ++ at_operand (facts_in self.now false) code (operand_of operand)) }
     {
-        self.tell(faults, code, operand.first, operand.last)
+        self.report(faults, code, operand.first, operand.last)
     }
 
     /// Asks for a type, and gives it where it is there; else it is unknown.
@@ -180,7 +180,7 @@ impl<'t> Supposed<'t> {
         wanted: TypeId,
         operand: Operand,
     ) -> Result<TypeId, AllocError>
-        ensures { IfOk result (λ t. Tells faults.old.items faults.new.items t (asked (facts_in self.now false) wanted (operand_of operand))) }
+        ensures { IfOk result (λ t. Tells faults.old.items faults.new.items t (required (facts_in self.now false) wanted (operand_of operand))) }
     {
         if !fits(operand.of, wanted) {
             self.tell_of(faults, Code::TypeMismatch, operand)?;
@@ -408,17 +408,17 @@ impl<'t> Supposed<'t> {
                 Meaning::Constant(value) => Ok(constant(*value, token)),
                 Meaning::Variable(of) => {
                     if only_constants {
-                        self.tell_at(faults, Code::NotConstant, token)?;
+                        self.report_at(faults, Code::NotConstant, token)?;
                         return Ok(unknown);
                     }
                     Ok(unknown.part(*of, token))
                 }
                 Meaning::Named(_) => {
-                    self.tell_at(faults, Code::WrongKind, token)?;
+                    self.report_at(faults, Code::WrongKind, token)?;
                     Ok(unknown)
                 }
                 Meaning::Procedure(_) => {
-                    self.tell_at(faults, Code::WrongKind, token)?;
+                    self.report_at(faults, Code::WrongKind, token)?;
                     Ok(unknown)
                 }
             },
@@ -451,7 +451,7 @@ impl<'t> Supposed<'t> {
         selector: &Selector,
         only_constants: bool,
     ) -> Result<Operand, AllocError>
-        ensures { IfOk result (λ o. Tells faults.old.items faults.new.items (operand_of o) (told_selector (facts_in self.now only_constants) (operand_of base) (selector_of selector.now))) }
+        ensures { IfOk result (λ o. Tells faults.old.items faults.new.items (operand_of o) (reported_selector (facts_in self.now only_constants) (operand_of base) (selector_of selector.now))) }
     {
         match selector {
             Selector::Field(name) => self.select_field(faults, base, *name),
@@ -503,7 +503,7 @@ impl<'t> Supposed<'t> {
     fn no_array(&self, faults: &mut Vec<Fault>, index: Operand) -> Result<TypeId, AllocError>
         ensures { IfOk result (λ t. Tells faults.old.items faults.new.items t (element_in (facts_in self.now false) (operand_of index) type.Integer (form_in [] type.Integer))) }
     {
-        self.tell_at(faults, Code::NotArray, index.first.saturating_sub(1))?;
+        self.report_at(faults, Code::NotArray, index.first.saturating_sub(1))?;
         Ok(TypeId::Unknown)
     }
 
@@ -531,7 +531,7 @@ impl<'t> Supposed<'t> {
             TypeId::Record(place) => match self.field(place, self.text(name)) {
                 Some(of) => Ok(of),
                 None => {
-                    self.tell_at(faults, Code::NoField, name)?;
+                    self.report_at(faults, Code::NoField, name)?;
                     Ok(TypeId::Unknown)
                 }
             },
@@ -545,7 +545,7 @@ impl<'t> Supposed<'t> {
     fn no_record(&self, faults: &mut Vec<Fault>, name: usize) -> Result<TypeId, AllocError>
         ensures { IfOk result (λ t. Tells faults.old.items faults.new.items t (field_in (facts_in self.now false) name (form_in [] type.Integer))) }
     {
-        self.tell_at(faults, Code::NotRecord, name.saturating_sub(1))?;
+        self.report_at(faults, Code::NotRecord, name.saturating_sub(1))?;
         Ok(TypeId::Unknown)
     }
 
@@ -593,7 +593,7 @@ fn constant(value: Option<Scalar>, token: usize) -> Operand
 }
 
 fn constant_type(value: Option<Scalar>) -> TypeId
-    ensures { result ≡ worth_type (types_in []) (option_map scalar_value value) }
+    ensures { result ≡ value_type (types_in []) (option_map scalar_value value) }
 {
     match value {
         None => TypeId::Unknown,

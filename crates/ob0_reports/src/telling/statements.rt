@@ -5,7 +5,7 @@ ghost use Rattle.ob0_scan.specs.declared.fault.Code.TheVariants as code;
 ghost use Rattle.ob0_tree.specs.View.{assignment_of, call_of, elsifs_in, expression_of, if_of, sequence_in, statement_of};
 ghost use Rattle.ob0_reports.specs.Known.{a_procedure};
 ghost use Rattle.ob0_reports.specs.Operations.{Tells, at_token};
-ghost use Rattle.ob0_reports.specs.StatementFaults.{assigned, called, passed, told_argument, told_arguments, told_asked, told_call, told_condition, told_elsifs, told_parts, told_sequence, told_statement};
+ghost use Rattle.ob0_reports.specs.StatementFaults.{assigned, called, passed, told_argument, told_arguments, told_asked, reported_call, reported_condition, told_elsifs, told_parts, told_sequence, told_statement};
 ghost use Rattle.ob0_reports.specs.SupposedFacts.{facts_in, formal_of, operand_of};
 
 use crate::telling::expressions::Operand;
@@ -76,7 +76,7 @@ impl<'t> Supposed<'t> {
     }
 
     fn condition(&self, faults: &mut Vec<Fault>, e: &Expression) -> Result<(), AllocError>
-        ensures { OnOk result (faults.new.items ≡ faults.old.items ++ told_condition (facts_in self.now false) (expression_of e.now)) }
+        ensures { OnOk result (faults.new.items ≡ faults.old.items ++ reported_condition (facts_in self.now false) (expression_of e.now)) }
     {
         self.right_side(faults, TypeId::Boolean, e)
     }
@@ -120,15 +120,15 @@ impl<'t> Supposed<'t> {
             Some(meaning) => match meaning {
                 Meaning::Variable(of) => Ok(*of),
                 Meaning::Constant(_) => {
-                    self.tell_at(faults, Code::NotVariable, token)?;
+                    self.report_at(faults, Code::NotVariable, token)?;
                     Ok(TypeId::Unknown)
                 }
                 Meaning::Named(_) => {
-                    self.tell_at(faults, Code::WrongKind, token)?;
+                    self.report_at(faults, Code::WrongKind, token)?;
                     Ok(TypeId::Unknown)
                 }
                 Meaning::Procedure(_) => {
-                    self.tell_at(faults, Code::WrongKind, token)?;
+                    self.report_at(faults, Code::WrongKind, token)?;
                     Ok(TypeId::Unknown)
                 }
             },
@@ -151,7 +151,7 @@ impl<'t> Supposed<'t> {
         procedure: usize,
         arguments: &[Expression],
     ) -> Result<(), AllocError>
-        ensures { OnOk result (faults.new.items ≡ faults.old.items ++ told_call (facts_in self.now false) procedure (map expression_of arguments.now)) }
+        ensures { OnOk result (faults.new.items ≡ faults.old.items ++ reported_call (facts_in self.now false) procedure (map expression_of arguments.now)) }
     {
         match self.meaning(procedure) {
             None => self.parts(faults, arguments),
@@ -174,7 +174,7 @@ impl<'t> Supposed<'t> {
     ) -> Result<(), AllocError>
         ensures { OnOk result (faults.new.items ≡ faults.old.items ++ (at_token (facts_in self.now false) code.WrongKind procedure ++ told_parts (facts_in self.now false) (map expression_of arguments.now))) }
     {
-        self.tell_at(faults, Code::WrongKind, procedure)?;
+        self.report_at(faults, Code::WrongKind, procedure)?;
         self.parts(faults, arguments)
     }
 
@@ -199,7 +199,7 @@ impl<'t> Supposed<'t> {
         ensures { OnOk result (faults.new.items ≡ faults.old.items ++ called (facts_in self.now false) procedure (Some (a_procedure (map formal_of formals.now))) (map expression_of arguments.now)) }
     {
         if formals.len() != arguments.len() {
-            return self.tell_at(faults, Code::ArgumentCount, procedure);
+            return self.report_at(faults, Code::ArgumentCount, procedure);
         }
         for (formal, e) in formals.iter().zip(arguments.iter()) {
             self.argument(faults, formal, e)?;

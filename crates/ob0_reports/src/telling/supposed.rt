@@ -159,7 +159,7 @@ impl<'t> Supposed<'t> {
     }
 
     /// Tells a fault from one token to another.
-    pub(crate) fn tell(
+    pub(crate) fn report(
         &self,
         faults: &mut Vec<Fault>,
         code: Code,
@@ -178,7 +178,7 @@ impl<'t> Supposed<'t> {
     }
 
     /// Tells a fault at one token.
-    pub(crate) fn tell_at(
+    pub(crate) fn report_at(
         &self,
         faults: &mut Vec<Fault>,
         code: Code,
@@ -186,7 +186,7 @@ impl<'t> Supposed<'t> {
     ) -> Result<(), AllocError>
         ensures { OnOk result (faults.new.items ≡ faults.old.items ++ fault_between self.now.resolved.now.module_read.source code token token ∷ []) }
     {
-        self.tell(faults, code, token, token)
+        self.report(faults, code, token, token)
     }
 
     /// What a name stands for. None where nothing binds it.
@@ -289,7 +289,7 @@ impl<'t> Supposed<'t> {
         ensures { IfOk result (λ t. Tells faults.old.items faults.new.items (record { of = t; behind = so_far_in self.new }) (make (so_far_in self.old) token (parts_of parts.entry) (size_of size))) }
     {
         if !size.is_within() {
-            self.tell_at(faults, Code::TypeTooLarge, token)?;
+            self.report_at(faults, Code::TypeTooLarge, token)?;
             return Ok(TypeId::Unknown);
         }
         let of = type_with(&parts, self.composites.len());

@@ -15,7 +15,7 @@ ghost use Rattle.ob0_reports.specs.TypeFaults.{length_of, type_meant, type_named
 ghost use Rattle.ob0_reports.specs.WrittenTypeFaults.{array_made, record_made, record_word, told_fields, told_type, with_field, with_name, with_names};
 ghost use Rattle.ob0_reports.specs.WrittenTypeFaults as spec;
 
-use crate::telling::Teller;
+use crate::telling::Reporter;
 use crate::telling::expressions::{Operand, same_type};
 use crate::telling::supposed::{Meaning, NOTHING, Parts, Size, Supposed};
 use ob0_scan::{Code, Fault};
@@ -110,7 +110,7 @@ impl<'t> Supposed<'t> {
     fn no_type(&self, faults: &mut Vec<Fault>, token: usize) -> Result<TypeId, AllocError>
         ensures { IfOk result (λ t. Tells faults.old.items faults.new.items t (type_meant (facts_in self.now false) token (Some (a_variable type.Integer)))) }
     {
-        self.tell_at(faults, Code::WrongKind, token)?;
+        self.report_at(faults, Code::WrongKind, token)?;
         Ok(TypeId::Unknown)
     }
 
@@ -134,7 +134,7 @@ impl<'t> Supposed<'t> {
     }
 }
 
-impl<'t> Teller<'t> {
+impl<'t> Reporter<'t> {
     /// The type that is written, with unknown parts where these have faults.
     #[cycle(types)]
     pub(crate) fn written_type(&mut self, t: &WrittenType) -> Result<TypeId, AllocError>

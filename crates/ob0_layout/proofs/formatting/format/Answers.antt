@@ -14,27 +14,27 @@ use Rattle.ob0_layout.proofs.Patched.{gaps_patched}
 use Rattle.ob0_layout.proofs.Pieced.{all_length}
 use Rattle.ob0_layout.proofs.Unnamed.{standings_mapped}
 use Rattle.ob0_layout.specs.declared.sites.Site.{Site}
-use Rattle.ob0_layout.specs.declared.standing.Standing.{Standing}
-use Rattle.ob0_layout.specs.Standings.{standings}
+use Rattle.ob0_layout.specs.declared.standing.LineRole.{LineRole}
+use Rattle.ob0_layout.specs.Standings.{line_roles}
 use Rattle.ob0_layout.specs.Sites.{all_sites, changed_sites, edit_of, laid_len, LiesIn}
 use Rattle.ob0_layout.proofs.Ahead.{all_lie}
 use Rattle.ob0_layout.proofs.formatting.format.Goals as goal
 
 -- the gaps that the code found are those of the source
-of_source : {s t : Scanned} (e : s ≡ t) (found read : List Site) (ss is : List Standing) → read ≡ found → ss ≡ is → ((scan : IsScan s) → found ≡ all_sites ss scan.lexemes) → (scan : IsScan t) → read ≡ all_sites is scan.lexemes
+of_source : {s t : Scanned} (e : s ≡ t) (found read : List Site) (ss is : List LineRole) → read ≡ found → ss ≡ is → ((scan : IsScan s) → found ≡ all_sites ss scan.lexemes) → (scan : IsScan t) → read ≡ all_sites is scan.lexemes
 of_source e found read ss is r f h = λ scan. r ∙ subst (λ (x : Scanned). (scan : IsScan x) → found ≡ all_sites ss scan.lexemes) e h scan ∙ ap (λ xs. all_sites xs scan.lexemes) f
 
-lie_in_source : {s t : Scanned} (e : s ≡ t) (bytes : List ℕ) (read : List Site) (is : List Standing) → IsScan s → bytes ≡ t.text → ((scan : IsScan t) → read ≡ all_sites is scan.lexemes) → All (LiesIn (length bytes)) read
+lie_in_source : {s t : Scanned} (e : s ≡ t) (bytes : List ℕ) (read : List Site) (is : List LineRole) → IsScan s → bytes ≡ t.text → ((scan : IsScan t) → read ≡ all_sites is scan.lexemes) → All (LiesIn (length bytes)) read
 lie_in_source {t = t} e bytes read is scan b h =
     let there = subst IsScan e scan in
     subst (λ (xs : List ℕ). All (LiesIn (length xs)) read) (sym b) (subst (λ (gs : List Site). All (LiesIn (length t.text)) gs) (sym (h there)) (all_lie t there is))
 
 -- the length that is counted is that of the layout
-counted : (m : Parsed) (indent : Indent) (scan : IsScan m.source) → laid_len indent (length m.source.text) 0 (all_sites (standings 0 (tree_of m)) scan.lexemes) ≡ length (layout indent (named_tree_of m) scan.lexemes)
+counted : (m : Parsed) (indent : Indent) (scan : IsScan m.source) → laid_len indent (length m.source.text) 0 (all_sites (line_roles 0 (tree_of m)) scan.lexemes) ≡ length (layout indent (named_tree_of m) scan.lexemes)
 unfolding laid_out
 counted m indent scan =
-    ap (λ (ss : List Standing). laid_len indent (length m.source.text) 0 (all_sites ss scan.lexemes)) (sym (standings_mapped (text_at m.source) (value_at m.source) 0 (tree_of m)))
-    ∙ all_length indent m.source scan (standings 0 (named_tree_of m))
+    ap (λ (ss : List LineRole). laid_len indent (length m.source.text) 0 (all_sites ss scan.lexemes)) (sym (standings_mapped (text_at m.source) (value_at m.source) 0 (tree_of m)))
+    ∙ all_length indent m.source scan (line_roles 0 (named_tree_of m))
 
 past : (b : Bool) (n m : ℕ) → (n ≤ m → IsTrue b) → b ≡ false → m < n
 past b n m h e = by_test (nat_lt m n) refl
@@ -45,35 +45,35 @@ past b n m h e = by_test (nat_lt m n) refl
 
 pub fits-requires-clause-within : goal.fits-requires-clause-within
 fits-requires-clause-within g c =
-    lie_in_source c.tokens-tokens.ensures.source c.as_bytes-text.result.now c.deref-2.result.now (standings 0 (tree_of c.args.module.now)) c.text.ensures.scan
+    lie_in_source c.tokens-tokens.ensures.source c.as_bytes-text.result.now c.deref-2.result.now (line_roles 0 (tree_of c.args.module.now)) c.text.ensures.scan
     (c.as_bytes-text.ensures.value ∙ c.text.ensures.value ∙ ap (λ (x : Scanned). x.text) c.tokens-tokens.ensures.source)
     (of_source c.tokens-tokens.ensures.source c.in_ok-sites.sites.items c.deref-2.result.now c.deref.result.now _ c.deref-2.ensures.value (c.deref.ensures.value ∙ c.in_ok-standings.ensures) c.in_ok-sites.ensures)
 
 pub changed-requires : goal.changed-requires
 changed-requires g c =
-    lie_in_source c.tokens-tokens.ensures.source c.as_bytes-text.result.now c.deref-3.result.now (standings 0 (tree_of c.args.module.now)) c.text.ensures.scan
+    lie_in_source c.tokens-tokens.ensures.source c.as_bytes-text.result.now c.deref-3.result.now (line_roles 0 (tree_of c.args.module.now)) c.text.ensures.scan
     (c.as_bytes-text.ensures.value ∙ c.text.ensures.value ∙ ap (λ (x : Scanned). x.text) c.tokens-tokens.ensures.source)
     (of_source c.tokens-tokens.ensures.source c.in_ok-sites.sites.items c.deref-3.result.now c.deref.result.now _ c.deref-3.ensures.value (c.deref.ensures.value ∙ c.in_ok-standings.ensures) c.in_ok-sites.ensures)
 
 pub returns-then-not-fits-clause-too_long : goal.returns-then-not-fits-clause-too_long
 returns-then-not-fits-clause-too_long g c = λ scan told.
     let text = c.as_bytes-text.ensures.value ∙ c.text.ensures.value ∙ ap (λ (x : Scanned). x.text) c.tokens-tokens.ensures.source in
-    let same = of_source c.tokens-tokens.ensures.source c.in_ok-sites.sites.items c.deref-2.result.now c.deref.result.now (standings 0 (tree_of c.args.module.now)) c.deref-2.ensures.value (c.deref.ensures.value ∙ c.in_ok-standings.ensures) c.in_ok-sites.ensures scan in
+    let same = of_source c.tokens-tokens.ensures.source c.in_ok-sites.sites.items c.deref-2.result.now c.deref.result.now (line_roles 0 (tree_of c.args.module.now)) c.deref-2.ensures.value (c.deref.ensures.value ∙ c.in_ok-standings.ensures) c.in_ok-sites.ensures scan in
     subst (λ (n : ℕ). max_text < n) ((λ i. laid_len c.args.indent (length (text i)) 0 (same i)) ∙ counted c.args.module.now c.args.indent scan) (past c.fits.result _ max_text c.fits.ensures.1 c.if-not-fits.true)
 
 pub returns-clause-edits : goal.returns-clause-edits
 returns-clause-edits g c = λ scan.
     let text = c.as_bytes-text.ensures.value ∙ c.text.ensures.value ∙ ap (λ (x : Scanned). x.text) c.tokens-tokens.ensures.source in
-    let same = of_source c.tokens-tokens.ensures.source c.in_ok-sites.sites.items c.deref-3.result.now c.deref.result.now (standings 0 (tree_of c.args.module.now)) c.deref-3.ensures.value (c.deref.ensures.value ∙ c.in_ok-standings.ensures) c.in_ok-sites.ensures scan in
+    let same = of_source c.tokens-tokens.ensures.source c.in_ok-sites.sites.items c.deref-3.result.now c.deref.result.now (line_roles 0 (tree_of c.args.module.now)) c.deref-3.ensures.value (c.deref.ensures.value ∙ c.in_ok-standings.ensures) c.in_ok-sites.ensures scan in
     c.in_ok-edits.ensures
     ∙ ap (map (edit_of c.args.indent (width_of (g.T.TextStore.unit_of c.args.store.now)) (g.T.TextStore.content c.args.store.now)))
     (c.deref-4.ensures.value ∙ c.in_ok-changed.ensures ∙ (λ i. changed_sites c.args.indent (text i) (same i))
-    ∙ ap (λ (ss : List Standing). changed_sites c.args.indent c.args.module.now.source.text (all_sites ss scan.lexemes)) (sym (standings_mapped (text_at c.args.module.now.source) (value_at c.args.module.now.source) 0 (tree_of c.args.module.now))))
+    ∙ ap (λ (ss : List LineRole). changed_sites c.args.indent c.args.module.now.source.text (all_sites ss scan.lexemes)) (sym (standings_mapped (text_at c.args.module.now.source) (value_at c.args.module.now.source) 0 (tree_of c.args.module.now))))
 
 pub returns-clause-fits : goal.returns-clause-fits
 returns-clause-fits g c = λ scan.
     let text = c.as_bytes-text.ensures.value ∙ c.text.ensures.value ∙ ap (λ (x : Scanned). x.text) c.tokens-tokens.ensures.source in
-    let same = of_source c.tokens-tokens.ensures.source c.in_ok-sites.sites.items c.deref-2.result.now c.deref.result.now (standings 0 (tree_of c.args.module.now)) c.deref-2.ensures.value (c.deref.ensures.value ∙ c.in_ok-standings.ensures) c.in_ok-sites.ensures scan in
+    let same = of_source c.tokens-tokens.ensures.source c.in_ok-sites.sites.items c.deref-2.result.now c.deref.result.now (line_roles 0 (tree_of c.args.module.now)) c.deref-2.ensures.value (c.deref.ensures.value ∙ c.in_ok-standings.ensures) c.in_ok-sites.ensures scan in
     subst (λ (n : ℕ). n ≤ max_text) ((λ i. laid_len c.args.indent (length (text i)) 0 (same i)) ∙ counted c.args.module.now c.args.indent scan) (c.fits.ensures.0 c.if-not-fits.false)
 
 pub returns-clause-patched : goal.returns-clause-patched
@@ -82,7 +82,7 @@ returns-clause-patched g c = λ scan held.
     let unit = g.T.TextStore.unit_of c.args.store.now in
     let m = c.args.module.now in
     let edits = c.in_ok-edits.field-0.items in
-    let gs = changed_sites c.args.indent m.source.text (all_sites (standings 0 (named_tree_of m)) scan.lexemes) in
-    let made = gaps_patched unit c.args.indent m.source scan (standings 0 (named_tree_of m)) edits
+    let gs = changed_sites c.args.indent m.source.text (all_sites (line_roles 0 (named_tree_of m)) scan.lexemes) in
+    let made = gaps_patched unit c.args.indent m.source scan (line_roles 0 (named_tree_of m)) edits
     (returns-clause-edits g c scan ∙ ap (λ (t : List ℕ). map (edit_of c.args.indent (width_of unit) t) gs) held) in
     ap (λ (t : List ℕ). patched (width_of unit) t edits) held ∙ made

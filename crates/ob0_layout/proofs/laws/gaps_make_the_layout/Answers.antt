@@ -1,5 +1,5 @@
 use Rattle.ob0_layout.specs.Layout.{laid_out}
-use Rattle.ob0_layout.specs.Standings.{standings}
+use Rattle.ob0_layout.specs.Standings.{line_roles}
 use Rattle.ob0_layout.proofs.Patched as patches
 use Rattle.ob0_layout.proofs.Pieced as pieces
 use Rattle.ob0_layout.proofs.laws.gaps_make_the_layout.Goals as goal
@@ -7,7 +7,7 @@ use Rattle.ob0_layout.proofs.laws.gaps_make_the_layout.Goals as goal
 pub returns : goal.returns
 unfolding laid_out
 returns c = record {
-  utf8 = λ indent s scan tree. patches.layout_utf8 indent s scan (standings 0 tree);
-  made = λ indent s scan tree. pieces.changed_made indent s scan (standings 0 tree);
-  length = λ indent s scan tree. pieces.all_length indent s scan (standings 0 tree);
+  utf8 = λ indent s scan tree. patches.layout_utf8 indent s scan (line_roles 0 tree);
+  made = λ indent s scan tree. pieces.changed_made indent s scan (line_roles 0 tree);
+  length = λ indent s scan tree. pieces.all_length indent s scan (line_roles 0 tree);
 }

@@ -3,8 +3,8 @@ use Rattle.ob0_scan.specs.declared.lexeme.LexemeKind.TheVariants as lexeme
 use Rattle.ob0_scan.specs.declared.lexeme.Span.{Span}
 use Rattle.ob0_scan.specs.declared.lexeme.Token.{Token}
 use Rattle.ob0_layout.specs.declared.sites.Site.{Site}
-use Rattle.ob0_layout.specs.declared.standing.Standing.{Standing}
-use Rattle.ob0_layout.specs.Layout.{next_line, next_standing, comment_standing}
+use Rattle.ob0_layout.specs.declared.standing.LineRole.{LineRole}
+use Rattle.ob0_layout.specs.Layout.{next_line, next_role, comment_role}
 use Rattle.ob0_layout.specs.Sites.{all_sites, last_gap, gap_before}
 use Rattle.ob0_layout.proofs.Ahead.{Sited, sited_at_start, sited_ends, comment_step, token_step, sited_moved, make_site, make_solid}
 use Rattle.ob0_layout.proofs.sites.all_sites.Goals as goal
@@ -39,20 +39,20 @@ loop-next-preserved-in-Comment c = λ scan.
     let before = c.loop-next.before in
     let span = c.in-Comment.span in
     let next = comment_step _ _ _ _ _ _ _ _ _ (c.loop-next.invariant scan) span (sym c.next_of.ensures ∙ c.in-Some.is ∙ ap Some c.in-Comment.is) in
-    let stands = c.comment_standing-standing.ensures ∙ (λ i. comment_standing (c.begins_anew-broken.ensures i) (c.next_line.ensures i)) in
+    let stands = c.comment_role-standing.ensures ∙ (λ i. comment_role (c.begins_anew-broken.ensures i) (c.next_line.ensures i)) in
     let written = c.in_ok-push-in-Comment.ensures.items ∙ ap (λ g. c.loop-next.sites.items ++ (make_site c.loop-next.start span.start g ∷ [])) c.gap_before-gap.ensures
-    ∙ ap (λ (st : Standing). c.loop-next.sites.items ++ (make_site c.loop-next.start span.start (gap_before before lexeme.Comment st) ∷ [])) stands in
-    sited_moved next.after refl c.behind_first-comments.ensures refl (ap (λ (st : Standing). Some (make_solid lexeme.Comment st)) stands) refl written
+    ∙ ap (λ (st : LineRole). c.loop-next.sites.items ++ (make_site c.loop-next.start span.start (gap_before before lexeme.Comment st) ∷ [])) stands in
+    sited_moved next.after refl c.behind_first-comments.ensures refl (ap (λ (st : LineRole). Some (make_solid lexeme.Comment st)) stands) refl written
 
 pub loop-next-preserved : goal.loop-next-preserved
 loop-next-preserved c = λ scan.
     let before = c.loop-next.before in
     let token = c.in-Token.token in
     let next = token_step _ _ _ _ _ _ _ _ _ (c.loop-next.invariant scan) token (sym c.next_of.ensures ∙ c.in-Some.is ∙ ap Some c.in-Token.is) in
-    let stands = c.next_standing-standing.ensures in
+    let stands = c.next_role-standing.ensures in
     let written = c.in_ok-push-in-Token.ensures.items ∙ ap (λ g. c.loop-next.sites.items ++ (make_site c.loop-next.start token.span.start g ∷ [])) c.gap_before-gap-in-Token.ensures
-    ∙ ap (λ (st : Standing). c.loop-next.sites.items ++ (make_site c.loop-next.start token.span.start (gap_before before (lexeme.Token token.kind) st) ∷ [])) stands in
-    sited_moved next.after c.behind_first-left.ensures refl c.behind_first-standings.ensures (ap (λ (st : Standing). Some (make_solid (lexeme.Token token.kind) st)) stands) c.next_line-level.ensures written
+    ∙ ap (λ (st : LineRole). c.loop-next.sites.items ++ (make_site c.loop-next.start token.span.start (gap_before before (lexeme.Token token.kind) st) ∷ [])) stands in
+    sited_moved next.after c.behind_first-left.ensures refl c.behind_first-standings.ensures (ap (λ (st : LineRole). Some (make_solid (lexeme.Token token.kind) st)) stands) c.next_line-level.ensures written
 
 pub returns : goal.returns
 returns c = λ scan.

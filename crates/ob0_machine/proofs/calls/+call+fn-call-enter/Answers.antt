@@ -17,4 +17,4 @@ returns-in_err-activate t c = leaving_steps c.from_residual.result c.in_err-acti
 pub returns : goal.returns
 returns t c = call_returns c.args.machine.now c.activate.new.machine c.args.program.now c.args.calls c.args.turns c.args.procedure c.args.level.now _ _ c.if-calls-eq0.false
     (c.procedure_at-called.ensures ∙ ap (λ ps. slice_get (map procedure_of ps) c.args.procedure) c.as_slice.ensures.value)
-    (λ at k l r after p. search rules) c.give_up.new.machine c.in_ok-activate.field-0 tt c.in_ok-activate.ensures c.give_up.ensures
+    (λ at k l r after p. search rules) c.drop_variables.new.machine c.in_ok-activate.field-0 tt c.in_ok-activate.ensures c.drop_variables.ensures

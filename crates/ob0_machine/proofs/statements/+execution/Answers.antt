@@ -24,24 +24,24 @@ branches-loop-branch-preserved g t c =
 pub branches-returns : goal.branches-returns
 branches-returns g t c = branches_end c.sequence-2.result _ c.loop-branch.invariant c.loop-branch-test.false c.deref-2.ensures.value c.sequence-2.ensures
 
-pub repeated-loop-left-init : goal.repeated-loop-left-init
-repeated-loop-left-init g t c = while_begins
+pub run_loop-loop-left-init : goal.run_loop-loop-left-init
+run_loop-loop-left-init g t c = while_begins
 
-pub repeated-returns-in_err-holds : goal.repeated-returns-in_err-holds
-repeated-returns-in_err-holds g t c = leaving (err_from_is_err_and c.from_residual.result c.from_residual.ensures.1)
+pub run_loop-returns-in_err-holds : goal.run_loop-returns-in_err-holds
+run_loop-returns-in_err-holds g t c = leaving (err_from_is_err_and c.from_residual.result c.from_residual.ensures.1)
     (while_fails c.in_err-holds.field-0.0 c.loop-left.invariant c.in_err-holds.ensures)
 
-pub repeated-returns-then-not-branch : goal.repeated-returns-then-not-branch
-repeated-returns-then-not-branch g t c = while_ends tt c.loop-left.invariant (settled c.in_ok-holds.ensures c.if-not-branch.true)
+pub run_loop-returns-then-not-branch : goal.run_loop-returns-then-not-branch
+run_loop-returns-then-not-branch g t c = while_ends tt c.loop-left.invariant (settled c.in_ok-holds.ensures c.if-not-branch.true)
 
-pub repeated-returns-then-left-eq0 : goal.repeated-returns-then-left-eq0
-repeated-returns-then-left-eq0 g t c = while_bound c.loop-left.invariant (settled c.in_ok-holds.ensures c.if-not-branch.false) c.if-left-eq0.true
+pub run_loop-returns-then-left-eq0 : goal.run_loop-returns-then-left-eq0
+run_loop-returns-then-left-eq0 g t c = while_bound c.loop-left.invariant (settled c.in_ok-holds.ensures c.if-not-branch.false) c.if-left-eq0.true
 
-pub repeated-loop-left-preserved : goal.repeated-loop-left-preserved
-repeated-loop-left-preserved g t c = while_on c.in_ok-sequence.field-0 _ c.loop-left.invariant (settled c.in_ok-holds.ensures c.if-not-branch.false) c.if-left-eq0.false c.deref.ensures.value c.in_ok-sequence.ensures
+pub run_loop-loop-left-preserved : goal.run_loop-loop-left-preserved
+run_loop-loop-left-preserved g t c = while_on c.in_ok-sequence.field-0 _ c.loop-left.invariant (settled c.in_ok-holds.ensures c.if-not-branch.false) c.if-left-eq0.false c.deref.ensures.value c.in_ok-sequence.ensures
 
-pub repeated-returns-in_err-sequence : goal.repeated-returns-in_err-sequence
-repeated-returns-in_err-sequence g t c = leaving (err_from_is_err_and c.from_residual-in_err-sequence.result c.from_residual-in_err-sequence.ensures.1)
+pub run_loop-returns-in_err-sequence : goal.run_loop-returns-in_err-sequence
+run_loop-returns-in_err-sequence g t c = leaving (err_from_is_err_and c.from_residual-in_err-sequence.result c.from_residual-in_err-sequence.ensures.1)
     (while_body_fails c.in_err-sequence.field-0.0 _ c.loop-left.invariant (settled c.in_ok-holds.ensures c.if-not-branch.false) c.if-left-eq0.false c.deref.ensures.value c.in_err-sequence.ensures)
 
 pub sequence-loop-s-init : goal.sequence-loop-s-init
@@ -61,7 +61,7 @@ pub statement-returns-in-If : goal.statement-returns-in-If
 statement-returns-in-If g t c = does_statement c.args.turns (levels_of c.args.level.now) (sym (ap statement_of c.in-If.is ∙ if_made c.in-If.i)) c.branches.ensures
 
 pub statement-returns-in-While : goal.statement-returns-in-While
-statement-returns-in-While g t c = does_statement c.args.turns (levels_of c.args.level.now) (sym (ap statement_of c.in-While.is ∙ while_made c.in-While.w)) c.repeated.ensures
+statement-returns-in-While g t c = does_statement c.args.turns (levels_of c.args.level.now) (sym (ap statement_of c.in-While.is ∙ while_made c.in-While.w)) c.run_loop.ensures
 
 pub statement-returns-in-Repeat : goal.statement-returns-in-Repeat
 statement-returns-in-Repeat g t c = does_statement c.args.turns (levels_of c.args.level.now) (sym (ap statement_of c.in-Repeat.is ∙ repeat_made c.in-Repeat.r)) c.until.ensures

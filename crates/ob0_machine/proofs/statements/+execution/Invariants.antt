@@ -5,11 +5,11 @@ use Rattle.ob0_machine.proofs.statements.+execution.Given as goal
 abbrev pub invariant-branches-loop-branch : goal.invariant-branches-loop-branch
 invariant-branches-loop-branch g l = InBranches (goal.F-post g l.enter) l.fn.machine l.machine l.turns (levels_of l.level) l.i l.branch-items l.branch-index
 
-abbrev pub invariant-repeated-loop-left : goal.invariant-repeated-loop-left
-invariant-repeated-loop-left g l = InWhile (goal.F-post g l.enter) l.fn.machine l.machine l.turns (levels_of l.level) l.w l.left
+abbrev pub invariant-run_loop-loop-left : goal.invariant-run_loop-loop-left
+invariant-run_loop-loop-left g l = InWhile (goal.F-post g l.enter) l.fn.machine l.machine l.turns (levels_of l.level) l.w l.left
 
-abbrev pub decreases-repeated-loop-left : goal.decreases-repeated-loop-left
-decreases-repeated-loop-left g l = l.left
+abbrev pub decreases-run_loop-loop-left : goal.decreases-run_loop-loop-left
+decreases-run_loop-loop-left g l = l.left
 
 abbrev pub invariant-sequence-loop-s : goal.invariant-sequence-loop-s
 invariant-sequence-loop-s g l = InSequence (goal.F-post g l.enter) l.fn.machine l.machine l.turns (levels_of l.level) l.statements l.s-index

@@ -2,7 +2,7 @@ use Rattle.std.proofs.Common.{◌+◌, ◌-◌, ◌++◌, ◌∷◌, drop, lengt
 use Rattle.std.specs.Prelude.{slice_index}
 use Rattle.std.proofs.lemmas.List.{take_rest}
 use Rattle.ob0_text.specs.Texts.{LF}
-use Rattle.ob0_text.specs.LineStarts.{starts_behind}
+use Rattle.ob0_text.specs.LineStarts.{starts_after}
 use Rattle.ob0_text.proofs.LinePlaces.{moved_starts, moved_bounds, mended_starts}
 use Rattle.ob0_text.proofs.lookups.mend.Goals as goal
 
@@ -16,5 +16,5 @@ starts_from_change-requires-clause-within c =
 
 pub returns : goal.returns
 returns c =
-    let later = c.in_ok-later.ensures ∙ ap (λ t. starts_behind c.args.from (slice_index (LF ∷ c.args.text.now) c.args.from ∷ c.args.new.now) (drop c.args.to c.args.text.now) ++ map (λ s. s - c.args.to + (c.args.from + length c.args.new.now)) t) (take_rest c.args.starts.now c.starts_before-moved.result) in
+    let later = c.in_ok-later.ensures ∙ ap (λ t. starts_after c.args.from (slice_index (LF ∷ c.args.text.now) c.args.from ∷ c.args.new.now) (drop c.args.to c.args.text.now) ++ map (λ s. s - c.args.to + (c.args.from + length c.args.new.now)) t) (take_rest c.args.starts.now c.starts_before-moved.result) in
     mended_starts c.args.text.now c.args.new.now c.args.starts.now c.in_ok-later.later.items c.args.from c.args.to c.starts_before-kept.result c.starts_before-moved.result c.utf8.text c.requires.table c.requires.order c.requires.within c.starts_before-kept.ensures.count c.starts_before-moved.ensures.count later

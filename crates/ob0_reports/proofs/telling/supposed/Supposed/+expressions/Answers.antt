@@ -9,7 +9,7 @@ use Rattle.ob0_tree.specs.declared.tree.Term.{out-Term}
 use Rattle.ob0_tree.specs.Tree.{compares, one, relates}
 use Rattle.ob0_tree.specs.View.{addend_of, expression_of, factor_of, items_of, multiplier_of, selector_of, simple_of, term_of}
 use Rattle.ob0_typing.proofs.TreeParts.{addend_parts, expression_alone, expression_related}
-use Rattle.ob0_reports.specs.ExpressionFaults.{told_addends, told_expression, told_factor, told_multipliers, told_selector, told_selectors, told_simple, told_term}
+use Rattle.ob0_reports.specs.ExpressionFaults.{told_addends, told_expression, told_factor, told_multipliers, reported_selector, told_selectors, told_simple, told_term}
 use Rattle.ob0_reports.specs.Operations.{added, complemented, element_selected, enclosed, multiplied, related, right, signed, ◌>>=◌}
 use Rattle.ob0_reports.specs.SupposedFacts.{facts_in, operand_of}
 use Rattle.ob0_reports.proofs.Chains.{chain_ends, chain_goes_on, steps, tells_nothing, tells_same}
@@ -62,14 +62,14 @@ pub select-returns-in-Field : goal.select-returns-in-Field
 select-returns-in-Field t c =
     let facts = facts_in c.args.self.now c.args.only_constants in
     let x = operand_of c.args.base in
-    IfOk-weaker c.select_field.result _ _ (λ o h. tells_same h (sym (ap (λ s. told_selector facts x (selector_of s)) c.in-Field.is ∙ field_told facts x c.in-Field.name))) c.select_field.ensures
+    IfOk-weaker c.select_field.result _ _ (λ o h. tells_same h (sym (ap (λ s. reported_selector facts x (selector_of s)) c.in-Field.is ∙ field_told facts x c.in-Field.name))) c.select_field.ensures
 
 pub select-returns-in_ok-index-in-Index : goal.select-returns-in_ok-index-in-Index
 select-returns-in_ok-index-in-Index t c =
     let facts = facts_in c.args.self.now c.args.only_constants in
     let x = operand_of c.args.base in
     IfOk-weaker c.select_element.result _ _ (λ o h. tells_same (steps (element_selected facts x) c.in_ok-index-in-Index.ensures h)
-    (sym (ap (λ s. told_selector facts x (selector_of s)) c.in-Index.is ∙ index_told facts x (expression_of c.in-Index.e)))) c.select_element.ensures
+    (sym (ap (λ s. reported_selector facts x (selector_of s)) c.in-Index.is ∙ index_told facts x (expression_of c.in-Index.e)))) c.select_element.ensures
 
 pub selected-loop-selector-preserved : goal.selected-loop-selector-preserved
 selected-loop-selector-preserved t c =

@@ -3,7 +3,7 @@ use Rattle.std.proofs.lemmas.Result.{on_ok_weaker}
 use Rattle.ob0_tree.proofs.Viewed.{if_parts, repeat_made, while_made}
 use Rattle.ob0_tree.specs.declared.tree.If.{out-If}
 use Rattle.ob0_tree.specs.View.{else_in, elsif_of, expression_of, items_of, sequence_listed, statement_of}
-use Rattle.ob0_reports.specs.StatementFaults.{told_condition, told_else, told_elsifs, told_sequence, told_statement}
+use Rattle.ob0_reports.specs.StatementFaults.{reported_condition, told_else, told_elsifs, told_sequence, told_statement}
 use Rattle.ob0_reports.specs.SupposedFacts.{facts_in}
 use Rattle.ob0_reports.proofs.Listed.{each_ends, each_goes_on, nothing_told, told_both}
 use Rattle.ob0_reports.proofs.ToldStatements.{branches_told, else_told, elsifs_each, empty_told, no_else_told, repeat_told, sequence_each, while_told}
@@ -23,7 +23,7 @@ pub elsifs-loop-part-preserved : goal.elsifs-loop-part-preserved
 elsifs-loop-part-preserved t c =
     let facts = facts_in c.args.self.now false in
     let part = c.part-item.result in
-    let both = told_both c.loop-part.faults.items (told_condition facts (expression_of part.condition)) (told_sequence facts (sequence_listed part.then.items)) c.in_ok-condition.ensures c.in_ok-sequence.ensures in
+    let both = told_both c.loop-part.faults.items (reported_condition facts (expression_of part.condition)) (told_sequence facts (sequence_listed part.then.items)) c.in_ok-condition.ensures c.in_ok-sequence.ensures in
     each_goes_on part (elsifs_each facts) c.loop-part.invariant c.loop-part-test.true c.part-item.is both
 
 pub elsifs-returns : goal.elsifs-returns
@@ -42,7 +42,7 @@ statement-returns-in_ok-condition-in-While t c =
     let facts = facts_in c.args.self.now false in
     let before = c.args.faults.now.items in
     let w = c.in-While.w in
-    let a = told_condition facts (expression_of w.condition) in
+    let a = reported_condition facts (expression_of w.condition) in
     let b = told_sequence facts (sequence_listed w.body.items) in
     let whole = ap (λ s. told_statement facts (statement_of s)) c.in-While.is ∙ ap (told_statement facts) (while_made w) ∙ while_told facts (expression_of w.condition) (sequence_listed w.body.items) in
     on_ok_weaker c.sequence.result (λ h. told_both before a b c.in_ok-condition-in-While.ensures h ∙ sym (ap (λ f. before ++ f) whole)) c.sequence.ensures
@@ -53,7 +53,7 @@ statement-returns-in_ok-sequence-in-Repeat t c =
     let before = c.args.faults.now.items in
     let w = c.in-Repeat.r in
     let a = told_sequence facts (sequence_listed w.body.items) in
-    let b = told_condition facts (expression_of w.condition) in
+    let b = reported_condition facts (expression_of w.condition) in
     let whole = ap (λ s. told_statement facts (statement_of s)) c.in-Repeat.is ∙ ap (told_statement facts) (repeat_made w) ∙ repeat_told facts (expression_of w.condition) (sequence_listed w.body.items) in
     on_ok_weaker c.condition-in-Repeat.result (λ h. told_both before a b c.in_ok-sequence-in-Repeat.ensures h ∙ sym (ap (λ f. before ++ f) whole)) c.condition-in-Repeat.ensures
 
@@ -68,7 +68,7 @@ branches-returns-in-None t c =
     let last = else_in i.otherwise in
     let none = ap (λ o. told_else facts (else_in o)) c.in-None.is ∙ no_else_told facts in
     let now = c.elsifs.new.faults.items in
-    told_both before (told_condition facts e) (told_sequence facts a ++ (told_elsifs facts rest ++ told_else facts last)) c.in_ok-condition.ensures
+    told_both before (reported_condition facts e) (told_sequence facts a ++ (told_elsifs facts rest ++ told_else facts last)) c.in_ok-condition.ensures
     (told_both c.condition.new.faults.items (told_sequence facts a) (told_elsifs facts rest ++ told_else facts last) c.in_ok-sequence.ensures
     (told_both c.sequence.new.faults.items (told_elsifs facts rest) (told_else facts last) c.in_ok-elsifs.ensures (nothing_told now none)))
     ∙ sym (ap (λ f. before ++ f) (ap (told_statement facts) (if_parts c.args.i.now) ∙ branches_told facts e a rest last))
@@ -85,7 +85,7 @@ branches-returns-in-Some t c =
     let some = ap (λ o. told_else facts (else_in o)) c.in-Some.is ∙ else_told facts (sequence_listed c.in-Some.statements.items) in
     let now = c.elsifs.new.faults.items in
     on_ok_weaker c.sequence-in-Some.result (λ h.
-    told_both before (told_condition facts e) (told_sequence facts a ++ (told_elsifs facts rest ++ told_else facts last)) c.in_ok-condition.ensures
+    told_both before (reported_condition facts e) (told_sequence facts a ++ (told_elsifs facts rest ++ told_else facts last)) c.in_ok-condition.ensures
     (told_both c.condition.new.faults.items (told_sequence facts a) (told_elsifs facts rest ++ told_else facts last) c.in_ok-sequence.ensures
     (told_both c.sequence.new.faults.items (told_elsifs facts rest) (told_else facts last) c.in_ok-elsifs.ensures (h ∙ sym (ap (λ f. now ++ f) some))))
     ∙ sym (ap (λ f. before ++ f) (ap (told_statement facts) (if_parts c.args.i.now) ∙ branches_told facts e a rest last))) c.sequence-in-Some.ensures
