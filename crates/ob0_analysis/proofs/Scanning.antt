@@ -12,10 +12,10 @@ use Rattle.ob0_tree.specs.Tree.{Tree, module_text}
 use Rattle.ob0_parse.specs.RefusedBy.{NoneBegins, RefusedBy}
 use Rattle.ob0_parse.specs.declared.refusal.ParseRefusal.{ParseRefusal}
 use Rattle.ob0_parse.specs.declared.refusal.ParseRefusal.TheVariants.{Syntax, TooDeep, Memory}
-use Rattle.ob0_names.specs.Resolution.{Resolution}
+use Rattle.ob0_scope_rules.specs.Resolution.{Resolution}
 use Rattle.ob0_tree.specs.Parsed.{Parsed, named_tree_of}
 use Rattle.ob0_types.specs.CheckedModules.{CheckedModule, IsChecked, IsWellTyped}
-use Rattle.ob0_typing.specs.WellTyped.{WellTyped}
+use Rattle.ob0_types_rules.specs.WellTyped.{WellTyped}
 use Rattle.ob0_analysis.specs.Analysed.{IsModuleIn}
 use Rattle.ob0_analysis.specs.Diagnosed.{Complaint, IsTextOf, IsWellTypedModule, IsRefusalAt, Tells, TellsFaults, complaint_of}
 use Rattle.ob0_analysis.specs.Texts.{utf8}

@@ -2,8 +2,8 @@
 use Rattle.std.specs.Prelude.{ℕ, List, map}
 use Rattle.ob0_scan.specs.Scanned.{IsScanOf}
 use Rattle.ob0_tree.specs.Parsed.{Parsed, IsParsed, named_tree_of}
-use Rattle.ob0_names.specs.Resolution.{Resolution}
-use Rattle.ob0_typing.specs.WellTyped.{WellTyped}
+use Rattle.ob0_scope_rules.specs.Resolution.{Resolution}
+use Rattle.ob0_types_rules.specs.WellTyped.{WellTyped}
 use Rattle.ob0_types.specs.CheckedModules.{IsWellTyped}
 use Rattle.ob0_analysis.specs.Diagnosed.{IsWellTypedModule, TellsFaults, complaint_in}
 use Rattle.ob0_analysis.specs.declared.analysis.Asked.{Asked}

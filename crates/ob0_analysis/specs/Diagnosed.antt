@@ -9,9 +9,9 @@ use Rattle.ob0_scan.specs.declared.lexeme.Token.{Token}
 use Rattle.ob0_tree.specs.Module.{ModuleOf}
 use Rattle.ob0_tree.specs.Tree.{Tree, module_text}
 use Rattle.ob0_tree.specs.Parsed.{named_tree_of}
-use Rattle.ob0_names.specs.Names.{Name, as_names}
-use Rattle.ob0_names.specs.Resolution.{IsResolution, Resolution}
-use Rattle.ob0_typing.specs.WellTyped.{WellTyped, fits_over}
+use Rattle.ob0_scope_rules.specs.Names.{Name, as_names}
+use Rattle.ob0_scope_rules.specs.Resolution.{IsResolution, Resolution}
+use Rattle.ob0_types_rules.specs.WellTyped.{WellTyped, fits_over}
 use Rattle.ob0_types.specs.FaultOrder.{AreFirstFaults}
 use Rattle.ob0_parse.specs.ExpectedText.{expected_text}
 use Rattle.ob0_parse.specs.RefusedBy.{RefusedBy}

@@ -1,6 +1,6 @@
 -- An edit of a text keeps what its module does.
 use Rattle.std.specs.Prelude.{ℕ, List}
-use Rattle.ob0_semantics.specs.EditLaws.{SameRuns}
+use Rattle.ob0_run_rules.specs.EditLaws.{SameRuns}
 use Rattle.ob0_analysis.specs.Diagnosed.{IsWellTypedModule}
 
 -- both texts are well-typed modules, and these have the same run for every input and all bounds

@@ -1,7 +1,7 @@
 //! Asking a text: it is scanned, parsed, resolved and checked once.
 
 ghost use Rattle.std.specs.Prelude.{⊤, ℕ, List, IfOk};
-ghost use Rattle.ob0_names.specs.Resolution.{Resolution};
+ghost use Rattle.ob0_scope_rules.specs.Resolution.{Resolution};
 ghost use Rattle.ob0_analysis.specs.Analysed.{Finds};
 
 use crate::diagnoses::{Diagnosis, of_faults, of_refusal};

@@ -3,13 +3,13 @@ use Rattle.std.proofs.Common.{◌≡◌, ℕ, ◌+◌, ◌<◌, ◌≤◌, List,
 use Rattle.std.proofs.lemmas.List.{drop_all, drop_more}
 use Rattle.std.proofs.lemmas.List.Elements.{All-push}
 use Rattle.ob0_values.specs.Values.{FieldShapes, Shape, next_field_shape, no_field_shape}
-use Rattle.ob0_names.specs.Names.{label_text}
-use Rattle.ob0_names.specs.Resolution.{Resolution}
-use Rattle.ob0_symbols.specs.declared.known.Field.{Field}
-use Rattle.ob0_symbols.specs.declared.types.TypeId.{TypeId}
+use Rattle.ob0_scope_rules.specs.Names.{label_text}
+use Rattle.ob0_scope_rules.specs.Resolution.{Resolution}
+use Rattle.ob0_types_table.specs.declared.known.Field.{Field}
+use Rattle.ob0_types_table.specs.declared.types.TypeId.{TypeId}
 use Rattle.ob0_checker.specs.DenotedTables.{AreAdded, fields_named, joined}
-use Rattle.ob0_bindings.specs.InLabels.{label_in}
-use Rattle.ob0_symbols.specs.Tables.{IsMade, fields_shape, type_shape}
+use Rattle.ob0_types_rules.specs.InLabels.{label_in}
+use Rattle.ob0_types_table.specs.Tables.{IsMade, fields_shape, type_shape}
 
 pub joined-assoc : (a b c : FieldShapes) → joined (joined a b) c ≡ joined a (joined b c)
 joined-assoc no_field_shape b c = refl

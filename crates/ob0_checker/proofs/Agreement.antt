@@ -5,27 +5,27 @@ use Rattle.std.proofs.lemmas.List.{get_or_append_left}
 use Rattle.std.proofs.lemmas.List.Elements.{All-head, All-push, All-tail}
 use Rattle.std.proofs.Math.Seq.{get_or-append_seam}
 use Rattle.ob0_tree.specs.Places.{text_at}
-use Rattle.ob0_names.specs.Resolution.{Resolution, ordinal_in}
-use Rattle.ob0_names.specs.Scopes.{as_label}
-use Rattle.ob0_bindings.specs.InLabels.{label_in}
-use Rattle.ob0_names.specs.Names.{Label, Name, as_labels, as_names, as_written, declared, label_text}
+use Rattle.ob0_scope_rules.specs.Resolution.{Resolution, ordinal_in}
+use Rattle.ob0_scope_rules.specs.Scopes.{as_label}
+use Rattle.ob0_types_rules.specs.InLabels.{label_in}
+use Rattle.ob0_scope_rules.specs.Names.{Label, Name, as_labels, as_names, as_written, declared, label_text}
 use Rattle.ob0_values.specs.Values.{Shape, boolean_shape, integer_shape, truth}
-use Rattle.ob0_symbols.specs.declared.known.Entry.{Entry}
-use Rattle.ob0_symbols.specs.declared.known.Formal as formal
-use Rattle.ob0_symbols.specs.declared.known.Shadowed.{Shadowed}
-use Rattle.ob0_symbols.specs.declared.known.Object as declaration
-use Rattle.ob0_symbols.specs.declared.known.Object.TheVariants as kind
-use Rattle.ob0_symbols.specs.declared.known.Sight.{Sight}
-use Rattle.ob0_symbols.specs.declared.known.Sight.TheVariants as sight
+use Rattle.ob0_types_table.specs.declared.known.Entry.{Entry}
+use Rattle.ob0_types_table.specs.declared.known.Formal as formal
+use Rattle.ob0_types_table.specs.declared.known.Shadowed.{Shadowed}
+use Rattle.ob0_types_table.specs.declared.known.Object as declaration
+use Rattle.ob0_types_table.specs.declared.known.Object.TheVariants as kind
+use Rattle.ob0_types_table.specs.declared.known.Sight.{Sight}
+use Rattle.ob0_types_table.specs.declared.known.Sight.TheVariants as sight
 use Rattle.ob0_checker.specs.Checking.{Agrees, Follows, Walking}
-use Rattle.ob0_typing.specs.Environments.{from_binding, newest, outermost}
-use Rattle.ob0_typing.specs.Expressions.{Object, a_constant, a_procedure, a_standard, a_type, a_variable, reads, writes, writes_line}
-use Rattle.ob0_symbols.specs.KnownTables.{AreTables, CanBePutBack, EntryIsMade, SightIsMade, Tables, before_all, in_sight_of, label_object, object_seen, predeclared, put_at, seen_entry, seen_in, seen_object, shapes_of}
-use Rattle.ob0_symbols.specs.Tables.{IsMade, ObjectIsMade, formal_in, mode_of, object_in}
-use Rattle.ob0_typing.specs.WellTyped.{Signature, TypeEnvironment}
-use Rattle.ob0_bindings.proofs.Bound.{newest-if}
-use Rattle.ob0_symbols.proofs.Sighted.{before_all-append, last_of}
-use Rattle.ob0_symbols.proofs.Tables.{ObjectIsMade-more, length-table, type_shape-more}
+use Rattle.ob0_types_rules.specs.Environments.{from_binding, newest, outermost}
+use Rattle.ob0_types_rules.specs.Expressions.{Object, a_constant, a_procedure, a_standard, a_type, a_variable, reads, writes, writes_line}
+use Rattle.ob0_types_table.specs.KnownTables.{AreTables, CanBePutBack, EntryIsMade, SightIsMade, Tables, before_all, in_sight_of, label_object, object_seen, predeclared, put_at, seen_entry, seen_in, seen_object, shapes_of}
+use Rattle.ob0_types_table.specs.Tables.{IsMade, ObjectIsMade, formal_in, mode_of, object_in}
+use Rattle.ob0_types_rules.specs.WellTyped.{Signature, TypeEnvironment}
+use Rattle.ob0_types_rules.proofs.Bound.{newest-if}
+use Rattle.ob0_types_table.proofs.Sighted.{before_all-append, last_of}
+use Rattle.ob0_types_table.proofs.Tables.{ObjectIsMade-more, length-table, type_shape-more}
 
 -- what an ordinal stands for, by the object in sight
 seen_entry-object : (shapes : List Shape) (e : Option Entry) → option_and_then (seen_entry shapes) e ≡ option_and_then (object_in shapes) (option_and_then object_seen e)

@@ -3,9 +3,9 @@ use Rattle.std.proofs.Common.{◌≡◌, ℕ, ◌+◌, ◌<◌, ◌≤◌, Optio
 use Rattle.std.proofs.lemmas.List.{drop_all, drop_more}
 use Rattle.ob0_tree.specs.Tree.{Tree, Item, item, items, end, more}
 use Rattle.ob0_tree.specs.View.{items_of}
-use Rattle.ob0_names.specs.Names.{Label}
-use Rattle.ob0_names.specs.Resolution.{Resolution}
-use Rattle.ob0_bindings.specs.InLabels.{in_labels}
+use Rattle.ob0_scope_rules.specs.Names.{Label}
+use Rattle.ob0_scope_rules.specs.Resolution.{Resolution}
+use Rattle.ob0_types_rules.specs.InLabels.{in_labels}
 
 -- a chain is evaluated item by item
 pub record IsChain {X : Type 0} {i : Item} (chain : X → Tree Label (items i) → Option X) (step : X → Tree Label (item i) → Option X) : Type 0 where

@@ -1,13 +1,13 @@
 -- The value of a constant expression, by its type over the checker's tables.
 use Rattle.std.proofs.Common.{◌≡◌, [], Option, Some, None, option_and_then, option_map, refl, sym, ap, ◌∙◌, true}
 use Rattle.ob0_tree.specs.Tree.{Tree, expression}
-use Rattle.ob0_names.specs.Names.{Label}
+use Rattle.ob0_scope_rules.specs.Names.{Label}
 use Rattle.ob0_checker.specs.Constants.{constants_in, meaning_in}
-use Rattle.ob0_typing.specs.Expressions.{a_constant, evaluate}
-use Rattle.ob0_symbols.specs.KnownTables.{Tables, known_meaning, label_object}
-use Rattle.ob0_typing.specs.Typing.{constant_of, constant_value, constants_only, given_value, object_type, type_of}
-use Rattle.ob0_typing.specs.WellTyped.{Signature}
-use Rattle.ob0_typing.proofs.SameTypes.{same_type}
+use Rattle.ob0_types_rules.specs.Expressions.{a_constant, evaluate}
+use Rattle.ob0_types_table.specs.KnownTables.{Tables, known_meaning, label_object}
+use Rattle.ob0_types_rules.specs.Typing.{constant_of, constant_value, constants_only, given_value, object_type, type_of}
+use Rattle.ob0_types_rules.specs.WellTyped.{Signature}
+use Rattle.ob0_types_rules.proofs.SameTypes.{same_type}
 use Rattle.ob0_values.specs.Values.{Shape, Value}
 
 same_constant : (v : Option Value) → object_type {P = Unit {0}} (option_map a_constant v) ≡ object_type {P = Signature} (option_map a_constant v)

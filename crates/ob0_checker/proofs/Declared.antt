@@ -4,28 +4,28 @@ use Rattle.std.proofs.lemmas.List.{drop_all, drop_more}
 use Rattle.ob0_tree.specs.declared.tree.Names as tree_names
 use Rattle.ob0_tree.specs.Tree.{Tree, declares_constant, declares_type, declares_variable, end, expression, more, names, written_type}
 use Rattle.ob0_tree.specs.View.{names_of}
-use Rattle.ob0_names.specs.Names.{Label, as_labels}
-use Rattle.ob0_names.specs.Parts.{names_listed}
-use Rattle.ob0_names.specs.Resolution.{Resolution}
-use Rattle.ob0_symbols.specs.declared.known.Object as declaration
-use Rattle.ob0_symbols.specs.declared.known.Object.TheVariants as kind
-use Rattle.ob0_symbols.specs.declared.types.TypeId.{TypeId}
+use Rattle.ob0_scope_rules.specs.Names.{Label, as_labels}
+use Rattle.ob0_scope_rules.specs.Parts.{names_listed}
+use Rattle.ob0_scope_rules.specs.Resolution.{Resolution}
+use Rattle.ob0_types_table.specs.declared.known.Object as declaration
+use Rattle.ob0_types_table.specs.declared.known.Object.TheVariants as kind
+use Rattle.ob0_types_table.specs.declared.types.TypeId.{TypeId}
 use Rattle.ob0_checker.specs.declared.walk.Parameter.{Parameter}
 use Rattle.ob0_checker.specs.declared.walk.Typed.{Typed}
 use Rattle.ob0_checker.specs.Checking.{Agrees, Declares, Follows, Keeps, Walking, parameter_in}
-use Rattle.ob0_typing.specs.Declarations.{declare_constants, declare_types}
-use Rattle.ob0_typing.specs.Environments.{meanings}
-use Rattle.ob0_typing.specs.Expressions.{Object, a_constant, a_type, a_variable}
-use Rattle.ob0_bindings.specs.InLabels.{in_labels, label_in}
-use Rattle.ob0_symbols.specs.KnownTables.{Tables, known_meaning, shapes_of}
-use Rattle.ob0_symbols.specs.Tables.{IsMade, object_in, type_shape}
-use Rattle.ob0_typing.specs.Typing.{constant_value, constructors, denoted}
-use Rattle.ob0_typing.specs.WellTyped.{Signature, TypeEnvironment, bind_names, bind_typed, declare_typed}
+use Rattle.ob0_types_rules.specs.Declarations.{declare_constants, declare_types}
+use Rattle.ob0_types_rules.specs.Environments.{meanings}
+use Rattle.ob0_types_rules.specs.Expressions.{Object, a_constant, a_type, a_variable}
+use Rattle.ob0_types_rules.specs.InLabels.{in_labels, label_in}
+use Rattle.ob0_types_table.specs.KnownTables.{Tables, known_meaning, shapes_of}
+use Rattle.ob0_types_table.specs.Tables.{IsMade, object_in, type_shape}
+use Rattle.ob0_types_rules.specs.Typing.{constant_value, constructors, denoted}
+use Rattle.ob0_types_rules.specs.WellTyped.{Signature, TypeEnvironment, bind_names, bind_typed, declare_typed}
 use Rattle.ob0_values.specs.declared.scalar.Scalar.{Scalar}
 use Rattle.ob0_values.specs.Scalars.{scalar_value}
 use Rattle.ob0_values.specs.Values.{Shape}
 use Rattle.ob0_checker.proofs.Agreement.{follows_itself, follows_on}
-use Rattle.ob0_bindings.proofs.Counted.{labels_listed}
+use Rattle.ob0_types_rules.proofs.Counted.{labels_listed}
 use Rattle.ob0_checker.proofs.Walked.{constant_is, type_is, variable_is}
 
 -- what binding a declaration at a token gives

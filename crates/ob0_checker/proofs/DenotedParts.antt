@@ -8,17 +8,17 @@ use Rattle.ob0_tree.specs.declared.tree.Fields as group
 use Rattle.ob0_tree.specs.Places.{value_at}
 use Rattle.ob0_tree.specs.Tree.{Tree, array_type, expression, named_type, record_type, written_type}
 use Rattle.ob0_tree.specs.View.{expression_of, further_fields_of_group, items_of, record_listed, type_of}
-use Rattle.ob0_names.specs.Names.{Label}
-use Rattle.ob0_names.specs.Resolution.{Resolution}
-use Rattle.ob0_symbols.specs.declared.known.Field.{Field}
-use Rattle.ob0_symbols.specs.declared.types.TypeId.{TypeId}
+use Rattle.ob0_scope_rules.specs.Names.{Label}
+use Rattle.ob0_scope_rules.specs.Resolution.{Resolution}
+use Rattle.ob0_types_table.specs.declared.known.Field.{Field}
+use Rattle.ob0_types_table.specs.declared.types.TypeId.{TypeId}
 use Rattle.ob0_checker.specs.DenotedTables.{AreAdded, Denotes, Grown, IsFound, array_in}
-use Rattle.ob0_bindings.specs.InLabels.{in_labels, label_in}
-use Rattle.ob0_symbols.specs.KnownTables.{Tables, known_meaning, label_object, shapes_of}
-use Rattle.ob0_symbols.specs.Tables.{IsMade, fields_shape, type_shape}
-use Rattle.ob0_typing.specs.Typing.{array_length, constant_value, constructors, denoted, denoted_group, denoted_groups, depth, group_constructors, scalars, type_of_name, within_limits}
-use Rattle.ob0_typing.specs.WellTyped.{Typed}
-use Rattle.ob0_typing.proofs.TypedElsewhere.{then_some}
+use Rattle.ob0_types_rules.specs.InLabels.{in_labels, label_in}
+use Rattle.ob0_types_table.specs.KnownTables.{Tables, known_meaning, label_object, shapes_of}
+use Rattle.ob0_types_table.specs.Tables.{IsMade, fields_shape, type_shape}
+use Rattle.ob0_types_rules.specs.Typing.{array_length, constant_value, constructors, denoted, denoted_group, denoted_groups, depth, group_constructors, scalars, type_of_name, within_limits}
+use Rattle.ob0_types_rules.specs.WellTyped.{Typed}
+use Rattle.ob0_types_rules.proofs.TypedElsewhere.{then_some}
 use Rattle.ob0_checker.proofs.Gathered.{Gathered, constructors-mapped, counted_ends, gathered_deep, gathered_ends, gathered_listed, grown-refl, grown-trans, record-counted, record-denoted}
 use Rattle.ob0_checker.proofs.Judged.{then-assoc}
 use Rattle.ob0_values.specs.Values.{Shape, array_shape, record_shape}

@@ -3,16 +3,16 @@ use Rattle.std.proofs.Common.{◌≡◌, ◌<◌, Bool, true, false, cond, List,
 use Rattle.ob0_tree.specs.declared.tree.Relation.{Relation}
 use Rattle.ob0_tree.specs.declared.tree.Sign.{Sign}
 use Rattle.ob0_tree.specs.Tree.{Tree, addend, adds, compares, designator, end, factor, field, index, item, items, more, multiplier, multiplies, negation, none, one, product, relates, selector, simple, sum, term}
-use Rattle.ob0_names.specs.Names.{Label}
-use Rattle.ob0_names.specs.Resolution.{Resolution}
+use Rattle.ob0_scope_rules.specs.Names.{Label}
+use Rattle.ob0_scope_rules.specs.Resolution.{Resolution}
 use Rattle.ob0_tree.specs.View.{items_of, selector_of}
 use Rattle.ob0_tree.specs.declared.tree.Selector.{Selector}
-use Rattle.ob0_bindings.specs.InLabels.{in_labels}
-use Rattle.ob0_symbols.specs.KnownTables.{Tables, label_object}
+use Rattle.ob0_types_rules.specs.InLabels.{in_labels}
+use Rattle.ob0_types_table.specs.KnownTables.{Tables, label_object}
 use Rattle.ob0_checker.specs.Constants.{constants_in, value_added, value_multiplied}
-use Rattle.ob0_typing.specs.Expressions.{Meanings, a_constant, element_step, evaluate, evaluate_addends, evaluate_factor, evaluate_multipliers, evaluate_simple, evaluate_term, follow, value_of}
-use Rattle.ob0_typing.specs.Selected.{both}
-use Rattle.ob0_typing.specs.Typing.{constant_of, given_value}
+use Rattle.ob0_types_rules.specs.Expressions.{Meanings, a_constant, element_step, evaluate, evaluate_addends, evaluate_factor, evaluate_multipliers, evaluate_simple, evaluate_term, follow, value_of}
+use Rattle.ob0_types_rules.specs.Selected.{both}
+use Rattle.ob0_types_rules.specs.Typing.{constant_of, given_value}
 use Rattle.ob0_checker.proofs.Chains.{IsChain}
 use Rattle.ob0_checker.proofs.Judged.{then-assoc}
 use Rattle.ob0_values.specs.Scalars.{scalar_value}

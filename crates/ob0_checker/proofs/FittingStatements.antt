@@ -5,20 +5,20 @@ use Rattle.ob0_tree.specs.View as view
 use Rattle.ob0_tree.specs.View.{elsif_of, expression_of, further_statement_of, items_of, sequence_listed, statement_of}
 use Rattle.ob0_tree.specs.declared.tree.Expression.{Expression}
 use Rattle.ob0_tree.specs.declared.tree.Statement.{Statement}
-use Rattle.ob0_names.specs.Names.{Label}
-use Rattle.ob0_names.specs.Resolution.{Resolution}
-use Rattle.ob0_symbols.specs.declared.known.Formal as formal
-use Rattle.ob0_typing.specs.Arguments.{arguments_listed}
-use Rattle.ob0_bindings.specs.Bindings.{variable_of}
-use Rattle.ob0_typing.specs.Expressions.{Object, a_constant, a_procedure, a_standard, a_type, a_variable}
-use Rattle.ob0_bindings.specs.Designators.{all_in_labels}
-use Rattle.ob0_bindings.specs.InLabels.{in_labels}
+use Rattle.ob0_scope_rules.specs.Names.{Label}
+use Rattle.ob0_scope_rules.specs.Resolution.{Resolution}
+use Rattle.ob0_types_table.specs.declared.known.Formal as formal
+use Rattle.ob0_types_rules.specs.Arguments.{arguments_listed}
+use Rattle.ob0_types_rules.specs.Bindings.{variable_of}
+use Rattle.ob0_types_rules.specs.Expressions.{Object, a_constant, a_procedure, a_standard, a_type, a_variable}
+use Rattle.ob0_types_rules.specs.Designators.{all_in_labels}
+use Rattle.ob0_types_rules.specs.InLabels.{in_labels}
 use Rattle.ob0_checker.specs.Constants.{meaning_in, where_only}
-use Rattle.ob0_symbols.specs.KnownTables.{Tables, label_object}
-use Rattle.ob0_symbols.specs.Tables.{formal_in, mode_of, type_shape}
-use Rattle.ob0_typing.specs.Typing.{designated, type_at, type_of}
-use Rattle.ob0_typing.specs.WellTyped.{Signature, Typed, agree, argument_fits, arguments_fit, by_place, by_value, call_fits, condition_fits, else_fits, elsifs_fit, sequence_fits, signature_of, statement_fits, statements_fit, variable_type}
-use Rattle.ob0_typing.proofs.AllFit.{IsEach, IsPairwise, and-assoc}
+use Rattle.ob0_types_table.specs.KnownTables.{Tables, label_object}
+use Rattle.ob0_types_table.specs.Tables.{formal_in, mode_of, type_shape}
+use Rattle.ob0_types_rules.specs.Typing.{designated, type_at, type_of}
+use Rattle.ob0_types_rules.specs.WellTyped.{Signature, Typed, agree, argument_fits, arguments_fit, by_place, by_value, call_fits, condition_fits, else_fits, elsifs_fit, sequence_fits, signature_of, statement_fits, statements_fit, variable_type}
+use Rattle.ob0_types_rules.proofs.AllFit.{IsEach, IsPairwise, and-assoc}
 use Rattle.ob0_values.specs.Values.{Shape}
 
 -- what may be assigned to, by what its name stands for

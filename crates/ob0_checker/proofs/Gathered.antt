@@ -7,21 +7,21 @@ use Rattle.ob0_tree.specs.declared.tree.Names as tree_names
 use Rattle.ob0_tree.specs.Tree.{Tree, array_type, end, fields, further_fields, further_name, items, listed, mapped, more, named_type, names, no_fields, record_type, some_fields, then_fields, then_name, written_type}
 use Rattle.ob0_tree.specs.View.{fields_of, further_fields_of_group, items_of, names_of, record_listed, type_of}
 use Rattle.ob0_tree.specs.Places.{value_at}
-use Rattle.ob0_names.specs.Names.{Label, label_text}
-use Rattle.ob0_names.specs.Parts.{further_names, names_listed}
-use Rattle.ob0_names.specs.Resolution.{Resolution}
-use Rattle.ob0_symbols.specs.declared.known.Field.{Field}
-use Rattle.ob0_symbols.specs.declared.types.TypeId.{TypeId}
+use Rattle.ob0_scope_rules.specs.Names.{Label, label_text}
+use Rattle.ob0_scope_rules.specs.Parts.{further_names, names_listed}
+use Rattle.ob0_scope_rules.specs.Resolution.{Resolution}
+use Rattle.ob0_types_table.specs.declared.known.Field.{Field}
+use Rattle.ob0_types_table.specs.declared.types.TypeId.{TypeId}
 use Rattle.ob0_checker.specs.DenotedTables.{AreAdded, Grown, fields_named, joined}
-use Rattle.ob0_bindings.specs.InLabels.{in_labels, label_in}
-use Rattle.ob0_symbols.specs.KnownTables.{Tables, known_meaning, shapes_of}
-use Rattle.ob0_symbols.specs.Tables.{IsMade, fields_shape, type_shape}
-use Rattle.ob0_typing.specs.Typing.{constructors, denoted, denoted_group, denoted_groups, depth, field_depth, group_constructors, groups_constructors, with_fields, within_limits}
-use Rattle.ob0_typing.specs.WellTyped.{Typed}
-use Rattle.ob0_typing.proofs.TypedElsewhere.{then_some}
+use Rattle.ob0_types_rules.specs.InLabels.{in_labels, label_in}
+use Rattle.ob0_types_table.specs.KnownTables.{Tables, known_meaning, shapes_of}
+use Rattle.ob0_types_table.specs.Tables.{IsMade, fields_shape, type_shape}
+use Rattle.ob0_types_rules.specs.Typing.{constructors, denoted, denoted_group, denoted_groups, depth, field_depth, group_constructors, groups_constructors, with_fields, within_limits}
+use Rattle.ob0_types_rules.specs.WellTyped.{Typed}
+use Rattle.ob0_types_rules.proofs.TypedElsewhere.{then_some}
 use Rattle.ob0_checker.proofs.Added.{joined-assoc, joined-nothing}
 use Rattle.ob0_checker.proofs.Judged.{then-assoc}
-use Rattle.ob0_symbols.proofs.Tables.{IsMade-more, fields_shape-more, length-table}
+use Rattle.ob0_types_table.proofs.Tables.{IsMade-more, fields_shape-more, length-table}
 use Rattle.ob0_values.specs.Values.{FieldShapes, Shape, next_field_shape, no_field_shape, record_shape}
 
 -- tables that grow

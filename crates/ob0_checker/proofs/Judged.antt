@@ -3,10 +3,10 @@ use Rattle.std.proofs.Common.{◌≡◌, Option, Some, None, option_and_then, re
 use Rattle.ob0_tree.specs.declared.tree.Relation.{Relation}
 use Rattle.ob0_tree.specs.declared.tree.Sign.{Sign}
 use Rattle.ob0_tree.specs.Tree.{Tree, addend, adds, compares, designator, end, factor, field, index, item, items, more, multiplier, multiplies, negation, none, one, product, relates, selector, simple, sum, term}
-use Rattle.ob0_names.specs.Names.{Label}
-use Rattle.ob0_typing.specs.Expressions.{Meanings}
-use Rattle.ob0_typing.specs.Typing.{add_type, complement_type, element_type, multiply_type, object_type, relation_type, sign_type, type_at, type_of, type_of_addends, type_of_factor, type_of_multipliers, type_of_simple, type_of_term}
-use Rattle.ob0_typing.specs.Selected.{both, type_added, type_multiplied, type_selected}
+use Rattle.ob0_scope_rules.specs.Names.{Label}
+use Rattle.ob0_types_rules.specs.Expressions.{Meanings}
+use Rattle.ob0_types_rules.specs.Typing.{add_type, complement_type, element_type, multiply_type, object_type, relation_type, sign_type, type_at, type_of, type_of_addends, type_of_factor, type_of_multipliers, type_of_simple, type_of_term}
+use Rattle.ob0_types_rules.specs.Selected.{both, type_added, type_multiplied, type_selected}
 use Rattle.ob0_checker.proofs.Chains.{IsChain}
 use Rattle.ob0_values.specs.Values.{Shape}
 

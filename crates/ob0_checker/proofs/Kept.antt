@@ -4,33 +4,33 @@ use Rattle.std.proofs.lemmas.List.{drop_all}
 use Rattle.std.proofs.lemmas.List.Elements.{All-head, All-tail}
 use Rattle.ob0_tree.specs.Tree.{Tree, Item, body, constants, declares, declares_constant, declares_type, declares_variable, end, expression, has_body, item, items, maybe, more, names, procedure, type_names, variables, written_type}
 use Rattle.ob0_tree.specs.View.{items_of}
-use Rattle.ob0_names.specs.Names.{Label, as_labels, declared}
-use Rattle.ob0_names.specs.Parts.{names_listed, section_constants, section_types, section_variables}
-use Rattle.ob0_names.specs.Resolution.{Resolution}
-use Rattle.ob0_symbols.specs.declared.known.Entry.{Entry}
-use Rattle.ob0_symbols.specs.declared.known.Object as declaration
-use Rattle.ob0_symbols.specs.declared.known.Object.TheVariants as kind
+use Rattle.ob0_scope_rules.specs.Names.{Label, as_labels, declared}
+use Rattle.ob0_scope_rules.specs.Parts.{names_listed, section_constants, section_types, section_variables}
+use Rattle.ob0_scope_rules.specs.Resolution.{Resolution}
+use Rattle.ob0_types_table.specs.declared.known.Entry.{Entry}
+use Rattle.ob0_types_table.specs.declared.known.Object as declaration
+use Rattle.ob0_types_table.specs.declared.known.Object.TheVariants as kind
 use Rattle.ob0_checker.specs.declared.walk.Typed.{Typed}
 use Rattle.ob0_checker.specs.Checking.{Agrees, Declares, Grows, Keeps, Leaves, Walking}
-use Rattle.ob0_bindings.specs.Declaring.{declare_block}
-use Rattle.ob0_typing.specs.Declarations.{declare_constants, declare_types, types_constructors}
-use Rattle.ob0_typing.specs.Environments.{from_binding}
-use Rattle.ob0_typing.specs.Expressions.{Object, a_constant, a_type, a_variable}
-use Rattle.ob0_bindings.specs.InLabels.{in_labels, label_in}
-use Rattle.ob0_symbols.specs.KnownTables.{AreTables, EntryIsMade, Tables, declared_in, known_meaning, put_at, shapes_of}
-use Rattle.ob0_symbols.specs.Tables.{object_in, type_shape}
-use Rattle.ob0_typing.specs.Typing.{constant_value}
-use Rattle.ob0_typing.specs.WellTyped.{Signature, TypeEnvironment, bind_names, declare_typed}
+use Rattle.ob0_types_rules.specs.Declaring.{declare_block}
+use Rattle.ob0_types_rules.specs.Declarations.{declare_constants, declare_types, types_constructors}
+use Rattle.ob0_types_rules.specs.Environments.{from_binding}
+use Rattle.ob0_types_rules.specs.Expressions.{Object, a_constant, a_type, a_variable}
+use Rattle.ob0_types_rules.specs.InLabels.{in_labels, label_in}
+use Rattle.ob0_types_table.specs.KnownTables.{AreTables, EntryIsMade, Tables, declared_in, known_meaning, put_at, shapes_of}
+use Rattle.ob0_types_table.specs.Tables.{object_in, type_shape}
+use Rattle.ob0_types_rules.specs.Typing.{constant_value}
+use Rattle.ob0_types_rules.specs.WellTyped.{Signature, TypeEnvironment, bind_names, declare_typed}
 use Rattle.ob0_values.specs.declared.scalar.Scalar.{Scalar}
 use Rattle.ob0_values.specs.Scalars.{scalar_value}
 use Rattle.ob0_values.specs.Values.{Shape}
-use Rattle.ob0_bindings.proofs.Bound.{newest-if}
+use Rattle.ob0_types_rules.proofs.Bound.{newest-if}
 use Rattle.ob0_checker.proofs.Agreement.{object_in-more}
 use Rattle.ob0_checker.proofs.Declared.{Behind, Binding, value_of}
 use Rattle.ob0_checker.proofs.Procedures.{declared_parts}
-use Rattle.ob0_symbols.proofs.Tables.{length-table}
+use Rattle.ob0_types_table.proofs.Tables.{length-table}
 use Rattle.ob0_checker.proofs.Walked.{Giving, IsWalk, constant_is, type_is, variable_is}
-use Rattle.ob0_bindings.proofs.Parts.{split}
+use Rattle.ob0_types_rules.proofs.Parts.{split}
 
 -- a declaration at its ordinal
 pub keeps_bound : (all : TypeEnvironment Label) (t u : Tables) (k : ℕ) (object : declaration.Object) (o : Object Shape Signature)

@@ -10,31 +10,31 @@ use Rattle.ob0_tree.specs.Places.{value_at}
 use Rattle.ob0_tree.specs.Tree.{Tree, block, body, constants, declares, declares_procedure, end, formals, has_body, item, items, maybe, more, procedure, type_names, variables}
 use Rattle.ob0_tree.specs.View.{block_of, body_of, constants_of, formals_of, items_of, names_of, procedure_of, type_of, types_of, variables_of}
 use Rattle.ob0_tree.proofs.Viewed.{block_parts}
-use Rattle.ob0_names.specs.Names.{Label, as_labels, declared}
-use Rattle.ob0_names.specs.Parts.{block_types, block_variables, formal_sections, names_listed, procedure_name, section_types, section_variables}
-use Rattle.ob0_names.specs.Resolution.{Resolution}
-use Rattle.ob0_symbols.specs.declared.known.Formal as formal
-use Rattle.ob0_symbols.specs.declared.known.Object.TheVariants as kind
+use Rattle.ob0_scope_rules.specs.Names.{Label, as_labels, declared}
+use Rattle.ob0_scope_rules.specs.Parts.{block_types, block_variables, formal_sections, names_listed, procedure_name, section_types, section_variables}
+use Rattle.ob0_scope_rules.specs.Resolution.{Resolution}
+use Rattle.ob0_types_table.specs.declared.known.Formal as formal
+use Rattle.ob0_types_table.specs.declared.known.Object.TheVariants as kind
 use Rattle.ob0_checker.specs.declared.walk.Parameter.{Parameter}
 use Rattle.ob0_checker.specs.declared.walk.Typed.{Typed}
 use Rattle.ob0_checker.specs.Checking.{Agrees, Declares, DeclaresHeading, Follows, Grows, Heading, Keeps, KeepsAll, KeepsHeading, KeepsParameters, Walking, parameter_in, parameters_in, parameters_of}
-use Rattle.ob0_bindings.specs.Declaring.{declare_block}
-use Rattle.ob0_bindings.specs.Bindings.{block_bindings, for_some, procedure_bindings, procedures_bindings, since}
-use Rattle.ob0_typing.specs.Declarations.{after_variables, formals_constructors, procedure_constructors, types_constructors, variables_constructors}
-use Rattle.ob0_typing.specs.Environments.{from_binding, newest, outermost}
-use Rattle.ob0_typing.specs.Expressions.{Object, a_procedure, a_variable}
-use Rattle.ob0_bindings.specs.InLabels.{in_labels, label_in}
-use Rattle.ob0_symbols.specs.KnownTables.{Tables, declared_in, predeclared, shapes_of}
-use Rattle.ob0_symbols.specs.Tables.{IsMade, formal_in, type_shape}
-use Rattle.ob0_typing.specs.WellTyped.{Formal, Signature, TypeEnvironment, TypedParameter, bind_names, bind_typed, heading}
+use Rattle.ob0_types_rules.specs.Declaring.{declare_block}
+use Rattle.ob0_types_rules.specs.Bindings.{block_bindings, for_some, procedure_bindings, procedures_bindings, since}
+use Rattle.ob0_types_rules.specs.Declarations.{after_variables, formals_constructors, procedure_constructors, types_constructors, variables_constructors}
+use Rattle.ob0_types_rules.specs.Environments.{from_binding, newest, outermost}
+use Rattle.ob0_types_rules.specs.Expressions.{Object, a_procedure, a_variable}
+use Rattle.ob0_types_rules.specs.InLabels.{in_labels, label_in}
+use Rattle.ob0_types_table.specs.KnownTables.{Tables, declared_in, predeclared, shapes_of}
+use Rattle.ob0_types_table.specs.Tables.{IsMade, formal_in, type_shape}
+use Rattle.ob0_types_rules.specs.WellTyped.{Formal, Signature, TypeEnvironment, TypedParameter, bind_names, bind_typed, heading}
 use Rattle.ob0_values.specs.Values.{Shape}
 use Rattle.ob0_checker.proofs.Agreement.{follows_on, past}
-use Rattle.ob0_bindings.proofs.Counted.{counted_procedure, counted_types, counted_variables, labels_listed, types_mapped, variables_mapped}
-use Rattle.ob0_bindings.proofs.Bound.{bind_typed-append, headed_bindings, newest-append, or_else, since-append}
+use Rattle.ob0_types_rules.proofs.Counted.{counted_procedure, counted_types, counted_variables, labels_listed, types_mapped, variables_mapped}
+use Rattle.ob0_types_rules.proofs.Bound.{bind_typed-append, headed_bindings, newest-append, or_else, since-append}
 use Rattle.ob0_checker.proofs.Declared.{Behind, Binding}
 use Rattle.ob0_checker.proofs.Kept.{keeps_same}
 use Rattle.ob0_checker.proofs.Procedures.{DeclaresBlock, procedure_given, signature-formals}
-use Rattle.ob0_bindings.proofs.Parts.{procedure_parts, split}
+use Rattle.ob0_types_rules.proofs.Parts.{procedure_parts, split}
 use Rattle.ob0_checker.proofs.Sections.{listed-parameters, parameters-follow}
 
 bind_typed-names : (xs : List Label) (f : Formal) (env : TypeEnvironment Label) → bind_typed (map (λ x. record { name = x; formal = f }) xs) env ≡ bind_names xs (a_variable f.shape) env

@@ -9,25 +9,25 @@ use Rattle.ob0_tree.specs.Tree.{Tree, block, body, constants, declares, declares
 use Rattle.ob0_tree.specs.View.{block_of, body_of, constants_of, formals_of, items_of, procedure_of, types_of, variables_of}
 use Rattle.ob0_tree.specs.declared.tree.Block.{Block, out-Block}
 use Rattle.ob0_tree.proofs.Viewed.{block_parts}
-use Rattle.ob0_names.specs.Names.{Label, as_labels}
-use Rattle.ob0_names.specs.Parts.{block_types, block_variables, formal_sections, procedure_formals, procedure_name, section_constants, section_types, section_variables}
-use Rattle.ob0_names.specs.Resolution.{Resolution}
-use Rattle.ob0_symbols.specs.declared.known.Formal as formal
-use Rattle.ob0_symbols.specs.declared.known.Object.TheVariants as kind
-use Rattle.ob0_symbols.specs.declared.known.Shadowed.{Shadowed}
+use Rattle.ob0_scope_rules.specs.Names.{Label, as_labels}
+use Rattle.ob0_scope_rules.specs.Parts.{block_types, block_variables, formal_sections, procedure_formals, procedure_name, section_constants, section_types, section_variables}
+use Rattle.ob0_scope_rules.specs.Resolution.{Resolution}
+use Rattle.ob0_types_table.specs.declared.known.Formal as formal
+use Rattle.ob0_types_table.specs.declared.known.Object.TheVariants as kind
+use Rattle.ob0_types_table.specs.declared.known.Shadowed.{Shadowed}
 use Rattle.ob0_checker.specs.declared.walk.Parameter.{Parameter}
 use Rattle.ob0_checker.specs.Checking.{Agrees, Decides, Declares, DeclaresHeading, DeclaresSections, Follows, Heading, Walking, parameter_in, parameters_of}
-use Rattle.ob0_bindings.specs.Declaring.{declare_block, declare_procedure}
-use Rattle.ob0_typing.specs.Declarations.{block_constructors, declare_constants, declare_first, declare_types, formals_constructors, procedure_constructors, procedures_constructors, types_constructors, variables_constructors}
-use Rattle.ob0_typing.specs.Expressions.{a_procedure}
-use Rattle.ob0_bindings.specs.InLabels.{in_labels, label_in}
-use Rattle.ob0_symbols.specs.KnownTables.{AreTables, before_all, seen_object, shapes_of}
-use Rattle.ob0_symbols.specs.Tables.{formal_in}
-use Rattle.ob0_typing.specs.WellTyped.{TypeEnvironment, TypedParameter, bind_typed, block_fits, body_fits, declare_typed, heading, hold, procedure_fits, procedures_fit, typed_parameters}
+use Rattle.ob0_types_rules.specs.Declaring.{declare_block, declare_procedure}
+use Rattle.ob0_types_rules.specs.Declarations.{block_constructors, declare_constants, declare_first, declare_types, formals_constructors, procedure_constructors, procedures_constructors, types_constructors, variables_constructors}
+use Rattle.ob0_types_rules.specs.Expressions.{a_procedure}
+use Rattle.ob0_types_rules.specs.InLabels.{in_labels, label_in}
+use Rattle.ob0_types_table.specs.KnownTables.{AreTables, before_all, seen_object, shapes_of}
+use Rattle.ob0_types_table.specs.Tables.{formal_in}
+use Rattle.ob0_types_rules.specs.WellTyped.{TypeEnvironment, TypedParameter, bind_typed, block_fits, body_fits, declare_typed, heading, hold, procedure_fits, procedures_fit, typed_parameters}
 use Rattle.ob0_values.specs.Values.{Shape}
 use Rattle.ob0_checker.proofs.Agreement.{agrees_same, follows_more, follows_on}
-use Rattle.ob0_bindings.proofs.Counted.{counted_formals, counted_procedure, counted_types, counted_variables, sections_mapped, types_mapped, variables_mapped}
-use Rattle.ob0_bindings.proofs.Parts.{procedure_parts}
+use Rattle.ob0_types_rules.proofs.Counted.{counted_formals, counted_procedure, counted_types, counted_variables, sections_mapped, types_mapped, variables_mapped}
+use Rattle.ob0_types_rules.proofs.Parts.{procedure_parts}
 use Rattle.ob0_checker.proofs.Declared.{Binding}
 use Rattle.ob0_checker.proofs.Walked.{Giving, IsWalk, Walked, declared_none, declared_then, walked_ends, walked_stops}
 

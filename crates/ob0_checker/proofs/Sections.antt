@@ -6,27 +6,27 @@ use Rattle.ob0_tree.specs.declared.tree.Section.{Section}
 use Rattle.ob0_tree.specs.Tree.{Tree, end, further_section, items, more, one, section, then_section}
 use Rattle.ob0_tree.specs.View.{formals_listed, further_section_of, items_of, names_of, section_of, type_of}
 use Rattle.ob0_tree.specs.Places.{value_at}
-use Rattle.ob0_names.specs.Names.{Label, as_labels}
-use Rattle.ob0_names.specs.Parts.{formal_sections, names_listed, section_names, section_type}
-use Rattle.ob0_names.specs.Resolution.{Resolution}
-use Rattle.ob0_symbols.specs.declared.known.Formal as formal
+use Rattle.ob0_scope_rules.specs.Names.{Label, as_labels}
+use Rattle.ob0_scope_rules.specs.Parts.{formal_sections, names_listed, section_names, section_type}
+use Rattle.ob0_scope_rules.specs.Resolution.{Resolution}
+use Rattle.ob0_types_table.specs.declared.known.Formal as formal
 use Rattle.ob0_checker.specs.declared.walk.Parameter.{Parameter}
 use Rattle.ob0_checker.specs.declared.walk.Typed.{Typed}
 use Rattle.ob0_checker.specs.Checking.{Agrees, DeclaresSection, DeclaresSections, Follows, Heading, Walking, parameter_in, parameters_in, parameters_of, typed_section}
-use Rattle.ob0_typing.specs.Declarations.{formals_constructors}
-use Rattle.ob0_typing.specs.Environments.{meanings}
-use Rattle.ob0_typing.specs.Expressions.{a_variable}
-use Rattle.ob0_bindings.specs.InLabels.{in_labels, label_in}
-use Rattle.ob0_symbols.specs.KnownTables.{shapes_of}
-use Rattle.ob0_symbols.specs.Tables.{IsMade, formal_in, mode_of, type_shape}
-use Rattle.ob0_typing.specs.Typing.{constructors, denoted}
-use Rattle.ob0_typing.specs.WellTyped.{TypeEnvironment, TypedParameter, bind_names, typed_parameters}
+use Rattle.ob0_types_rules.specs.Declarations.{formals_constructors}
+use Rattle.ob0_types_rules.specs.Environments.{meanings}
+use Rattle.ob0_types_rules.specs.Expressions.{a_variable}
+use Rattle.ob0_types_rules.specs.InLabels.{in_labels, label_in}
+use Rattle.ob0_types_table.specs.KnownTables.{shapes_of}
+use Rattle.ob0_types_table.specs.Tables.{IsMade, formal_in, mode_of, type_shape}
+use Rattle.ob0_types_rules.specs.Typing.{constructors, denoted}
+use Rattle.ob0_types_rules.specs.WellTyped.{TypeEnvironment, TypedParameter, bind_names, typed_parameters}
 use Rattle.ob0_values.specs.Values.{Shape}
 use Rattle.ob0_checker.proofs.Agreement.{follows_itself, follows_on}
-use Rattle.ob0_bindings.proofs.Counted.{counted_formals, counted_section, labels_listed}
-use Rattle.ob0_bindings.proofs.Parts.{section-constructors, section-mode, section-names, section-type}
+use Rattle.ob0_types_rules.proofs.Counted.{counted_formals, counted_section, labels_listed}
+use Rattle.ob0_types_rules.proofs.Parts.{section-constructors, section-mode, section-names, section-type}
 use Rattle.ob0_checker.proofs.Declared.{Behind}
-use Rattle.ob0_symbols.proofs.Tables.{IsMade-more, length-table, type_shape-more}
+use Rattle.ob0_types_table.proofs.Tables.{IsMade-more, length-table, type_shape-more}
 
 -- later tables keep the parameters
 parameters-more : (r : Resolution) (shapes later : List Shape) (ps : List Parameter) → All (λ (p : Parameter). IsMade (length shapes) p.formal.of) ps → map (parameter_in r (shapes ++ later)) ps ≡ map (parameter_in r shapes) ps

@@ -3,20 +3,20 @@ use Rattle.std.proofs.Common.{◌≡◌, ℕ, ◌+◌, ◌<◌, ◌≤◌, List,
 use Rattle.std.proofs.lemmas.List.{drop_all}
 use Rattle.ob0_tree.specs.Tree.{Tree, Item, constant, declares_constant, declares_type, declares_variable, end, expression, item, items, more, names, type_name, variable, written_type}
 use Rattle.ob0_tree.specs.View.{items_of}
-use Rattle.ob0_names.specs.Names.{Label, as_labels}
-use Rattle.ob0_names.specs.Resolution.{Resolution}
+use Rattle.ob0_scope_rules.specs.Names.{Label, as_labels}
+use Rattle.ob0_scope_rules.specs.Resolution.{Resolution}
 use Rattle.ob0_checker.specs.Checking.{Agrees, Declares, Follows, Walking}
-use Rattle.ob0_typing.specs.Declarations.{declare_constants, declare_types, types_constructors, variables_constructors}
-use Rattle.ob0_typing.specs.Environments.{meanings}
-use Rattle.ob0_typing.specs.Expressions.{a_constant, a_type, a_variable}
-use Rattle.ob0_bindings.specs.InLabels.{in_labels, label_in}
-use Rattle.ob0_typing.specs.Typing.{constant_value, constructors, denoted}
-use Rattle.ob0_typing.specs.WellTyped.{TypeEnvironment, bind_names, declare_typed}
-use Rattle.ob0_names.specs.Parts.{names_listed}
+use Rattle.ob0_types_rules.specs.Declarations.{declare_constants, declare_types, types_constructors, variables_constructors}
+use Rattle.ob0_types_rules.specs.Environments.{meanings}
+use Rattle.ob0_types_rules.specs.Expressions.{a_constant, a_type, a_variable}
+use Rattle.ob0_types_rules.specs.InLabels.{in_labels, label_in}
+use Rattle.ob0_types_rules.specs.Typing.{constant_value, constructors, denoted}
+use Rattle.ob0_types_rules.specs.WellTyped.{TypeEnvironment, bind_names, declare_typed}
+use Rattle.ob0_scope_rules.specs.Parts.{names_listed}
 use Rattle.ob0_values.specs.Values.{Shape, Value}
 use Rattle.ob0_checker.proofs.Agreement.{follows_itself, follows_on}
-use Rattle.ob0_bindings.proofs.Counted.{counted_type}
-use Rattle.ob0_bindings.proofs.Parts.{split}
+use Rattle.ob0_types_rules.proofs.Counted.{counted_type}
+use Rattle.ob0_types_rules.proofs.Parts.{split}
 
 abbrev pub Giving : Type 0 → Type 0
 Giving T = Resolution → ℕ → T → TypeEnvironment Label → Option (TypeEnvironment Label)

@@ -1,19 +1,19 @@
 -- The walk over declarations: what is in sight at each place of a module is what its environment there says.
 use Rattle.std.specs.Prelude.{◌≡◌, ℕ, ◌+◌, ◌≤◌, Bool, List, ◌++◌, map, length, IfSome, is_some, Some, None, Option, option_map}
 use Rattle.ob0_tree.specs.Tree.{Tree, further_section, item, items, procedure, section}
-use Rattle.ob0_names.specs.Names.{Label, as_labels, declared}
-use Rattle.ob0_names.specs.Parts.{procedure_formals, procedure_name, section_names, section_type}
-use Rattle.ob0_names.specs.Resolution.{Resolution}
-use Rattle.ob0_symbols.specs.declared.known.Shadowed.{Shadowed}
+use Rattle.ob0_scope_rules.specs.Names.{Label, as_labels, declared}
+use Rattle.ob0_scope_rules.specs.Parts.{procedure_formals, procedure_name, section_names, section_type}
+use Rattle.ob0_scope_rules.specs.Resolution.{Resolution}
+use Rattle.ob0_types_table.specs.declared.known.Shadowed.{Shadowed}
 use Rattle.ob0_checker.specs.declared.walk.Parameter.{Parameter}
-use Rattle.ob0_typing.specs.Declarations.{formals_constructors}
-use Rattle.ob0_typing.specs.Environments.{from_binding, meanings, newest}
-use Rattle.ob0_typing.specs.Expressions.{a_variable}
-use Rattle.ob0_bindings.specs.InLabels.{label_in}
-use Rattle.ob0_symbols.specs.KnownTables.{Tables, before_all, declared_in, known_meaning, seen_object, shapes_of}
-use Rattle.ob0_symbols.specs.Tables.{formal_in}
-use Rattle.ob0_typing.specs.Typing.{constructors, denoted}
-use Rattle.ob0_typing.specs.WellTyped.{TypeEnvironment, TypedParameter, bind_names, bind_typed, heading, section_mode, typed_parameters}
+use Rattle.ob0_types_rules.specs.Declarations.{formals_constructors}
+use Rattle.ob0_types_rules.specs.Environments.{from_binding, meanings, newest}
+use Rattle.ob0_types_rules.specs.Expressions.{a_variable}
+use Rattle.ob0_types_rules.specs.InLabels.{label_in}
+use Rattle.ob0_types_table.specs.KnownTables.{Tables, before_all, declared_in, known_meaning, seen_object, shapes_of}
+use Rattle.ob0_types_table.specs.Tables.{formal_in}
+use Rattle.ob0_types_rules.specs.Typing.{constructors, denoted}
+use Rattle.ob0_types_rules.specs.WellTyped.{TypeEnvironment, TypedParameter, bind_names, bind_typed, heading, section_mode, typed_parameters}
 use Rattle.ob0_values.specs.Values.{Shape}
 
 -- what names stand for in an environment is what is in sight

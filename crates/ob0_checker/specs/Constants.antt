@@ -1,12 +1,12 @@
 -- What labels stand for, everywhere or in constant expressions alone, and the steps of a constant's evaluation.
 use Rattle.std.specs.Prelude.{Bool, true, false, [], Option, option_map}
 use Rattle.ob0_tree.specs.Tree.{Tree, addend, adds, item, multiplier, multiplies}
-use Rattle.ob0_names.specs.Names.{Label, label_text}
-use Rattle.ob0_typing.specs.Expressions.{Meanings, Object, a_constant, evaluate_factor, evaluate_term}
-use Rattle.ob0_symbols.specs.Operators.{product_value, sum_value}
-use Rattle.ob0_symbols.specs.KnownTables.{Tables, known_meaning, label_object}
-use Rattle.ob0_typing.specs.Typing.{constant_of, constants_only, given_value}
-use Rattle.ob0_typing.specs.WellTyped.{Signature, Typed}
+use Rattle.ob0_scope_rules.specs.Names.{Label, label_text}
+use Rattle.ob0_types_rules.specs.Expressions.{Meanings, Object, a_constant, evaluate_factor, evaluate_term}
+use Rattle.ob0_types_table.specs.Operators.{product_value, sum_value}
+use Rattle.ob0_types_table.specs.KnownTables.{Tables, known_meaning, label_object}
+use Rattle.ob0_types_rules.specs.Typing.{constant_of, constants_only, given_value}
+use Rattle.ob0_types_rules.specs.WellTyped.{Signature, Typed}
 use Rattle.ob0_values.specs.Values.{Place, Shape, Value}
 
 -- in a constant expression names stand for constants alone

@@ -3,14 +3,14 @@ use Rattle.std.specs.Prelude.{◌≡◌, ℕ, ◌+◌, ◌<◌, ◌≤◌, List,
 use Rattle.ob0_tree.specs.declared.tree.ArrayType.{ArrayType}
 use Rattle.ob0_tree.specs.Tree.{Tree, array_type, written_type}
 use Rattle.ob0_tree.specs.View.{expression_of, type_of}
-use Rattle.ob0_names.specs.Names.{label_text}
-use Rattle.ob0_names.specs.Resolution.{Resolution}
-use Rattle.ob0_symbols.specs.declared.known.Field.{Field}
-use Rattle.ob0_symbols.specs.declared.types.TypeId.{TypeId}
-use Rattle.ob0_bindings.specs.InLabels.{in_labels, label_in}
-use Rattle.ob0_symbols.specs.KnownTables.{Tables, known_meaning, shapes_of}
-use Rattle.ob0_symbols.specs.Tables.{IsMade, fields_shape, type_shape}
-use Rattle.ob0_typing.specs.Typing.{constructors, denoted, depth, with_fields}
+use Rattle.ob0_scope_rules.specs.Names.{label_text}
+use Rattle.ob0_scope_rules.specs.Resolution.{Resolution}
+use Rattle.ob0_types_table.specs.declared.known.Field.{Field}
+use Rattle.ob0_types_table.specs.declared.types.TypeId.{TypeId}
+use Rattle.ob0_types_rules.specs.InLabels.{in_labels, label_in}
+use Rattle.ob0_types_table.specs.KnownTables.{Tables, known_meaning, shapes_of}
+use Rattle.ob0_types_table.specs.Tables.{IsMade, fields_shape, type_shape}
+use Rattle.ob0_types_rules.specs.Typing.{constructors, denoted, depth, with_fields}
 use Rattle.ob0_values.specs.Values.{FieldShapes, Shape, next_field_shape, no_field_shape}
 
 -- a table with more shapes, and as before but for them: names stand for what they stood for

@@ -3,16 +3,16 @@
 
 ghost use Rattle.std.specs.Prelude.{◌≡◌, ◌++◌, ◌∷◌, map, IfOk, IfSome, OnOk, is_some};
 ghost use Rattle.ob0_tree.specs.Parsed.{tree_of};
-ghost use Rattle.ob0_names.specs.Names.{as_labels};
-ghost use Rattle.ob0_bindings.specs.Bindings.{module_bindings};
+ghost use Rattle.ob0_scope_rules.specs.Names.{as_labels};
+ghost use Rattle.ob0_types_rules.specs.Bindings.{module_bindings};
 ghost use Rattle.ob0_checker.specs.Checking.{Keeps};
-ghost use Rattle.ob0_bindings.specs.InLabels.{in_labels};
-ghost use Rattle.ob0_typing.specs.WellTyped.{fits_over};
+ghost use Rattle.ob0_types_rules.specs.InLabels.{in_labels};
+ghost use Rattle.ob0_types_rules.specs.WellTyped.{fits_over};
 
 use crate::names::Names;
 use crate::walk::{Parameter, Typed, Walk};
-use ob0_names::Resolved;
-use ob0_symbols::{Formal, Known, Object, TypeId};
+use ob0_scope_rules::Resolved;
+use ob0_types_table::{Formal, Known, Object, TypeId};
 use ob0_tree::{
     Block, Constant, Names as NameList, Procedure, Section, Statement, TypeDeclaration, Variables,
     WrittenType,
@@ -32,7 +32,7 @@ impl<'t> Model for Headed<'t> {
     ghost use Rattle.std.specs.Coded.{codes};
     ghost use Rattle.ob0_tree.specs.contracts.tree.Block as block_contract;
     ghost use Rattle.ob0_checker.specs.Checking.{Heading};
-    ghost use Rattle.ob0_symbols.specs.Tables.{IsMade};
+    ghost use Rattle.ob0_types_table.specs.Tables.{IsMade};
 
     ghost Value = { Heading };
 
@@ -47,18 +47,18 @@ impl<'t> Walk<'t> {
     ghost use Rattle.std.specs.Prelude.{◌≡◌, ◌+◌, All, IfOk, IfSome, length};
     ghost use Rattle.ob0_tree.specs.Tree.{end, more};
     ghost use Rattle.ob0_tree.specs.View.{block_of, body_of, constant_of, constants_of, formals_of, further_section_of, items_of, names_of, procedure_of, type_declaration_of, type_of, types_of, variable_of, variables_of};
-    ghost use Rattle.ob0_names.specs.Names.{Label, as_labels};
-    ghost use Rattle.ob0_names.specs.Parts.{block_types, block_variables, formal_sections, names_listed, procedure_name, section_constants, section_types, section_variables};
-    ghost use Rattle.ob0_bindings.specs.Bindings.{block_bindings, procedure_bindings};
+    ghost use Rattle.ob0_scope_rules.specs.Names.{Label, as_labels};
+    ghost use Rattle.ob0_scope_rules.specs.Parts.{block_types, block_variables, formal_sections, names_listed, procedure_name, section_constants, section_types, section_variables};
+    ghost use Rattle.ob0_types_rules.specs.Bindings.{block_bindings, procedure_bindings};
     ghost use Rattle.ob0_checker.specs.Checking.{Agrees, Decides, Declares, DeclaresHeading, DeclaresSections, Follows, Grows, Keeps, KeepsAll, KeepsHeading, KeepsParameters, parameters_in};
-    ghost use Rattle.ob0_bindings.specs.Declaring.{declare_block, declare_procedure};
-    ghost use Rattle.ob0_typing.specs.Declarations.{block_constructors, declare_constants, declare_types, procedure_constructors, types_constructors, variables_constructors};
-    ghost use Rattle.ob0_typing.specs.Expressions.{a_variable};
-    ghost use Rattle.ob0_bindings.specs.InLabels.{in_labels};
-    ghost use Rattle.ob0_symbols.specs.KnownTables.{shapes_of};
-    ghost use Rattle.ob0_symbols.specs.Tables.{IsMade, type_shape};
-    ghost use Rattle.ob0_typing.specs.Typing.{constructors};
-    ghost use Rattle.ob0_typing.specs.WellTyped.{TypeEnvironment, bind_names, bind_typed, block_fits, body_fits, declare_typed};
+    ghost use Rattle.ob0_types_rules.specs.Declaring.{declare_block, declare_procedure};
+    ghost use Rattle.ob0_types_rules.specs.Declarations.{block_constructors, declare_constants, declare_types, procedure_constructors, types_constructors, variables_constructors};
+    ghost use Rattle.ob0_types_rules.specs.Expressions.{a_variable};
+    ghost use Rattle.ob0_types_rules.specs.InLabels.{in_labels};
+    ghost use Rattle.ob0_types_table.specs.KnownTables.{shapes_of};
+    ghost use Rattle.ob0_types_table.specs.Tables.{IsMade, type_shape};
+    ghost use Rattle.ob0_types_rules.specs.Typing.{constructors};
+    ghost use Rattle.ob0_types_rules.specs.WellTyped.{TypeEnvironment, bind_names, bind_typed, block_fits, body_fits, declare_typed};
 
     /// A constant is known behind its right side.
     fn constant(self, c: &Constant) -> Result<Option<Walk<'t>>, AllocError>
@@ -332,10 +332,10 @@ impl<'t> Walk<'t> {
 impl<'t> Headed<'t> {
     ghost use Rattle.std.specs.Prelude.{IfOk, IfSome};
     ghost use Rattle.ob0_tree.specs.View.{section_of};
-    ghost use Rattle.ob0_names.specs.Names.{Label};
+    ghost use Rattle.ob0_scope_rules.specs.Names.{Label};
     ghost use Rattle.ob0_checker.specs.Checking.{DeclaresSection, Keeps, parameters_of};
-    ghost use Rattle.ob0_typing.specs.WellTyped.{TypeEnvironment, bind_typed};
-    ghost use Rattle.ob0_bindings.specs.InLabels.{in_labels};
+    ghost use Rattle.ob0_types_rules.specs.WellTyped.{TypeEnvironment, bind_typed};
+    ghost use Rattle.ob0_types_rules.specs.InLabels.{in_labels};
 
     /// Parameters of one type.
     fn section(self, s: &Section) -> Result<Option<Headed<'t>>, AllocError>

@@ -5,16 +5,16 @@ ghost use Rattle.std.specs.Prelude.{◌≡◌, ℕ, ◌+◌, ◌<◌, ◌≤◌,
 ghost use Rattle.ob0_tree.specs.Tree.{named_type};
 ghost use Rattle.ob0_tree.specs.View.{expression_of, record_in, type_of};
 ghost use Rattle.ob0_checker.specs.DenotedTables.{AreAdded, Denotes, array_in};
-ghost use Rattle.ob0_bindings.specs.InLabels.{in_labels};
-ghost use Rattle.ob0_symbols.specs.KnownTables.{known_meaning, shapes_of};
-ghost use Rattle.ob0_symbols.specs.Tables.{IsMade, type_shape};
-ghost use Rattle.ob0_typing.specs.Typing.{array_length, constant_value, constructors, denoted};
+ghost use Rattle.ob0_types_rules.specs.InLabels.{in_labels};
+ghost use Rattle.ob0_types_table.specs.KnownTables.{known_meaning, shapes_of};
+ghost use Rattle.ob0_types_table.specs.Tables.{IsMade, type_shape};
+ghost use Rattle.ob0_types_rules.specs.Typing.{array_length, constant_value, constructors, denoted};
 ghost use Rattle.ob0_values.specs.Scalars.{scalar_value};
 ghost use Rattle.ob0_values.specs.Values.{Shape};
 
 use crate::names::Names;
-use ob0_names::Resolved;
-use ob0_symbols::{Field, Known, MOST_DEPTH, MOST_SCALARS, TypeId};
+use ob0_scope_rules::Resolved;
+use ob0_types_table::{Field, Known, MOST_DEPTH, MOST_SCALARS, TypeId};
 use ob0_tree::{ArrayType, FieldList, Fields, RecordType, WrittenType};
 use ob0_values::Scalar;
 use std::alloc::{AllocError, Global};

@@ -6,20 +6,20 @@ ghost use Rattle.ob0_tree.specs.View.{designator_of, expression_of, factor_of, s
 ghost use Rattle.ob0_tree.specs.Places.{value_at};
 ghost use Rattle.ob0_values.specs.Scalars.{scalar_value};
 ghost use Rattle.ob0_values.specs.Values as values;
-ghost use Rattle.ob0_typing.specs.Typing.{given_value};
+ghost use Rattle.ob0_types_rules.specs.Typing.{given_value};
 
 use crate::names::Names;
-use ob0_symbols::number_at;
-use ob0_symbols::operators::{added, complement, multiplied, related, with_sign};
+use ob0_types_table::number_at;
+use ob0_types_table::operators::{added, complement, multiplied, related, with_sign};
 use ob0_tree::{Comparison, Designator, Expression, Factor, Simple, Term};
 use ob0_values::Scalar;
 
 impl<'a, 't> Names<'a, 't> {
-    ghost use Rattle.ob0_symbols.specs.KnownTables.{known_meaning};
-    ghost use Rattle.ob0_bindings.specs.InLabels.{in_labels};
+    ghost use Rattle.ob0_types_table.specs.KnownTables.{known_meaning};
+    ghost use Rattle.ob0_types_rules.specs.InLabels.{in_labels};
     ghost use Rattle.ob0_checker.specs.Constants.{constants_in};
-    ghost use Rattle.ob0_typing.specs.Expressions.{evaluate, evaluate_factor, evaluate_simple, evaluate_term};
-    ghost use Rattle.ob0_typing.specs.Typing.{constant_value};
+    ghost use Rattle.ob0_types_rules.specs.Expressions.{evaluate, evaluate_factor, evaluate_simple, evaluate_term};
+    ghost use Rattle.ob0_types_rules.specs.Typing.{constant_value};
 
     /// The value of a constant expression: it has a type, and its evaluation has no fault.
     pub fn constant_value(&self, e: &Expression) -> Option<Scalar>
@@ -78,7 +78,7 @@ impl<'a, 't> Names<'a, 't> {
     }
 
     #[cycle(evaluation)]
-    #[tactic(auto, unfolding(ob0_typing::specs::Expressions::evaluate))]
+    #[tactic(auto, unfolding(ob0_types_rules::specs::Expressions::evaluate))]
     fn evaluate_factor(&self, f: &Factor) -> Option<Scalar>
         ensures { option_map scalar_value result ≡ given_value (evaluate_factor (constants_in self.now.known.now) [] (in_labels self.now.resolved.now (factor_of f.now))) }
     {

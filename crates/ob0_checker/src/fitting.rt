@@ -2,19 +2,19 @@
 
 ghost use Rattle.std.specs.Prelude.{◌≡◌, List, Some, map, option_map};
 ghost use Rattle.ob0_tree.specs.View.{assignment_of, call_of, elsifs_in, expression_of, if_of, sequence_in, statement_of};
-ghost use Rattle.ob0_bindings.specs.Designators.{all_in_labels, designator_in};
-ghost use Rattle.ob0_typing.specs.Expressions.{a_standard};
-ghost use Rattle.ob0_bindings.specs.InLabels.{in_labels, label_in};
+ghost use Rattle.ob0_types_rules.specs.Designators.{all_in_labels, designator_in};
+ghost use Rattle.ob0_types_rules.specs.Expressions.{a_standard};
+ghost use Rattle.ob0_types_rules.specs.InLabels.{in_labels, label_in};
 ghost use Rattle.ob0_checker.specs.Constants.{meaning_in};
-ghost use Rattle.ob0_symbols.specs.KnownTables.{shapes_of};
-ghost use Rattle.ob0_symbols.specs.Tables.{formal_in, standard_of, type_shape};
-ghost use Rattle.ob0_typing.specs.Typing.{designated};
-ghost use Rattle.ob0_typing.specs.WellTyped.{agree, argument_fits, arguments_fit, condition_fits, elsifs_fit, sequence_fits, signature_of, statement_fits, variable_type};
+ghost use Rattle.ob0_types_table.specs.KnownTables.{shapes_of};
+ghost use Rattle.ob0_types_table.specs.Tables.{formal_in, standard_of, type_shape};
+ghost use Rattle.ob0_types_rules.specs.Typing.{designated};
+ghost use Rattle.ob0_types_rules.specs.WellTyped.{agree, argument_fits, arguments_fit, condition_fits, elsifs_fit, sequence_fits, signature_of, statement_fits, variable_type};
 ghost use Rattle.ob0_values.specs.Values.{Shape};
 
 use crate::names::Names;
-use ob0_bindings::designated::designated;
-use ob0_symbols::{Formal, Object, Standard, TypeId};
+use ob0_types_rules::designated::designated;
+use ob0_types_table::{Formal, Object, Standard, TypeId};
 use ob0_tree::{Assignment, Call, Designator, Elsif, Expression, If, Statement};
 
 static READ: [Formal; 1] = [Formal {
@@ -83,14 +83,14 @@ impl<'a, 't> Names<'a, 't> {
     }
 
     /// Whether an expression is a condition.
-    #[tactic(auto, unfolding(ob0_typing::specs::WellTyped::condition_fits))]
+    #[tactic(auto, unfolding(ob0_types_rules::specs::WellTyped::condition_fits))]
     fn condition_fits(&self, e: &Expression) -> bool
         ensures { result ≡ condition_fits (meaning_in self.now.known.now self.now.only_constants) (in_labels self.now.resolved.now (expression_of e.now)) }
     {
         self.agree(Some(TypeId::Boolean), self.type_of(e))
     }
 
-    #[tactic(auto, unfolding(ob0_typing::specs::WellTyped::statement_fits))]
+    #[tactic(auto, unfolding(ob0_types_rules::specs::WellTyped::statement_fits))]
     fn assignment_fits(&self, a: &Assignment) -> bool
         ensures { result ≡ statement_fits (meaning_in self.now.known.now self.now.only_constants) (in_labels self.now.resolved.now (assignment_of a.now)) }
     {

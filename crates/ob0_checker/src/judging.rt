@@ -4,22 +4,22 @@ ghost use Rattle.std.specs.Prelude.{◌≡◌, option_and_then, option_map};
 ghost use Rattle.ob0_tree.specs.View.{designator_of, expression_of, factor_of, selector_of, simple_of, term_of};
 
 use crate::names::Names;
-use ob0_symbols::{TypeId, added, complement, multiplied, related, with_sign};
+use ob0_types_table::{TypeId, added, complement, multiplied, related, with_sign};
 use ob0_tree::{Comparison, Designator, Expression, Factor, Selector, Simple, Term};
 
 impl<'a, 't> Names<'a, 't> {
-    ghost use Rattle.ob0_symbols.specs.KnownTables.{label_object, shapes_of};
-    ghost use Rattle.ob0_bindings.specs.Bindings.{variable_of};
+    ghost use Rattle.ob0_types_table.specs.KnownTables.{label_object, shapes_of};
+    ghost use Rattle.ob0_types_rules.specs.Bindings.{variable_of};
     ghost use Rattle.ob0_tree.specs.declared.tree.Designator.{out-Designator};
-    ghost use Rattle.ob0_bindings.specs.InLabels.{in_labels, label_in};
+    ghost use Rattle.ob0_types_rules.specs.InLabels.{in_labels, label_in};
     ghost use Rattle.ob0_checker.specs.Constants.{meaning_in};
-    ghost use Rattle.ob0_symbols.specs.Tables.{type_shape};
-    ghost use Rattle.ob0_typing.specs.Typing.{element_type, field_type, type_at, type_of, type_of_factor, type_of_simple, type_of_term};
-    ghost use Rattle.ob0_typing.specs.Selected.{both, selectors_in, type_selected};
+    ghost use Rattle.ob0_types_table.specs.Tables.{type_shape};
+    ghost use Rattle.ob0_types_rules.specs.Typing.{element_type, field_type, type_at, type_of, type_of_factor, type_of_simple, type_of_term};
+    ghost use Rattle.ob0_types_rules.specs.Selected.{both, selectors_in, type_selected};
 
     /// The type of an expression.
     #[cycle(expressions)]
-    #[tactic(auto, unfolding(ob0_typing::specs::Typing::type_of, ob0_typing::specs::Selected::type_selected))]
+    #[tactic(auto, unfolding(ob0_types_rules::specs::Typing::type_of, ob0_types_rules::specs::Selected::type_selected))]
     pub fn type_of(&self, e: &Expression) -> Option<TypeId>
         ensures { option_map (type_shape (shapes_of self.now.known.now)) result ≡ type_of (meaning_in self.now.known.now self.now.only_constants) (in_labels self.now.resolved.now (expression_of e.now)) }
     {
@@ -35,7 +35,7 @@ impl<'a, 't> Names<'a, 't> {
     }
 
     #[cycle(expressions)]
-    #[tactic(auto, unfolding(ob0_typing::specs::Typing::type_of, ob0_typing::specs::Selected::type_selected))]
+    #[tactic(auto, unfolding(ob0_types_rules::specs::Typing::type_of, ob0_types_rules::specs::Selected::type_selected))]
     fn type_of_simple(&self, s: &Simple) -> Option<TypeId>
         ensures { option_map (type_shape (shapes_of self.now.known.now)) result ≡ type_of_simple (meaning_in self.now.known.now self.now.only_constants) (in_labels self.now.resolved.now (simple_of s.now)) }
     {
@@ -47,7 +47,7 @@ impl<'a, 't> Names<'a, 't> {
     }
 
     #[cycle(expressions)]
-    #[tactic(auto, unfolding(ob0_typing::specs::Typing::type_of, ob0_typing::specs::Selected::type_selected))]
+    #[tactic(auto, unfolding(ob0_types_rules::specs::Typing::type_of, ob0_types_rules::specs::Selected::type_selected))]
     fn type_of_term(&self, t: &Term) -> Option<TypeId>
         ensures { option_map (type_shape (shapes_of self.now.known.now)) result ≡ type_of_term (meaning_in self.now.known.now self.now.only_constants) (in_labels self.now.resolved.now (term_of t.now)) }
     {
@@ -63,7 +63,7 @@ impl<'a, 't> Names<'a, 't> {
     }
 
     #[cycle(expressions)]
-    #[tactic(auto, unfolding(ob0_typing::specs::Typing::type_of, ob0_typing::specs::Selected::type_selected))]
+    #[tactic(auto, unfolding(ob0_types_rules::specs::Typing::type_of, ob0_types_rules::specs::Selected::type_selected))]
     fn type_of_factor(&self, f: &Factor) -> Option<TypeId>
         ensures { option_map (type_shape (shapes_of self.now.known.now)) result ≡ type_of_factor (meaning_in self.now.known.now self.now.only_constants) (in_labels self.now.resolved.now (factor_of f.now)) }
     {
@@ -77,7 +77,7 @@ impl<'a, 't> Names<'a, 't> {
 
     /// The type at the end of a designator's selectors.
     #[cycle(expressions)]
-    #[tactic(auto, unfolding(ob0_typing::specs::Typing::type_of, ob0_typing::specs::Selected::type_selected))]
+    #[tactic(auto, unfolding(ob0_types_rules::specs::Typing::type_of, ob0_types_rules::specs::Selected::type_selected))]
     fn type_behind(&self, base: Option<TypeId>, d: &Designator) -> Option<TypeId>
         ensures { option_map (type_shape (shapes_of self.now.known.now)) result ≡ option_and_then (λ s. type_at (meaning_in self.now.known.now self.now.only_constants) s (in_labels self.now.resolved.now (selectors_in d.now))) (option_map (type_shape (shapes_of self.now.known.now)) base) }
     {
@@ -89,7 +89,7 @@ impl<'a, 't> Names<'a, 't> {
     }
 
     #[cycle(expressions)]
-    #[tactic(auto, unfolding(ob0_typing::specs::Typing::type_of, ob0_typing::specs::Selected::type_selected))]
+    #[tactic(auto, unfolding(ob0_types_rules::specs::Typing::type_of, ob0_types_rules::specs::Selected::type_selected))]
     fn type_selected(&self, base: Option<TypeId>, s: &Selector) -> Option<TypeId>
         ensures { option_map (type_shape (shapes_of self.now.known.now)) result ≡ option_and_then (λ s'. type_selected (meaning_in self.now.known.now self.now.only_constants) s' (in_labels self.now.resolved.now (selector_of s.now))) (option_map (type_shape (shapes_of self.now.known.now)) base) }
     {

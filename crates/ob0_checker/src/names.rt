@@ -3,8 +3,8 @@
 ghost use Rattle.std.specs.Prelude.{◌≡◌, Some, length, option_and_then, option_map, IfSome};
 ghost use Rattle.ob0_tree.specs.Places.{text_at};
 
-use ob0_names::Resolved;
-use ob0_symbols::{Known, Object, TypeId, scalar_type, text_at};
+use ob0_scope_rules::Resolved;
+use ob0_types_table::{Known, Object, TypeId, scalar_type, text_at};
 use ob0_values::Scalar;
 
 /// What names stand for: what is known, and which declaration each name is bound to. In a constant expression they
@@ -17,14 +17,14 @@ pub struct Names<'a, 't> {
 }
 
 impl<'a, 't> Names<'a, 't> {
-    ghost use Rattle.ob0_names.specs.Names.{label_text};
-    ghost use Rattle.ob0_typing.specs.Expressions.{a_constant, a_type, a_variable};
-    ghost use Rattle.ob0_symbols.specs.KnownTables.{label_object, shapes_of};
-    ghost use Rattle.ob0_bindings.specs.InLabels.{label_in};
+    ghost use Rattle.ob0_scope_rules.specs.Names.{label_text};
+    ghost use Rattle.ob0_types_rules.specs.Expressions.{a_constant, a_type, a_variable};
+    ghost use Rattle.ob0_types_table.specs.KnownTables.{label_object, shapes_of};
+    ghost use Rattle.ob0_types_rules.specs.InLabels.{label_in};
     ghost use Rattle.ob0_checker.specs.Constants.{meaning_in, where_only};
-    ghost use Rattle.ob0_symbols.specs.Tables.{object_in, type_shape, ObjectIsMade, IsMade};
-    ghost use Rattle.ob0_typing.specs.Typing.{constant_of, object_type, type_of_name};
-    ghost use Rattle.ob0_bindings.specs.Bindings.{variable_of};
+    ghost use Rattle.ob0_types_table.specs.Tables.{object_in, type_shape, ObjectIsMade, IsMade};
+    ghost use Rattle.ob0_types_rules.specs.Typing.{constant_of, object_type, type_of_name};
+    ghost use Rattle.ob0_types_rules.specs.Bindings.{variable_of};
     ghost use Rattle.ob0_values.specs.Scalars.{scalar_value};
 
     /// What a name stands for.

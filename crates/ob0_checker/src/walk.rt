@@ -1,8 +1,8 @@
 //! A module on its way through the checker: what is known and in sight, and what was in sight before each binding.
 
 use crate::denoting::denote;
-use ob0_names::Resolved;
-use ob0_symbols::{Formal, Known, Object, Shadowed, TypeId};
+use ob0_scope_rules::Resolved;
+use ob0_types_table::{Formal, Known, Object, Shadowed, TypeId};
 use ob0_tree::WrittenType;
 use std::alloc::{AllocError, Global};
 use std::marker::Model;
@@ -28,7 +28,7 @@ impl<'t> Model for Walk<'t> {
     ghost use Rattle.std.specs.Coded.{codes};
     ghost use Rattle.ob0_tree.specs.contracts.tree.Block as block_contract;
     ghost use Rattle.ob0_checker.specs.Checking.{Walking};
-    ghost use Rattle.ob0_symbols.specs.KnownTables.{CanBePutBack};
+    ghost use Rattle.ob0_types_table.specs.KnownTables.{CanBePutBack};
 
     ghost Value = { Walking };
 
@@ -50,14 +50,14 @@ impl<'t> Walk<'t> {
     ghost use Rattle.std.specs.Prelude.{◌≡◌, ℕ, ◌+◌, ◌++◌, ◌∷◌, List, Some, length, option_map, IfOk, IfSome};
     ghost use Rattle.ob0_tree.specs.View.{type_of};
     ghost use Rattle.ob0_checker.specs.Checking.{Agrees, Follows, Keeps};
-    ghost use Rattle.ob0_typing.specs.Environments.{meanings};
-    ghost use Rattle.ob0_typing.specs.Expressions as meaning;
-    ghost use Rattle.ob0_bindings.specs.InLabels.{in_labels, label_in};
-    ghost use Rattle.ob0_symbols.specs.KnownTables.{AreTables, before_all, declared_in, predeclared, seen_object, shapes_of};
-    ghost use Rattle.ob0_symbols.specs.Tables.{IsMade, ObjectIsMade, object_in, type_shape};
-    ghost use Rattle.ob0_typing.specs.Typing.{constructors, denoted};
-    ghost use Rattle.ob0_typing.specs.WellTyped.{Signature, TypeEnvironment};
-    ghost use Rattle.ob0_names.specs.Names.{as_labels, Label};
+    ghost use Rattle.ob0_types_rules.specs.Environments.{meanings};
+    ghost use Rattle.ob0_types_rules.specs.Expressions as meaning;
+    ghost use Rattle.ob0_types_rules.specs.InLabels.{in_labels, label_in};
+    ghost use Rattle.ob0_types_table.specs.KnownTables.{AreTables, before_all, declared_in, predeclared, seen_object, shapes_of};
+    ghost use Rattle.ob0_types_table.specs.Tables.{IsMade, ObjectIsMade, object_in, type_shape};
+    ghost use Rattle.ob0_types_rules.specs.Typing.{constructors, denoted};
+    ghost use Rattle.ob0_types_rules.specs.WellTyped.{Signature, TypeEnvironment};
+    ghost use Rattle.ob0_scope_rules.specs.Names.{as_labels, Label};
     ghost use Rattle.ob0_values.specs.Values.{Shape};
 
     /// The predeclared names alone are in sight.

@@ -4,7 +4,7 @@ ghost use Rattle.std.specs.Prelude.{◌≡◌, ◌≤◌, ◌++◌, [], true, If
 ghost use Rattle.std.specs.Io.KnownBytes.{Appends};
 ghost use Rattle.ob0_tree.specs.Parsed.{named_tree_of};
 ghost use Rattle.ob0_run.specs.Outcomes.{run_of};
-ghost use Rattle.ob0_semantics.specs.Runs.{run};
+ghost use Rattle.ob0_run_rules.specs.Runs.{run};
 ghost use Rattle.ob0_analysis.specs.Diagnosed.{Tells};
 ghost use Rattle.ob0_run.specs.States.{item_of, items_out};
 ghost use Rattle.ob0_commands.specs.Printed.{end_line, output_text, written_text};

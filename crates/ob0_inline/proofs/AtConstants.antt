@@ -13,15 +13,15 @@ use Rattle.ob0_tree.specs.Tree.{Tree, module_text, nesting}
 use Rattle.ob0_edits.specs.Ranges.{range_of}
 use Rattle.ob0_edits.specs.Removed.{span_over}
 use Rattle.ob0_edits.specs.Replaced.{edit_at, parts}
-use Rattle.ob0_names.specs.Names.{Label, Name}
-use Rattle.ob0_names.specs.Occurrences.{bindings, binds, label_ordinal}
-use Rattle.ob0_names.specs.Resolution.{Resolution}
-use Rattle.ob0_names.specs.Scopes.{same_ordinal}
+use Rattle.ob0_scope_rules.specs.Names.{Label, Name}
+use Rattle.ob0_scope_rules.specs.Occurrences.{bindings, binds, label_ordinal}
+use Rattle.ob0_scope_rules.specs.Resolution.{Resolution}
+use Rattle.ob0_scope_rules.specs.Scopes.{same_ordinal}
 use Rattle.ob0_scope.specs.declared.naming.Named as named
 use Rattle.ob0_scope.specs.Standing.{name_on}
 use Rattle.ob0_types.specs.CheckedModules.{IsWellTyped}
-use Rattle.ob0_typing.specs.EditLaws.{ConstantsStandAlone, IsConstantWritten, IsScalar, IsShown}
-use Rattle.ob0_semantics.specs.EditLaws.{InliningEverywhereKeepsModules}
+use Rattle.ob0_types_rules.specs.EditLaws.{ConstantsStandAlone, IsConstantWritten, IsScalar, IsShown}
+use Rattle.ob0_run_rules.specs.EditLaws.{InliningEverywhereKeepsModules}
 use Rattle.ob0_values.specs.declared.scalar.Scalar.TheVariants as scalar
 use Rattle.ob0_values.specs.Scalars.{scalar_value}
 use Rattle.ob0_inline.specs.declared.constants.Constant.{Constant}

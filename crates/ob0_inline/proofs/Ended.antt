@@ -19,15 +19,15 @@ use Rattle.ob0_edits.specs.OfTrees.{placed}
 use Rattle.ob0_edits.specs.Removed.{IsDeclaration, without}
 use Rattle.ob0_edits.specs.Replaced.{AreNames}
 use Rattle.ob0_edits.specs.Words.{word_lexeme}
-use Rattle.ob0_names.specs.Names.{Label, Name, as_names, declared, same_label}
-use Rattle.ob0_names.specs.Occurrences.{bindings}
-use Rattle.ob0_names.specs.Parts.{module_block}
-use Rattle.ob0_names.specs.Resolution.{IsResolution, Resolution, declaring_only, label_at, ordinal_in, token_declaring}
-use Rattle.ob0_names.specs.Scopes.{as_label, same_ordinal}
-use Rattle.ob0_names.proofs.Bound.{bindings_by_table}
-use Rattle.ob0_names.proofs.OccurrenceNames.{length-map}
-use Rattle.ob0_names.proofs.Peeling.{heads}
-use Rattle.ob0_typing.specs.ConstantValues.{value_of_constant}
+use Rattle.ob0_scope_rules.specs.Names.{Label, Name, as_names, declared, same_label}
+use Rattle.ob0_scope_rules.specs.Occurrences.{bindings}
+use Rattle.ob0_scope_rules.specs.Parts.{module_block}
+use Rattle.ob0_scope_rules.specs.Resolution.{IsResolution, Resolution, declaring_only, label_at, ordinal_in, token_declaring}
+use Rattle.ob0_scope_rules.specs.Scopes.{as_label, same_ordinal}
+use Rattle.ob0_scope_rules.proofs.Bound.{bindings_by_table}
+use Rattle.ob0_scope_rules.proofs.OccurrenceNames.{length-map}
+use Rattle.ob0_scope_rules.proofs.Peeling.{heads}
+use Rattle.ob0_types_rules.specs.ConstantValues.{value_of_constant}
 use Rattle.ob0_values.specs.Scalars.{scalar_value}
 use Rattle.ob0_values.specs.Values.{Value}
 use Rattle.ob0_inline.specs.declared.constants.Constant.{Constant}

@@ -12,14 +12,14 @@ use Rattle.ob0_edits.specs.OfTrees.{factor_at, number_at, placed, text_at}
 use Rattle.ob0_edits.specs.Removed.{without}
 use Rattle.ob0_edits.specs.Replaced.{AreNames}
 use Rattle.ob0_edits.specs.Words.{word_lexeme}
-use Rattle.ob0_names.specs.Elsewhere.{names_elsewhere}
-use Rattle.ob0_names.specs.Inlining.{all_bound_to, inlined_everywhere, module_without}
-use Rattle.ob0_names.specs.Names.{Name, declared}
-use Rattle.ob0_names.specs.Parts.{module_block}
-use Rattle.ob0_names.specs.Resolution.{IsResolution, Resolution, ordinal_in}
-use Rattle.ob0_names.specs.Scopes.{numbered, same_ordinal}
-use Rattle.ob0_names.proofs.Bound.{bound_at}
-use Rattle.ob0_typing.specs.ConstantValues.{value_of_constant}
+use Rattle.ob0_scope_rules.specs.Elsewhere.{names_elsewhere}
+use Rattle.ob0_scope_rules.specs.Inlining.{all_bound_to, inlined_everywhere, module_without}
+use Rattle.ob0_scope_rules.specs.Names.{Name, declared}
+use Rattle.ob0_scope_rules.specs.Parts.{module_block}
+use Rattle.ob0_scope_rules.specs.Resolution.{IsResolution, Resolution, ordinal_in}
+use Rattle.ob0_scope_rules.specs.Scopes.{numbered, same_ordinal}
+use Rattle.ob0_scope_rules.proofs.Bound.{bound_at}
+use Rattle.ob0_types_rules.specs.ConstantValues.{value_of_constant}
 use Rattle.ob0_values.specs.Values.{Value}
 use Rattle.ob0_inline.proofs.Behind.{late_of, uses_behind}
 use Rattle.ob0_inline.proofs.Late.{Late}

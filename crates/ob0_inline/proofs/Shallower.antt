@@ -6,10 +6,10 @@ use Rattle.ob0_edits.specs.Changed.{words_of}
 use Rattle.ob0_edits.specs.Factors.{truth_factor}
 use Rattle.ob0_edits.specs.OfTrees.{number_at, text_at}
 use Rattle.ob0_edits.proofs.Factors.{nesting_at, number_shallow}
-use Rattle.ob0_names.specs.Names.{Name}
-use Rattle.ob0_names.specs.Parts.{formal_names, formal_sections}
-use Rattle.ob0_names.specs.Resolution.{IsResolution, Resolution}
-use Rattle.ob0_names.specs.Scopes.{after_names, after_procedure, first_procedure}
+use Rattle.ob0_scope_rules.specs.Names.{Name}
+use Rattle.ob0_scope_rules.specs.Parts.{formal_names, formal_sections}
+use Rattle.ob0_scope_rules.specs.Resolution.{IsResolution, Resolution}
+use Rattle.ob0_scope_rules.specs.Scopes.{after_names, after_procedure, first_procedure}
 use Rattle.ob0_values.specs.declared.scalar.Scalar.{Scalar}
 use Rattle.ob0_values.specs.declared.scalar.Scalar.TheVariants as scalar
 use Rattle.ob0_inline.specs.declared.constants.Constant.{Constant}

@@ -16,11 +16,11 @@ use Rattle.ob0_edits.specs.Changed.{is_among, words_of}
 use Rattle.ob0_edits.specs.Inlined.{ReplacesFactors, inlined}
 use Rattle.ob0_edits.specs.OfTrees.{factor_at, number_at, text_at}
 use Rattle.ob0_edits.specs.Replaced.{AreNames}
-use Rattle.ob0_names.specs.Elsewhere.{names_elsewhere}
-use Rattle.ob0_names.specs.Inlining.{Uses, inline_in}
-use Rattle.ob0_names.specs.Names.{Label, Name, as_names, declared}
-use Rattle.ob0_names.specs.Resolution.{IsResolution, Resolution, label_at, ordinal_in}
-use Rattle.ob0_names.specs.Scopes.{as_label, numbered}
+use Rattle.ob0_scope_rules.specs.Elsewhere.{names_elsewhere}
+use Rattle.ob0_scope_rules.specs.Inlining.{Uses, inline_in}
+use Rattle.ob0_scope_rules.specs.Names.{Label, Name, as_names, declared}
+use Rattle.ob0_scope_rules.specs.Resolution.{IsResolution, Resolution, label_at, ordinal_in}
+use Rattle.ob0_scope_rules.specs.Scopes.{as_label, numbered}
 use Rattle.ob0_scope.proofs.SeenInPlaces.{AllTold, occurrence_table, uses_told}
 use Rattle.ob0_inline.proofs.Alone.{NoneFor, NoneOther, alone, elsewhere-mapped}
 use Rattle.ob0_inline.proofs.OnOccurrences.{agrees_each, same}

@@ -3,7 +3,7 @@ use Rattle.std.proofs.Common.{◌≡◌, inl, inr, ℕ, zero, suc, ◌+◌, ◌<
 use Rattle.std.proofs.lemmas.Bool.{lt-leb, le-leb}
 use Rattle.std.proofs.lemmas.Grind.{flat_map-append}
 use Rattle.std.proofs.lemmas.List.{map-append}
-use Rattle.ob0_names.proofs.OccurrenceNames.{length-map}
+use Rattle.ob0_scope_rules.proofs.OccurrenceNames.{length-map}
 use Rattle.std.proofs.Math.Seq.{get_or-append_seam}
 use Rattle.std.specs.List.{flat_map}
 use Rattle.ob0_scan.specs.declared.lexeme.Symbol.TheVariants as symbol
@@ -23,7 +23,7 @@ use Rattle.ob0_edits.specs.Replaced as place
 use Rattle.ob0_edits.specs.Replaced.{AreNames}
 use Rattle.ob0_edits.specs.Words.{word_lexeme}
 use Rattle.ob0_edits.proofs.Inlined.{spell_inlined}
-use Rattle.ob0_names.proofs.Peeling.{heads}
+use Rattle.ob0_scope_rules.proofs.Peeling.{heads}
 use Rattle.ob0_inline.proofs.TakenOut.{Taken}
 
 -- words cut where their tokens are

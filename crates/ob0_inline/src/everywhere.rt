@@ -21,12 +21,12 @@ use crate::depth::is_too_deep;
 use crate::shown::{any_hidden, is_ordinal};
 use crate::written::{is_scalar, value_text};
 use ob0_edits::edits_without;
-use ob0_names::Resolved;
+use ob0_scope_rules::Resolved;
 use ob0_scan::{Span, Tokens};
-use ob0_semantics::laws::inlining_everywhere_keeps_modules;
+use ob0_run_rules::laws::inlining_everywhere_keeps_modules;
 use ob0_text::{Edit, EditRefusal, Position, TextStore};
 use ob0_types::WellTyped;
-use ob0_typing::laws::constants_stand_alone;
+use ob0_types_rules::laws::constants_stand_alone;
 use std::alloc::{AllocError, Global};
 
 /// The edits that write a constant's value in the place of all uses of it, and take its declaration out, from its name to

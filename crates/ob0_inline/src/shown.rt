@@ -3,14 +3,14 @@
 ghost use Rattle.std.specs.Prelude.{◌≡◌, IfOk, ◌==◌, ◌&&◌, not, length, option_and_then, slice_get};
 ghost use Rattle.std.specs.List.{list_any, range_with_len};
 ghost use Rattle.ob0_tree.specs.Parsed.{named_tree_of};
-ghost use Rattle.ob0_names.specs.Occurrences.{bindings, binds};
-ghost use Rattle.ob0_names.specs.Scopes.{same_ordinal};
-ghost use Rattle.ob0_names.specs.SeenNames.{sees};
+ghost use Rattle.ob0_scope_rules.specs.Occurrences.{bindings, binds};
+ghost use Rattle.ob0_scope_rules.specs.Scopes.{same_ordinal};
+ghost use Rattle.ob0_scope_rules.specs.SeenNames.{sees};
 ghost use Rattle.ob0_inline.specs.Everywhere.{any_hidden};
 ghost use Rattle.ob0_inline.specs.Uses.{is_shown};
 
 use crate::constants::Constant;
-use ob0_names::Resolved;
+use ob0_scope_rules::Resolved;
 use ob0_scope::seen;
 use ob0_values::Scalar;
 use std::alloc::{AllocError, Global};

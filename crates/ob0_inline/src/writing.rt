@@ -12,7 +12,7 @@ ghost use Rattle.ob0_inline.specs.Values.{value_text};
 use crate::depth::is_too_deep;
 use crate::written::value_text;
 use ob0_edits::edits_for;
-use ob0_names::Resolved;
+use ob0_scope_rules::Resolved;
 use ob0_text::{Edit, EditRefusal, TextStore};
 use ob0_values::Scalar;
 use std::alloc::Global;

@@ -3,7 +3,7 @@
 ghost use Rattle.std.specs.Prelude.{◌≡◌, IfOk, IsTrue, string_bytes};
 ghost use Rattle.ob0_edits.specs.Replaced.{StandsForName};
 ghost use Rattle.ob0_edits.specs.Written.{number_text, number_words};
-ghost use Rattle.ob0_typing.specs.EditLaws.{IsScalar};
+ghost use Rattle.ob0_types_rules.specs.EditLaws.{IsScalar};
 ghost use Rattle.ob0_values.specs.Scalars.{scalar_value};
 ghost use Rattle.ob0_values.specs.Values.{fits};
 ghost use Rattle.ob0_inline.specs.Values.{value_text, value_words};

@@ -6,15 +6,15 @@ use Rattle.ob0_scan.specs.Scanned.{Scanned}
 use Rattle.ob0_scan.specs.declared.lexeme.Span.{Span}
 use Rattle.ob0_tree.specs.Parsed.{Parsed}
 use Rattle.ob0_tree.specs.Places.{text_at}
-use Rattle.ob0_names.specs.Names.{same_name}
-use Rattle.ob0_names.specs.Resolution.{Resolution, span_at}
-use Rattle.ob0_names.specs.Spans.{is_on}
+use Rattle.ob0_scope_rules.specs.Names.{same_name}
+use Rattle.ob0_scope_rules.specs.Resolution.{Resolution, span_at}
+use Rattle.ob0_scope_rules.specs.Spans.{is_on}
 use Rattle.ob0_scope.specs.Standing.{name_on}
 use Rattle.ob0_scope.specs.declared.naming.Named as named
 use Rattle.ob0_types.specs.CheckedModules.{IsWellTyped}
-use Rattle.ob0_typing.proofs.Literals.{some_inverse}
-use Rattle.ob0_fields.specs.Identifiers.{declaring_field, field_at, field_identifiers, field_on, field_tokens, is_field, tokens_among}
-use Rattle.ob0_fields.proofs.FieldsDeclared.{fields_declared-holds}
+use Rattle.ob0_types_rules.proofs.Literals.{some_inverse}
+use Rattle.ob0_types_fields.specs.Identifiers.{declaring_field, field_at, field_identifiers, field_on, field_tokens, is_field, tokens_among}
+use Rattle.ob0_types_fields.proofs.FieldsDeclared.{fields_declared-holds}
 use Rattle.ob0_refs.specs.Answered.{at_name}
 use Rattle.ob0_refs.specs.Laws.{FieldsAreDefined, FieldsAreRenamedThere, IsOnField, IsRenamedThere}
 use Rattle.ob0_refs.specs.Questions.{at_field, declared, definition_at, field_declared, named_at, or_else, references_at, stands}

@@ -6,24 +6,24 @@ use Rattle.std.specs.List.{list_any}
 use Rattle.ob0_tree.specs.Parsed.{named_tree_of, tree_of}
 use Rattle.ob0_tree.specs.Places.{text_at, value_at}
 use Rattle.ob0_tree.specs.Tree.{Tree, array_type, block, declares, declares_procedure, declares_type, declares_types, declares_variable, declares_variables, end, fields, formals, further_fields, further_name, further_section, has_body, is_module, item, items, listed, mapped, maybe, module_text, more, named_type, names, no_fields, no_formals, none, one, procedure, record_type, section, some_fields, some_formals, then_fields, then_name, then_section, type_name, type_names, value_section, variable, variable_section, variables, written_type}
-use Rattle.ob0_names.specs.DeclaredOnce.{are_distinct, block_once, declared_once, fields_once, formals_once, group_fields, group_once, groups_fields, groups_once, is_among, procedure_once, procedures_once, types_once, variables_once}
-use Rattle.ob0_names.specs.Names.{Label, Name, as_labels, as_names, as_written, declared, label_text, same_name}
-use Rattle.ob0_names.specs.Parts.{formal_names, formal_sections, further_names, module_block, names_listed, section_type, section_types, section_variables}
-use Rattle.ob0_names.specs.Resolution.{Resolution, ordinal_in}
-use Rattle.ob0_names.specs.Scopes.{as_label, numbered}
-use Rattle.ob0_bindings.specs.InLabels.{in_labels, label_in}
-use Rattle.ob0_symbols.specs.FieldPlaces.{field_selected, place_of_field}
-use Rattle.ob0_symbols.specs.declared.known.FieldOf.{FieldOf}
-use Rattle.ob0_typing.specs.Declarations.{after_formals, after_types, after_variables, procedure_constructors}
-use Rattle.ob0_typing.specs.Environments.{meanings}
-use Rattle.ob0_typing.specs.Typing.{array_length, constant_value, constructors, depth, denoted, denoted_group, denoted_groups, field_type, group_constructors, scalars, shape_of_field, type_declared, with_fields, within_limits}
-use Rattle.ob0_typing.specs.WellTyped.{TypeEnvironment, WellTyped}
-use Rattle.ob0_typing.proofs.Literals.{some_inverse}
-use Rattle.ob0_typing.proofs.TypedElsewhere.{then_some}
+use Rattle.ob0_scope_rules.specs.DeclaredOnce.{are_distinct, block_once, declared_once, fields_once, formals_once, group_fields, group_once, groups_fields, groups_once, is_among, procedure_once, procedures_once, types_once, variables_once}
+use Rattle.ob0_scope_rules.specs.Names.{Label, Name, as_labels, as_names, as_written, declared, label_text, same_name}
+use Rattle.ob0_scope_rules.specs.Parts.{formal_names, formal_sections, further_names, module_block, names_listed, section_type, section_types, section_variables}
+use Rattle.ob0_scope_rules.specs.Resolution.{Resolution, ordinal_in}
+use Rattle.ob0_scope_rules.specs.Scopes.{as_label, numbered}
+use Rattle.ob0_types_rules.specs.InLabels.{in_labels, label_in}
+use Rattle.ob0_types_table.specs.FieldPlaces.{field_selected, place_of_field}
+use Rattle.ob0_types_table.specs.declared.known.FieldOf.{FieldOf}
+use Rattle.ob0_types_rules.specs.Declarations.{after_formals, after_types, after_variables, procedure_constructors}
+use Rattle.ob0_types_rules.specs.Environments.{meanings}
+use Rattle.ob0_types_rules.specs.Typing.{array_length, constant_value, constructors, depth, denoted, denoted_group, denoted_groups, field_type, group_constructors, scalars, shape_of_field, type_declared, with_fields, within_limits}
+use Rattle.ob0_types_rules.specs.WellTyped.{TypeEnvironment, WellTyped}
+use Rattle.ob0_types_rules.proofs.Literals.{some_inverse}
+use Rattle.ob0_types_rules.proofs.TypedElsewhere.{then_some}
 use Rattle.ob0_values.specs.Values.{FieldShapes, Shape, array_shape, next_field_shape, no_field_shape, record_shape}
 use Rattle.ob0_types.specs.CheckedModules.{IsWellTyped}
-use Rattle.ob0_fields.specs.Identifiers.{declared_fields, declared_in, declared_in_procedure, declared_in_procedures}
-use Rattle.ob0_fields.specs.Owned.{marked_group, marked_groups, marked_sections, marked_type, marked_types, marked_variables}
+use Rattle.ob0_types_fields.specs.Identifiers.{declared_fields, declared_in, declared_in_procedure, declared_in_procedures}
+use Rattle.ob0_types_fields.specs.Owned.{marked_group, marked_groups, marked_sections, marked_type, marked_types, marked_variables}
 use Rattle.ob0_selections.specs.FieldTypes.{field_named, fields_named, first_listed, type_of_elements, typed_fields}
 use Rattle.ob0_refs.specs.Fields.{module_typed}
 use Rattle.ob0_selections.specs.Selections.{Selected, noted}

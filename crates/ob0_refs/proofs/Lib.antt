@@ -4,3 +4,6 @@ pub mod SelectedFields
 pub mod DeclaredTypes
 pub mod DeclaredFields
 pub mod ShownFields
+pub mod Counted
+pub mod Parameters
+pub mod ParametersBehind

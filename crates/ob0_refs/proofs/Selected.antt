@@ -1,13 +1,13 @@
 -- Selections of the code and those of the module.
 use Rattle.std.proofs.Common.{◌≡◌, ℕ, Bool, true, false, List, [], ◌∷◌, map, Option, None, option_map, refl, ap, ◌∙◌}
 use Rattle.ob0_refs.specs.Shown.{Shown}
-use Rattle.ob0_names.specs.Spans.{is_on}
+use Rattle.ob0_scope_rules.specs.Spans.{is_on}
 use Rattle.ob0_scan.specs.Scanned.{Scanned}
-use Rattle.ob0_names.specs.Resolution.{Resolution, span_at}
+use Rattle.ob0_scope_rules.specs.Resolution.{Resolution, span_at}
 use Rattle.ob0_tree.specs.Parsed.{named_tree_of, tree_of}
-use Rattle.ob0_bindings.specs.Bindings.{declared_object}
-use Rattle.ob0_typing.specs.Expressions.{Object}
-use Rattle.ob0_typing.specs.WellTyped.{Signature}
+use Rattle.ob0_types_rules.specs.Bindings.{declared_object}
+use Rattle.ob0_types_rules.specs.Expressions.{Object}
+use Rattle.ob0_types_rules.specs.WellTyped.{Signature}
 use Rattle.ob0_selections.specs.declared.selecting.Selection.{Selection}
 use Rattle.ob0_selections.specs.Selections.{Selected, selections, token_meaning}
 use Rattle.ob0_refs.specs.Fields.{module_selections, module_typed}

@@ -4,21 +4,21 @@ use Rattle.std.specs.List.{list_any}
 use Rattle.ob0_scan.specs.Scanned.{Scanned}
 use Rattle.ob0_tree.specs.Parsed.{Parsed, named_tree_of, tree_of}
 use Rattle.ob0_tree.specs.Tree.{Sort, Tree, adds, array_type, assigns, begins, block, branches, calls, compares, declares, declares_constant, declares_constants, declares_procedure, declares_type, declares_types, declares_variable, declares_variables, designator, else_branch, elsif_branch, empty, end, field, has_body, index, integer, is_module, item, items, listed, module_text, more, multiplies, named_type, negation, no_arguments, no_fields, no_formals, none, one, parenthesised, procedure, product, record_type, relates, repeat_loop, runs, selector, some_arguments, some_fields, some_formals, sum, then_argument, then_fields, then_name, then_section, then_statement, value_section, variable_section, while_loop}
-use Rattle.ob0_names.specs.Names.{Name, same_name}
-use Rattle.ob0_names.specs.Parts.{formal_sections, module_block, section_types, section_variables}
-use Rattle.ob0_names.specs.Resolution.{Resolution, span_at}
-use Rattle.ob0_names.specs.Spans.{is_on}
-use Rattle.ob0_bindings.specs.Bindings.{declared_object}
-use Rattle.ob0_symbols.specs.FieldPlaces.{field_selected, place_of_field}
-use Rattle.ob0_symbols.specs.declared.known.FieldOf.{FieldOf}
-use Rattle.ob0_typing.specs.Declarations.{after_formals, after_types, after_variables, procedure_constructors}
-use Rattle.ob0_typing.specs.Expressions.{Meanings}
-use Rattle.ob0_typing.specs.Typing.{element_type, field_type, object_type, shape_of_field}
-use Rattle.ob0_typing.specs.WellTyped.{Signature}
+use Rattle.ob0_scope_rules.specs.Names.{Name, same_name}
+use Rattle.ob0_scope_rules.specs.Parts.{formal_sections, module_block, section_types, section_variables}
+use Rattle.ob0_scope_rules.specs.Resolution.{Resolution, span_at}
+use Rattle.ob0_scope_rules.specs.Spans.{is_on}
+use Rattle.ob0_types_rules.specs.Bindings.{declared_object}
+use Rattle.ob0_types_table.specs.FieldPlaces.{field_selected, place_of_field}
+use Rattle.ob0_types_table.specs.declared.known.FieldOf.{FieldOf}
+use Rattle.ob0_types_rules.specs.Declarations.{after_formals, after_types, after_variables, procedure_constructors}
+use Rattle.ob0_types_rules.specs.Expressions.{Meanings}
+use Rattle.ob0_types_rules.specs.Typing.{element_type, field_type, object_type, shape_of_field}
+use Rattle.ob0_types_rules.specs.WellTyped.{Signature}
 use Rattle.ob0_values.specs.Values.{FieldShapes, Shape, array_shape, boolean_shape, integer_shape, next_field_shape, no_field_shape, record_shape}
-use Rattle.ob0_fields.specs.Identifiers.{declared_fields, declared_in, declared_in_procedure, declared_in_procedures, field_identifiers, field_on}
-use Rattle.ob0_fields.specs.Owned.{mark, marked, marked_block, marked_module, marked_path, marked_procedure, marked_procedures, marked_sections, marked_types, marked_variables, owner, token_objects}
-use Rattle.ob0_fields.proofs.MarkedFields.{module-fields}
+use Rattle.ob0_types_fields.specs.Identifiers.{declared_fields, declared_in, declared_in_procedure, declared_in_procedures, field_identifiers, field_on}
+use Rattle.ob0_types_fields.specs.Owned.{mark, marked, marked_block, marked_module, marked_path, marked_procedure, marked_procedures, marked_sections, marked_types, marked_variables, owner, token_objects}
+use Rattle.ob0_types_fields.proofs.MarkedFields.{module-fields}
 use Rattle.ob0_refs.specs.Questions.{selected_on}
 use Rattle.ob0_selections.specs.Selections.{Selected, noted, path_selections, selected_by, selections, token_meaning, type_behind}
 use Rattle.ob0_refs.specs.Fields.{module_selections}

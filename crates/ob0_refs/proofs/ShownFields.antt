@@ -2,9 +2,9 @@
 use Rattle.std.proofs.Common.{◌≡◌, inl, inr, ℕ, true, true≢false, is_some, Some, None, Option, refl, sym, ap, ◌∙◌}
 use Rattle.ob0_scan.specs.declared.lexeme.Span.{Span}
 use Rattle.ob0_tree.specs.Parsed.{Parsed}
-use Rattle.ob0_names.specs.Resolution.{Resolution}
+use Rattle.ob0_scope_rules.specs.Resolution.{Resolution}
 use Rattle.ob0_types.specs.CheckedModules.{IsWellTyped}
-use Rattle.ob0_fields.specs.Identifiers.{declared_fields}
+use Rattle.ob0_types_fields.specs.Identifiers.{declared_fields}
 use Rattle.ob0_refs.specs.Fields.{module_selections, module_typed}
 use Rattle.ob0_refs.specs.Laws.{FieldsAreShown, IsOnField}
 use Rattle.ob0_refs.specs.Questions.{field_shown, or_else, selected_on, selected_shown, selection_shown}

@@ -1,7 +1,7 @@
 -- What is answered of a name: where it stands, and what it is a name of.
 use Rattle.std.specs.Prelude.{ℕ, nat_lt, if◌then◌else◌}
 use Rattle.ob0_tree.specs.Parsed.{Parsed}
-use Rattle.ob0_names.specs.Resolution.{span_at}
+use Rattle.ob0_scope_rules.specs.Resolution.{span_at}
 use Rattle.ob0_scope.specs.declared.naming.Named as named
 use Rattle.ob0_refs.specs.declared.answers.At as told
 use Rattle.ob0_refs.specs.declared.answers.Of as of

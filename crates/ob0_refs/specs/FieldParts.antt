@@ -1,8 +1,8 @@
 -- What the code's lists stand for.
 use Rattle.std.specs.Prelude.{ℕ, List, [], ◌∷◌, Option, Some, None, if◌then◌else◌}
 use Rattle.ob0_scan.specs.Scanned.{Scanned}
-use Rattle.ob0_names.specs.Resolution.{span_at}
-use Rattle.ob0_names.specs.Spans.{is_on}
+use Rattle.ob0_scope_rules.specs.Resolution.{span_at}
+use Rattle.ob0_scope_rules.specs.Spans.{is_on}
 use Rattle.ob0_selections.specs.declared.selecting.Selection.{Selection}
 
 -- the first selection that a place is on

@@ -1,8 +1,8 @@
 -- The fields of a module, where they are declared and where they are selected, by what its names are declared as.
 use Rattle.std.specs.Prelude.{ℕ, List, None}
 use Rattle.ob0_tree.specs.Parsed.{named_tree_of, tree_of}
-use Rattle.ob0_names.specs.Resolution.{Resolution}
-use Rattle.ob0_bindings.specs.Bindings.{declared_object}
+use Rattle.ob0_scope_rules.specs.Resolution.{Resolution}
+use Rattle.ob0_types_rules.specs.Bindings.{declared_object}
 use Rattle.ob0_selections.specs.FieldTypes.{typed_fields}
 use Rattle.ob0_selections.specs.Selections.{Selected, selections, token_meaning}
 

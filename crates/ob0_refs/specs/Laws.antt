@@ -3,9 +3,9 @@ use Rattle.std.specs.Prelude.{◌≡◌, ℕ, true, Some, None, map, is_some}
 use Rattle.std.specs.List.{Contains}
 use Rattle.ob0_scan.specs.declared.lexeme.Span.{Span}
 use Rattle.ob0_tree.specs.Places.{text_at}
-use Rattle.ob0_names.specs.Resolution.{Resolution, span_at}
+use Rattle.ob0_scope_rules.specs.Resolution.{Resolution, span_at}
 use Rattle.ob0_scope.specs.Standing.{name_on}
-use Rattle.ob0_fields.specs.Identifiers.{field_at, field_tokens}
+use Rattle.ob0_types_fields.specs.Identifiers.{field_at, field_tokens}
 use Rattle.ob0_types.specs.CheckedModules.{IsWellTyped}
 use Rattle.ob0_refs.specs.Questions.{all_shown_at, definition_at, references_at, stands_at}
 use Rattle.ob0_refs.specs.declared.answers.Of.TheVariants as tells

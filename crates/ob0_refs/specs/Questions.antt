@@ -5,15 +5,15 @@ use Rattle.ob0_scan.specs.Scanned.{Scanned}
 use Rattle.ob0_scan.specs.declared.lexeme.Span.{Span}
 use Rattle.ob0_tree.specs.Parsed.{Parsed}
 use Rattle.ob0_tree.specs.Places.{text_at}
-use Rattle.ob0_names.specs.Resolution.{Resolution, span_at}
-use Rattle.ob0_names.specs.Spans.{is_on}
+use Rattle.ob0_scope_rules.specs.Resolution.{Resolution, span_at}
+use Rattle.ob0_scope_rules.specs.Spans.{is_on}
 use Rattle.ob0_scope.specs.Standing.{name_on}
 use Rattle.ob0_scope.specs.declared.naming.Named as named
-use Rattle.ob0_fields.specs.Identifiers.{declaring_field, field_at, field_place, field_tokens}
+use Rattle.ob0_types_fields.specs.Identifiers.{declaring_field, field_at, field_place, field_tokens}
 use Rattle.ob0_refs.specs.Answered.{at_name}
-use Rattle.ob0_shown.specs.Places.{declared_at, references_to}
+use Rattle.ob0_refs.specs.Places.{declared_at, references_to}
 use Rattle.ob0_refs.specs.Fields.{module_selections, module_typed}
-use Rattle.ob0_shown.specs.Hovers.{field_text, type_text}
+use Rattle.ob0_refs.specs.Hovers.{field_text, type_text}
 use Rattle.ob0_selections.specs.Selections.{Selected}
 use Rattle.ob0_refs.specs.Shown.{Shown, shown_at}
 use Rattle.ob0_refs.specs.declared.answers.At as told

@@ -3,7 +3,7 @@
 ghost use Rattle.std.specs.Prelude.{◌≡◌, IfOk, map, option_map};
 ghost use Rattle.ob0_refs.specs.Parts.{hover_in};
 ghost use Rattle.ob0_selections.specs.SelectionParts.{selection_in};
-ghost use Rattle.ob0_symbols.specs.KnownTables.{shapes_of};
+ghost use Rattle.ob0_types_table.specs.KnownTables.{shapes_of};
 ghost use Rattle.ob0_refs.specs.Fields.{module_selections, module_typed};
 ghost use Rattle.ob0_refs.specs.Questions.{all_shown_at, field_shown, selected_shown, selection_shown};
 ghost use Rattle.ob0_refs.specs.FieldParts.{selection_on};
@@ -11,11 +11,11 @@ ghost use Rattle.ob0_refs.specs.FieldParts.{selection_on};
 use crate::answers::Hover;
 use crate::hovering::hover as hover_name;
 use crate::names::is_on;
-use ob0_names::{Resolved, token_span};
+use ob0_scope_rules::{Resolved, token_span};
 use ob0_scan::Tokens;
 use ob0_selections::{Selection, declared_by, selections_by};
-use ob0_shown::field_line;
-use ob0_symbols::{Known, text_at};
+use crate::field_line;
+use ob0_types_table::{Known, text_at};
 use ob0_types::WellTyped;
 use std::alloc::{AllocError, Global};
 

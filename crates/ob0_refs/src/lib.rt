@@ -3,14 +3,23 @@
 #![tactic(auto)]
 
 mod answers;
+mod capture_spans;
 mod capturing;
+mod declaration_spans;
 mod field_hovers;
+pub mod hover_laws;
 mod hovering;
+mod hovers;
 pub mod laws;
 mod names;
 mod questions;
+mod showing;
+mod typing;
 
 pub use answers::{At, Capture, Hover, Of};
 pub use capturing::captures;
 pub use field_hovers::hover;
 pub use questions::{at, definition, references};
+pub use capture_spans::capture_span;
+pub use declaration_spans::{declared_at, references_to, spans_of};
+pub use showing::{field_line, name_text};

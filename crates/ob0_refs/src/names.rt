@@ -1,11 +1,11 @@
 //! What is answered of a name: where it stands, and what it is a name of.
 
 ghost use Rattle.std.specs.Prelude.{◌≡◌};
-ghost use Rattle.ob0_names.specs.Spans.{is_on};
+ghost use Rattle.ob0_scope_rules.specs.Spans.{is_on};
 ghost use Rattle.ob0_refs.specs.Answered.{at_name, of_ordinal};
 
 use crate::answers::{At, Of};
-use ob0_names::{PREDECLARED, Resolved, token_span};
+use ob0_scope_rules::{PREDECLARED, Resolved, token_span};
 use ob0_scan::Span;
 use ob0_scope::Named;
 

@@ -5,11 +5,11 @@ ghost use Rattle.ob0_refs.specs.Questions.{AreReferencesAt, at_field, definition
 
 use crate::answers::{At, Of};
 use crate::names::at_name;
-use ob0_names::token_span;
+use ob0_scope_rules::token_span;
 use ob0_scan::Span;
 use ob0_scope::name_at;
-use ob0_shown::{declared_at, references_to, spans_of};
-use ob0_symbols::text_at;
+use crate::{declared_at, references_to, spans_of};
+use ob0_types_table::text_at;
 use ob0_types::{WellTyped, declaring_field, field_at, field_place, field_tokens};
 use std::alloc::{AllocError, Global};
 

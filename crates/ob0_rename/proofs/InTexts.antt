@@ -1,12 +1,12 @@
 -- The edits of a renaming leave a text whose module runs as before.
 use Rattle.std.proofs.Common.{◌≡◌, ◌⊎◌, ℕ, List, Result, Ok, Err, Vec, Global, inl, inr, map, refl, subst}
 use Rattle.std.specs.Str.{chars, IsUtf8}
-use Rattle.ob0_field_laws.specs.Renaming.{field_renamed}
+use Rattle.ob0_rename_laws.specs.Renaming.{field_renamed}
 use Rattle.ob0_rename.specs.Answers.{AreEdits, IsRefused, Writes}
 use Rattle.ob0_rename.specs.Renaming.{Renaming, field_tokens_renamed, tokens_renamed}
-use Rattle.ob0_names.specs.Names.{Name}
-use Rattle.ob0_names.specs.Resolution.{Resolution}
-use Rattle.ob0_names.specs.Scopes.{renamed}
+use Rattle.ob0_scope_rules.specs.Names.{Name}
+use Rattle.ob0_scope_rules.specs.Resolution.{Resolution}
+use Rattle.ob0_scope_rules.specs.Scopes.{renamed}
 use Rattle.ob0_text.specs.declared.edits.Edit.{Edit}
 use Rattle.ob0_text.specs.declared.positions.Position.{Position}
 use Rattle.ob0_text.specs.declared.positions.Unit.{Unit}

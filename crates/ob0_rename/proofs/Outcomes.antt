@@ -13,24 +13,24 @@ use Rattle.ob0_text.specs.declared.refusals.EditRefusal.{EditRefusal}
 use Rattle.ob0_text.specs.declared.refusals.EditRefusal.TheVariants as refusal
 use Rattle.ob0_tree.specs.Parsed.{Parsed, named_tree_of, tree_of}
 use Rattle.ob0_tree.specs.Tree.{Tree, module_text, occurrences}
-use Rattle.ob0_names.specs.DeclaredOnce.{declared_once}
-use Rattle.ob0_names.specs.Names.{Name}
-use Rattle.ob0_names.specs.Occurrences.{Free, at_declaration, at_occurrence, bindings, first_captured, first_difference, is_duplicate}
+use Rattle.ob0_scope_rules.specs.DeclaredOnce.{declared_once}
+use Rattle.ob0_scope_rules.specs.Names.{Name}
+use Rattle.ob0_scope_rules.specs.Occurrences.{Free, at_declaration, at_occurrence, bindings, first_captured, first_difference, is_duplicate}
 use Rattle.ob0_scope.specs.Renames.{namesake, other_of, place_of}
-use Rattle.ob0_names.specs.Resolution.{IsResolution, Resolution}
-use Rattle.ob0_names.specs.Scopes.{renamed}
+use Rattle.ob0_scope_rules.specs.Resolution.{IsResolution, Resolution}
+use Rattle.ob0_scope_rules.specs.Scopes.{renamed}
 use Rattle.ob0_scope.specs.declared.capturing.Capture as told
 use Rattle.ob0_scope.specs.declared.capturing.Capture.TheVariants as tells
 use Rattle.ob0_analysis.specs.CheckedModules.{IsWellTyped}
-use Rattle.ob0_typing.specs.WellTyped.{WellTyped}
-use Rattle.ob0_semantics.specs.EditLaws.{FreeKeepsModules, SameRuns}
+use Rattle.ob0_types_rules.specs.WellTyped.{WellTyped}
+use Rattle.ob0_run_rules.specs.EditLaws.{FreeKeepsModules, SameRuns}
 use Rattle.ob0_edits.specs.Changed.{at_each, changed, words_of}
 use Rattle.ob0_edits.specs.OfTrees.{RenamedWordsSpell}
 use Rattle.ob0_edits.specs.Replaced.{AreNames, LeavesWords, StandsForName, edit_at, parts, with_text_at}
 use Rattle.ob0_edits.specs.Written.{name_word}
 use Rattle.ob0_scope.specs.Standing.{name_on, tokens_bound}
 use Rattle.ob0_scope.specs.declared.naming.Named as named
-use Rattle.ob0_fields.specs.Identifiers.{field_at}
+use Rattle.ob0_types_fields.specs.Identifiers.{field_at}
 use Rattle.ob0_scope.proofs.Written.{renamed_there}
 use Rattle.ob0_tree.specs.Module.{ModuleOf}
 use Rattle.ob0_rename.specs.Answers.{Answers, AnswersFor, IsRefused, IsRefusedTo, OnlyMemory, TakesOwnName, Writes}

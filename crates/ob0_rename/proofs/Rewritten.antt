@@ -10,9 +10,9 @@ use Rattle.ob0_tree.specs.Module.{ModuleOf, token_lexeme}
 use Rattle.ob0_tree.specs.Parsed.{IsParsed, Parsed, named_tree_of, tree_of}
 use Rattle.ob0_tree.specs.Places as place
 use Rattle.ob0_tree.specs.Tree.{Tree, mapped, module_text, nesting, spell}
-use Rattle.ob0_names.specs.DeclaredOnce.{declared_once}
-use Rattle.ob0_names.specs.Names.{Name}
-use Rattle.ob0_names.specs.Scopes.{renamed}
+use Rattle.ob0_scope_rules.specs.DeclaredOnce.{declared_once}
+use Rattle.ob0_scope_rules.specs.Names.{Name}
+use Rattle.ob0_scope_rules.specs.Scopes.{renamed}
 use Rattle.ob0_edits.specs.Changed.{at_each, changed, words_of}
 use Rattle.ob0_edits.specs.OfTrees.{RenamedWordsSpell, number_at, placed, renamed_at, text_at}
 use Rattle.ob0_edits.specs.Replaced.{AreNames}

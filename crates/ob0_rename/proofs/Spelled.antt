@@ -18,8 +18,8 @@ use Rattle.ob0_tree.specs.Places as place
 use Rattle.ob0_tree.specs.Tree.{identifiers}
 use Rattle.ob0_tree.specs.declared.tree.Role.{Role}
 use Rattle.ob0_tree.specs.declared.tree.Role.TheVariants as role
-use Rattle.ob0_names.specs.Names.{Name}
-use Rattle.ob0_names.specs.Resolution.{declaring_only}
+use Rattle.ob0_scope_rules.specs.Names.{Name}
+use Rattle.ob0_scope_rules.specs.Resolution.{declaring_only}
 use Rattle.ob0_edits.specs.Changed.{words_of}
 use Rattle.ob0_edits.specs.OfTrees.{text_at, word_at}
 use Rattle.ob0_edits.specs.Replaced as edit

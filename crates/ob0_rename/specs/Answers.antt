@@ -11,13 +11,13 @@ use Rattle.ob0_text.specs.declared.refusals.EditRefusal.{EditRefusal}
 use Rattle.ob0_text.specs.declared.refusals.EditRefusal.TheVariants as refusal
 use Rattle.ob0_tree.specs.Module.{ModuleOf}
 use Rattle.ob0_tree.specs.Tree.{Tree, module_text}
-use Rattle.ob0_names.specs.Names.{Name}
-use Rattle.ob0_names.specs.Occurrences.{Free, at_declaration, at_occurrence, first_captured}
-use Rattle.ob0_names.specs.Scopes.{renamed}
-use Rattle.ob0_typing.specs.WellTyped.{WellTyped}
-use Rattle.ob0_semantics.specs.EditLaws.{SameRuns}
+use Rattle.ob0_scope_rules.specs.Names.{Name}
+use Rattle.ob0_scope_rules.specs.Occurrences.{Free, at_declaration, at_occurrence, first_captured}
+use Rattle.ob0_scope_rules.specs.Scopes.{renamed}
+use Rattle.ob0_types_rules.specs.WellTyped.{WellTyped}
+use Rattle.ob0_run_rules.specs.EditLaws.{SameRuns}
 use Rattle.ob0_edits.specs.Replaced.{edit_at, parts}
-use Rattle.ob0_field_laws.specs.Renaming.{FieldFree, field_renamed, is_duplicate_field}
+use Rattle.ob0_rename_laws.specs.Renaming.{FieldFree, field_renamed, is_duplicate_field}
 use Rattle.ob0_rename.specs.Renaming.{Means, MeansField, Renaming, field_tokens_renamed, is_declared_as, meant, module_of, nothing, occurrence_range, other_field_range, other_range, predeclared, text_with, tokens_renamed, tree_of}
 
 -- The edits write the new name at these tokens, and nothing else. Made at once they leave a text of this tree, which is

@@ -11,14 +11,14 @@ use Rattle.ob0_tree.specs.Parsed as read
 use Rattle.ob0_tree.specs.Places.{text_at}
 use Rattle.ob0_tree.specs.Tree.{Tree, identifiers, module_text, occurrences}
 use Rattle.ob0_tree.specs.declared.tree.Role.TheVariants as role
-use Rattle.ob0_names.specs.Names.{Name, same_name}
+use Rattle.ob0_scope_rules.specs.Names.{Name, same_name}
 use Rattle.ob0_scope.specs.Renames.{namesake}
-use Rattle.ob0_names.specs.Resolution.{Resolution, declaring_only, span_at, token_declaring}
+use Rattle.ob0_scope_rules.specs.Resolution.{Resolution, declaring_only, span_at, token_declaring}
 use Rattle.ob0_edits.specs.Replaced.{with_text_at}
 use Rattle.ob0_edits.specs.Ranges.{range_of}
 use Rattle.ob0_scope.specs.Standing.{name_on, tokens_bound}
 use Rattle.ob0_scope.specs.declared.naming.Named as named
-use Rattle.ob0_fields.specs.Identifiers.{declaring_field, field_at, field_tokens}
+use Rattle.ob0_types_fields.specs.Identifiers.{declaring_field, field_at, field_tokens}
 
 -- A module's text, by characters, whose positions are counted in a unit; a place of it, and the new name.
 pub record Renaming : Type 0 where

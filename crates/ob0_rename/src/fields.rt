@@ -6,9 +6,9 @@ ghost use Rattle.ob0_scan.specs.Classes.{IsIdentifier};
 ghost use Rattle.ob0_text.specs.declared.positions.Position as positions;
 ghost use Rattle.ob0_text.specs.declared.refusals.EditRefusal.TheVariants as refused;
 ghost use Rattle.ob0_tree.specs.Places.{text_at};
-ghost use Rattle.ob0_names.specs.Names.{same_name};
+ghost use Rattle.ob0_scope_rules.specs.Names.{same_name};
 ghost use Rattle.ob0_edits.specs.Replaced.{AreNames};
-ghost use Rattle.ob0_fields.specs.Identifiers.{declaring_field, field_at};
+ghost use Rattle.ob0_types_fields.specs.Identifiers.{declaring_field, field_at};
 ghost use Rattle.ob0_rename.specs.Answers.{AnswersForField, OnlyMemory};
 ghost use Rattle.ob0_rename.specs.Renaming.{field_tokens_renamed};
 
@@ -16,10 +16,10 @@ use crate::places::token_range;
 use ob0_analysis::{WellTyped, declaring_field, field_at, field_tokens};
 use ob0_edits::edits_for;
 use ob0_edits::laws::{names_stand_for_names, renamed_words_spell};
-use ob0_field_laws::laws::free_field_keeps_modules;
-use ob0_fields::laws::{duplicate_by_token, renamed_at_tokens};
+use ob0_rename_laws::laws::free_field_keeps_modules;
+use ob0_types_fields::laws::{duplicate_by_token, renamed_at_tokens};
 use ob0_scan::is_identifier;
-use ob0_symbols::text_at;
+use ob0_types_table::text_at;
 use ob0_text::{Edit, EditRefusal, TextStore};
 use std::alloc::{AllocError, Global};
 

@@ -1,8 +1,8 @@
 //! Places of a text: the tokens at which a new name is to be written, and ranges of tokens.
 
 ghost use Rattle.std.specs.Prelude.{◌≡◌, ℕ, IfOk, length, Some};
-ghost use Rattle.ob0_names.specs.Names.{same_name};
-ghost use Rattle.ob0_names.specs.Resolution.{span_at};
+ghost use Rattle.ob0_scope_rules.specs.Names.{same_name};
+ghost use Rattle.ob0_scope_rules.specs.Resolution.{span_at};
 ghost use Rattle.ob0_text.specs.Units.{width_of};
 ghost use Rattle.ob0_tree.specs.Order.{AreIdentifiers, Ascending};
 ghost use Rattle.ob0_tree.specs.Places.{text_at};
@@ -11,7 +11,7 @@ ghost use Rattle.ob0_edits.specs.Replaced.{AreNames};
 ghost use Rattle.ob0_scope.specs.Standing.{IsRenamedAt, tokens_bound};
 ghost use Rattle.ob0_rename.specs.Renaming.{is_declared_as, tokens_renamed};
 
-use ob0_names::Resolved;
+use ob0_scope_rules::Resolved;
 use ob0_scan::{Span, Tokens};
 use ob0_scope::renamed_tokens;
 use ob0_text::{Range, TextStore};

@@ -1,9 +1,9 @@
 -- What the machine puts out is what the module's run does.
 use Rattle.std.proofs.Common.{◌≡◌, List, [], ◌∷◌, map, refl}
-use Rattle.ob0_machine.specs.declared.machine.Item.{Item}
-use Rattle.ob0_machine.specs.declared.machine.Item.TheVariants as item
-use Rattle.ob0_machine.specs.Machines as machine
-use Rattle.ob0_cells.specs.LoweredStatements.{written_of}
+use Rattle.ob0_run_machine.specs.declared.machine.Item.{Item}
+use Rattle.ob0_run_machine.specs.declared.machine.Item.TheVariants as item
+use Rattle.ob0_run_machine.specs.Machines as machine
+use Rattle.ob0_run_cells.specs.LoweredStatements.{written_of}
 use Rattle.ob0_run.specs.States.{item_of, items_out}
 
 same_item : (i : Item) → item_of i ≡ written_of (machine.item_of i)

@@ -3,7 +3,7 @@ use Rattle.ob0_values.specs.Values as values
 use Rattle.ob0_run.specs.declared.running.End.{End}
 use Rattle.ob0_run.specs.declared.running.End.TheVariants as end
 use Rattle.ob0_run.specs.declared.running.Outcome.{Outcome}
-use Rattle.ob0_semantics.specs.Runs.{Run}
+use Rattle.ob0_run_rules.specs.Runs.{Run}
 use Rattle.ob0_run.specs.States.{items_out}
 
 abbrev pub end_in : End → values.End

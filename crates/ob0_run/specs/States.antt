@@ -1,8 +1,8 @@
 -- What is put out.
 use Rattle.std.specs.Prelude.{List, map}
-use Rattle.ob0_machine.specs.declared.machine.Item.{Item}
-use Rattle.ob0_machine.specs.declared.machine.Item.TheVariants as item
-use Rattle.ob0_semantics.specs.Runs.{Written, line_out, number_out}
+use Rattle.ob0_run_machine.specs.declared.machine.Item.{Item}
+use Rattle.ob0_run_machine.specs.declared.machine.Item.TheVariants as item
+use Rattle.ob0_run_rules.specs.Runs.{Written, line_out, number_out}
 
 abbrev pub item_of : Item → Written
 item_of (item.Number n) = number_out n

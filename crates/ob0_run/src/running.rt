@@ -2,15 +2,15 @@
 
 ghost use Rattle.std.specs.Prelude.{◌≡◌, IfOk};
 ghost use Rattle.ob0_tree.specs.Parsed.{named_tree_of};
-ghost use Rattle.ob0_semantics.specs.Runs.{run};
-ghost use Rattle.ob0_machine.specs.Outcomes as machine;
-ghost use Rattle.ob0_cells.specs.Lowering.{end_of};
-ghost use Rattle.ob0_cells.specs.LoweredStatements.{HaveNumbers};
+ghost use Rattle.ob0_run_rules.specs.Runs.{run};
+ghost use Rattle.ob0_run_machine.specs.Outcomes as machine;
+ghost use Rattle.ob0_run_cells.specs.Lowering.{end_of};
+ghost use Rattle.ob0_run_cells.specs.LoweredStatements.{HaveNumbers};
 ghost use Rattle.ob0_run.specs.Outcomes.{end_in, run_of};
 
-use ob0_blocks::program;
-use ob0_cells::activation_laws::{bounds_have_room, runs_lowered};
-use ob0_machine::{Ending, Item};
+use ob0_run_lowering::program;
+use ob0_run_cells::activation_laws::{bounds_have_room, runs_lowered};
+use ob0_run_machine::{Ending, Item};
 use ob0_types::WellTyped;
 use std::alloc::{AllocError, Global};
 
@@ -41,12 +41,12 @@ pub struct Outcome {
 }
 
 /// How a run of the machine ended.
-fn end_of(end: ob0_machine::End) -> End
+fn end_of(end: ob0_run_machine::End) -> End
     ensures { end_in result ≡ end_of (machine.end_in end) }
 {
     match end {
-        ob0_machine::End::Done => End::Done,
-        ob0_machine::End::Ended(ending) => match ending {
+        ob0_run_machine::End::Done => End::Done,
+        ob0_run_machine::End::Ended(ending) => match ending {
             Ending::Overflow => End::Overflow,
             Ending::Divisor => End::Divisor,
             Ending::Index => End::Index,
@@ -85,7 +85,7 @@ pub fn run(
     bounds_have_room();
     have_numbers(input);
     let lowered = program(alloc, checked.resolved(), checked.known())?;
-    let outcome = ob0_machine::run(alloc, &lowered, input, calls, turns)?;
+    let outcome = ob0_run_machine::run(alloc, &lowered, input, calls, turns)?;
     Ok(Outcome {
         output: outcome.output,
         end: end_of(outcome.end),

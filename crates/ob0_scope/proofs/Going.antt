@@ -5,8 +5,8 @@ use Rattle.ob0_tree.specs.Tree.{one, then_name}
 use Rattle.ob0_scope.specs.Written.{name_at}
 use Rattle.ob0_tree.specs.declared.tree.Section.{Section}
 use Rattle.ob0_tree.specs.View.{items_of, formals_listed, further_section_of}
-use Rattle.ob0_names.specs.Parts.{further_names}
-use Rattle.ob0_names.specs.Scopes.{declare_names}
+use Rattle.ob0_scope_rules.specs.Parts.{further_names}
+use Rattle.ob0_scope_rules.specs.Scopes.{declare_names}
 use Rattle.ob0_scope.specs.Tabling.{Visit, shown, shown_from, visit_formals, visit_sections}
 
 -- gone through the first items of a list, and with the others still to go through, as with all of them at first

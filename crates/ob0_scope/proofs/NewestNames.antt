@@ -12,8 +12,8 @@ use Rattle.std.specs.Cmp.Lexicographic.{slice_cmp}
 use Rattle.std.specs.Ordering.{nat_cmp, ordering_then}
 use Rattle.ob0_scope.specs.declared.newest.Entry.{Entry}
 use Rattle.ob0_scope.specs.Keys.{Key, compare_keys, compare_name, number_of}
-use Rattle.ob0_names.specs.Names.{Name, same_name}
-use Rattle.ob0_names.proofs.NameEquality.{same_name-comm, same_name-refl}
+use Rattle.ob0_scope_rules.specs.Names.{Name, same_name}
+use Rattle.ob0_scope_rules.proofs.NameEquality.{same_name-comm, same_name-refl}
 use Rattle.ob0_scope.specs.NewestNames.{ArePlaces, IsRenewed, newest_in, place_of}
 
 -- names that are told apart: of the first, of a later one, of none

@@ -15,14 +15,14 @@ use Rattle.ob0_tree.specs.Places.{text_at, value_at}
 use Rattle.ob0_tree.specs.Tree.{Sort, Tree, identifiers, mapped, spell}
 use Rattle.ob0_tree.specs.declared.tree.Role.{Role}
 use Rattle.ob0_tree.specs.declared.tree.Role.TheVariants as role
-use Rattle.ob0_names.specs.Names.{Label, as_names, declared, same_label}
-use Rattle.ob0_names.specs.Occurrences.{label_ordinal}
-use Rattle.ob0_names.specs.Resolution.{IsResolution, Resolution, label_at, ordinal_in, span_at}
-use Rattle.ob0_names.specs.Spans.{span_in}
-use Rattle.ob0_names.specs.Scopes.{as_label, same_ordinal}
+use Rattle.ob0_scope_rules.specs.Names.{Label, as_names, declared, same_label}
+use Rattle.ob0_scope_rules.specs.Occurrences.{label_ordinal}
+use Rattle.ob0_scope_rules.specs.Resolution.{IsResolution, Resolution, label_at, ordinal_in, span_at}
+use Rattle.ob0_scope_rules.specs.Spans.{span_in}
+use Rattle.ob0_scope_rules.specs.Scopes.{as_label, same_ordinal}
 use Rattle.ob0_scope.specs.declared.naming.Named as named
 use Rattle.ob0_scope.specs.Listing.{is_identifier, is_listed, is_name_on, tokens_listed}
-use Rattle.ob0_names.specs.Spans.{is_on}
+use Rattle.ob0_scope_rules.specs.Spans.{is_on}
 use Rattle.ob0_scope.specs.Standing.{BoundIdentifier, is_declaring, name_on, named_by, refers, bound_identifiers, tokens_bound}
 
 names_mapped : {N M : Type 0} (f : N → M) (g : ℕ → ℕ) (xs : List (Lexeme N)) → lexeme_names (map (relabelled f g) xs) ≡ map f (lexeme_names xs)

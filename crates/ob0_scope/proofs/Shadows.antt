@@ -6,11 +6,11 @@ use Rattle.std.proofs.Math.Seq.{get_or-append_seam}
 use Rattle.std.proofs.lemmas.Slice.Eq.{bytes_eq-Decides}
 use Rattle.ob0_scope.specs.declared.newest.Entry.{Entry}
 use Rattle.ob0_scope.specs.declared.visible.Binding.{Binding}
-use Rattle.ob0_names.specs.Names.{Name, as_names, same_name}
+use Rattle.ob0_scope_rules.specs.Names.{Name, as_names, same_name}
 use Rattle.ob0_scope.specs.NewestNames.{IsRenewed, newest_in}
-use Rattle.ob0_names.specs.Scopes.{ordinal_of}
+use Rattle.ob0_scope_rules.specs.Scopes.{ordinal_of}
 use Rattle.ob0_scope.specs.Shadowing.{AreHidden, IsNewest, latest, scope_of}
-use Rattle.ob0_names.proofs.NameEquality.{same_name-comm, same_name-refl}
+use Rattle.ob0_scope_rules.proofs.NameEquality.{same_name-comm, same_name-refl}
 
 abbrev pub shown : Binding → Name × ℕ
 shown b = (b.name.now, b.ordinal)

@@ -5,9 +5,9 @@ use Rattle.ob0_tree.specs.declared.tree.Role.TheVariants as role
 use Rattle.ob0_tree.specs.Tree.{Sort, Tree, block, constant, constants, declares, declares_constant, declares_constants, declares_procedure, declares_type, declares_types, declares_variable, declares_variables, end, formals, further_section, has_body, identifiers, is_module, item, items, maybe, module_text, more, no_formals, none, one, procedure, section, some_formals, then_section, type_name, type_names, value_section, variable, variable_section, variables}
 use Rattle.ob0_scope.specs.Marking as listing
 use Rattle.ob0_scope.specs.Marks.{Mark, with_marks}
-use Rattle.ob0_names.specs.Names.{as_names}
-use Rattle.ob0_names.specs.Parts.{names_listed}
-use Rattle.ob0_names.specs.Scopes.{ordinal_of}
+use Rattle.ob0_scope_rules.specs.Names.{as_names}
+use Rattle.ob0_scope_rules.specs.Parts.{names_listed}
+use Rattle.ob0_scope_rules.specs.Scopes.{ordinal_of}
 use Rattle.ob0_scope.specs.Tabling as tabling
 use Rattle.ob0_scope.specs.Written.{Writing, name_at}
 

@@ -3,7 +3,7 @@ use Rattle.std.proofs.Common.{◌≡◌, ◌≢◌, ℕ, ◌+◌, ◌<◌, ◌�
 use Rattle.std.proofs.Math.ListN.{length-set}
 use Rattle.ob0_tree.specs.Order.{Ascending}
 use Rattle.ob0_scope.specs.Marks.{Mark, with_marks}
-use Rattle.ob0_names.specs.Resolution.{ordinal_in}
+use Rattle.ob0_scope_rules.specs.Resolution.{ordinal_in}
 use Rattle.ob0_scope.proofs.Passing.{HasMarks, tokens_of}
 
 ascends_to : (low : ℕ) (xs : List ℕ) (high : ℕ) → Ascending low xs high → low ≤ high

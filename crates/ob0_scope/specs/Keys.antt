@@ -4,7 +4,7 @@ use Rattle.std.specs.Borrow.{Bor}
 use Rattle.std.specs.declared.cmp.Ordering.{Ordering}
 use Rattle.std.specs.Cmp.Lexicographic.{slice_cmp}
 use Rattle.std.specs.Ordering.{nat_cmp, ordering_then}
-use Rattle.ob0_names.specs.Names.{Name}
+use Rattle.ob0_scope_rules.specs.Names.{Name}
 
 -- a byte behind others; of nine or more the last eight count
 abbrev pub with_byte : ℕ → ℕ → ℕ

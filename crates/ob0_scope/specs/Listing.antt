@@ -5,9 +5,9 @@ use Rattle.ob0_scan.specs.declared.lexeme.Token.{Token}
 use Rattle.ob0_scan.specs.declared.lexeme.TokenKind.{TokenKind}
 use Rattle.ob0_scan.specs.declared.lexeme.TokenKind.TheVariants as kind
 use Rattle.ob0_tree.specs.declared.tree.Role.{Role}
-use Rattle.ob0_names.specs.Resolution.{ordinal_in}
-use Rattle.ob0_names.specs.Scopes.{same_ordinal}
-use Rattle.ob0_names.specs.Spans.{is_on}
+use Rattle.ob0_scope_rules.specs.Resolution.{ordinal_in}
+use Rattle.ob0_scope_rules.specs.Scopes.{same_ordinal}
+use Rattle.ob0_scope_rules.specs.Spans.{is_on}
 use Rattle.ob0_scope.specs.Standing.{is_declaring}
 
 abbrev pub is_identifier : TokenKind → Bool

@@ -3,7 +3,7 @@ use Rattle.std.specs.Prelude.{◌≡◌, ◌<◌, ℕ, suc, List, [], ◌∷◌,
 use Rattle.std.specs.BTreeMap.{BTreeMap, get_by}
 use Rattle.ob0_scope.specs.declared.newest.Entry.{Entry}
 use Rattle.ob0_scope.specs.Keys.{Key, compare_name}
-use Rattle.ob0_names.specs.Names.{Name, same_name}
+use Rattle.ob0_scope_rules.specs.Names.{Name, same_name}
 
 -- the index of a name's newest binding
 abbrev pub newest_in : List Entry → Name → Option ℕ

@@ -6,11 +6,11 @@ use Rattle.ob0_tree.specs.Parsed.{named_tree_of, tree_of}
 use Rattle.ob0_tree.specs.Places.{value_at}
 use Rattle.ob0_scope.specs.declared.capturing.Capture as told
 use Rattle.ob0_scope.specs.declared.capturing.Capture.TheVariants as tells
-use Rattle.ob0_names.specs.Names.{Name, as_names, same_name}
-use Rattle.ob0_names.specs.Occurrences.{Capture, at_declaration, at_occurrence, blocks_in, declares_ordinal}
-use Rattle.ob0_names.specs.Parts.{module_block}
-use Rattle.ob0_names.specs.Resolution.{Resolution, ordinal_in}
-use Rattle.ob0_names.specs.Scopes.{Scope, as_label, numbered, renamed}
+use Rattle.ob0_scope_rules.specs.Names.{Name, as_names, same_name}
+use Rattle.ob0_scope_rules.specs.Occurrences.{Capture, at_declaration, at_occurrence, blocks_in, declares_ordinal}
+use Rattle.ob0_scope_rules.specs.Parts.{module_block}
+use Rattle.ob0_scope_rules.specs.Resolution.{Resolution, ordinal_in}
+use Rattle.ob0_scope_rules.specs.Scopes.{Scope, as_label, numbered, renamed}
 use Rattle.ob0_scope.specs.Written.{Writing, name_at}
 
 -- the newest of these declarations that has the name and isn't d

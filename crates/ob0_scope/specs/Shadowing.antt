@@ -3,8 +3,8 @@ use Rattle.std.specs.Prelude.{◌≡◌, ℕ, List, [], ◌∷◌, Option, Some,
 use Rattle.ob0_scope.specs.declared.visible.Binding.{Binding}
 use Rattle.ob0_scope.specs.declared.newest.Entry.{Entry}
 use Rattle.ob0_scope.specs.NewestNames.{newest_in}
-use Rattle.ob0_names.specs.Names.{Name, same_name}
-use Rattle.ob0_names.specs.Scopes.{Scope}
+use Rattle.ob0_scope_rules.specs.Names.{Name, same_name}
+use Rattle.ob0_scope_rules.specs.Scopes.{Scope}
 
 -- the bindings of a scope, oldest first
 abbrev pub scope_of : List Binding → Scope Name

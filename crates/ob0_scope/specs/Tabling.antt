@@ -2,8 +2,8 @@
 use Rattle.std.specs.Prelude.{ℕ, List, [], Option, None, length, replicate, slice_set}
 use Rattle.ob0_tree.specs.declared.tree.Role.{Role}
 use Rattle.ob0_tree.specs.Tree.{Sort, Tree, block, constant, constants, formals, further_section, item, items, maybe, module_text, procedure, section, type_name, type_names, variable, variables}
-use Rattle.ob0_names.specs.Names.{as_names}
-use Rattle.ob0_names.specs.Scopes.{predeclared_scope}
+use Rattle.ob0_scope_rules.specs.Names.{as_names}
+use Rattle.ob0_scope_rules.specs.Scopes.{predeclared_scope}
 use Rattle.ob0_scope.specs.Visiting as visit
 use Rattle.ob0_scope.specs.Written.{Writing}
 

@@ -4,18 +4,18 @@ ghost use Rattle.std.specs.Prelude.{◌≡◌, ◌↔◌, ◌++◌, IfOk, None, 
 ghost use Rattle.std.specs.List.{position_from};
 ghost use Rattle.ob0_tree.specs.Parsed.{named_tree_of};
 ghost use Rattle.ob0_tree.specs.View.{block_of, procedure_of};
-ghost use Rattle.ob0_names.specs.DeclaredOnce.{block_names};
-ghost use Rattle.ob0_names.specs.Occurrences.{Free, bindings, first_captured, first_difference};
+ghost use Rattle.ob0_scope_rules.specs.DeclaredOnce.{block_names};
+ghost use Rattle.ob0_scope_rules.specs.Occurrences.{Free, bindings, first_captured, first_difference};
 ghost use Rattle.ob0_scope.specs.declared.capturing.Capture.TheVariants.{Occurrence};
 ghost use Rattle.ob0_scope.specs.Renames.{is_bound_alike, namesake, other_of, place_of};
-ghost use Rattle.ob0_names.specs.Resolution.{ordinal_in};
-ghost use Rattle.ob0_names.specs.Scopes.{renamed};
+ghost use Rattle.ob0_scope_rules.specs.Resolution.{ordinal_in};
+ghost use Rattle.ob0_scope_rules.specs.Scopes.{renamed};
 ghost use Rattle.ob0_scope.specs.Searching.{found_in_block, found_in_procedure, is_other, is_sought, other_among};
 
 use crate::checks::{add_block, add_formals};
 use crate::renamed::renumber;
 use crate::writing::token_text;
-use ob0_names::{Resolved, ordinal_at};
+use ob0_scope_rules::{Resolved, ordinal_at};
 use ob0_scan::Tokens;
 use ob0_tree::{Block, Procedure};
 use std::alloc::{AllocError, Global};

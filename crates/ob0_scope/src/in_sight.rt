@@ -2,15 +2,15 @@
 
 ghost use Rattle.std.specs.Prelude.{◌≡◌, IfOk, map, length, replicate, None};
 ghost use Rattle.ob0_tree.specs.Parsed.{named_tree_of};
-ghost use Rattle.ob0_names.specs.Resolution.{IsResolution, ordinal_in};
-ghost use Rattle.ob0_names.specs.SeenNames.{ordinals_seen};
+ghost use Rattle.ob0_scope_rules.specs.Resolution.{IsResolution, ordinal_in};
+ghost use Rattle.ob0_scope_rules.specs.SeenNames.{ordinals_seen};
 ghost use Rattle.ob0_scope.specs.Marks.{first_at};
 ghost use Rattle.ob0_scope.specs.Marks.{with_marks};
 
 use crate::numbering::number;
 use crate::renamed::ordinals_of;
 use crate::writing::Writing;
-use ob0_names::Resolved;
+use ob0_scope_rules::Resolved;
 use std::alloc::{AllocError, Global};
 
 /// For each occurrence of a module, in text order, the ordinal of the declaration to which `name` would be bound in its

@@ -4,11 +4,11 @@ ghost use Rattle.std.specs.Prelude.{◌≡◌, IfOk, length, true};
 ghost use Rattle.std.specs.List.{position_from};
 ghost use Rattle.ob0_tree.specs.Order.{AreIdentifiers, Ascending};
 ghost use Rattle.ob0_scope.specs.Listing.{is_identifier, is_name_on, tokens_listed};
-ghost use Rattle.ob0_names.specs.Resolution.{ordinal_in};
-ghost use Rattle.ob0_names.specs.Scopes.{same_ordinal};
+ghost use Rattle.ob0_scope_rules.specs.Resolution.{ordinal_in};
+ghost use Rattle.ob0_scope_rules.specs.Scopes.{same_ordinal};
 ghost use Rattle.ob0_scope.specs.Standing.{IsRenamedAt, is_declaring, name_on, tokens_bound};
 
-use ob0_names::Resolved;
+use ob0_scope_rules::Resolved;
 use ob0_scan::{Token, TokenKind};
 use ob0_tree::Role;
 use std::alloc::{AllocError, Global};

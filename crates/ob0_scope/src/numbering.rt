@@ -4,14 +4,14 @@ ghost use Rattle.std.specs.Prelude.{◌≡◌, ◌+◌, [], OnOk, IfOk, length, 
 ghost use Rattle.ob0_tree.specs.declared.tree.Role.TheVariants as roles;
 ghost use Rattle.ob0_tree.specs.Parsed.{tree_of};
 ghost use Rattle.ob0_tree.specs.View.{expression_of, body_of, type_of, names_of, constant_of, constants_of, type_declaration_of, types_of, variable_of, variables_of, section_of, formals_of, procedure_of, block_of};
-ghost use Rattle.ob0_names.specs.Names.{as_names};
-ghost use Rattle.ob0_names.specs.Parts.{names_listed};
-ghost use Rattle.ob0_names.specs.Scopes.{predeclared_scope};
+ghost use Rattle.ob0_scope_rules.specs.Names.{as_names};
+ghost use Rattle.ob0_scope_rules.specs.Parts.{names_listed};
+ghost use Rattle.ob0_scope_rules.specs.Scopes.{predeclared_scope};
 ghost use Rattle.ob0_scope.specs.Tabling.{marked, numbered_at, numbered_all, shown, shown_from, left_to, found, found_all, used, visit_constant, visit_constant_section, visit_type, visit_type_section, visit_variable, visit_variable_section, visit_section, visit_formals, visit_procedure, visit_block, visit_module, started};
 
 use crate::visible::Visible;
 use crate::writing::Writing;
-use ob0_names::PREDECLARED;
+use ob0_scope_rules::PREDECLARED;
 use ob0_tree::identifiers::Found;
 use ob0_tree::{
     Block, Constant, Expression, Module, Names, Procedure, Role, Section, Statement,

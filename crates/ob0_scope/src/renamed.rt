@@ -2,11 +2,11 @@
 
 ghost use Rattle.std.specs.Prelude.{◌≡◌, IfOk, map};
 ghost use Rattle.ob0_scope.specs.Renames.{IsRenumbering};
-ghost use Rattle.ob0_names.specs.Resolution.{IsResolution, ordinal_in};
+ghost use Rattle.ob0_scope_rules.specs.Resolution.{IsResolution, ordinal_in};
 
 use crate::numbering::number;
 use crate::writing::Writing;
-use ob0_names::{Resolved, ordinal_at};
+use ob0_scope_rules::{Resolved, ordinal_at};
 use std::alloc::{AllocError, Global};
 
 /// The ordinal of each identifier, by its token, where a declaration has another name.

@@ -1,14 +1,14 @@
 //! Binds the names of a module to their declarations.
 
 ghost use Rattle.std.specs.Prelude.{◌≡◌, IfOk};
-ghost use Rattle.ob0_names.specs.Resolution.{IsResolution};
-ghost use Rattle.ob0_names.specs.Bindings.{resolution_by};
+ghost use Rattle.ob0_scope_rules.specs.Resolution.{IsResolution};
+ghost use Rattle.ob0_scope_rules.specs.Bindings.{resolution_by};
 
 use crate::checks::check;
 use crate::numbering::number;
 use crate::table::undeclared;
 use crate::writing::Writing;
-use ob0_names::{Bindings, Resolved};
+use ob0_scope_rules::{Bindings, Resolved};
 use ob0_tree::Module;
 use std::alloc::{AllocError, Global};
 

@@ -1,9 +1,9 @@
 //! What is wrong with the occurrences.
 
 ghost use Rattle.std.specs.Prelude.{◌≡◌, ◌++◌, OnOk};
-ghost use Rattle.ob0_names.specs.Resolution.{undeclared_at};
+ghost use Rattle.ob0_scope_rules.specs.Resolution.{undeclared_at};
 
-use ob0_names::{ordinal_at, token_span};
+use ob0_scope_rules::{ordinal_at, token_span};
 use ob0_scan::{Code, Fault, Tokens};
 use std::alloc::AllocError;
 

@@ -1,8 +1,8 @@
 //! The names that are visible at a place of a module.
 
 ghost use Rattle.std.specs.Prelude.{◌≡◌, ◌≤◌, ◌+◌, [], ◌∷◌, OnOk, IfOk, length, drop, ◌-◌};
-ghost use Rattle.ob0_names.specs.Names.{as_names};
-ghost use Rattle.ob0_names.specs.Scopes.{ordinal_of};
+ghost use Rattle.ob0_scope_rules.specs.Names.{as_names};
+ghost use Rattle.ob0_scope_rules.specs.Scopes.{ordinal_of};
 
 use crate::newest::Newest;
 use std::alloc::{AllocError, Global};
@@ -24,8 +24,8 @@ pub(crate) struct Visible<'t> {
 }
 
 impl<'t> Model for Visible<'t> {
-    ghost use Rattle.ob0_names.specs.Scopes.{Scope};
-    ghost use Rattle.ob0_names.specs.Names.{Name};
+    ghost use Rattle.ob0_scope_rules.specs.Scopes.{Scope};
+    ghost use Rattle.ob0_scope_rules.specs.Names.{Name};
     ghost use Rattle.ob0_scope.specs.Shadowing.{scope_of, IsNewest};
 
     ghost Value = { Scope Name };

@@ -4,7 +4,7 @@ ghost use Rattle.std.specs.Prelude.{◌≡◌};
 ghost use Rattle.ob0_tree.specs.Places.{text_at};
 ghost use Rattle.ob0_scope.specs.Written.{as_in, is_renamed, name_at};
 
-use ob0_names::ordinal_at;
+use ob0_scope_rules::ordinal_at;
 use ob0_scan::Tokens;
 use std::marker::Model;
 

@@ -5,8 +5,8 @@ use Rattle.ob0_selections.specs.FieldTypes.{typed_fields}
 use Rattle.ob0_selections.specs.Selections.{Selected}
 use Rattle.ob0_tree.specs.Tree.{Tree, Item, item}
 use Rattle.ob0_tree.specs.View.{items_of}
-use Rattle.ob0_typing.specs.Expressions.{Meanings}
-use Rattle.ob0_typing.specs.WellTyped.{Signature}
+use Rattle.ob0_types_rules.specs.Expressions.{Meanings}
+use Rattle.ob0_types_rules.specs.WellTyped.{Signature}
 use Rattle.ob0_values.specs.Values.{Shape}
 
 -- what was found, with the fields of the items that are left, is what was there at first with those of all

@@ -4,8 +4,8 @@ use Rattle.std.proofs.lemmas.List.{drop_all, drop_more}
 use Rattle.ob0_tree.specs.declared.tree.Selector.{Selector}
 use Rattle.ob0_tree.specs.Tree.{Tree, end, item, items, more, selector}
 use Rattle.ob0_tree.specs.View.{items_of, selector_of}
-use Rattle.ob0_typing.specs.Expressions.{Meanings}
-use Rattle.ob0_typing.specs.WellTyped.{Signature}
+use Rattle.ob0_types_rules.specs.Expressions.{Meanings}
+use Rattle.ob0_types_rules.specs.WellTyped.{Signature}
 use Rattle.ob0_selections.specs.Selections.{Selected, path_selections, type_behind}
 use Rattle.ob0_selections.specs.SelectionParts.{selected_from}
 use Rattle.ob0_values.specs.Values.{Shape}

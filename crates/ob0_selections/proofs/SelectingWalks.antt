@@ -3,8 +3,8 @@ use Rattle.std.proofs.Common.{◌≡◌, ℕ, ◌≤◌, List, ◌++◌, length,
 use Rattle.std.proofs.lemmas.List.{drop_all}
 use Rattle.ob0_tree.specs.Tree.{Tree, Item, item}
 use Rattle.ob0_tree.specs.View.{items_of}
-use Rattle.ob0_typing.specs.Expressions.{Meanings}
-use Rattle.ob0_typing.specs.WellTyped.{Signature}
+use Rattle.ob0_types_rules.specs.Expressions.{Meanings}
+use Rattle.ob0_types_rules.specs.WellTyped.{Signature}
 use Rattle.ob0_selections.specs.Selections.{Selected, selections}
 use Rattle.ob0_values.specs.Values.{Shape}
 

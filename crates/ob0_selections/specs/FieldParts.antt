@@ -4,11 +4,11 @@ use Rattle.ob0_selections.specs.declared.selecting.Selection.{Selection}
 use Rattle.ob0_selections.specs.declared.declaring.Declaring.{Declaring}
 use Rattle.ob0_selections.specs.Selections.{Selected, token_meaning}
 use Rattle.ob0_selections.specs.SelectionParts.{selection_in}
-use Rattle.ob0_symbols.specs.declared.types.TypeId.{TypeId}
-use Rattle.ob0_typing.specs.Expressions.{Meanings}
-use Rattle.ob0_symbols.specs.KnownTables.{declared_in, shapes_of}
-use Rattle.ob0_symbols.specs.Tables.{type_shape}
-use Rattle.ob0_typing.specs.WellTyped.{Signature}
+use Rattle.ob0_types_table.specs.declared.types.TypeId.{TypeId}
+use Rattle.ob0_types_rules.specs.Expressions.{Meanings}
+use Rattle.ob0_types_table.specs.KnownTables.{declared_in, shapes_of}
+use Rattle.ob0_types_table.specs.Tables.{type_shape}
+use Rattle.ob0_types_rules.specs.WellTyped.{Signature}
 use Rattle.ob0_values.specs.Values.{Shape}
 
 -- what the walk over the declarations knows: what names stand for, what types are, and what was found

@@ -1,12 +1,12 @@
 -- The fields that a module declares, each with its type. A RECORD stands in the declaration of a type, a variable or a
 -- parameter; by what this declares it is known what type the RECORD is, and its field is what the field's name selects.
 use Rattle.std.specs.Prelude.{ℕ, List, [], ◌∷◌, ◌++◌, Option, Some, None, option_and_then}
-use Rattle.ob0_names.specs.Parts.{names_listed}
+use Rattle.ob0_scope_rules.specs.Parts.{names_listed}
 use Rattle.ob0_selections.specs.Selections.{Selected, noted}
 use Rattle.ob0_tree.specs.Tree.{Sort, Tree, names, adds, array_type, assigns, begins, branches, calls, compares, declares, declares_constant, declares_constants, declares_procedure, declares_type, declares_types, declares_variable, declares_variables, designator, else_branch, elsif_branch, empty, end, field, has_body, index, integer, is_module, listed, more, multiplies, named_type, negation, no_arguments, no_fields, no_formals, none, one, parenthesised, product, record_type, relates, repeat_loop, runs, some_arguments, some_fields, some_formals, sum, then_argument, then_fields, then_name, then_section, then_statement, value_section, variable_section, while_loop}
-use Rattle.ob0_typing.specs.Typing.{type_declared, element_type, field_type}
-use Rattle.ob0_typing.specs.Expressions.{Meanings}
-use Rattle.ob0_symbols.specs.FieldPlaces.{field_selected}
+use Rattle.ob0_types_rules.specs.Typing.{type_declared, element_type, field_type}
+use Rattle.ob0_types_rules.specs.Expressions.{Meanings}
+use Rattle.ob0_types_table.specs.FieldPlaces.{field_selected}
 use Rattle.ob0_values.specs.Values.{Shape, integer_shape}
 
 abbrev pub first_listed : {N : Type 0} → Tree N names → N

@@ -1,10 +1,10 @@
 -- What the walk over a module keeps.
 use Rattle.std.specs.Prelude.{ℕ, ◌==◌, List, [], ◌∷◌, map, if◌then◌else◌, Some, None, Option}
 use Rattle.ob0_tree.specs.Tree.{Tree, item, selector}
-use Rattle.ob0_typing.specs.Expressions.{Meanings}
-use Rattle.ob0_symbols.specs.KnownTables.{declared_in, shapes_of}
-use Rattle.ob0_symbols.specs.Tables.{type_shape}
-use Rattle.ob0_typing.specs.WellTyped.{Signature}
+use Rattle.ob0_types_rules.specs.Expressions.{Meanings}
+use Rattle.ob0_types_table.specs.KnownTables.{declared_in, shapes_of}
+use Rattle.ob0_types_table.specs.Tables.{type_shape}
+use Rattle.ob0_types_rules.specs.WellTyped.{Signature}
 use Rattle.ob0_selections.specs.declared.selecting.Selecting.{Selecting}
 use Rattle.ob0_selections.specs.declared.selecting.Selection.{Selection}
 use Rattle.ob0_selections.specs.Selections.{Selected, selected_by, token_meaning}

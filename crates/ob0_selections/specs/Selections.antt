@@ -1,13 +1,13 @@
 -- Which field of which record each selector selects.
 use Rattle.std.specs.Prelude.{ℕ, List, [], ◌∷◌, ◌++◌, Some, None, Option, option_and_then}
-use Rattle.ob0_names.specs.Resolution.{Resolution, ordinal_in}
+use Rattle.ob0_scope_rules.specs.Resolution.{Resolution, ordinal_in}
 use Rattle.ob0_tree.specs.Places.{text_at}
 use Rattle.ob0_tree.specs.Tree.{Sort, Tree, item, items, selector, adds, array_type, assigns, begins, branches, calls, compares, declares, declares_constant, declares_constants, declares_procedure, declares_type, declares_types, declares_variable, declares_variables, designator, else_branch, elsif_branch, empty, end, field, has_body, index, integer, is_module, listed, more, multiplies, named_type, negation, no_arguments, no_fields, no_formals, none, one, parenthesised, product, record_type, relates, repeat_loop, runs, some_arguments, some_fields, some_formals, sum, then_argument, then_fields, then_name, then_section, then_statement, value_section, variable_section, while_loop}
-use Rattle.ob0_symbols.specs.declared.known.FieldOf.{FieldOf}
-use Rattle.ob0_typing.specs.Expressions.{Meanings, Object}
-use Rattle.ob0_symbols.specs.FieldPlaces.{field_selected}
-use Rattle.ob0_typing.specs.Typing.{element_type, field_type, object_type}
-use Rattle.ob0_typing.specs.WellTyped.{Signature}
+use Rattle.ob0_types_table.specs.declared.known.FieldOf.{FieldOf}
+use Rattle.ob0_types_rules.specs.Expressions.{Meanings, Object}
+use Rattle.ob0_types_table.specs.FieldPlaces.{field_selected}
+use Rattle.ob0_types_rules.specs.Typing.{element_type, field_type, object_type}
+use Rattle.ob0_types_rules.specs.WellTyped.{Signature}
 use Rattle.ob0_values.specs.Values.{Shape, integer_shape}
 
 -- the type behind a selector; every index is an INTEGER

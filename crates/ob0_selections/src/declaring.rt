@@ -3,19 +3,19 @@
 ghost use Rattle.std.specs.Prelude.{◌≡◌, ◌++◌, IfOk, List, None, map, option_map};
 ghost use Rattle.ob0_tree.specs.Parsed.{tree_of};
 ghost use Rattle.ob0_tree.specs.View.{block_of, fields_of, formals_of, names_of, procedure_of, record_in, section_of, type_of, types_of, variables_of};
-ghost use Rattle.ob0_names.specs.Parts.{names_listed};
+ghost use Rattle.ob0_scope_rules.specs.Parts.{names_listed};
 ghost use Rattle.ob0_selections.specs.Selections.{noted, token_meaning};
 ghost use Rattle.ob0_selections.specs.SelectionParts.{selection_in};
-ghost use Rattle.ob0_typing.specs.Typing.{type_declared};
-ghost use Rattle.ob0_symbols.specs.KnownTables.{declared_in, shapes_of};
-ghost use Rattle.ob0_symbols.specs.Tables.{type_shape};
+ghost use Rattle.ob0_types_rules.specs.Typing.{type_declared};
+ghost use Rattle.ob0_types_table.specs.KnownTables.{declared_in, shapes_of};
+ghost use Rattle.ob0_types_table.specs.Tables.{type_shape};
 ghost use Rattle.ob0_values.specs.Values.{Shape};
 ghost use Rattle.ob0_selections.specs.FieldTypes.{field_named, fields_named, type_named, type_of_elements, typed_fields};
 ghost use Rattle.ob0_selections.specs.FieldParts.{meaning_in, type_in, typed_in};
 
 use crate::selecting::Selection;
-use ob0_names::Resolved;
-use ob0_symbols::{FieldOf, Known, TypeId, text_at};
+use ob0_scope_rules::Resolved;
+use ob0_types_table::{FieldOf, Known, TypeId, text_at};
 use ob0_tree::{
     Block, Fields, Names, Procedure, RecordType, Section, TypeDeclaration, Variables, WrittenType,
 };

@@ -3,18 +3,18 @@
 ghost use Rattle.std.specs.Prelude.{◌≡◌, ◌++◌, IfOk, List, map, option_and_then, option_map};
 ghost use Rattle.ob0_tree.specs.View.{expression_of, simple_of, term_of, factor_of, designator_of, selector_of, assignment_of, call_of, arguments_in, statement_of, if_of, elsifs_in, sequence_in, type_of, record_in, fields_of, section_of, formals_of, constants_of, types_of, variables_of, body_of, procedure_of, block_of};
 ghost use Rattle.ob0_tree.specs.declared.tree.Designator.{out-Designator};
-ghost use Rattle.ob0_names.specs.Resolution.{ordinal_in};
-ghost use Rattle.ob0_symbols.specs.FieldPlaces.{field_selected};
-ghost use Rattle.ob0_symbols.specs.KnownTables.{declared_in, shapes_of};
-ghost use Rattle.ob0_typing.specs.Selected.{selectors_in};
-ghost use Rattle.ob0_symbols.specs.Tables.{type_shape};
-ghost use Rattle.ob0_typing.specs.Typing.{field_type, object_type};
+ghost use Rattle.ob0_scope_rules.specs.Resolution.{ordinal_in};
+ghost use Rattle.ob0_types_table.specs.FieldPlaces.{field_selected};
+ghost use Rattle.ob0_types_table.specs.KnownTables.{declared_in, shapes_of};
+ghost use Rattle.ob0_types_rules.specs.Selected.{selectors_in};
+ghost use Rattle.ob0_types_table.specs.Tables.{type_shape};
+ghost use Rattle.ob0_types_rules.specs.Typing.{field_type, object_type};
 ghost use Rattle.ob0_values.specs.Values.{Shape};
 ghost use Rattle.ob0_selections.specs.Selections.{noted, path_selections, selections, type_behind};
 ghost use Rattle.ob0_selections.specs.SelectionParts.{found_in, meaning_in, selected_from, selection_in};
 
-use ob0_names::Resolved;
-use ob0_symbols::{FieldOf, Known, Object, TypeId, scalar_type, text_at};
+use ob0_scope_rules::Resolved;
+use ob0_types_table::{FieldOf, Known, Object, TypeId, scalar_type, text_at};
 use ob0_tree::{
     Assignment, Block, Call, Constant, Designator, Elsif, Expression, Factor, Fields, If,
     Procedure, RecordType, Section, Selector, Simple, Statement, Term, TypeDeclaration, Variables,

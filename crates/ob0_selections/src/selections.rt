@@ -1,13 +1,13 @@
 //! Which field of which record each selector of a well-typed module selects.
 ghost use Rattle.std.specs.Prelude.{◌≡◌, IfOk, map};
 ghost use Rattle.ob0_tree.specs.Parsed.{tree_of};
-ghost use Rattle.ob0_symbols.specs.KnownTables.{declared_in, shapes_of};
+ghost use Rattle.ob0_types_table.specs.KnownTables.{declared_in, shapes_of};
 ghost use Rattle.ob0_selections.specs.Selections.{selections, token_meaning};
 ghost use Rattle.ob0_selections.specs.SelectionParts.{selection_in};
 
 use crate::selecting::{Selecting, Selection};
-use ob0_names::Resolved;
-use ob0_symbols::Known;
+use ob0_scope_rules::Resolved;
+use ob0_types_table::Known;
 use std::alloc::{AllocError, Global};
 
 /// All selections of a module, by the table of its declarations: the token of each selector that is a name, with the field

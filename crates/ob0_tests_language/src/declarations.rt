@@ -5,7 +5,7 @@ ghost use Rattle.std.specs.Prelude.{⊤};
 use crate::asking::said;
 use ob0_analysis::Question;
 use ob0_refs::captures;
-use ob0_symbols::Parts;
+use ob0_types_table::Parts;
 use ob0_types::{Shape, WellTyped};
 use std::alloc::{AllocError, Global};
 use std::process::Abort;

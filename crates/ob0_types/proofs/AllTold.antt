@@ -3,19 +3,19 @@ use Rattle.std.proofs.Common.{◌≤◌, ◌≡◌, ◌↔◌, ◌+◌, ◌&&◌
 use Rattle.std.proofs.lemmas.List.{nil_from_length}
 use Rattle.std.specs.List.{filter, list_any}
 use Rattle.ob0_scan.specs.declared.fault.Fault.{Fault}
-use Rattle.ob0_names.specs.Names.{as_labels, as_names}
-use Rattle.ob0_names.specs.DeclaredOnce.{declared_once}
-use Rattle.ob0_names.specs.Resolution.{IsResolution, Resolution, is_of_declarations}
+use Rattle.ob0_scope_rules.specs.Names.{as_labels, as_names}
+use Rattle.ob0_scope_rules.specs.DeclaredOnce.{declared_once}
+use Rattle.ob0_scope_rules.specs.Resolution.{IsResolution, Resolution, is_of_declarations}
 use Rattle.ob0_tree.specs.Parsed.{named_tree_of, tree_of}
-use Rattle.ob0_report_laws.specs.ModuleLaws.{ModulesFit}
+use Rattle.ob0_types_check.specs.ModuleLaws.{ModulesFit}
 use Rattle.ob0_types.specs.FaultOrder.{AreFirstFaults, faults_of_types}
 use Rattle.ob0_types.specs.CheckedModules.{IsChecked, IsTold}
-use Rattle.ob0_bindings.specs.Bindings.{module_bindings, object_bound}
+use Rattle.ob0_types_rules.specs.Bindings.{module_bindings, object_bound}
 use Rattle.ob0_checker.specs.Checking.{Keeps}
-use Rattle.ob0_bindings.specs.InLabels.{in_labels}
-use Rattle.ob0_symbols.specs.KnownTables.{Tables}
-use Rattle.ob0_typing.specs.Laws.{FitsByOrdinal}
-use Rattle.ob0_typing.specs.WellTyped.{WellTyped, fits_over}
+use Rattle.ob0_types_rules.specs.InLabels.{in_labels}
+use Rattle.ob0_types_table.specs.KnownTables.{Tables}
+use Rattle.ob0_types_rules.specs.Laws.{FitsByOrdinal}
+use Rattle.ob0_types_rules.specs.WellTyped.{WellTyped, fits_over}
 
 length-nil : (xs : List Fault) → xs ≡ [] → length xs ≡ 0
 length-nil xs e = ap length e

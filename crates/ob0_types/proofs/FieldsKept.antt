@@ -1,8 +1,8 @@
 -- The fields that are kept with a module that has no fault are its fields.
 use Rattle.std.proofs.Common.{◌≡◌, [], true, IfSome, is_some, Option, Some, None, sym, subst, true≢false}
-use Rattle.ob0_fields.specs.Listed.{AreFields, Listed, listed_by}
-use Rattle.ob0_fields.proofs.ListedFields.{listed_fields}
-use Rattle.ob0_symbols.specs.KnownTables.{Tables}
+use Rattle.ob0_types_fields.specs.Listed.{AreFields, Listed, listed_by}
+use Rattle.ob0_types_fields.proofs.ListedFields.{listed_fields}
+use Rattle.ob0_types_table.specs.KnownTables.{Tables}
 use Rattle.ob0_tree.specs.Parsed.{named_tree_of}
 use Rattle.ob0_types.specs.CheckedModules.{CheckedModule, HoldsDeclarations, IsChecked}
 

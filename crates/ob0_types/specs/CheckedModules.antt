@@ -1,13 +1,13 @@
 -- A checked module: its names, and what was told of it.
 use Rattle.std.specs.Prelude.{◌≡◌, ℕ, ◌≤◌, Bool, true, List, [], length, ◌↔◌, IfSome, is_some, Option}
 use Rattle.ob0_scan.specs.declared.fault.Fault.{Fault}
-use Rattle.ob0_names.specs.Resolution.{Resolution, IsResolution}
-use Rattle.ob0_names.specs.Names.{Name, as_names}
+use Rattle.ob0_scope_rules.specs.Resolution.{Resolution, IsResolution}
+use Rattle.ob0_scope_rules.specs.Names.{Name, as_names}
 use Rattle.ob0_tree.specs.Parsed.{named_tree_of}
 use Rattle.ob0_tree.specs.Tree.{Tree, module_text}
-use Rattle.ob0_bindings.specs.Bindings.{declared_object}
-use Rattle.ob0_symbols.specs.KnownTables.{Tables, declared_in}
-use Rattle.ob0_typing.specs.WellTyped.{WellTyped, fits_over}
+use Rattle.ob0_types_rules.specs.Bindings.{declared_object}
+use Rattle.ob0_types_table.specs.KnownTables.{Tables, declared_in}
+use Rattle.ob0_types_rules.specs.WellTyped.{WellTyped, fits_over}
 use Rattle.ob0_types.specs.FaultOrder.{AreFirstFaults}
 
 pub record CheckedModule : Type 0 where

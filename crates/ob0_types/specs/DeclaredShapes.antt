@@ -1,6 +1,6 @@
 -- The type of a declaration.
-use Rattle.ob0_symbols.specs.KnownTables.{shapes_of}
-use Rattle.ob0_symbols.specs.Tables.{type_shape}
+use Rattle.ob0_types_table.specs.KnownTables.{shapes_of}
+use Rattle.ob0_types_table.specs.Tables.{type_shape}
 use Rattle.ob0_types.specs.declared.checked.Shape as declared
 use Rattle.ob0_values.specs.Values.{Shape}
 

@@ -7,8 +7,8 @@ use Rattle.std.specs.declared.cmp.Ordering.{Ordering}
 use Rattle.ob0_scan.specs.declared.fault.Code.{Code}
 use Rattle.ob0_scan.specs.declared.fault.Code.TheVariants as code
 use Rattle.ob0_scan.specs.declared.fault.Fault.{Fault}
-use Rattle.ob0_names.specs.Resolution.{Resolution, is_of_declarations}
-use Rattle.ob0_reports.specs.DeclarationFaults.{reported_module}
+use Rattle.ob0_scope_rules.specs.Resolution.{Resolution, is_of_declarations}
+use Rattle.ob0_types_check.specs.DeclarationFaults.{reported_module}
 
 -- the numbers of the codes: of lexemes, of scopes, of types
 abbrev pub code_number : Code → ℕ

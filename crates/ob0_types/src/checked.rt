@@ -1,20 +1,20 @@
 //! Checking a module, and what is known of a well-typed one.
 
-ghost use Rattle.ob0_names.specs.Resolution.{is_of_declarations};
+ghost use Rattle.ob0_scope_rules.specs.Resolution.{is_of_declarations};
 ghost use Rattle.ob0_types.specs.CheckedModules.{AreFaultsOf, IsChecked};
 ghost use Rattle.ob0_types.specs.FaultOrder.{AreFirstFaults, faults_of_types};
 ghost use Rattle.std.specs.List.{filter};
 ghost use Rattle.std.specs.Prelude.{◌≡◌, ◌≤◌, ◌↔◌, ◌++◌, [], length, IfOk, IfSome, OnOk, MatchOption};
-ghost use Rattle.ob0_fields.specs.Listed.{listed_by};
+ghost use Rattle.ob0_types_fields.specs.Listed.{listed_by};
 
 use ob0_checker::decide;
-use ob0_fields::FieldList;
-use ob0_names::{PREDECLARED, Resolved};
-use ob0_report_laws::laws::modules_fit;
-use ob0_reports::tell;
+use ob0_types_fields::FieldList;
+use ob0_scope_rules::{PREDECLARED, Resolved};
+use ob0_types_check::laws::modules_fit;
+use ob0_types_check::tell;
 use ob0_scan::{Code, Fault};
-use ob0_symbols::{Known, Parts, TypeId};
-use ob0_typing::laws::fits_by_ordinal;
+use ob0_types_table::{Known, Parts, TypeId};
+use ob0_types_rules::laws::fits_by_ordinal;
 use ob0_values::Scalar;
 use std::alloc::{AllocError, Global};
 use std::marker::Model;
@@ -34,7 +34,7 @@ impl<'t> Model for Checked<'t> {
     ghost Value = { CheckedModule };
 
     ghost use Rattle.std.specs.Prelude.{◌≡◌, []};
-    ghost use Rattle.ob0_fields.specs.Listed.{AreFields};
+    ghost use Rattle.ob0_types_fields.specs.Listed.{AreFields};
     ghost use Rattle.std.specs.Coded.{codes};
     ghost use Rattle.ob0_tree.specs.contracts.tree.Block as block_contract;
 
@@ -54,10 +54,10 @@ pub struct WellTyped<'c, 't> {
 }
 
 impl<'c, 't> Model for WellTyped<'c, 't> {
-    ghost use Rattle.ob0_fields.specs.Listed.{AreFields};
+    ghost use Rattle.ob0_types_fields.specs.Listed.{AreFields};
     ghost use Rattle.ob0_types.specs.CheckedModules.{HoldsDeclarations, IsWellTyped};
     ghost use Rattle.ob0_tree.specs.Parsed.{named_tree_of};
-    ghost use Rattle.ob0_names.specs.Resolution.{Resolution};
+    ghost use Rattle.ob0_scope_rules.specs.Resolution.{Resolution};
 
     ghost Value = { Resolution };
 
@@ -220,11 +220,11 @@ impl<'c, 't> WellTyped<'c, 't> {
     ghost use Rattle.std.specs.Prelude.{option_map};
     ghost use Rattle.ob0_tree.specs.Parsed.{named_tree_of};
     ghost use Rattle.ob0_types.specs.CheckedModules.{HoldsDeclarations, IsWellTyped};
-    ghost use Rattle.ob0_fields.specs.Listed.{AreFields};
-    ghost use Rattle.ob0_typing.specs.ConstantValues.{value_of_constant};
-    ghost use Rattle.ob0_bindings.specs.Bindings.{declared_object};
+    ghost use Rattle.ob0_types_fields.specs.Listed.{AreFields};
+    ghost use Rattle.ob0_types_rules.specs.ConstantValues.{value_of_constant};
+    ghost use Rattle.ob0_types_rules.specs.Bindings.{declared_object};
     ghost use Rattle.ob0_types.specs.DeclaredShapes.{shape_of};
-    ghost use Rattle.ob0_typing.specs.Typing.{type_declared};
+    ghost use Rattle.ob0_types_rules.specs.Typing.{type_declared};
     ghost use Rattle.ob0_values.specs.Scalars.{scalar_value};
 
     /// The module with its names bound.
@@ -275,8 +275,8 @@ impl<'c, 't> WellTyped<'c, 't> {
 }
 
 impl<'c, 't> Shape<'c, 't> {
-    ghost use Rattle.ob0_symbols.specs.KnownTables.{shapes_of};
-    ghost use Rattle.ob0_symbols.specs.Parts.{parts_shape};
+    ghost use Rattle.ob0_types_table.specs.KnownTables.{shapes_of};
+    ghost use Rattle.ob0_types_table.specs.Parts.{parts_shape};
     ghost use Rattle.ob0_types.specs.DeclaredShapes.{shape_of};
 
     /// What the type is made of; the types of its parts are in the same table.

@@ -2,7 +2,7 @@
 
 ghost use Rattle.std.specs.Prelude.{◌≡◌, IfOk, IfSome, length};
 ghost use Rattle.ob0_tree.specs.Order.{AreIdentifiers, Ascending, IsIdentifier};
-ghost use Rattle.ob0_fields.specs.Identifiers.{declaring_field, field_at, field_place, field_tokens};
+ghost use Rattle.ob0_types_fields.specs.Identifiers.{declaring_field, field_at, field_place, field_tokens};
 
 use crate::checked::WellTyped;
 use std::alloc::{AllocError, Global};

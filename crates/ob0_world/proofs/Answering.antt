@@ -31,20 +31,20 @@ use Rattle.ob0_session.specs.Texts.{utf8}
 use Rattle.ob0_session.specs.Formatted.{AnswersFormatting}
 use Rattle.ob0_session.specs.Renamed.{RenameAsked, AnswersRenaming}
 use Rattle.ob0_session.specs.Shapes.{Diagnostic, diagnostic_value, edit_value, edits_value, document_edit, workspace_edit, publication}
-use Rattle.ob0_ends.specs.Answers.{Inlining, Here, Everywhere}
+use Rattle.ob0_world_rules.specs.Answers.{Inlining, Here, Everywhere}
 use Rattle.ob0_session.specs.declared.server.Phase.TheVariants.{Running}
-use Rattle.ob0_editor.specs.Heard as heard_as
-use Rattle.ob0_editor.specs.Heard.{told_as, HasVersion, IsAsk, call_for}
-use Rattle.ob0_editor.specs.Shapes.{method_of, empty_at}
-use Rattle.ob0_editor.specs.Understood.{understood, value_understood, edits_in, workspace_items, edits_for, has_none}
-use Rattle.ob0_editor.proofs.Hearing.{understood_as}
-use Rattle.ob0_events.specs.Edited.{Replacement, replacement_of, replacements}
-use Rattle.ob0_events.specs.Asks.{Ask, rename, inline_here, inline_all, format, indent_read}
-use Rattle.ob0_ends.specs.Answers.{place_at, AnswersFor, IsAnswer, TellsOf}
-use Rattle.ob0_events.specs.Ends.{Asked, numbered, ToServer, tells, asks, ToEditor, publishes, answers, after_message}
-use Rattle.ob0_ends.specs.Serving.{MayPublish, taken_back, MaySend}
-use Rattle.ob0_ends.proofs.Trees.{fits, module_of}
-use Rattle.ob0_events.proofs.UriLaws.{get_put, uri_itself}
+use Rattle.ob0_world_editor.specs.Heard as heard_as
+use Rattle.ob0_world_editor.specs.Heard.{told_as, HasVersion, IsAsk, call_for}
+use Rattle.ob0_world_editor.specs.Shapes.{method_of, empty_at}
+use Rattle.ob0_world_editor.specs.Understood.{understood, value_understood, edits_in, workspace_items, edits_for, has_none}
+use Rattle.ob0_world_editor.proofs.Hearing.{understood_as}
+use Rattle.ob0_world_rules.specs.Edited.{Replacement, replacement_of, replacements}
+use Rattle.ob0_world_rules.specs.Asks.{Ask, rename, inline_here, inline_all, format, indent_read}
+use Rattle.ob0_world_rules.specs.Answers.{place_at, AnswersFor, IsAnswer, TellsOf}
+use Rattle.ob0_world_rules.specs.Ends.{Asked, numbered, ToServer, tells, asks, ToEditor, publishes, answers, after_message}
+use Rattle.ob0_world_rules.specs.Serving.{MayPublish, taken_back, MaySend}
+use Rattle.ob0_world_rules.proofs.Trees.{fits, module_of}
+use Rattle.ob0_world_rules.proofs.UriLaws.{get_put, uri_itself}
 use Rattle.ob0_world.specs.Queues.{IsRunning, made_of_document, made_first}
 
 -- ---- contents that are read

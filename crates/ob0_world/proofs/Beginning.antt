@@ -6,7 +6,7 @@ use Rattle.ob0_text.specs.declared.positions.Unit.TheVariants.{Utf16, Utf8}
 use Rattle.ob0_rpc.specs.Messages.{Reads, meaning_of}
 use Rattle.ob0_session.specs.Answers.{State, start, begins, reacts, Answers}
 use Rattle.ob0_session.specs.Standing.{SessionState, serving, failed}
-use Rattle.ob0_editor.specs.Beginning.{initialize_message, client_for}
+use Rattle.ob0_world_editor.specs.Beginning.{initialize_message, client_for}
 use Rattle.ob0_world.specs.Queues.{Contents, bytes, Stands, held_by, IsInitialized, new_session, Both, new_both, IsAnswered}
 use Rattle.ob0_world.proofs.Answering.{reacts_so}
 

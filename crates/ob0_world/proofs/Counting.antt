@@ -7,14 +7,14 @@ use Rattle.std.proofs.lemmas.Option.{none-some}
 use Rattle.std.proofs.lemmas.List.{length-append}
 use Rattle.ob0_text.specs.OpenDocuments.{TextChange}
 use Rattle.ob0_text.specs.declared.positions.Unit.{Unit}
-use Rattle.ob0_events.specs.Edited.{Replacement, edited, after_changes}
-use Rattle.ob0_events.specs.Asks.{Ask}
-use Rattle.ob0_events.specs.Ends.{Open, Asked, Editor, numbered, open_at, ToServer, ToEditor, publishes, answers, Ends, new_editor}
-use Rattle.ob0_events.specs.Editing.{opens_document, rewritten, rewrites, changes_text, changes_document, closes_document, asks_about, held_answer, without_answer, discards, if_same, applies_text, applies_edits, applies_asked, applies_answer}
-use Rattle.ob0_events.specs.Events.{Event, open_document, change_document, close_document, ask_about, serve, take_message, apply, discard, Seen, moved, comes_of, takes}
-use Rattle.ob0_ends.specs.Happens.{Serves, Happens}
-use Rattle.ob0_events.proofs.SameDocument.{found, left, same_from, Same}
-use Rattle.ob0_editor.specs.Moves.{AreFew}
+use Rattle.ob0_world_rules.specs.Edited.{Replacement, edited, after_changes}
+use Rattle.ob0_world_rules.specs.Asks.{Ask}
+use Rattle.ob0_world_rules.specs.Ends.{Open, Asked, Editor, numbered, open_at, ToServer, ToEditor, publishes, answers, Ends, new_editor}
+use Rattle.ob0_world_rules.specs.Editing.{opens_document, rewritten, rewrites, changes_text, changes_document, closes_document, asks_about, held_answer, without_answer, discards, if_same, applies_text, applies_edits, applies_asked, applies_answer}
+use Rattle.ob0_world_rules.specs.Events.{Event, open_document, change_document, close_document, ask_about, serve, take_message, apply, discard, Seen, moved, comes_of, takes}
+use Rattle.ob0_world_rules.specs.Happens.{Serves, Happens}
+use Rattle.ob0_world_rules.proofs.SameDocument.{found, left, same_from, Same}
+use Rattle.ob0_world_editor.specs.Moves.{AreFew}
 use Rattle.ob0_world.specs.Worlds.{Within}
 
 pub few : (n : ℕ) (e : Editor) → Within n e → n < 2 ^ 63 - 1 → AreFew e

@@ -6,19 +6,19 @@ use Rattle.std.proofs.lemmas.List.{append-nil, map-append}
 use Rattle.std.proofs.lemmas.List.Elements.{All-push, All-tail}
 use Rattle.ob0_text.specs.OpenDocuments.{TextChange}
 use Rattle.ob0_session.specs.Standing.{SessionState}
-use Rattle.ob0_editor.specs.Code.{applied_of}
-use Rattle.ob0_editor.specs.Heard.{heard, Says}
-use Rattle.ob0_editor.specs.Moves.{Moves, ComesOf}
-use Rattle.ob0_editor.specs.Understood.{understood}
-use Rattle.ob0_editor.specs.declared.applied.Applied as applied
-use Rattle.ob0_editor.specs.declared.applied.Applying as applying
-use Rattle.ob0_editor.proofs.Hearing.{says_heard}
-use Rattle.ob0_editor.proofs.Moving.{none_goes}
-use Rattle.ob0_events.specs.Edited.{Replacement, edited, after_changes}
-use Rattle.ob0_events.specs.Asks.{Ask}
-use Rattle.ob0_events.specs.Ends.{Open, Asked, Editor, numbered, open_at, ToServer, ToEditor, publishes, answers, Ends}
-use Rattle.ob0_events.specs.Editing.{Move, idle, sends, opens_document, changes_text, changes_document, closes_document, asks_about, keeps, has_edits, Outcome, not_held, lets_go, makes, held_answer, without_answer, discards, if_same, applies_text, applies_edits, applies_asked, applies_answer}
-use Rattle.ob0_events.specs.Events.{Is, moved, comes_of, takes, applies, drops, nothing, published, answered}
+use Rattle.ob0_world_editor.specs.Code.{applied_of}
+use Rattle.ob0_world_editor.specs.Heard.{heard, Says}
+use Rattle.ob0_world_editor.specs.Moves.{Moves, ComesOf}
+use Rattle.ob0_world_editor.specs.Understood.{understood}
+use Rattle.ob0_world_editor.specs.declared.applied.Applied as applied
+use Rattle.ob0_world_editor.specs.declared.applied.Applying as applying
+use Rattle.ob0_world_editor.proofs.Hearing.{says_heard}
+use Rattle.ob0_world_editor.proofs.Moving.{none_goes}
+use Rattle.ob0_world_rules.specs.Edited.{Replacement, edited, after_changes}
+use Rattle.ob0_world_rules.specs.Asks.{Ask}
+use Rattle.ob0_world_rules.specs.Ends.{Open, Asked, Editor, numbered, open_at, ToServer, ToEditor, publishes, answers, Ends}
+use Rattle.ob0_world_rules.specs.Editing.{Move, idle, sends, opens_document, changes_text, changes_document, closes_document, asks_about, keeps, has_edits, Outcome, not_held, lets_go, makes, held_answer, without_answer, discards, if_same, applies_text, applies_edits, applies_asked, applies_answer}
+use Rattle.ob0_world_rules.specs.Events.{Is, moved, comes_of, takes, applies, drops, nothing, published, answered}
 use Rattle.ob0_world.specs.declared.events.Seen as seen
 use Rattle.ob0_world.specs.declared.played.Made as made
 use Rattle.ob0_world.specs.Code.{seen_of}

@@ -5,15 +5,15 @@ use Rattle.std.proofs.lemmas.List.{map-append, take_more}
 use Rattle.ob0_text.specs.declared.positions.Unit.{Unit}
 use Rattle.ob0_world.specs.declared.events.Event as event
 use Rattle.ob0_world.specs.declared.played.Played as played
-use Rattle.ob0_events.specs.Ends.{Ends, start}
-use Rattle.ob0_events.specs.Events.{Event, Seen}
-use Rattle.ob0_ends.specs.Happens.{Happens, Run}
-use Rattle.ob0_ends.specs.Headline.{KeepsTheRun, IsRight, AreUpToDate}
-use Rattle.ob0_ends.specs.Played.{AreApplied, ArePublished, AreLatest, MirrorsInTheEnd, WasMadeFor, AreMadeInOrder}
-use Rattle.ob0_ends.proofs.Interleavings.{in_every_interleaving}
-use Rattle.ob0_ends.proofs.MadeFor.{made_for, run_push}
-use Rattle.ob0_ends.proofs.MadeInOrder.{made_in_order}
-use Rattle.ob0_ends.proofs.OneRun.{one_run}
+use Rattle.ob0_world_rules.specs.Ends.{Ends, start}
+use Rattle.ob0_world_rules.specs.Events.{Event, Seen}
+use Rattle.ob0_world_rules.specs.Happens.{Happens, Run}
+use Rattle.ob0_world_rules.specs.Headline.{KeepsTheRun, IsRight, AreUpToDate}
+use Rattle.ob0_world_rules.specs.Played.{AreApplied, ArePublished, AreLatest, MirrorsInTheEnd, WasMadeFor, AreMadeInOrder}
+use Rattle.ob0_world_rules.proofs.Interleavings.{in_every_interleaving}
+use Rattle.ob0_world_rules.proofs.MadeFor.{made_for, run_push}
+use Rattle.ob0_world_rules.proofs.MadeInOrder.{made_in_order}
+use Rattle.ob0_world_rules.proofs.OneRun.{one_run}
 use Rattle.ob0_world.specs.Code.{event_of, all_applied, all_made}
 use Rattle.ob0_world.specs.Worlds.{HasCome, Plays, SameHistory}
 

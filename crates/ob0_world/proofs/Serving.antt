@@ -10,15 +10,15 @@ use Rattle.ob0_session.specs.Answers.{State}
 use Rattle.ob0_session.specs.Standing.{SessionState, serving, failed}
 use Rattle.ob0_session.specs.Steps.{Steps}
 use Rattle.ob0_session.specs.declared.session.Step.{Step}
-use Rattle.ob0_editor.specs.Heard.{heard, Says}
-use Rattle.ob0_editor.specs.Understood.{understood}
-use Rattle.ob0_editor.specs.declared.applied.Applied as applied
-use Rattle.ob0_editor.proofs.Hearing.{says_heard}
-use Rattle.ob0_events.specs.Ends.{Asked, Editor, ToServer, ToEditor, Made, Ends, after_message}
-use Rattle.ob0_ends.specs.Serving.{MaySend}
-use Rattle.ob0_ends.specs.Happens.{Serves}
-use Rattle.ob0_events.specs.Events.{nothing}
-use Rattle.ob0_events.specs.Events as events
+use Rattle.ob0_world_editor.specs.Heard.{heard, Says}
+use Rattle.ob0_world_editor.specs.Understood.{understood}
+use Rattle.ob0_world_editor.specs.declared.applied.Applied as applied
+use Rattle.ob0_world_editor.proofs.Hearing.{says_heard}
+use Rattle.ob0_world_rules.specs.Ends.{Asked, Editor, ToServer, ToEditor, Made, Ends, after_message}
+use Rattle.ob0_world_rules.specs.Serving.{MaySend}
+use Rattle.ob0_world_rules.specs.Happens.{Serves}
+use Rattle.ob0_world_rules.specs.Events.{nothing}
+use Rattle.ob0_world_rules.specs.Events as events
 use Rattle.ob0_world.specs.declared.played.Made as made
 use Rattle.ob0_world.specs.Code.{made_of}
 use Rattle.ob0_world.specs.Queues.{Contents, bytes, all_heard, all_understood, IsHeard, IsUnderstood, Sound, IsRunning, Stands, held_by, ends_from, IsAnswered, made_first, made_for, made_sent}

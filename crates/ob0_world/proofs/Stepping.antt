@@ -1,11 +1,11 @@
 -- What a step makes of a world.
 use Rattle.std.proofs.Common.{◌≡◌, ◌+◌, true, false, [], ◌∷◌, ◌++◌, refl, sym, subst}
-use Rattle.ob0_events.specs.Ends.{Ends, start}
-use Rattle.ob0_events.specs.Events.{Event, Seen}
-use Rattle.ob0_ends.specs.Happens.{Happens}
-use Rattle.ob0_ends.specs.Headline.{Holds}
-use Rattle.ob0_ends.proofs.Interleavings.{in_every_interleaving}
-use Rattle.ob0_ends.proofs.MadeFor.{run_push}
+use Rattle.ob0_world_rules.specs.Ends.{Ends, start}
+use Rattle.ob0_world_rules.specs.Events.{Event, Seen}
+use Rattle.ob0_world_rules.specs.Happens.{Happens}
+use Rattle.ob0_world_rules.specs.Headline.{Holds}
+use Rattle.ob0_world_rules.proofs.Interleavings.{in_every_interleaving}
+use Rattle.ob0_world_rules.proofs.MadeFor.{run_push}
 use Rattle.ob0_text.specs.declared.positions.Unit.{Unit}
 use Rattle.ob0_world.specs.Worlds.{World, IsReached, SameHistory, StepsFrom, Steps, FailsFrom, Fails}
 use Rattle.ob0_world.specs.declared.faults.WorldFault.{WorldFault}

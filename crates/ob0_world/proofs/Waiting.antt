@@ -10,11 +10,11 @@ use Rattle.std.proofs.lemmas.List.Elements.{All-append, All-head, All-tail, All-
 use Rattle.serde_json.specs.Data.{Data}
 use Rattle.serde_json.specs.Find.{get}
 use Rattle.serde_json.specs.Read.{read}
-use Rattle.ob0_editor.specs.Heard.{heard, Says, number_of}
-use Rattle.ob0_editor.specs.Understood.{understood, value_understood, answer_understood, answer_to, publication_understood}
-use Rattle.ob0_editor.proofs.Hearing.{says_heard}
-use Rattle.ob0_events.specs.Ends.{Asked, numbered, ToServer, tells, asks, ToEditor}
-use Rattle.ob0_events.proofs.SameDocument.{numbered_push}
+use Rattle.ob0_world_editor.specs.Heard.{heard, Says, number_of}
+use Rattle.ob0_world_editor.specs.Understood.{understood, value_understood, answer_understood, answer_to, publication_understood}
+use Rattle.ob0_world_editor.proofs.Hearing.{says_heard}
+use Rattle.ob0_world_rules.specs.Ends.{Asked, numbered, ToServer, tells, asks, ToEditor}
+use Rattle.ob0_world_rules.proofs.SameDocument.{numbered_push}
 use Rattle.ob0_world.specs.Queues.{Contents, bytes, all_heard, all_understood, IsHeard, IsUnderstood}
 
 -- ---- more asks

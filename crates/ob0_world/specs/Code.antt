@@ -2,13 +2,13 @@
 use Rattle.std.specs.Prelude.{List, map, string_bytes}
 use Rattle.std.specs.Str.{chars}
 use Rattle.ob0_text.specs.OpenDocuments.{reported_change}
-use Rattle.ob0_editor.specs.Code.{ask_of, applied_of}
+use Rattle.ob0_world_editor.specs.Code.{ask_of, applied_of}
 use Rattle.ob0_world.specs.declared.events.Event as event
 use Rattle.ob0_world.specs.declared.events.Seen as seen
 use Rattle.ob0_world.specs.declared.played.Made as made
 use Rattle.ob0_world.specs.declared.played.Played as played
-use Rattle.ob0_events.specs.Ends.{Applied, Made}
-use Rattle.ob0_events.specs.Events.{Event, open_document, change_document, close_document, ask_about, serve, take_message, apply, discard, Seen, nothing, sent, served, published, answered, applies, drops}
+use Rattle.ob0_world_rules.specs.Ends.{Applied, Made}
+use Rattle.ob0_world_rules.specs.Events.{Event, open_document, change_document, close_document, ask_about, serve, take_message, apply, discard, Seen, nothing, sent, served, published, answered, applies, drops}
 
 abbrev pub event_of : event.Event → Event
 event_of (event.TheVariants.OpenDoc uri text) = open_document (string_bytes uri) (chars (string_bytes text))

@@ -7,13 +7,13 @@ use Rattle.ob0_text.specs.declared.positions.Unit.TheVariants.{Utf16}
 use Rattle.ob0_session.specs.Answers.{State, begins, Answers}
 use Rattle.ob0_session.specs.Standing.{SessionState, serving, failed}
 use Rattle.ob0_session.specs.declared.server.Phase.TheVariants.{Running}
-use Rattle.ob0_editor.specs.Beginning.{client_for}
-use Rattle.ob0_editor.specs.Heard.{heard, Says}
-use Rattle.ob0_editor.specs.Understood.{understood}
-use Rattle.ob0_editor.specs.Code.{applied_of}
-use Rattle.ob0_editor.specs.declared.applied.Applied as applied
-use Rattle.ob0_events.specs.Ends.{Asked, Editor, ToServer, ToEditor, publishes, answers, Made, Ends, start}
-use Rattle.ob0_events.specs.Events.{nothing, sent}
+use Rattle.ob0_world_editor.specs.Beginning.{client_for}
+use Rattle.ob0_world_editor.specs.Heard.{heard, Says}
+use Rattle.ob0_world_editor.specs.Understood.{understood}
+use Rattle.ob0_world_editor.specs.Code.{applied_of}
+use Rattle.ob0_world_editor.specs.declared.applied.Applied as applied
+use Rattle.ob0_world_rules.specs.Ends.{Asked, Editor, ToServer, ToEditor, publishes, answers, Made, Ends, start}
+use Rattle.ob0_world_rules.specs.Events.{nothing, sent}
 use Rattle.ob0_world.specs.declared.events.Seen as seen
 use Rattle.ob0_world.specs.declared.played.Made as made
 use Rattle.ob0_world.specs.Code.{made_of, seen_of}

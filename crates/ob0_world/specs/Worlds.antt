@@ -8,10 +8,10 @@ use Rattle.ob0_world.specs.declared.faults.WorldFault.TheVariants.{Memory, Ended
 use Rattle.ob0_session.specs.Standing.{SessionState}
 use Rattle.ob0_world.specs.Code.{event_of, all_applied, all_made}
 use Rattle.ob0_world.specs.Queues.{new_session}
-use Rattle.ob0_events.specs.Ends.{Open, Editor, open_at, Ends, start}
-use Rattle.ob0_events.specs.Events.{Event, Seen}
-use Rattle.ob0_ends.specs.Happens.{Happens, Run}
-use Rattle.ob0_ends.specs.Headline.{Holds}
+use Rattle.ob0_world_rules.specs.Ends.{Open, Editor, open_at, Ends, start}
+use Rattle.ob0_world_rules.specs.Events.{Event, Seen}
+use Rattle.ob0_world_rules.specs.Happens.{Happens, Run}
+use Rattle.ob0_world_rules.specs.Headline.{Holds}
 
 pub record World : Type 0 where
   pub ends : Ends

@@ -3,19 +3,19 @@ ghost use Rattle.std.specs.Prelude.{◌≡◌, IfOk, OnErr, map, option_map, opt
 ghost use Rattle.std.specs.Str.{chars};
 ghost use Rattle.ob0_text.specs.OpenDocuments.{reported_change, document_at};
 ghost use Rattle.ob0_session.specs.Standing.{failed};
-ghost use Rattle.ob0_editor.specs.Code.{ask_of};
-ghost use Rattle.ob0_editor.specs.Moves.{AreFew};
-ghost use Rattle.ob0_editor.specs.Understood.{understood};
-ghost use Rattle.ob0_events.specs.Events as events;
-ghost use Rattle.ob0_ends.specs.Happens.{Happens};
-ghost use Rattle.ob0_events.specs.Events.{open_document, change_document, close_document, ask_about, take_message};
+ghost use Rattle.ob0_world_editor.specs.Code.{ask_of};
+ghost use Rattle.ob0_world_editor.specs.Moves.{AreFew};
+ghost use Rattle.ob0_world_editor.specs.Understood.{understood};
+ghost use Rattle.ob0_world_rules.specs.Events as events;
+ghost use Rattle.ob0_world_rules.specs.Happens.{Happens};
+ghost use Rattle.ob0_world_rules.specs.Events.{open_document, change_document, close_document, ask_about, take_message};
 ghost use Rattle.ob0_world.specs.Code.{event_of, seen_of, made_of};
 ghost use Rattle.ob0_world.specs.Queues.{new_both, IsAnswered, IsSent, made_for, made_of_document, made_sent};
 ghost use Rattle.ob0_world.specs.Worlds.{HasCome, SameHistory};
 
 use crate::events::{Event, Seen};
 use crate::played::{Made, Played};
-use ob0_editor::{Applied, Applying, Ask, Editor, Message, initialize};
+use ob0_world_editor::{Applied, Applying, Ask, Editor, Message, initialize};
 use ob0_session::{Session, SessionFault};
 use ob0_text::{Change, Documents, StoredText, TextStore, Unit};
 use std::alloc::{AllocError, Global};
@@ -37,7 +37,7 @@ pub struct Ends<T: TextStore> {
 impl<T: TextStore> Model for Ends<T> {
     ghost use Rattle.std.specs.Coded.{codes};
     ghost use Rattle.ob0_text.specs.OpenDocuments.{documents_code};
-    ghost use Rattle.ob0_editor.specs.Entries.{open_documents_code};
+    ghost use Rattle.ob0_world_editor.specs.Entries.{open_documents_code};
     ghost use Rattle.ob0_world.specs.Queues.{Sound, Both, both_from};
 
     ghost Value = { Both };

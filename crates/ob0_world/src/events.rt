@@ -1,6 +1,6 @@
 //! What may happen to the two ends, and what is seen of it.
 
-use ob0_editor::Ask;
+use ob0_world_editor::Ask;
 use ob0_text::Change;
 
 /// One event.

@@ -10,6 +10,6 @@ mod world;
 
 pub use events::{Event, Seen};
 pub use faults::{PlayFault, WorldFault};
-pub use ob0_editor::{Applied, Ask};
+pub use ob0_world_editor::{Applied, Ask};
 pub use played::{Made, Played};
 pub use world::World;

@@ -1,6 +1,6 @@
 //! What has come of the events.
 
-use ob0_editor::Applied;
+use ob0_world_editor::Applied;
 
 /// A publication with a version, the text that it was made for, and whether no diagnostic was in it.
 #[derive(Debug, Drop)]

@@ -2,9 +2,9 @@
 ghost use Rattle.std.specs.Prelude.{◌≡◌, ◌<◌, ◌-◌, ◌^◌, length, map, IfOk, OnOk, IfErr};
 ghost use Rattle.ob0_text.specs.declared.positions.Unit as units;
 ghost use Rattle.ob0_text.specs.declared.positions.Unit.TheVariants.{Utf16};
-ghost use Rattle.ob0_events.specs.Ends.{start};
-ghost use Rattle.ob0_ends.specs.Headline.{Holds};
-ghost use Rattle.ob0_ends.specs.Played.{AreApplied, ArePublished, AreLatest, MirrorsInTheEnd};
+ghost use Rattle.ob0_world_rules.specs.Ends.{start};
+ghost use Rattle.ob0_world_rules.specs.Headline.{Holds};
+ghost use Rattle.ob0_world_rules.specs.Played.{AreApplied, ArePublished, AreLatest, MirrorsInTheEnd};
 ghost use Rattle.ob0_world.specs.Code.{event_of, seen_of, all_applied, all_made};
 ghost use Rattle.ob0_world.specs.Queues.{IsInitialized};
 ghost use Rattle.ob0_world.specs.Worlds.{new_world, HasCome, Plays, PlaysBefore, Steps, Fails};
@@ -30,7 +30,7 @@ impl<T: TextStore> Model for World<T> {
     ghost use Rattle.std.specs.Prelude.{◌≡◌, false};
     ghost use Rattle.std.specs.Coded.{codes};
     ghost use Rattle.ob0_text.specs.OpenDocuments.{documents_code};
-    ghost use Rattle.ob0_editor.specs.Entries.{open_documents_code};
+    ghost use Rattle.ob0_world_editor.specs.Entries.{open_documents_code};
     ghost use Rattle.ob0_world.specs.Worlds as worlds;
     ghost use Rattle.ob0_world.specs.Worlds.{Within, IsReached};
 

@@ -1,14 +1,14 @@
 use Rattle.std.proofs.Common.{◌≡◌, ◌++◌, IfSome, Some, None, sym, ap, ◌∙◌, subst}
 use Rattle.ob0_tree.specs.declared.tree.Block.{Block}
 use Rattle.ob0_tree.specs.View.{block_of}
-use Rattle.ob0_names.specs.Names.{as_labels}
+use Rattle.ob0_scope_rules.specs.Names.{as_labels}
 use Rattle.ob0_checker.specs.Checking.{Agrees, Decides, Keeps, KeepsAll}
-use Rattle.ob0_typing.specs.Declarations.{block_constructors}
-use Rattle.ob0_typing.specs.Environments.{outermost}
-use Rattle.ob0_bindings.specs.InLabels.{in_labels}
-use Rattle.ob0_typing.specs.WellTyped.{block_fits, fits_over}
+use Rattle.ob0_types_rules.specs.Declarations.{block_constructors}
+use Rattle.ob0_types_rules.specs.Environments.{outermost}
+use Rattle.ob0_types_rules.specs.InLabels.{in_labels}
+use Rattle.ob0_types_rules.specs.WellTyped.{block_fits, fits_over}
 use Rattle.ob0_checker.proofs.Agreement.{agrees_outermost}
-use Rattle.ob0_bindings.specs.Bindings.{block_bindings}
+use Rattle.ob0_types_rules.specs.Bindings.{block_bindings}
 use Rattle.ob0_checker.proofs.KeptProcedures.{keeps_outermost}
 use Rattle.ob0_checker.proofs.deciding.decide.Goals as goal
 

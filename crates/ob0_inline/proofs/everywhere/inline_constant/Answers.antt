@@ -1,7 +1,7 @@
 use Rattle.std.proofs.Common.{◌<◌, Err, length, inl, sym, ap, ◌∙◌, subst}
 use Rattle.ob0_scan.specs.Scanned.{Scanned}
 use Rattle.ob0_tree.specs.Parsed.{named_tree_of}
-use Rattle.ob0_names.specs.Resolution.{Resolution}
+use Rattle.ob0_scope_rules.specs.Resolution.{Resolution}
 use Rattle.ob0_edits.specs.Removed.{span_over}
 use Rattle.ob0_inline.specs.Declarations.{is_inside}
 use Rattle.ob0_inline.specs.Everywhere.{any_hidden}

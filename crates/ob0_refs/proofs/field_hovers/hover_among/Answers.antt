@@ -1,6 +1,6 @@
 use Rattle.std.proofs.Common.{Some, option_map, ap, sym, ◌∙◌}
 use Rattle.ob0_selections.specs.SelectionParts.{selection_in}
-use Rattle.ob0_symbols.specs.KnownTables.{shapes_of}
+use Rattle.ob0_types_table.specs.KnownTables.{shapes_of}
 use Rattle.ob0_refs.specs.Questions.{selection_shown}
 use Rattle.ob0_refs.proofs.Selected.{chosen_shown}
 use Rattle.ob0_refs.proofs.field_hovers.hover_among.Goals as goal

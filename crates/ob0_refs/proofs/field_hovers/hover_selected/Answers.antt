@@ -1,6 +1,6 @@
 use Rattle.std.proofs.Common.{◌≡◌, map, option_map}
-use Rattle.ob0_bindings.proofs.Parts.{ifok_map}
-use Rattle.ob0_symbols.specs.KnownTables.{declared_in, shapes_of}
+use Rattle.ob0_types_rules.proofs.Parts.{ifok_map}
+use Rattle.ob0_types_table.specs.KnownTables.{declared_in, shapes_of}
 use Rattle.ob0_refs.specs.Fields.{module_selections}
 use Rattle.ob0_selections.specs.SelectionParts.{selection_in}
 use Rattle.ob0_refs.specs.Parts.{hover_in}

@@ -3,7 +3,7 @@ use mir.Val.{SFits}
 use Rattle.std.proofs.Common.{◌≡◌, ℕ, ◌+◌, ◌<◌, ◌≤◌, Bool, true, false, List, nat_lt, ap, ◌∙◌, length, get_or, arith, rules, w32, refl}
 use Rattle.std.proofs.lemmas.Bool.{lt-ltb, ltb-false, ltb-true}
 use Rattle.std.proofs.lemmas.List.{get_or_past}
-use Rattle.ob0_machine.specs.Evaluation.{cell_at, fits}
+use Rattle.ob0_run_machine.specs.Evaluation.{cell_at, fits}
 use Rattle.ob0_run.proofs.running.have_numbers.Goals as goal
 
 fits_signed : (z : ℤ) → SFits w32 z → fits z ≡ true

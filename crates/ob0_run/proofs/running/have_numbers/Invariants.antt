@@ -1,5 +1,5 @@
 use Rattle.std.proofs.Common.{◌≡◌, ℕ, ◌<◌, true}
-use Rattle.ob0_machine.specs.Evaluation.{cell_at, fits}
+use Rattle.ob0_run_machine.specs.Evaluation.{cell_at, fits}
 use Rattle.ob0_run.proofs.running.have_numbers.Given as goal
 
 abbrev pub invariant-loop-n : goal.invariant-loop-n

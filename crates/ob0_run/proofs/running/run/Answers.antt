@@ -1,16 +1,16 @@
 use Rattle.std.proofs.Common.{◌≡◌, ℕ, ◌<◌, ◌^◌, ap, ◌∙◌, subst, arith}
 use Rattle.ob0_tree.specs.Parsed.{named_tree_of}
 use Rattle.ob0_tree.specs.Tree.{Tree, module_text}
-use Rattle.ob0_names.specs.Names.{Name, as_labels}
-use Rattle.ob0_names.specs.Resolution.{Resolution}
-use Rattle.ob0_names.specs.Scopes.{numbered}
-use Rattle.ob0_symbols.specs.KnownTables.{declared_in}
-use Rattle.ob0_bindings.specs.Bindings.{declared_object}
-use Rattle.ob0_typing.specs.WellTyped.{WellTyped}
-use Rattle.ob0_machine.specs.View.{program_of}
-use Rattle.ob0_cells.specs.ActivationLaws as law
-use Rattle.ob0_cells.specs.Activations.{ProgramMeans}
-use Rattle.ob0_blocks.specs.Placed.{most}
+use Rattle.ob0_scope_rules.specs.Names.{Name, as_labels}
+use Rattle.ob0_scope_rules.specs.Resolution.{Resolution}
+use Rattle.ob0_scope_rules.specs.Scopes.{numbered}
+use Rattle.ob0_types_table.specs.KnownTables.{declared_in}
+use Rattle.ob0_types_rules.specs.Bindings.{declared_object}
+use Rattle.ob0_types_rules.specs.WellTyped.{WellTyped}
+use Rattle.ob0_run_machine.specs.View.{program_of}
+use Rattle.ob0_run_cells.specs.ActivationLaws as law
+use Rattle.ob0_run_cells.specs.Activations.{ProgramMeans}
+use Rattle.ob0_run_lowering.specs.Placed.{most}
 use Rattle.ob0_run.proofs.Written.{same_items}
 use Rattle.ob0_run.proofs.running.run.Goals as goal
 

@@ -1,6 +1,6 @@
 use Rattle.std.proofs.Common.{◌++◌, refl, ap, ◌∙◌}
 use Rattle.ob0_scope.specs.Marking as listing
-use Rattle.ob0_names.specs.Resolution.{undeclared_at}
+use Rattle.ob0_scope_rules.specs.Resolution.{undeclared_at}
 use Rattle.ob0_tree.specs.Parsed.{tree_of}
 use Rattle.ob0_scope.specs.Tabling.{Visit, started, visit_module}
 use Rattle.ob0_scope.specs.Written.{as_in}

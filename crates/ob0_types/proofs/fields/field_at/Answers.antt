@@ -3,9 +3,9 @@ use Rattle.std.specs.Prelude.{IfSome}
 use Rattle.ob0_scan.specs.Scanned.{Scanned}
 use Rattle.ob0_tree.specs.Order.{IsIdentifier}
 use Rattle.ob0_tree.specs.Parsed.{IsParsed}
-use Rattle.ob0_names.specs.Resolution.{Resolution}
-use Rattle.ob0_fields.specs.Identifiers.{AreInTextOrder, field_at, field_identifiers, field_on}
-use Rattle.ob0_fields.proofs.FieldTokens.{field_stands, fields_ascend, fields_stand}
+use Rattle.ob0_scope_rules.specs.Resolution.{Resolution}
+use Rattle.ob0_types_fields.specs.Identifiers.{AreInTextOrder, field_at, field_identifiers, field_on}
+use Rattle.ob0_types_fields.proofs.FieldTokens.{field_stands, fields_ascend, fields_stand}
 use Rattle.ob0_types.proofs.fields.field_at.Goals as goal
 
 -- the fields of a module are in text order

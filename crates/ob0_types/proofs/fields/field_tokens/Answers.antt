@@ -1,8 +1,8 @@
 use Rattle.std.proofs.Common.{List, ℕ, length, ◌∙◌, ap, sym, subst}
 use Rattle.ob0_tree.specs.Order.{AreIdentifiers, Ascending}
-use Rattle.ob0_names.specs.Resolution.{Resolution}
-use Rattle.ob0_fields.specs.Identifiers.{field_identifiers, tokens_among}
-use Rattle.ob0_fields.proofs.FieldTokens.{fields_ascend, fields_stand, kept_ascend, kept_stand}
+use Rattle.ob0_scope_rules.specs.Resolution.{Resolution}
+use Rattle.ob0_types_fields.specs.Identifiers.{field_identifiers, tokens_among}
+use Rattle.ob0_types_fields.proofs.FieldTokens.{fields_ascend, fields_stand, kept_ascend, kept_stand}
 use Rattle.ob0_types.proofs.fields.field_tokens.Goals as goal
 
 pub returns-clause-value : goal.returns-clause-value

@@ -1,12 +1,12 @@
 use Rattle.std.proofs.Common.{◌∷◌, length, Some, None, sym, ap, subst, arith}
 use Rattle.ob0_tree.specs.View.{section_of, type_of}
 use Rattle.ob0_checker.specs.Checking.{DeclaresSection, Heading, Keeps, parameters_of}
-use Rattle.ob0_bindings.specs.InLabels.{in_labels}
-use Rattle.ob0_symbols.specs.Tables.{IsMade}
+use Rattle.ob0_types_rules.specs.InLabels.{in_labels}
+use Rattle.ob0_types_table.specs.Tables.{IsMade}
 use Rattle.ob0_checker.proofs.Declared.{Behind}
 use Rattle.ob0_checker.proofs.Sections.{section_made, section_none, section_some}
-use Rattle.ob0_names.specs.Names.{Label}
-use Rattle.ob0_typing.specs.WellTyped.{TypeEnvironment, bind_typed}
+use Rattle.ob0_scope_rules.specs.Names.{Label}
+use Rattle.ob0_types_rules.specs.WellTyped.{TypeEnvironment, bind_typed}
 use Rattle.ob0_checker.proofs.KeptProcedures.{section_keeps}
 use Rattle.ob0_checker.proofs.deciding.Headed.section.Goals as goal
 

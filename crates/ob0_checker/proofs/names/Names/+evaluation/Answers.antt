@@ -8,14 +8,14 @@ use Rattle.ob0_tree.specs.declared.tree.Term.{out-Term}
 use Rattle.ob0_tree.specs.Tree.{compares, one, relates}
 use Rattle.ob0_tree.specs.View.{items_of, addend_of, multiplier_of, term_of, factor_of, simple_of}
 use Rattle.ob0_checker.specs.Constants.{constants_in, value_added}
-use Rattle.ob0_symbols.specs.Operators.{product_value, sum_value}
-use Rattle.ob0_typing.specs.Expressions.{evaluate, evaluate_addends, evaluate_factor, evaluate_multipliers, evaluate_simple, evaluate_term}
-use Rattle.ob0_bindings.specs.InLabels.{in_labels}
-use Rattle.ob0_typing.specs.Selected.{both}
-use Rattle.ob0_typing.specs.Typing.{given_value}
+use Rattle.ob0_types_table.specs.Operators.{product_value, sum_value}
+use Rattle.ob0_types_rules.specs.Expressions.{evaluate, evaluate_addends, evaluate_factor, evaluate_multipliers, evaluate_simple, evaluate_term}
+use Rattle.ob0_types_rules.specs.InLabels.{in_labels}
+use Rattle.ob0_types_rules.specs.Selected.{both}
+use Rattle.ob0_types_rules.specs.Typing.{given_value}
 use Rattle.ob0_checker.proofs.Chains.{chain_ends, chain_goes_on}
 use Rattle.ob0_checker.proofs.Evaluated.{added_values_chain, alone_valued, multiplied_values_chain, negation_valued, related_valued, simple_valued, term_valued}
-use Rattle.ob0_typing.proofs.TreeParts.{addend_parts, expression_alone, expression_related}
+use Rattle.ob0_types_rules.proofs.TreeParts.{addend_parts, expression_alone, expression_related}
 use Rattle.ob0_values.specs.Scalars.{scalar_value}
 use Rattle.ob0_values.specs.Values.{negated, relate, signed}
 use Rattle.ob0_checker.proofs.names.Names.+evaluation.Goals as goal

@@ -1,8 +1,8 @@
 use Rattle.std.proofs.Common.{[], option_map}
 use Rattle.ob0_tree.specs.View.{addend_of, multiplier_of}
 use Rattle.ob0_checker.specs.Constants.{constants_in}
-use Rattle.ob0_typing.specs.Expressions.{evaluate_addends, evaluate_multipliers}
-use Rattle.ob0_typing.specs.Typing.{given_value}
+use Rattle.ob0_types_rules.specs.Expressions.{evaluate_addends, evaluate_multipliers}
+use Rattle.ob0_types_rules.specs.Typing.{given_value}
 use Rattle.ob0_checker.proofs.Chains.{Chained}
 use Rattle.ob0_values.specs.Scalars.{scalar_value}
 use Rattle.ob0_checker.proofs.names.Names.+evaluation.Given as goal

@@ -7,15 +7,15 @@ use Rattle.ob0_tree.specs.declared.tree.Simple.{out-Simple}
 use Rattle.ob0_tree.specs.declared.tree.Term.{out-Term}
 use Rattle.ob0_tree.specs.Tree.{compares, one, relates}
 use Rattle.ob0_tree.specs.View.{items_of, addend_of, multiplier_of, selector_of, term_of, factor_of, simple_of}
-use Rattle.ob0_bindings.specs.InLabels.{in_labels, label_in}
+use Rattle.ob0_types_rules.specs.InLabels.{in_labels, label_in}
 use Rattle.ob0_checker.specs.Constants.{meaning_in}
-use Rattle.ob0_symbols.specs.KnownTables.{shapes_of}
-use Rattle.ob0_typing.specs.Selected.{both, type_added}
-use Rattle.ob0_symbols.specs.Tables.{type_shape}
-use Rattle.ob0_typing.specs.Typing.{add_type, complement_type, multiply_type, relation_type, sign_type, type_at, type_of, type_of_addends, type_of_factor, type_of_multipliers, type_of_simple, type_of_term}
+use Rattle.ob0_types_table.specs.KnownTables.{shapes_of}
+use Rattle.ob0_types_rules.specs.Selected.{both, type_added}
+use Rattle.ob0_types_table.specs.Tables.{type_shape}
+use Rattle.ob0_types_rules.specs.Typing.{add_type, complement_type, multiply_type, relation_type, sign_type, type_at, type_of, type_of_addends, type_of_factor, type_of_multipliers, type_of_simple, type_of_term}
 use Rattle.ob0_checker.proofs.Chains.{chain_ends, chain_goes_on}
 use Rattle.ob0_checker.proofs.Judged.{added_chain, added_step, alone_typed, designator_typed, multiplied_chain, multiplied_step, negation_typed, related_typed, selected_chain, simple_typed, term_typed}
-use Rattle.ob0_typing.proofs.TreeParts.{addend_parts, expression_alone, expression_related}
+use Rattle.ob0_types_rules.proofs.TreeParts.{addend_parts, expression_alone, expression_related}
 use Rattle.ob0_checker.proofs.names.Names.+expressions.Goals as goal
 
 pub type_of-returns-in-None : goal.type_of-returns-in-None

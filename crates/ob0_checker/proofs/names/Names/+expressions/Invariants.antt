@@ -1,9 +1,9 @@
 use Rattle.std.proofs.Common.{option_map}
 use Rattle.ob0_tree.specs.View.{addend_of, multiplier_of, selector_of}
 use Rattle.ob0_checker.specs.Constants.{meaning_in}
-use Rattle.ob0_symbols.specs.KnownTables.{shapes_of}
-use Rattle.ob0_symbols.specs.Tables.{type_shape}
-use Rattle.ob0_typing.specs.Typing.{type_at, type_of_addends, type_of_multipliers}
+use Rattle.ob0_types_table.specs.KnownTables.{shapes_of}
+use Rattle.ob0_types_table.specs.Tables.{type_shape}
+use Rattle.ob0_types_rules.specs.Typing.{type_at, type_of_addends, type_of_multipliers}
 use Rattle.ob0_checker.proofs.Chains.{Chained}
 use Rattle.ob0_checker.proofs.names.Names.+expressions.Given as goal
 

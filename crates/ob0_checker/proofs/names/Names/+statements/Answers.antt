@@ -2,10 +2,10 @@ use Rattle.std.proofs.Common.{◌&&◌, sym, ap, ◌∙◌}
 use Rattle.ob0_tree.proofs.Viewed.{if_parts, repeat_made, while_made}
 use Rattle.ob0_tree.specs.declared.tree.If.{out-If}
 use Rattle.ob0_tree.specs.View.{else_in, elsif_of, expression_of, items_of, sequence_listed, statement_of}
-use Rattle.ob0_bindings.specs.InLabels.{in_labels}
+use Rattle.ob0_types_rules.specs.InLabels.{in_labels}
 use Rattle.ob0_checker.specs.Constants.{meaning_in}
-use Rattle.ob0_typing.specs.WellTyped.{condition_fits, else_fits, elsifs_fit, sequence_fits, statement_fits}
-use Rattle.ob0_typing.proofs.AllFit.{fit_ends, fit_goes_on, fit_stops}
+use Rattle.ob0_types_rules.specs.WellTyped.{condition_fits, else_fits, elsifs_fit, sequence_fits, statement_fits}
+use Rattle.ob0_types_rules.proofs.AllFit.{fit_ends, fit_goes_on, fit_stops}
 use Rattle.ob0_checker.proofs.FittingStatements.{both_fit, elsifs_each, empty_fits, first_fails, branches_fit, no_else, repeat_fits, sequence_each, some_else, while_fits}
 use Rattle.ob0_checker.proofs.names.Names.+statements.Goals as goal
 

@@ -1,8 +1,8 @@
 use Rattle.ob0_tree.specs.View.{elsif_of, items_of, sequence_listed}
-use Rattle.ob0_bindings.specs.InLabels.{in_labels}
+use Rattle.ob0_types_rules.specs.InLabels.{in_labels}
 use Rattle.ob0_checker.specs.Constants.{meaning_in}
-use Rattle.ob0_typing.specs.WellTyped.{elsifs_fit, sequence_fits}
-use Rattle.ob0_typing.proofs.AllFit.{FitSoFar}
+use Rattle.ob0_types_rules.specs.WellTyped.{elsifs_fit, sequence_fits}
+use Rattle.ob0_types_rules.proofs.AllFit.{FitSoFar}
 use Rattle.ob0_checker.proofs.names.Names.+statements.Given as goal
 
 abbrev pub invariant-sequence_fits-loop-s : goal.invariant-sequence_fits-loop-s

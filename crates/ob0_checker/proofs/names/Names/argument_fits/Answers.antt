@@ -1,10 +1,10 @@
 use Rattle.std.proofs.Common.{Some, sym, ap, ◌∙◌}
 use Rattle.ob0_tree.specs.View.{expression_of}
-use Rattle.ob0_bindings.specs.InLabels.{in_labels}
+use Rattle.ob0_types_rules.specs.InLabels.{in_labels}
 use Rattle.ob0_checker.specs.Constants.{meaning_in}
-use Rattle.ob0_symbols.specs.KnownTables.{shapes_of}
-use Rattle.ob0_symbols.specs.Tables.{type_shape}
-use Rattle.ob0_typing.specs.WellTyped.{agree}
+use Rattle.ob0_types_table.specs.KnownTables.{shapes_of}
+use Rattle.ob0_types_table.specs.Tables.{type_shape}
+use Rattle.ob0_types_rules.specs.WellTyped.{agree}
 use Rattle.ob0_checker.proofs.FittingStatements.{placed_fits, valued_fits}
 use Rattle.ob0_checker.proofs.names.Names.argument_fits.Goals as goal
 

@@ -1,11 +1,11 @@
 use Rattle.std.proofs.Common.{◌≡◌, ◌+◌, [], ◌∷◌, ◌++◌, length, length-append, map, min, rules, sym, ◌∙◌, subst, arith}
 use Rattle.std.proofs.lemmas.Slice.Zip.{zip_end, zip_turn}
-use Rattle.ob0_bindings.specs.Designators.{all_in_labels}
+use Rattle.ob0_types_rules.specs.Designators.{all_in_labels}
 use Rattle.ob0_checker.specs.Constants.{meaning_in}
-use Rattle.ob0_symbols.specs.KnownTables.{shapes_of}
-use Rattle.ob0_symbols.specs.Tables.{formal_in}
-use Rattle.ob0_typing.specs.WellTyped.{arguments_fit}
-use Rattle.ob0_typing.proofs.AllFit.{PairSoFar, pairs_differ, pairs_end, pairs_go_on, pairs_stop}
+use Rattle.ob0_types_table.specs.KnownTables.{shapes_of}
+use Rattle.ob0_types_table.specs.Tables.{formal_in}
+use Rattle.ob0_types_rules.specs.WellTyped.{arguments_fit}
+use Rattle.ob0_types_rules.proofs.AllFit.{PairSoFar, pairs_differ, pairs_end, pairs_go_on, pairs_stop}
 use Rattle.ob0_checker.proofs.FittingStatements.{argument_pairs}
 use Rattle.ob0_checker.proofs.names.Names.arguments_fit.Goals as goal
 

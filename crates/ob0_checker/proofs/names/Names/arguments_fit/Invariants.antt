@@ -1,10 +1,10 @@
 use Rattle.std.proofs.Common.{length, map}
-use Rattle.ob0_bindings.specs.Designators.{all_in_labels}
+use Rattle.ob0_types_rules.specs.Designators.{all_in_labels}
 use Rattle.ob0_checker.specs.Constants.{meaning_in}
-use Rattle.ob0_symbols.specs.KnownTables.{shapes_of}
-use Rattle.ob0_symbols.specs.Tables.{formal_in}
-use Rattle.ob0_typing.specs.WellTyped.{arguments_fit}
-use Rattle.ob0_typing.proofs.AllFit.{PairSoFar}
+use Rattle.ob0_types_table.specs.KnownTables.{shapes_of}
+use Rattle.ob0_types_table.specs.Tables.{formal_in}
+use Rattle.ob0_types_rules.specs.WellTyped.{arguments_fit}
+use Rattle.ob0_types_rules.proofs.AllFit.{PairSoFar}
 use Rattle.ob0_checker.proofs.names.Names.arguments_fit.Given as goal
 
 abbrev pub invariant-loop-formal : goal.invariant-loop-formal

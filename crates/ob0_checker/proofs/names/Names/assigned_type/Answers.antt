@@ -1,7 +1,7 @@
 use Rattle.std.proofs.Common.{◌∙◌}
 use Rattle.ob0_tree.specs.declared.tree.Designator.{out-Designator}
-use Rattle.ob0_bindings.specs.InLabels.{in_labels, label_in}
-use Rattle.ob0_typing.specs.Selected.{selectors_in}
+use Rattle.ob0_types_rules.specs.InLabels.{in_labels, label_in}
+use Rattle.ob0_types_rules.specs.Selected.{selectors_in}
 use Rattle.ob0_checker.proofs.FittingStatements.{none_assigned, some_assigned}
 use Rattle.ob0_checker.proofs.names.Names.assigned_type.Goals as goal
 

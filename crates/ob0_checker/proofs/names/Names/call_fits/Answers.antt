@@ -1,13 +1,13 @@
 use Rattle.std.proofs.Common.{map, [], sym, ap, ◌∙◌}
 use Rattle.ob0_tree.specs.View.{arguments_of}
-use Rattle.ob0_typing.specs.Arguments.{arguments_listed}
-use Rattle.ob0_bindings.specs.Designators.{all_in_labels}
-use Rattle.ob0_bindings.specs.InLabels.{in_labels, label_in}
+use Rattle.ob0_types_rules.specs.Arguments.{arguments_listed}
+use Rattle.ob0_types_rules.specs.Designators.{all_in_labels}
+use Rattle.ob0_types_rules.specs.InLabels.{in_labels, label_in}
 use Rattle.ob0_checker.specs.Constants.{meaning_in}
-use Rattle.ob0_symbols.specs.KnownTables.{shapes_of}
-use Rattle.ob0_symbols.specs.Tables.{formal_in}
-use Rattle.ob0_typing.specs.WellTyped.{call_fits, signature_of}
-use Rattle.ob0_bindings.proofs.Parts.{all_listed}
+use Rattle.ob0_types_table.specs.KnownTables.{shapes_of}
+use Rattle.ob0_types_table.specs.Tables.{formal_in}
+use Rattle.ob0_types_rules.specs.WellTyped.{call_fits, signature_of}
+use Rattle.ob0_types_rules.proofs.Parts.{all_listed}
 use Rattle.ob0_checker.proofs.FittingStatements.{called_fits, none_fits, nothing_given, some_fits}
 use Rattle.ob0_checker.proofs.names.Names.call_fits.Goals as goal
 

@@ -1,8 +1,8 @@
 use Rattle.std.proofs.Common.{sym, ◌∙◌}
 use Rattle.ob0_tree.specs.View.{expression_of}
-use Rattle.ob0_bindings.specs.InLabels.{in_labels}
-use Rattle.ob0_symbols.specs.KnownTables.{shapes_of}
-use Rattle.ob0_symbols.specs.Tables.{type_shape}
+use Rattle.ob0_types_rules.specs.InLabels.{in_labels}
+use Rattle.ob0_types_table.specs.KnownTables.{shapes_of}
+use Rattle.ob0_types_table.specs.Tables.{type_shape}
 use Rattle.ob0_checker.proofs.ConstantValues.{no_constant, some_constant}
 use Rattle.ob0_checker.proofs.names.Names.constant_value.Goals as goal
 

@@ -1,6 +1,6 @@
 use Rattle.std.proofs.Common.{◌≡◌, ◌<◌, length, sym, ◌∙◌, arith}
 use Rattle.std.proofs.lemmas.Bool.Decides.{nat_tests}
-use Rattle.ob0_bindings.specs.InLabels.{label_in}
+use Rattle.ob0_types_rules.specs.InLabels.{label_in}
 use Rattle.ob0_checker.proofs.Evaluated.{name_valued, parts_valued}
 use Rattle.ob0_checker.proofs.names.Names.evaluate_name.Goals as goal
 

@@ -1,8 +1,8 @@
 use Rattle.std.proofs.Common.{option_map, sym, ap, ◌∙◌}
 use Rattle.ob0_tree.specs.View.{expression_of}
 use Rattle.ob0_checker.specs.Constants.{meaning_in}
-use Rattle.ob0_typing.specs.WellTyped.{variable_type}
-use Rattle.ob0_bindings.proofs.DesignatedAlone.{labelled_designator, parts_in}
+use Rattle.ob0_types_rules.specs.WellTyped.{variable_type}
+use Rattle.ob0_types_rules.proofs.DesignatedAlone.{labelled_designator, parts_in}
 use Rattle.ob0_checker.proofs.FittingStatements.{none_passed}
 use Rattle.ob0_checker.proofs.names.Names.passed_type.Goals as goal
 

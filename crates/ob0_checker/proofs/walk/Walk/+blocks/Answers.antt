@@ -2,17 +2,17 @@ use Rattle.std.proofs.Common.{IfSome, Some, sym, ap, ◌∙◌, subst}
 use Rattle.ob0_tree.specs.declared.tree.Block.{out-Block}
 use Rattle.ob0_tree.specs.declared.tree.Procedure.{out-Procedure}
 use Rattle.ob0_tree.specs.View.{block_of, body_of, procedure_of}
-use Rattle.ob0_names.specs.Names.{Label, as_labels}
-use Rattle.ob0_names.specs.Parts.{procedure_name}
+use Rattle.ob0_scope_rules.specs.Names.{Label, as_labels}
+use Rattle.ob0_scope_rules.specs.Parts.{procedure_name}
 use Rattle.ob0_checker.specs.Checking.{Agrees, Decides, Declares, DeclaresHeading, Grows, Heading, Keeps, KeepsAll, KeepsHeading, parameters_in}
-use Rattle.ob0_bindings.specs.Declaring.{declare_block}
-use Rattle.ob0_typing.specs.Declarations.{block_constructors, procedure_constructors, procedures_constructors}
-use Rattle.ob0_bindings.specs.InLabels.{in_labels}
-use Rattle.ob0_typing.specs.WellTyped.{TypeEnvironment, bind_typed, block_fits}
+use Rattle.ob0_types_rules.specs.Declaring.{declare_block}
+use Rattle.ob0_types_rules.specs.Declarations.{block_constructors, procedure_constructors, procedures_constructors}
+use Rattle.ob0_types_rules.specs.InLabels.{in_labels}
+use Rattle.ob0_types_rules.specs.WellTyped.{TypeEnvironment, bind_typed, block_fits}
 use Rattle.ob0_checker.proofs.Agreement.{follows_on}
 use Rattle.ob0_checker.proofs.Procedures.{DeclaresBlock, fitting_block, procedure_fitting, procedure_given, procedure_unfit, procedure_unheaded, procedures_left, procedures_walk, returns_to, stopped_block, undeclared_block, unfit_block}
 use Rattle.ob0_checker.proofs.Walked.{walked_begins, walked_on}
-use Rattle.ob0_bindings.specs.Bindings.{block_bindings, procedure_bindings}
+use Rattle.ob0_types_rules.specs.Bindings.{block_bindings, procedure_bindings}
 use Rattle.ob0_checker.proofs.KeptProcedures.{block_keeps, procedure_keeps, procedures_keep_begin, procedures_keep_on}
 use Rattle.ob0_checker.proofs.walk.Walk.+blocks.Goals as goal
 

@@ -1,6 +1,6 @@
 use Rattle.ob0_tree.specs.declared.tree.Block.{out-Block}
 use Rattle.ob0_tree.specs.View.{body_of, procedure_of}
-use Rattle.ob0_typing.specs.Declarations.{procedures_constructors}
+use Rattle.ob0_types_rules.specs.Declarations.{procedures_constructors}
 use Rattle.ob0_checker.proofs.KeptProcedures.{ProceduresKeep}
 use Rattle.ob0_checker.proofs.Procedures.{procedures_left}
 use Rattle.ob0_checker.proofs.Walked.{Walked}

@@ -1,5 +1,5 @@
 use Rattle.std.proofs.Common.{◌≡◌, ◌<◌, [], ◌∷◌, ◌++◌, length, sym, ap, ◌∙◌, arith}
-use Rattle.ob0_symbols.specs.KnownTables.{before_all, seen_object}
+use Rattle.ob0_types_table.specs.KnownTables.{before_all, seen_object}
 use Rattle.ob0_checker.proofs.Agreement.{goes_back_more, held-more, held-rest}
 use Rattle.ob0_checker.proofs.walk.Walk.back_to.Goals as goal
 

@@ -1,6 +1,6 @@
 use Rattle.std.proofs.Common.{◌≡◌, ℕ, List, ◌++◌, All, length}
-use Rattle.ob0_symbols.specs.declared.known.Shadowed.{Shadowed}
-use Rattle.ob0_symbols.specs.KnownTables.{CanBePutBack, before_all, declared_in, seen_object}
+use Rattle.ob0_types_table.specs.declared.known.Shadowed.{Shadowed}
+use Rattle.ob0_types_table.specs.KnownTables.{CanBePutBack, before_all, declared_in, seen_object}
 use Rattle.ob0_checker.proofs.walk.Walk.back_to.Given as goal
 
 abbrev pub invariant-loop-bound : goal.invariant-loop-bound

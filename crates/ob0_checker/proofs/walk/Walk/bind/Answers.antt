@@ -1,9 +1,9 @@
 use Rattle.std.proofs.Common.{◌≡◌, ℕ, Some, None, IfSome, [], ◌∷◌, ◌++◌, length, sym, ap, ◌∙◌, subst, arith}
-use Rattle.ob0_names.specs.Resolution.{ordinal_in}
-use Rattle.ob0_symbols.specs.declared.known.Shadowed.{Shadowed}
+use Rattle.ob0_scope_rules.specs.Resolution.{ordinal_in}
+use Rattle.ob0_types_table.specs.declared.known.Shadowed.{Shadowed}
 use Rattle.ob0_checker.specs.Checking.{Agrees, Keeps, Walking}
-use Rattle.ob0_symbols.specs.KnownTables.{declared_in, put_at, seen_object, shapes_of}
-use Rattle.ob0_symbols.specs.Tables.{ObjectIsMade, object_in}
+use Rattle.ob0_types_table.specs.KnownTables.{declared_in, put_at, seen_object, shapes_of}
+use Rattle.ob0_types_table.specs.Tables.{ObjectIsMade, object_in}
 use Rattle.ob0_checker.proofs.Agreement.{agrees_bound, agrees_unbound, follows_bound, held-push, label_bound, label_unbound}
 use Rattle.ob0_checker.proofs.Kept.{keeps_bound}
 use Rattle.ob0_checker.proofs.walk.Walk.bind.Goals as goal

@@ -1,9 +1,9 @@
 use Rattle.std.proofs.Common.{sym, ap, ◌∙◌}
 use Rattle.ob0_tree.specs.View.{body_of, sequence_in}
-use Rattle.ob0_names.specs.Names.{as_labels}
-use Rattle.ob0_bindings.specs.InLabels.{in_labels}
-use Rattle.ob0_symbols.specs.KnownTables.{known_meaning}
-use Rattle.ob0_typing.specs.WellTyped.{body_fits, sequence_fits}
+use Rattle.ob0_scope_rules.specs.Names.{as_labels}
+use Rattle.ob0_types_rules.specs.InLabels.{in_labels}
+use Rattle.ob0_types_table.specs.KnownTables.{known_meaning}
+use Rattle.ob0_types_rules.specs.WellTyped.{body_fits, sequence_fits}
 use Rattle.ob0_checker.proofs.walk.Walk.body_fits.Goals as goal
 
 pub returns-in-None : goal.returns-in-None

@@ -1,8 +1,8 @@
 use Rattle.std.proofs.Common.{ap, ◌∙◌}
 use Rattle.ob0_tree.specs.View.{expression_of}
-use Rattle.ob0_bindings.specs.InLabels.{in_labels}
-use Rattle.ob0_symbols.specs.KnownTables.{known_meaning}
-use Rattle.ob0_typing.specs.Typing.{constant_value}
+use Rattle.ob0_types_rules.specs.InLabels.{in_labels}
+use Rattle.ob0_types_table.specs.KnownTables.{known_meaning}
+use Rattle.ob0_types_rules.specs.Typing.{constant_value}
 use Rattle.ob0_checker.proofs.Declared.{constant_none, constant_some}
 use Rattle.ob0_checker.proofs.Kept.{constant_grows}
 use Rattle.ob0_checker.proofs.walk.Walk.constant.Goals as goal

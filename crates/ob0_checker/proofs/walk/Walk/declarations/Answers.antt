@@ -3,15 +3,15 @@ use Rattle.ob0_tree.proofs.Viewed.{block_parts}
 use Rattle.ob0_tree.specs.declared.tree.Block.{out-Block}
 use Rattle.ob0_tree.specs.Tree.{declares, has_body}
 use Rattle.ob0_tree.specs.View.{body_of, constants_of, items_of, procedure_of, types_of, variables_of}
-use Rattle.ob0_names.specs.Names.{as_labels}
-use Rattle.ob0_names.specs.Parts.{block_types, block_variables, section_constants, section_types, section_variables}
+use Rattle.ob0_scope_rules.specs.Names.{as_labels}
+use Rattle.ob0_scope_rules.specs.Parts.{block_types, block_variables, section_constants, section_types, section_variables}
 use Rattle.ob0_checker.specs.Checking.{Declares, Grows}
-use Rattle.ob0_bindings.specs.Declaring.{declare_block}
-use Rattle.ob0_typing.specs.Declarations.{declare_constants, declare_types, types_constructors, variables_constructors}
-use Rattle.ob0_bindings.specs.InLabels.{in_labels}
-use Rattle.ob0_typing.specs.WellTyped.{declare_typed}
+use Rattle.ob0_types_rules.specs.Declaring.{declare_block}
+use Rattle.ob0_types_rules.specs.Declarations.{declare_constants, declare_types, types_constructors, variables_constructors}
+use Rattle.ob0_types_rules.specs.InLabels.{in_labels}
+use Rattle.ob0_types_rules.specs.WellTyped.{declare_typed}
 use Rattle.ob0_checker.proofs.Procedures.{block_declared, block_without_constants, block_without_types}
-use Rattle.ob0_bindings.proofs.Parts.{ifok_map}
+use Rattle.ob0_types_rules.proofs.Parts.{ifok_map}
 use Rattle.ob0_checker.proofs.Kept.{block_grows, some_map}
 use Rattle.ob0_checker.proofs.walk.Walk.declarations.Goals as goal
 

@@ -1,9 +1,9 @@
 use Rattle.std.proofs.Common.{option_map, sym, ap, ◌∙◌, subst}
 use Rattle.ob0_tree.specs.View.{type_of}
-use Rattle.ob0_bindings.specs.InLabels.{in_labels}
-use Rattle.ob0_symbols.specs.KnownTables.{known_meaning, shapes_of}
-use Rattle.ob0_symbols.specs.Tables.{type_shape}
-use Rattle.ob0_typing.specs.Typing.{denoted}
+use Rattle.ob0_types_rules.specs.InLabels.{in_labels}
+use Rattle.ob0_types_table.specs.KnownTables.{known_meaning, shapes_of}
+use Rattle.ob0_types_table.specs.Tables.{type_shape}
+use Rattle.ob0_types_rules.specs.Typing.{denoted}
 use Rattle.ob0_checker.specs.Checking.{Keeps}
 use Rattle.ob0_checker.proofs.Kept.{keeps_more}
 use Rattle.ob0_checker.proofs.walk.Walk.denote.Goals as goal

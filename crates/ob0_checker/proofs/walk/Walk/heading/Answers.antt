@@ -2,12 +2,12 @@ use Rattle.std.proofs.Common.{◌≡◌, ℕ, All, IfSome, Some, length, map, sy
 use Rattle.std.proofs.lemmas.List.Elements.{All-map}
 use Rattle.ob0_tree.specs.declared.tree.Procedure.{out-Procedure}
 use Rattle.ob0_tree.specs.View.{formals_of}
-use Rattle.ob0_names.specs.Parts.{formal_sections}
-use Rattle.ob0_symbols.specs.declared.known.Formal as formal
+use Rattle.ob0_scope_rules.specs.Parts.{formal_sections}
+use Rattle.ob0_types_table.specs.declared.known.Formal as formal
 use Rattle.ob0_checker.specs.declared.walk.Parameter.{Parameter}
 use Rattle.ob0_checker.specs.Checking.{DeclaresSections, Heading, KeepsParameters}
-use Rattle.ob0_bindings.specs.InLabels.{in_labels}
-use Rattle.ob0_symbols.specs.Tables.{IsMade}
+use Rattle.ob0_types_rules.specs.InLabels.{in_labels}
+use Rattle.ob0_types_table.specs.Tables.{IsMade}
 use Rattle.ob0_checker.proofs.Procedures.{heading_none, heading_some, returns_to}
 use Rattle.ob0_checker.proofs.KeptProcedures.{heading_keeps}
 use Rattle.ob0_checker.proofs.walk.Walk.heading.Goals as goal

@@ -1,5 +1,5 @@
 use Rattle.std.proofs.Common.{false}
-use Rattle.ob0_symbols.specs.declared.types.TypeId.TheVariants as type
+use Rattle.ob0_types_table.specs.declared.types.TypeId.TheVariants as type
 use Rattle.ob0_checker.specs.declared.walk.Parameter.{Parameter}
 use Rattle.ob0_checker.specs.Checking.{Agrees, Keeps}
 use Rattle.ob0_checker.proofs.Declared.{binds_begin, binds_read, typed_bound}

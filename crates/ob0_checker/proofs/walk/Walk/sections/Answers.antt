@@ -1,9 +1,9 @@
 use Rattle.std.proofs.Common.{IfSome, sym, subst}
 use Rattle.ob0_tree.specs.View.{section_of}
 use Rattle.ob0_checker.specs.Checking.{DeclaresSection, Keeps, KeepsParameters, parameters_of}
-use Rattle.ob0_bindings.specs.InLabels.{in_labels}
-use Rattle.ob0_names.specs.Names.{Label}
-use Rattle.ob0_typing.specs.WellTyped.{TypeEnvironment, bind_typed}
+use Rattle.ob0_types_rules.specs.InLabels.{in_labels}
+use Rattle.ob0_scope_rules.specs.Names.{Label}
+use Rattle.ob0_types_rules.specs.WellTyped.{TypeEnvironment, bind_typed}
 use Rattle.ob0_checker.proofs.Sections.{Typing, typing_begins, typing_ends, typing_on, typing_stops}
 use Rattle.ob0_checker.proofs.walk.Walk.sections.Goals as goal
 

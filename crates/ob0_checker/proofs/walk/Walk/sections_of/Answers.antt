@@ -1,8 +1,8 @@
 use Rattle.std.proofs.Common.{IfOk, sym, subst}
 use Rattle.ob0_tree.specs.View.{formals_of, further_section_of, items_of}
-use Rattle.ob0_names.specs.Parts.{formal_sections}
+use Rattle.ob0_scope_rules.specs.Parts.{formal_sections}
 use Rattle.ob0_checker.specs.Checking.{DeclaresSections}
-use Rattle.ob0_bindings.specs.InLabels.{in_labels}
+use Rattle.ob0_types_rules.specs.InLabels.{in_labels}
 use Rattle.ob0_checker.proofs.Sections.{sections_listed}
 use Rattle.ob0_checker.proofs.walk.Walk.sections_of.Goals as goal
 

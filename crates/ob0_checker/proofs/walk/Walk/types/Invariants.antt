@@ -1,5 +1,5 @@
 use Rattle.ob0_tree.specs.View.{type_declaration_of}
-use Rattle.ob0_typing.specs.Declarations.{types_constructors}
+use Rattle.ob0_types_rules.specs.Declarations.{types_constructors}
 use Rattle.ob0_checker.proofs.Kept.{Growing}
 use Rattle.ob0_checker.proofs.Walked.{Walked, types_given}
 use Rattle.ob0_checker.proofs.walk.Walk.types.Given as goal

@@ -1,10 +1,10 @@
 use Rattle.std.proofs.Common.{sym, subst, IfOk, IfSome, Some}
 use Rattle.ob0_tree.specs.View.{types_of, type_declaration_of, items_of}
-use Rattle.ob0_names.specs.Names.{as_labels}
-use Rattle.ob0_names.specs.Parts.{section_types}
+use Rattle.ob0_scope_rules.specs.Names.{as_labels}
+use Rattle.ob0_scope_rules.specs.Parts.{section_types}
 use Rattle.ob0_checker.specs.Checking.{Declares, Grows}
-use Rattle.ob0_typing.specs.Declarations.{declare_types, types_constructors}
-use Rattle.ob0_bindings.specs.InLabels.{in_labels}
+use Rattle.ob0_types_rules.specs.Declarations.{declare_types, types_constructors}
+use Rattle.ob0_types_rules.specs.InLabels.{in_labels}
 use Rattle.ob0_checker.proofs.Declared.{declared_nothing}
 use Rattle.ob0_checker.proofs.Walked.{types_ended}
 use Rattle.ob0_checker.proofs.Kept.{grows_nothing}

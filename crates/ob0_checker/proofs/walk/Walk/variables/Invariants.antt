@@ -1,5 +1,5 @@
 use Rattle.ob0_tree.specs.View.{variable_of}
-use Rattle.ob0_typing.specs.Declarations.{variables_constructors}
+use Rattle.ob0_types_rules.specs.Declarations.{variables_constructors}
 use Rattle.ob0_checker.proofs.Kept.{Growing}
 use Rattle.ob0_checker.proofs.Walked.{Walked, variables_given}
 use Rattle.ob0_checker.proofs.walk.Walk.variables.Given as goal

@@ -1,7 +1,7 @@
 use Rattle.std.proofs.Common.{◌≡◌, ◌++◌, refl, ap, ◌∙◌, get_or}
 use Rattle.ob0_scan.specs.declared.fault.Code.TheVariants as code
 use Rattle.ob0_scan.specs.declared.lexeme.Span.{Span}
-use Rattle.ob0_names.specs.DeclaredTwice.{unless}
+use Rattle.ob0_scope_rules.specs.DeclaredTwice.{unless}
 use Rattle.ob0_scope.proofs.Checking.{all_seen, sees_on}
 use Rattle.ob0_scope.proofs.checks.Checks.distinct.Goals as goal
 

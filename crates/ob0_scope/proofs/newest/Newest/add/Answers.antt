@@ -1,7 +1,7 @@
 use Rattle.std.proofs.Common.{◌≡◌, if◌then◌else◌, ◌++◌, List, [], ◌∷◌, None, Some, length, sym, ap, arith, vec_len, ◌∙◌, subst}
 use Rattle.ob0_scope.specs.declared.newest.Entry.{Entry}
 use Rattle.ob0_scope.specs.Keys.{Key}
-use Rattle.ob0_names.specs.Names.{same_name}
+use Rattle.ob0_scope_rules.specs.Names.{same_name}
 use Rattle.ob0_scope.specs.NewestNames.{ArePlaces, newest_in, place_of}
 use Rattle.ob0_scope.proofs.NewestNames.{Renews, added, places_added}
 use Rattle.ob0_scope.proofs.newest.Newest.add.Goals as goal

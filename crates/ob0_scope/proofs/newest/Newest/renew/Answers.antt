@@ -1,6 +1,6 @@
 use Rattle.std.proofs.Common.{◌≡◌, if◌then◌else◌, Some, refl, ap, arith, ◌∙◌}
 use Rattle.ob0_scope.specs.declared.newest.Entry.{Entry}
-use Rattle.ob0_names.specs.Names.{same_name}
+use Rattle.ob0_scope_rules.specs.Names.{same_name}
 use Rattle.ob0_scope.specs.NewestNames.{newest_in, place_of}
 use Rattle.ob0_scope.proofs.NewestNames.{places_renewed, renewed, stands_at}
 use Rattle.ob0_scope.proofs.newest.Newest.renew.Goals as goal

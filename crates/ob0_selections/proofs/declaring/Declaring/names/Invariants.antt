@@ -1,7 +1,7 @@
 use Rattle.std.proofs.Common.{◌≡◌, ◌++◌, drop}
 use Rattle.ob0_selections.specs.FieldTypes.{fields_named}
 use Rattle.ob0_selections.specs.FieldParts.{meaning_in, type_in, typed_in}
-use Rattle.ob0_names.specs.Parts.{further_names}
+use Rattle.ob0_scope_rules.specs.Parts.{further_names}
 use Rattle.ob0_tree.specs.Tree.{then_name}
 use Rattle.ob0_tree.specs.View.{items_of}
 use Rattle.ob0_selections.proofs.declaring.Declaring.names.Given as goal

@@ -1,6 +1,6 @@
 use Rattle.std.proofs.Common.{option_map}
-use Rattle.ob0_symbols.specs.KnownTables.{shapes_of}
-use Rattle.ob0_symbols.specs.Tables.{type_shape}
+use Rattle.ob0_types_table.specs.KnownTables.{shapes_of}
+use Rattle.ob0_types_table.specs.Tables.{type_shape}
 use Rattle.ob0_selections.specs.SelectionParts.{found_in, meaning_in}
 use Rattle.ob0_selections.proofs.Paths.{OnPath}
 use Rattle.ob0_selections.proofs.selecting.Selecting.path.Given as goal

@@ -4,7 +4,7 @@ use Rattle.ob0_rpc.specs.Seen.{at_seen, id_data}
 use Rattle.ob0_text.specs.OpenDocuments.{OpenDocuments, InStep, OutOfStep, document_at}
 use Rattle.ob0_text.specs.declared.positions.Unit.{Unit}
 use Rattle.ob0_session.specs.Answers.{State, answers_name}
-use Rattle.ob0_questions.specs.Questions.{AnswersName}
+use Rattle.ob0_session_queries.specs.Questions.{AnswersName}
 use Rattle.ob0_session.proofs.Answering.{of_held}
 use Rattle.ob0_session.proofs.server.Server.ask_name.Goals as goal
 

@@ -3,7 +3,7 @@ use Rattle.ob0_rpc.specs.Seen.{id_data}
 use Rattle.ob0_text.specs.OpenDocuments.{OpenDocuments, InStep, OutOfStep}
 use Rattle.ob0_text.specs.declared.positions.Unit.{Unit}
 use Rattle.ob0_session.specs.Answers.{State, lays_out}
-use Rattle.ob0_answers.specs.Formatted.{AnswersFormatting}
+use Rattle.ob0_session_edits.specs.Formatted.{AnswersFormatting}
 use Rattle.ob0_session.proofs.Answering.{of_held}
 use Rattle.ob0_session.proofs.server.Server.format.Goals as goal
 

@@ -1,9 +1,9 @@
 use Rattle.std.proofs.Common.{ap, subst}
 use Rattle.std.specs.Prelude.{is_ok}
-use Rattle.ob0_editor.specs.Moves.{ComesOf}
-use Rattle.ob0_events.specs.Ends.{Ends}
-use Rattle.ob0_events.specs.Editing.{applies_answer, held_answer}
-use Rattle.ob0_events.specs.Events.{Is, comes_of, applies}
+use Rattle.ob0_world_editor.specs.Moves.{ComesOf}
+use Rattle.ob0_world_rules.specs.Ends.{Ends}
+use Rattle.ob0_world_rules.specs.Editing.{applies_answer, held_answer}
+use Rattle.ob0_world_rules.specs.Events.{Is, comes_of, applies}
 use Rattle.ob0_world.specs.Queues.{Both, ends_from}
 use Rattle.ob0_world.proofs.Moved.{same_sound, comes_asks, apply_keeps_asks, made_says, made_happens, maybe_pushed}
 use Rattle.ob0_world.proofs.ends.Ends.apply.Goals as goal

@@ -1,7 +1,7 @@
 use Rattle.std.proofs.Common.{◌≡◌, ◌∙◌, ap, sym, subst, cond}
-use Rattle.ob0_events.specs.Ends.{Ends}
-use Rattle.ob0_events.specs.Editing.{discards, held_answer}
-use Rattle.ob0_events.specs.Events.{Is, comes_of, drops, nothing}
+use Rattle.ob0_world_rules.specs.Ends.{Ends}
+use Rattle.ob0_world_rules.specs.Editing.{discards, held_answer}
+use Rattle.ob0_world_rules.specs.Events.{Is, comes_of, drops, nothing}
 use Rattle.ob0_world.specs.Code.{seen_of}
 use Rattle.ob0_world.specs.Queues.{Both, ends_from}
 use Rattle.ob0_world.proofs.Moved.{discard_happens}

@@ -2,9 +2,9 @@ use Rattle.std.proofs.Common.{◌∙◌, ◌++◌, cond, ap, sym, subst}
 use Rattle.std.specs.Prelude.{is_ok}
 use Rattle.std.specs.Option.{option_to_list}
 use Rattle.std.proofs.lemmas.List.{append-nil}
-use Rattle.ob0_events.specs.Ends.{Ends}
-use Rattle.ob0_ends.specs.Happens.{Serves}
-use Rattle.ob0_events.specs.Events as events
+use Rattle.ob0_world_rules.specs.Ends.{Ends}
+use Rattle.ob0_world_rules.specs.Happens.{Serves}
+use Rattle.ob0_world_rules.specs.Events as events
 use Rattle.ob0_world.specs.Queues.{Both, IsAnswered, Stands, ends_from, made_sent}
 use Rattle.ob0_world.proofs.Serving.{turn, rest_sound, turn_stands, turn_sound, turn_happens}
 use Rattle.ob0_world.proofs.ends.Ends.serve.Goals as goal

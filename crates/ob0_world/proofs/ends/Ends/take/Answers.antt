@@ -1,6 +1,6 @@
 use Rattle.std.proofs.Common.{◌∙◌, ap}
-use Rattle.ob0_events.specs.Ends.{Editor}
-use Rattle.ob0_events.specs.Edited.{replacements}
+use Rattle.ob0_world_rules.specs.Ends.{Editor}
+use Rattle.ob0_world_rules.specs.Edited.{replacements}
 use Rattle.ob0_world.proofs.Moved.{taken_sound, same_sound, keep_asks}
 use Rattle.ob0_world.proofs.ends.Ends.take.Goals as goal
 

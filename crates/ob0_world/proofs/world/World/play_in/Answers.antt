@@ -1,7 +1,7 @@
 use Rattle.std.proofs.Common.{◌∙◌, ◌+◌, map, refl, ap, subst, inl, inr}
 use Rattle.std.proofs.lemmas.List.{take_all}
-use Rattle.ob0_events.specs.Ends.{start}
-use Rattle.ob0_ends.specs.Happens.{Run}
+use Rattle.ob0_world_rules.specs.Ends.{start}
+use Rattle.ob0_world_rules.specs.Happens.{Run}
 use Rattle.ob0_world.specs.Code.{event_of}
 use Rattle.ob0_world.proofs.world.World.play_in.Goals as goal
 use Rattle.ob0_world.proofs.RunLaws.{plays, run_more, come_before, are_applied, are_published, are_latest, mirrors_in_the_end}

@@ -1,6 +1,6 @@
 use Rattle.std.proofs.Common.{◌≡◌, false, take, map}
-use Rattle.ob0_events.specs.Ends.{start}
-use Rattle.ob0_ends.specs.Happens.{Run}
+use Rattle.ob0_world_rules.specs.Ends.{start}
+use Rattle.ob0_world_rules.specs.Happens.{Run}
 use Rattle.ob0_world.specs.Code.{event_of}
 use Rattle.ob0_world.proofs.world.World.play_in.Given as goal
 

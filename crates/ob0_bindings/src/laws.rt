@@ -1,8 +1,0 @@
-//! The laws. Each function does nothing: its contract is the law.
-
-ghost use Rattle.ob0_bindings.specs.Bodies.{DeclarationsStand};
-
-/// Where statements of a well-typed module are checked, each name is bound to what its declaration is.
-pub fn declarations_stand()
-    ensures { DeclarationsStand }
-{}

@@ -1,4 +1,0 @@
-pub mod DeclaredBlocks
-pub mod Placings
-pub mod Sights
-pub mod LoweredBlocks

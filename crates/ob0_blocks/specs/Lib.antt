@@ -1,3 +1,0 @@
-pub mod KnownBlocks
-pub mod Placed
-pub mod Blocks

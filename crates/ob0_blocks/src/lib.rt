@@ -1,8 +1,0 @@
-//! Lowering of declarations, blocks and procedures: a well-typed module becomes a program of the machine.
-#![tactic(auto)]
-
-mod ground;
-mod lowering;
-mod sight;
-
-pub use lowering::program;

@@ -1,4 +1,0 @@
-pub mod InScene
-pub mod Made
-pub mod Assigned
-pub mod Called

@@ -1,3 +1,0 @@
-pub mod UriLaws
-pub mod SameDocument
-pub mod EditedTexts

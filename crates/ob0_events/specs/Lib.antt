@@ -1,5 +1,0 @@
-pub mod Edited
-pub mod Asks
-pub mod Ends
-pub mod Editing
-pub mod Events

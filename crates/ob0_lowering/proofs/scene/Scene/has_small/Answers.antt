@@ -1,6 +1,0 @@
-use Rattle.std.proofs.Common.{sym, ap}
-use Rattle.ob0_lowering.proofs.Lowerings.{small-scene}
-use Rattle.ob0_lowering.proofs.scene.Scene.has_small.Goals as goal
-
-pub returns : goal.returns
-returns c = small-scene c.args.self.now c.tokens.result.now c.tokens.ensures c.text-text.ensures.scan c.known-known.ensures.small

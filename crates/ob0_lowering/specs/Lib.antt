@@ -1,6 +1,0 @@
-pub mod Layouts
-pub mod Scenes
-pub mod Codes
-pub mod Trees
-pub mod Means
-pub mod Parts

@@ -1,7 +1,0 @@
--- What the names of a module are bound to, joined to the module.
-use Rattle.ob0_tree.specs.Parsed.{Parsed}
-use Rattle.ob0_names.specs.Resolution.{Resolution}
-use Rattle.ob0_names.specs.declared.resolved.Bindings.{Bindings}
-
-abbrev pub resolution_by : Parsed → Bindings → Resolution
-resolution_by m b = record { module_read = m; ordinals = b.ordinals.items; declarations = b.declarations.items; uses = b.occurrences.items; faults = b.faults.items }

@@ -1,0 +1,139 @@
+-- The declaring identifiers behind that of a procedure are those of its parameters.
+use Rattle.std.proofs.Common.{◌≡◌, ℕ, suc, ◌+◌, ◌-◌, ◌≤◌, false, if◌then◌else◌, List, [], ◌∷◌, ◌++◌, map, length, take, drop, nat_lt, slice_get, Some, None, Option, refl, sym, ap, ◌∙◌, subst, arith, append_assoc, append-nil, All, add-one, le-ltb}
+use Rattle.std.proofs.lemmas.List.{map-append}
+use Rattle.std.proofs.lemmas.List.Elements.{All-append, All-cons, All-nil, All-weaker}
+use Rattle.ob0_tree.specs.declared.tree.Role.{Role}
+use Rattle.ob0_tree.specs.declared.tree.Role.TheVariants as role
+use Rattle.ob0_tree.specs.Parsed.{Parsed, tree_of}
+use Rattle.ob0_tree.specs.Places.{text_at}
+use Rattle.ob0_tree.specs.Tree.{Sort, Tree, block, declares, declares_procedure, end, formals, further_name, further_section, has_body, identifiers, is_module, item, items, listed, maybe, module_text, more, names, no_formals, none, one, procedure, section, some_formals, then_name, then_section, value_section, variable_section, written_type}
+use Rattle.ob0_scope_rules.specs.Parts.{formal_names, formal_sections, further_names, module_block, names_listed, section_names}
+use Rattle.ob0_scope_rules.specs.Resolution.{declaring_only, token_declaring}
+use Rattle.ob0_scope_rules.proofs.Plain.{declares_nothing, declaring_only-append}
+use Rattle.ob0_refs.specs.HoverLaws.{HasParametersBehind, ParametersAreBehind, block_headings, headings, procedure_headings}
+use Rattle.ob0_refs.specs.Declarations.{names_behind}
+
+-- ---- the identifiers of formal parameters
+
+further_declared : (ns : Tree ℕ (items further_name)) → declaring_only (identifiers role.Declaring ns) ≡ further_names ns
+further_declared end = refl
+further_declared (more (then_name x) rest) = λ i. x ∷ further_declared rest i
+
+listed_declared : (ns : Tree ℕ names) → declaring_only (identifiers role.Declaring ns) ≡ names_listed ns
+listed_declared (listed x rest) = λ i. x ∷ further_declared rest i
+
+group_declared : (ns : Tree ℕ names) (t : Tree ℕ written_type) → declaring_only (identifiers role.Declaring ns ++ identifiers role.Declaring t) ≡ names_listed ns
+group_declared ns t =
+    declaring_only-append (identifiers role.Declaring ns) (identifiers role.Declaring t)
+    ∙ ((λ i. listed_declared ns i ++ (declares_nothing tt t).plain i) ∙ append-nil (names_listed ns))
+
+section_declared : (s : Tree ℕ section) → declaring_only (identifiers role.Declaring s) ≡ section_names s
+section_declared (value_section ns t) = group_declared ns t
+section_declared (variable_section ns t) = group_declared ns t
+
+sections_declared : (fs : Tree ℕ (items further_section)) → declaring_only (identifiers role.Declaring fs) ≡ formal_names fs
+sections_declared end = refl
+sections_declared (more (then_section s) fs) =
+    declaring_only-append (identifiers role.Declaring s) (identifiers role.Declaring fs) ∙ (λ i. section_declared s i ++ sections_declared fs i)
+
+formals_declared : (fs : Tree ℕ (maybe formals)) → declaring_only (identifiers role.Declaring fs) ≡ formal_names (formal_sections fs)
+formals_declared none = refl
+formals_declared (one no_formals) = refl
+formals_declared (one (some_formals s fs)) = sections_declared (more (then_section s) fs)
+
+-- ---- a heading among declaring identifiers
+
+record Stands (all : List ℕ) (heading : ℕ × List ℕ) : Type 0 where
+  pub before : List ℕ
+  pub after : List ℕ
+  pub is : all ≡ before ++ (heading.0 ∷ (heading.1 ++ after))
+
+stands_after : (xs : List ℕ) (all : List ℕ) (h : ℕ × List ℕ) → Stands all h → Stands (xs ++ all) h
+stands_after xs all h s =
+    record { before = xs ++ s.before; after = s.after; is = ap (λ ys. xs ++ ys) s.is ∙ sym (append_assoc xs s.before (h.0 ∷ (h.1 ++ s.after))) }
+
+stands_before : (all ys : List ℕ) (h : ℕ × List ℕ) → Stands all h → Stands (all ++ ys) h
+stands_before all ys h s =
+    record {
+      before = s.before;
+      after = s.after ++ ys;
+      is = ap (λ xs. xs ++ ys) s.is ∙ (append_assoc s.before (h.0 ∷ (h.1 ++ s.after)) ys ∙ ap (λ zs. s.before ++ (h.0 ∷ zs)) (append_assoc h.1 s.after ys));
+    }
+
+abbrev declaring : {s : Sort} → Tree ℕ s → List ℕ
+declaring t = declaring_only (identifiers role.Declaring t)
+
+abbrev AllStand : List ℕ → List (ℕ × List ℕ) → Type 0
+AllStand all hs = All (Stands all) hs
+
+-- behind other identifiers, and before others
+all_after : (xs ys : List (Role × ℕ)) (hs : List (ℕ × List ℕ)) → AllStand (declaring_only ys) hs → AllStand (declaring_only (xs ++ ys)) hs
+all_after xs ys hs h =
+    subst (λ all. AllStand all hs) (sym (declaring_only-append xs ys)) (All-weaker (Stands (declaring_only ys)) (Stands (declaring_only xs ++ declaring_only ys)) (stands_after (declaring_only xs) (declaring_only ys)) hs h)
+
+all_before : (xs ys : List (Role × ℕ)) (hs : List (ℕ × List ℕ)) → AllStand (declaring_only xs) hs → AllStand (declaring_only (xs ++ ys)) hs
+all_before xs ys hs h =
+    subst (λ all. AllStand all hs) (sym (declaring_only-append xs ys)) (All-weaker (Stands (declaring_only xs)) (Stands (declaring_only xs ++ declaring_only ys)) (stands_before (declaring_only xs) (declaring_only ys)) hs h)
+
+mutual
+  block_stands : (b : Tree ℕ block) → AllStand (declaring b) (block_headings b)
+  block_stands (has_body (declares cs ts vs ps) statements) =
+      let C : List (Role × ℕ) = identifiers role.Declaring cs in
+      let T : List (Role × ℕ) = identifiers role.Declaring ts in
+      let V : List (Role × ℕ) = identifiers role.Declaring vs in
+      let P : List (Role × ℕ) = identifiers role.Declaring ps in
+      all_before (C ++ (T ++ (V ++ P))) (identifiers role.Declaring statements) (headings ps)
+      (all_after C (T ++ (V ++ P)) (headings ps) (all_after T (V ++ P) (headings ps) (all_after V P (headings ps) (procedures_stand ps))))
+
+  procedures_stand : (ps : Tree ℕ (items procedure)) → AllStand (declaring ps) (headings ps)
+  procedures_stand end = All-nil (Stands [])
+  procedures_stand (more p rest) =
+      All-append (Stands (declaring (more p rest))) (procedure_headings p) (headings rest)
+      (all_before (identifiers role.Declaring p) (identifiers role.Declaring rest) (procedure_headings p) (procedure_stands p))
+      (all_after (identifiers role.Declaring p) (identifiers role.Declaring rest) (headings rest) (procedures_stand rest))
+
+  procedure_stands : (p : Tree ℕ (item procedure)) → AllStand (declaring p) (procedure_headings p)
+  procedure_stands (declares_procedure x fs b closing) =
+      let F : List (Role × ℕ) = identifiers role.Declaring fs in
+      let B : List (Role × ℕ) = identifiers role.Declaring b in
+      let last : List (Role × ℕ) = (role.ClosingName, closing) ∷ [] in
+      All-cons (Stands (declaring (declares_procedure x fs b closing))) (x, formal_names (formal_sections fs)) (block_headings b)
+      (record { before = []; after = declaring_only (B ++ last); is = ap (λ ys. x ∷ ys) (declaring_only-append F (B ++ last) ∙ (λ i. formals_declared fs i ++ declaring_only (B ++ last))) })
+      (all_after ((role.Declaring, x) ∷ []) (F ++ (B ++ last)) (block_headings b) (all_after F (B ++ last) (block_headings b) (all_before B last (block_headings b) (block_stands b))))
+
+module_stands : (t : Tree ℕ module_text) → AllStand (declaring t) (block_headings (module_block t))
+module_stands (is_module x b closing) = all_before (identifiers role.Declaring b) ((role.ModuleName, closing) ∷ []) (block_headings b) (block_stands b)
+
+-- ---- what is behind it
+
+got : (before : List ℕ) (x : ℕ) (ys : List ℕ) → slice_get (before ++ (x ∷ ys)) (length before) ≡ Some x
+got [] x ys = refl
+got (y ∷ before) x ys = got before x ys
+
+left : (before : List ℕ) (x : ℕ) (ys : List ℕ) → drop (suc (length before)) (before ++ (x ∷ ys)) ≡ ys
+left [] x ys = refl
+left (y ∷ before) x ys = left before x ys
+
+first_ones : (f : ℕ → List ℕ) (xs ys : List ℕ) → take (length xs) (map f (xs ++ ys)) ≡ map f xs
+first_ones f [] ys = refl
+first_ones f (x ∷ xs) ys = ap (λ zs. f x ∷ zs) (first_ones f xs ys)
+
+behind : (m : Parsed) (h : ℕ × List ℕ) → Stands (declaring (tree_of m)) h → HasParametersBehind m h
+behind m h s =
+    let all : List ℕ = declaring (tree_of m) in
+    let n : ℕ = length s.before in
+    let place : (7 + n) - 7 ≡ n = omega arith in
+    let next : (7 + n) + 1 - 7 ≡ suc n = omega arith in
+    let late : nat_lt (7 + n) 7 ≡ false = le-ltb (7 + n) 7 (omega arith) in
+    record {
+      ordinal = 7 + n;
+      declares =
+          ap (λ b. if b then None else slice_get all ((7 + n) - 7)) late
+          ∙ ((λ i. slice_get (s.is i) (place i)) ∙ got s.before h.0 (h.1 ++ s.after));
+      behind =
+          (λ i. take (length h.1) (map (text_at m.source) (drop (next i) (s.is i))))
+          ∙ (ap (λ ys. take (length h.1) (map (text_at m.source) ys)) (left s.before h.0 (h.1 ++ s.after)) ∙ first_ones (text_at m.source) h.1 s.after);
+    }
+
+pub parameters_are_behind-holds : ParametersAreBehind
+parameters_are_behind-holds m = All-weaker (Stands (declaring (tree_of m))) (HasParametersBehind m) (behind m) (block_headings (module_block (tree_of m))) (module_stands (tree_of m))

@@ -1,0 +1,11 @@
+use Rattle.std.proofs.Common.{map, length}
+use Rattle.ob0_refs.proofs.Parameters.{Gathered}
+use Rattle.ob0_refs.specs.Parameters.{parameter_in}
+use Rattle.ob0_tree.specs.Places.{text_at}
+use Rattle.ob0_types_table.specs.KnownTables.{shapes_of}
+use Rattle.ob0_types_table.specs.Tables.{formal_in}
+use Rattle.ob0_refs.proofs.showing.parameters_of.Given as goal
+
+abbrev pub invariant-loop-token : goal.invariant-loop-token
+invariant-loop-token l =
+    Gathered (text_at l.tokens) (formal_in (shapes_of l.known)) l.behind l.formals (length l.yielded) (map parameter_in l.found.items)

@@ -1,0 +1,15 @@
+-- What the code's values stand for.
+use Rattle.std.specs.Prelude.{List, map, Option}
+use Rattle.ob0_types_table.specs.declared.known.Formal as formal
+use Rattle.ob0_types_table.specs.declared.known.Object as declaration
+use Rattle.ob0_types_table.specs.KnownTables.{Tables, shapes_of}
+use Rattle.ob0_types_table.specs.Tables.{formal_in, object_in}
+use Rattle.ob0_types_rules.specs.Expressions.{Object}
+use Rattle.ob0_types_rules.specs.WellTyped.{Signature}
+use Rattle.ob0_values.specs.Values.{Shape}
+
+abbrev pub object_of : Tables → declaration.Object → Option (Object Shape Signature)
+object_of t o = object_in (shapes_of t) o
+
+abbrev pub signature_in : Tables → List formal.Formal → Signature
+signature_in t fs = map (formal_in (shapes_of t)) fs

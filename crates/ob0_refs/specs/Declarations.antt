@@ -1,0 +1,54 @@
+-- What is shown of a name, by what its declaration binds it to.
+use Rattle.std.specs.Prelude.{ℕ, ◌+◌, ◌-◌, Bool, true, false, List, [], ◌∷◌, drop, map, nat_lt, if◌then◌else◌, Option, Some, None, option_and_then}
+use Rattle.ob0_tree.specs.declared.tree.Role.TheVariants as role
+use Rattle.ob0_tree.specs.Parsed.{Parsed, tree_of}
+use Rattle.ob0_tree.specs.Places.{text_at}
+use Rattle.ob0_tree.specs.Tree.{identifiers}
+use Rattle.ob0_scope_rules.specs.Names.{Name}
+use Rattle.ob0_scope_rules.specs.Resolution.{declaring_only}
+use Rattle.ob0_scope.specs.declared.naming.Named as named
+use Rattle.ob0_refs.specs.Hovers.{Parameter, constant_text, named_type_text, predeclared_text, procedure_text, type_text, variable_text}
+use Rattle.ob0_types_rules.specs.Expressions.{Object, a_constant, a_procedure, a_standard, a_type, a_variable}
+use Rattle.ob0_types_rules.specs.WellTyped.{Formal, Mode, Signature, by_place, by_value}
+use Rattle.ob0_values.specs.Values.{Shape, Value, elements, members, number, truth}
+use Rattle.ob0_values.specs.declared.scalar.Scalar.TheVariants as scalar
+
+-- a constant is a number or a truth
+abbrev pub constant_shown : Name → Value → Option (List ℕ)
+constant_shown name (number n) = Some (constant_text name (scalar.Number n))
+constant_shown name (truth b) = Some (constant_text name (scalar.Truth b))
+constant_shown name (elements vs) = None
+constant_shown name (members k ms) = None
+
+abbrev pub is_by_place : Mode → Bool
+is_by_place by_value = false
+is_by_place by_place = true
+
+abbrev pub parameter_shown : Name → Formal → Parameter
+parameter_shown name f = record { by_place = is_by_place f.mode; name = name; of = type_text f.shape }
+
+-- the parameters of a procedure, by the names that are declared behind its own and by its signature
+abbrev pub parameters_shown : List Name → Signature → List Parameter
+parameters_shown (x ∷ xs) (f ∷ fs) = parameter_shown x f ∷ parameters_shown xs fs
+parameters_shown [] fs = []
+parameters_shown (x ∷ xs) [] = []
+
+-- a declaration, by what its name is bound to, the name and the names declared behind it
+abbrev pub object_shown : Name → List Name → Object Shape Signature → Option (List ℕ)
+object_shown name behind (a_constant v) = constant_shown name v
+object_shown name behind (a_type s) = Some (named_type_text name (type_text s))
+object_shown name behind (a_variable s) = Some (variable_text name (type_text s))
+object_shown name behind (a_procedure fs) = Some (procedure_text name (parameters_shown behind fs))
+object_shown name behind (a_standard s) = Some (predeclared_text name)
+
+-- the names that are declared behind what has this ordinal, in text order
+abbrev pub names_behind : Parsed → ℕ → List Name
+names_behind m ordinal = map (text_at m.source) (drop (ordinal + 1 - 7) (declaring_only (identifiers role.Declaring (tree_of m))))
+
+-- the name of a declaration of the text, by what this is bound to
+abbrev pub declaration_shown : Parsed → named.Named → Option (Object Shape Signature) → Option (List ℕ)
+declaration_shown m n object = option_and_then (object_shown (text_at m.source n.token) (names_behind m n.ordinal)) object
+
+-- the predeclared names come before the declarations of the text
+abbrev pub name_shown : Parsed → named.Named → Option (Object Shape Signature) → Option (List ℕ)
+name_shown m n object = if nat_lt n.ordinal 7 then Some (predeclared_text (text_at m.source n.token)) else declaration_shown m n object

@@ -1,0 +1,31 @@
+-- Laws of what is shown of procedures.
+use Rattle.std.specs.Prelude.{◌≡◌, ℕ, List, [], ◌++◌, ◌∷◌, Some, length, map, take}
+use Rattle.std.specs.List.{All}
+use Rattle.ob0_tree.specs.declared.tree.Role.TheVariants as role
+use Rattle.ob0_tree.specs.Parsed.{Parsed, tree_of}
+use Rattle.ob0_tree.specs.Places.{text_at}
+use Rattle.ob0_tree.specs.Tree.{Tree, block, declares, declares_procedure, end, has_body, identifiers, item, items, more, procedure}
+use Rattle.ob0_scope_rules.specs.Parts.{formal_names, formal_sections, module_block}
+use Rattle.ob0_scope_rules.specs.Resolution.{declaring_only, token_declaring}
+use Rattle.ob0_refs.specs.Declarations.{names_behind}
+
+-- the headings of procedures in text order: each name with the names of the formal parameters
+abbrev mutual
+  pub block_headings : Tree ℕ block → List (ℕ × List ℕ)
+  block_headings (has_body (declares cs ts vs ps) statements) = headings ps
+
+  pub headings : Tree ℕ (items procedure) → List (ℕ × List ℕ)
+  headings end = []
+  headings (more p rest) = procedure_headings p ++ headings rest
+
+  pub procedure_headings : Tree ℕ (item procedure) → List (ℕ × List ℕ)
+  procedure_headings (declares_procedure x fs b closing) = (x, formal_names (formal_sections fs)) ∷ block_headings b
+
+-- the first names that are declared behind a procedure are those of its parameters
+pub record HasParametersBehind (m : Parsed) (heading : ℕ × List ℕ) : Type 0 where
+  pub ordinal : ℕ
+  pub declares : token_declaring (declaring_only (identifiers role.Declaring (tree_of m))) ordinal ≡ Some heading.0
+  pub behind : take (length heading.1) (names_behind m ordinal) ≡ map (text_at m.source) heading.1
+
+abbrev pub ParametersAreBehind : Type 0
+ParametersAreBehind = (m : Parsed) → All (HasParametersBehind m) (block_headings (module_block (tree_of m)))

@@ -1,0 +1,16 @@
+-- Where a name is declared, and where it is named.
+use Rattle.std.specs.Prelude.{ℕ, Bool, List, Option, map, option_map}
+use Rattle.ob0_scan.specs.declared.lexeme.Span.{Span}
+use Rattle.ob0_tree.specs.Parsed.{Parsed, tree_of}
+use Rattle.ob0_tree.specs.Tree.{identifiers}
+use Rattle.ob0_tree.specs.declared.tree.Role.TheVariants as role
+use Rattle.ob0_scope_rules.specs.Resolution.{declaring_only, span_at, token_declaring}
+use Rattle.ob0_scope.specs.Standing.{tokens_bound}
+
+-- where the identifier stands that declares what has an ordinal; nowhere for a predeclared name
+abbrev pub declared_at : Parsed → ℕ → Option Span
+declared_at m ordinal = option_map (span_at m.source) (token_declaring (declaring_only (identifiers role.Declaring (tree_of m))) ordinal)
+
+-- where a declaration is named, with the identifier that declares it or without
+abbrev pub references_to : Parsed → ℕ → Bool → List Span
+references_to m d include = map (span_at m.source) (tokens_bound m d include)

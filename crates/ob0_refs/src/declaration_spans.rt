@@ -1,0 +1,44 @@
+//! Where a name is declared, and where it is named.
+
+ghost use Rattle.std.specs.Prelude.{◌≡◌, IfOk, map};
+ghost use Rattle.ob0_scope_rules.specs.Resolution.{span_at};
+ghost use Rattle.ob0_refs.specs.Places.{declared_at, references_to};
+
+use ob0_scope_rules::{Resolved, token_span};
+use ob0_scan::{Span, Tokens};
+use ob0_scope::tokens_bound;
+use std::alloc::{AllocError, Global};
+
+/// Where that is declared which has an ordinal. None for a predeclared name.
+pub fn declared_at(names: &Resolved, ordinal: usize) -> Option<Span>
+    ensures { result ≡ declared_at names.now.module_read ordinal }
+{
+    let tokens = names.module().tokens();
+    match names.declaring_token(ordinal) {
+        Some(token) => Some(token_span(tokens, token)),
+        None => None,
+    }
+}
+
+/// Where a declaration is named, closing names too, in text order: with the identifier that declares it or without.
+pub fn references_to(
+    alloc: Global,
+    names: &Resolved,
+    declaration: usize,
+    include: bool,
+) -> Result<Vec<Span>, AllocError>
+    ensures { IfOk result (λ spans. spans.items ≡ references_to names.now.module_read declaration include) }
+{
+    let found = tokens_bound(alloc, names, declaration, include)?;
+    spans_of(alloc, names.tokens(), &found)
+}
+
+/// Where tokens stand.
+pub fn spans_of(alloc: Global, tokens: &Tokens, found: &[usize]) -> Result<Vec<Span>, AllocError>
+    ensures { IfOk result (λ spans. spans.items ≡ map (span_at tokens.now) found.now) }
+{
+    found
+        .iter()
+        .map(|token| token_span(tokens, *token))
+        .collect(alloc)
+}

@@ -1,0 +1,114 @@
+//! The texts that are shown of names.
+
+ghost use Rattle.std.specs.Prelude.{◌≡◌, ◌++◌, ℕ, IfOk, OnOk, map, string_bytes};
+ghost use Rattle.ob0_values.specs.Values.{FieldShapes, Shape, array_shape, record_shape};
+ghost use Rattle.ob0_refs.specs.Hovers.{by_text, constant_text as constant_shown, named_type_text as type_shown, parameter_text, parameters_text, predeclared_text as predeclared_shown, procedure_text as procedure_shown, truth_text, type_text, fields_count, variable_text as variable_shown};
+ghost use Rattle.ob0_refs.specs.Parameters.{parameter_in};
+
+use ob0_values::Scalar;
+use std::alloc::{AllocError, Global};
+
+/// A formal parameter, with the text of its type.
+#[derive(Drop)]
+pub(crate) struct Parameter<'a> {
+    pub(crate) by_place: bool,
+    pub(crate) name: &'a str,
+    pub(crate) of: String,
+}
+
+/// The text of an array type, whose element has this text.
+pub(crate) fn array_text(alloc: Global, length: usize, element: &str) -> Result<String, AllocError>
+    ensures { IfOk result (λ text. (k : ℕ) (s : Shape) → element.now ≡ type_text s → string_bytes text ≡ type_text (array_shape k length s)) }
+{
+    format!(in alloc; "ARRAY {length} OF {element}")
+}
+
+/// The text of a record type with so many fields.
+pub(crate) fn record_text(alloc: Global, fields: usize) -> Result<String, AllocError>
+    ensures { IfOk result (λ text. (k : ℕ) (fs : FieldShapes) → fields ≡ fields_count fs → string_bytes text ≡ type_text (record_shape k fs)) }
+{
+    format!(in alloc; "RECORD with {fields} fields")
+}
+
+/// What is shown of a constant.
+pub(crate) fn constant_text(alloc: Global, name: &str, value: Scalar) -> Result<String, AllocError>
+    ensures { IfOk result (λ text. string_bytes text ≡ constant_shown name.now value) }
+{
+    match value {
+        Scalar::Number(n) => format!(in alloc; "CONST {name} = {n}"),
+        Scalar::Truth(b) => {
+            let truth = truth_word(b);
+            format!(in alloc; "CONST {name} = {truth}")
+        }
+    }
+}
+
+fn truth_word(b: bool) -> &'static str
+    ensures { result.now ≡ truth_text b }
+{
+    if b { "TRUE" } else { "FALSE" }
+}
+
+/// What is shown of a type, whose text is known.
+pub(crate) fn named_type_text(alloc: Global, name: &str, of: &str) -> Result<String, AllocError>
+    ensures { IfOk result (λ text. string_bytes text ≡ type_shown name.now of.now) }
+{
+    format!(in alloc; "TYPE {name} = {of}")
+}
+
+/// What is shown of a variable or parameter of a type.
+pub(crate) fn variable_text(alloc: Global, name: &str, of: &str) -> Result<String, AllocError>
+    ensures { IfOk result (λ text. string_bytes text ≡ variable_shown name.now of.now) }
+{
+    format!(in alloc; "VAR {name}: {of}")
+}
+
+/// What is shown of a predeclared name.
+pub(crate) fn predeclared_text(alloc: Global, name: &str) -> Result<String, AllocError>
+    ensures { IfOk result (λ text. string_bytes text ≡ predeclared_shown name.now) }
+{
+    format!(in alloc; "predeclared {name}")
+}
+
+/// What is shown of a procedure.
+pub(crate) fn procedure_text(
+    alloc: Global,
+    name: &str,
+    parameters: &[Parameter<'_>],
+) -> Result<String, AllocError>
+    ensures { IfOk result (λ text. string_bytes text ≡ procedure_shown name.now (map parameter_in parameters.now)) }
+{
+    let list = parameters_text(alloc, parameters)?;
+    let list = list.as_str();
+    format!(in alloc; "PROCEDURE {name}({list})")
+}
+
+fn parameters_text(alloc: Global, parameters: &[Parameter<'_>]) -> Result<String, AllocError>
+    ensures { IfOk result (λ text. string_bytes text ≡ parameters_text (map parameter_in parameters.now)) }
+{
+    let mut text = String::new(alloc);
+    let Some((first, others)) = parameters.split_first() else {
+        return Ok(text);
+    };
+    push_parameter(&mut text, first)?;
+    for other in others {
+        text.push_str("; ")?;
+        push_parameter(&mut text, other)?;
+    }
+    Ok(text)
+}
+
+fn push_parameter(text: &mut String, parameter: &Parameter<'_>) -> Result<(), AllocError>
+    ensures { OnOk result (string_bytes text.new ≡ string_bytes text.old ++ parameter_text (parameter_in parameter.now)) }
+{
+    text.push_str(by_word(parameter.by_place))?;
+    text.push_str(parameter.name)?;
+    text.push_str(": ")?;
+    text.push_str(parameter.of.as_str())
+}
+
+fn by_word(by_place: bool) -> &'static str
+    ensures { result.now ≡ by_text by_place }
+{
+    if by_place { "VAR " } else { "" }
+}

@@ -1,0 +1,163 @@
+//! The texts that are shown of names, by what their declarations are.
+
+ghost use Rattle.std.specs.Prelude.{◌≡◌, ◌++◌, ◌+◌, ◌-◌, ◌∷◌, [], IfOk, OnOk, Some, drop, map, option_and_then, option_map, string_bytes};
+ghost use Rattle.ob0_tree.specs.Parsed.{tree_of};
+ghost use Rattle.ob0_tree.specs.Places.{text_at};
+ghost use Rattle.ob0_tree.specs.Tree.{identifiers};
+ghost use Rattle.ob0_tree.specs.declared.tree.Role.TheVariants as role;
+ghost use Rattle.ob0_scope_rules.specs.Resolution.{declaring_only};
+ghost use Rattle.ob0_refs.specs.DeclarationParts.{object_of, signature_in};
+ghost use Rattle.ob0_refs.specs.Declarations.{declaration_shown, name_shown, names_behind, object_shown, parameter_shown, parameters_shown};
+ghost use Rattle.ob0_refs.specs.Hovers.{field_text, named_type_text, procedure_text, type_text, variable_text};
+ghost use Rattle.ob0_refs.specs.Parameters.{parameter_in};
+ghost use Rattle.ob0_types_table.specs.KnownTables.{declared_in, shapes_of};
+ghost use Rattle.ob0_types_table.specs.Tables.{formal_in, type_shape};
+
+use crate::hovers::{
+    Parameter, constant_text, named_type_text, predeclared_text, procedure_text, variable_text,
+};
+use crate::typing::type_text;
+use ob0_scope_rules::{PREDECLARED, Resolved};
+use ob0_scan::Tokens;
+use ob0_scope::Named;
+use ob0_types_table::{Formal, Known, Object, TypeId, text_at};
+use std::alloc::{AllocError, Global};
+
+/// What is shown of a name. None where its declaration is nothing.
+pub fn name_text(
+    alloc: Global,
+    known: &Known<'_>,
+    names: &Resolved<'_>,
+    name: Named,
+) -> Result<Option<String>, AllocError>
+    ensures { IfOk result (λ r. option_map string_bytes r ≡ name_shown names.now.module_read name (declared_in known.now name.ordinal)) }
+{
+    if name.ordinal < PREDECLARED {
+        let text = predeclared_text(alloc, text_at(names.tokens(), name.token))?;
+        return Ok(Some(text));
+    }
+    match known.object(name.ordinal) {
+        None => Ok(None),
+        Some(object) => object_text(alloc, known, names, name, object),
+    }
+}
+
+fn object_text(
+    alloc: Global,
+    known: &Known<'_>,
+    names: &Resolved<'_>,
+    name: Named,
+    object: &Object,
+) -> Result<Option<String>, AllocError>
+    ensures { IfOk result (λ r. option_map string_bytes r ≡ declaration_shown names.now.module_read name (object_of known.now object.now)) }
+{
+    let text = text_at(names.tokens(), name.token);
+    match object {
+        Object::Named(of) => Ok(Some(type_line(alloc, known, text, *of)?)),
+        Object::Constant(value) => Ok(Some(constant_text(alloc, text, *value)?)),
+        Object::FaultyConstant => Ok(None),
+        Object::Variable(of) => Ok(Some(variable_line(alloc, known, text, *of)?)),
+        Object::Procedure(formals) => {
+            let line = procedure_line(alloc, known, names, name, formals)?;
+            Ok(Some(line))
+        }
+        Object::Standard(_) => Ok(Some(predeclared_text(alloc, text)?)),
+    }
+}
+
+fn type_line(alloc: Global, known: &Known<'_>, name: &str, of: TypeId) -> Result<String, AllocError>
+    ensures { IfOk result (λ text. string_bytes text ≡ named_type_text name.now (type_text (type_shape (shapes_of known.now) of))) }
+{
+    let of = type_text(alloc, known, of)?;
+    named_type_text(alloc, name, of.as_str())
+}
+
+fn variable_line(
+    alloc: Global,
+    known: &Known<'_>,
+    name: &str,
+    of: TypeId,
+) -> Result<String, AllocError>
+    ensures { IfOk result (λ text. string_bytes text ≡ variable_text name.now (type_text (type_shape (shapes_of known.now) of))) }
+{
+    let of = type_text(alloc, known, of)?;
+    variable_text(alloc, name, of.as_str())
+}
+
+/// What is shown of a field of a type.
+pub fn field_line(
+    alloc: Global,
+    known: &Known<'_>,
+    name: &str,
+    of: TypeId,
+) -> Result<String, AllocError>
+    ensures { IfOk result (λ text. string_bytes text ≡ field_text name.now (type_text (type_shape (shapes_of known.now) of))) }
+{
+    let of = type_text(alloc, known, of)?;
+    let of = of.as_str();
+    format!(in alloc; "FIELD {name}: {of}")
+}
+
+fn procedure_line(
+    alloc: Global,
+    known: &Known<'_>,
+    names: &Resolved<'_>,
+    name: Named,
+    formals: &[Formal],
+) -> Result<String, AllocError>
+    ensures { IfOk result (λ text. string_bytes text ≡ procedure_text (text_at names.now.module_read.source name.token) (parameters_shown (names_behind names.now.module_read name.ordinal) (signature_in known.now formals.now))) }
+{
+    let behind = declared_behind(names, name.ordinal);
+    let parameters = parameters_of(alloc, known, names.tokens(), behind, formals)?;
+    procedure_text(
+        alloc,
+        text_at(names.tokens(), name.token),
+        parameters.as_slice(),
+    )
+}
+
+/// The tokens of the declarations behind that with an ordinal.
+fn declared_behind<'r>(names: &'r Resolved<'_>, ordinal: usize) -> &'r [usize]
+    ensures { result.now ≡ drop (ordinal + 1 - 7) (declaring_only (identifiers role.Declaring (tree_of names.now.module_read))) }
+{
+    let _module = names.module();
+    let declarations = names.declarations();
+    let skipped = ordinal.saturating_sub(PREDECLARED - 1);
+    if skipped < declarations.len() {
+        &declarations[skipped..]
+    } else {
+        &[]
+    }
+}
+
+/// The parameters of a procedure, by the tokens of the declarations behind it.
+fn parameters_of<'s>(
+    alloc: Global,
+    known: &Known<'_>,
+    tokens: &'s Tokens,
+    behind: &[usize],
+    formals: &[Formal],
+) -> Result<Vec<Parameter<'s>>, AllocError>
+    ensures { IfOk result (λ ps. map parameter_in ps.items ≡ parameters_shown (map (text_at tokens.now) behind.now) (signature_in known.now formals.now)) }
+{
+    let mut found = Vec::new(alloc);
+    for (token, formal) in behind.iter().zip(formals) {
+        found.push(parameter_of(alloc, known, text_at(tokens, *token), *formal)?)?;
+    }
+    Ok(found)
+}
+
+fn parameter_of<'s>(
+    alloc: Global,
+    known: &Known<'_>,
+    name: &'s str,
+    formal: Formal,
+) -> Result<Parameter<'s>, AllocError>
+    ensures { IfOk result (λ p. parameter_in p ≡ parameter_shown name.now (formal_in (shapes_of known.now) formal)) }
+{
+    Ok(Parameter {
+        by_place: formal.by_place,
+        name,
+        of: type_text(alloc, known, formal.of)?,
+    })
+}

@@ -1,0 +1,33 @@
+//! The texts of types.
+
+ghost use Rattle.std.specs.Prelude.{◌≡◌, IfOk, string_bytes};
+ghost use Rattle.ob0_refs.specs.Hovers.{type_text};
+ghost use Rattle.ob0_types_table.specs.KnownTables.{shapes_of};
+ghost use Rattle.ob0_types_table.specs.Tables.{type_shape};
+ghost use Rattle.ob0_values.specs.Values.{array_shape};
+
+use crate::hovers::{array_text, record_text};
+use ob0_types_table::{ArrayShape, Known, Parts, TypeId};
+use std::alloc::{AllocError, Global};
+
+/// The text of a type, arrays level by level; a record by the number of its fields.
+#[cycle(types)]
+pub(crate) fn type_text(alloc: Global, known: &Known<'_>, of: TypeId) -> Result<String, AllocError>
+    ensures { IfOk result (λ text. string_bytes text ≡ type_text (type_shape (shapes_of known.now) of)) }
+{
+    match known.parts(of) {
+        Parts::Integer => String::from_str(alloc, "INTEGER"),
+        Parts::Boolean => String::from_str(alloc, "BOOLEAN"),
+        Parts::Array(array) => of_array(alloc, known, array),
+        Parts::Record(record) => record_text(alloc, record.fields.as_slice().len()),
+        Parts::Faulty => record_text(alloc, 0),
+    }
+}
+
+#[cycle(types)]
+fn of_array(alloc: Global, known: &Known<'_>, array: ArrayShape) -> Result<String, AllocError>
+    ensures { IfOk result (λ text. string_bytes text ≡ type_text (array_shape array.ordinal array.length (type_shape (shapes_of known.now) array.element))) }
+{
+    let element = type_text(alloc, known, array.element)?;
+    array_text(alloc, array.length, element.as_str())
+}

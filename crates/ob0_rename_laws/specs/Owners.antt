@@ -1,0 +1,32 @@
+-- Which identifiers of a text are fields, and of which record: by token.
+use Rattle.std.specs.Prelude.{◌≡◌, ℕ, Bool, ◌&&◌, List, Option, Some, None, if◌then◌else◌}
+use Rattle.ob0_scan.specs.Scanned.{Scanned}
+use Rattle.ob0_tree.specs.Tree.{mapped}
+use Rattle.ob0_tree.specs.Parsed.{Parsed, named_tree_of, tree_of}
+use Rattle.ob0_tree.specs.Places.{text_at, value_at}
+use Rattle.ob0_scope_rules.specs.Names.{Name, same_name}
+use Rattle.ob0_scope_rules.specs.Resolution.{ordinal_in}
+use Rattle.ob0_scope_rules.specs.Scopes.{same_ordinal}
+use Rattle.ob0_rename_laws.specs.Fields.{FieldNames, refielded}
+use Rattle.ob0_rename_laws.specs.Renaming.{field_renamed}
+
+-- the fields of known records written anew
+abbrev pub of_records : (ℕ → Name → Name) → FieldNames
+of_records l None x = x
+of_records l (Some k) x = l k x
+
+-- A table that has at each token that is a field's name, declared or selected, the ordinal of the field's record: in whatever way fields are
+-- written anew, the module so written is the tree with each token written by the table.
+abbrev pub AreOwners : Parsed → List (Option ℕ) → Type 0
+AreOwners m owners =
+    (l : ℕ → Name → Name) → refielded (of_records l) (named_tree_of m) ≡ mapped (λ i. of_records l (ordinal_in owners i) (text_at m.source i)) (value_at m.source) (tree_of m)
+
+-- the token is the field f of the record r, where it is declared or selected
+abbrev pub is_of_field : Scanned → List (Option ℕ) → ℕ → Name → ℕ → Bool
+is_of_field source owners r f i = same_ordinal (ordinal_in owners i) r && same_name (text_at source i) f
+
+-- the module with a field renamed is the tree with the new name at the tokens of that field
+abbrev pub RenamedByToken : Type 0
+RenamedByToken =
+    (m : Parsed) (owners : List (Option ℕ)) (r : ℕ) (f new : Name) → AreOwners m owners
+    → field_renamed (named_tree_of m) r f new ≡ mapped (λ i. if is_of_field m.source owners r f i then new else text_at m.source i) (value_at m.source) (tree_of m)

@@ -1,3 +1,0 @@
-pub mod Agreement
-pub mod ReportLaws
-pub mod ModuleLaws

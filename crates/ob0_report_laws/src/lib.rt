@@ -1,4 +1,0 @@
-//! Laws of the faults that are told of types: where nothing is told, all fits.
-#![tactic(auto)]
-
-pub mod laws;

@@ -1,9 +1,0 @@
-pub mod Known
-pub mod Operations
-pub mod ExpressionFaults
-pub mod StatementFaults
-pub mod TypeFaults
-pub mod SoFar
-pub mod WrittenTypeFaults
-pub mod DeclarationFaults
-pub mod SupposedFacts

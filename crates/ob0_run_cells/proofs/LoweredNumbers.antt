@@ -1,0 +1,101 @@
+-- Numbers of lowered code mean the expressions that they stand for.
+use Rattle.std.proofs.Common.{◌≡◌, ℕ, Bool, true, false, pos, neg_ℤ, Some, None, sym, refl, ap, ◌∙◌}
+use Rattle.ob0_tree.specs.declared.tree.Sign.TheVariants as sign
+use Rattle.ob0_tree.specs.declared.tree.AddOperator.{AddOperator}
+use Rattle.ob0_tree.specs.declared.tree.MultiplyOperator.{MultiplyOperator}
+use Rattle.ob0_tree.specs.Tree.{Tree, addend, adds, compares, expression, factor, integer, items, more, multiplier, multiplies, none, parenthesised, product, simple, sum, term}
+use Rattle.ob0_types_rules.specs.Expressions.{evaluate}
+use Rattle.ob0_types_rules.specs.WellTyped.{Typed}
+use Rattle.ob0_values.specs.Values.{Outcome, Value, add, add_is_settled, ends, gives, multiply, multiply_is_settled, number, signed, ◌>>=◌}
+use Rattle.ob0_run_machine.specs.Evaluation as machine
+use Rattle.ob0_run_machine.specs.Lowered as lowered
+use Rattle.ob0_run_cells.specs.Lowering.{Evaluated, Moment, NumberLeads, NumberMeans, Rest, Slot, addends_left, cells_in, multipliers_left, value_of_expression, value_of_factor, value_of_simple, value_of_term}
+use Rattle.ob0_run_cells.proofs.LoweredOutcomes.{Operates, bits-then, gives-then, grouped-then, in_range-bits, in_range-same, operate-bits, outcome-then, plus-same, followed_by}
+
+pub each-then : {A B : Type 0} (o : Outcome A) (f g : A → Outcome B) → ((a : A) → f a ≡ g a) → (o >>= f) ≡ (o >>= g)
+each-then (gives a) f g each = each a
+each-then (ends e) f g each = refl
+
+-- an operator that its left side doesn't settle, and what follows it
+pub unsettled : {A : Type 0} (o : Outcome Value) (is_settled : Value → Bool) (step : Value → Outcome Value) (next : Value → Outcome A) → ((x : Value) → is_settled x ≡ false)
+    → ((o >>= step) >>= next) ≡ (o >>= (λ x. elim (is_settled x) [ true ↦ gives x | false ↦ step x ] >>= next))
+unsettled o is_settled step next never =
+    grouped-then o step next ∙ each-then o (λ x. step x >>= next) (λ x. elim (is_settled x) [ true ↦ gives x | false ↦ step x ] >>= next) (λ x. ap (λ b. elim b [ true ↦ gives x | false ↦ step x ] >>= next) (sym (never x)))
+
+module _ {N : Type 0} (checked : Typed N) (slots : N → Slot) where
+  pub operation-means : (o : lowered.Operator) (op : Value → Value → Outcome Value) → Operates o op → (m n : lowered.Number) (v w : Evaluated N Value) → NumberMeans checked slots m v → NumberMeans checked slots n w
+      → NumberMeans checked slots (lowered.operation o m n) (λ z. v z >>= (λ x. w z >>= op x))
+  operation-means o op operates m n v w hm hn z shown = (
+    outcome-then number number (machine.number z.levels (cells_in z) m) (v z) (λ a. followed_by (machine.number z.levels (cells_in z) n) (machine.operate o a)) (λ x. w z >>= op x) (hm z shown).0
+        (λ a. outcome-then number number (machine.number z.levels (cells_in z) n) (w z) (machine.operate o a) (op (number a)) (hn z shown).0 (operates a)),
+    bits-then (machine.number z.levels (cells_in z) m) (λ a. followed_by (machine.number z.levels (cells_in z) n) (machine.operate o a)) (λ a. bits-then (machine.number z.levels (cells_in z) n) (machine.operate o a) (operate-bits o a)),
+  )
+
+  pub negative-means : (n : lowered.Number) (v : Evaluated N Value) → NumberMeans checked slots n v → NumberMeans checked slots (lowered.negative n) (λ z. v z >>= signed (Some sign.Minus))
+  negative-means n v hn z shown = (
+    outcome-then number number (machine.number z.levels (cells_in z) n) (v z) (λ a. machine.in_range (neg_ℤ a)) (signed (Some sign.Minus)) (hn z shown).0 (λ a. in_range-same (neg_ℤ a)),
+    bits-then (machine.number z.levels (cells_in z) n) (λ a. machine.in_range (neg_ℤ a)) (λ a. in_range-bits (neg_ℤ a)),
+  )
+
+  -- where nothing is left
+  pub number-whole : (n : lowered.Number) (rest : Rest N Value) (whole : Evaluated N Value) → ((z : Moment N) (v : Value) → rest z v ≡ gives v) → NumberLeads checked slots n rest whole → NumberMeans checked slots n whole
+  number-whole n rest whole ends_here h z shown =
+      let (v, hv, ev) = h in
+      let same : v z ≡ whole z = sym (gives-then (v z)) ∙ (each-then (v z) gives (rest z) (λ x. sym (ends_here z x)) ∙ ev z shown) in
+      ((hv z shown).0 ∙ same, (hv z shown).1)
+
+  pub addend-leads : (o : AddOperator) (op : lowered.Operator) → Operates op (add o) → ((x : Value) → add_is_settled o x ≡ false) → (m n : lowered.Number) (e : Tree N term) (rest : Tree N (items addend)) (whole : Evaluated N Value)
+      → NumberMeans checked slots n (value_of_term e) → NumberLeads checked slots m (addends_left (more (adds o e) rest)) whole → NumberLeads checked slots (lowered.operation op m n) (addends_left rest) whole
+  unfolding evaluate
+  addend-leads o op operates never m n e rest whole hn h =
+      let (v, hv, ev) = h in (
+        (λ z. v z >>= (λ x. value_of_term e z >>= add o x)),
+        operation-means op (add o) operates m n v (value_of_term e) hv hn,
+        λ z shown. unsettled (v z) (add_is_settled o) (λ x. value_of_term e z >>= add o x) (addends_left rest z) never ∙ ev z shown,
+      )
+
+  pub multiplier-leads : (o : MultiplyOperator) (op : lowered.Operator) → Operates op (multiply o) → ((x : Value) → multiply_is_settled o x ≡ false) → (m n : lowered.Number) (f : Tree N factor) (rest : Tree N (items multiplier)) (whole : Evaluated N Value)
+      → NumberMeans checked slots n (value_of_factor f) → NumberLeads checked slots m (multipliers_left (more (multiplies o f) rest)) whole → NumberLeads checked slots (lowered.operation op m n) (multipliers_left rest) whole
+  unfolding evaluate
+  multiplier-leads o op operates never m n f rest whole hn h =
+      let (v, hv, ev) = h in (
+        (λ z. v z >>= (λ x. value_of_factor f z >>= multiply o x)),
+        operation-means op (multiply o) operates m n v (value_of_factor f) hv hn,
+        λ z shown. unsettled (v z) (multiply_is_settled o) (λ x. value_of_factor f z >>= multiply o x) (multipliers_left rest z) never ∙ ev z shown,
+      )
+
+  pub product-begins : (f : Tree N factor) (rest : Tree N (items multiplier)) (n : lowered.Number) → NumberMeans checked slots n (value_of_factor f) → NumberLeads checked slots n (multipliers_left rest) (value_of_term (product f rest))
+  unfolding evaluate
+  product-begins f rest n hn = (value_of_factor f, hn, λ z shown. refl)
+
+  pub sum-begins : (e : Tree N term) (rest : Tree N (items addend)) (n : lowered.Number) → NumberMeans checked slots n (value_of_term e) → NumberLeads checked slots n (addends_left rest) (value_of_simple (sum None e rest))
+  unfolding evaluate
+  sum-begins e rest n hn = (value_of_term e, hn, λ z shown. refl)
+
+  pub plus-begins : (e : Tree N term) (rest : Tree N (items addend)) (n : lowered.Number) → NumberMeans checked slots n (value_of_term e) → NumberLeads checked slots n (addends_left rest) (value_of_simple (sum (Some sign.Plus) e rest))
+  unfolding evaluate
+  plus-begins e rest n hn = (
+    value_of_term e,
+    hn,
+    λ z shown. ap (λ w. w >>= addends_left rest z) (plus-same (machine.number z.levels (cells_in z) n) (value_of_term e z) (hn z shown).0 (hn z shown).1) ∙ grouped-then (value_of_term e z) (signed (Some sign.Plus)) (addends_left rest z),
+  )
+
+  pub minus-begins : (e : Tree N term) (rest : Tree N (items addend)) (n : lowered.Number) → NumberMeans checked slots n (value_of_term e) → NumberLeads checked slots (lowered.negative n) (addends_left rest) (value_of_simple (sum (Some sign.Minus) e rest))
+  unfolding evaluate
+  minus-begins e rest n hn = (
+    (λ z. value_of_term e z >>= signed (Some sign.Minus)),
+    negative-means n (value_of_term e) hn,
+    λ z shown. grouped-then (value_of_term e z) (signed (Some sign.Minus)) (addends_left rest z),
+  )
+
+  pub integer-means : (n : ℕ) → machine.fits (pos n) ≡ true → NumberMeans checked slots (lowered.literal (pos n)) (value_of_factor (integer n))
+  unfolding evaluate
+  integer-means n e z shown = (refl, e)
+
+  pub parenthesised-means : (e : Tree N expression) (n : lowered.Number) → NumberMeans checked slots n (value_of_expression e) → NumberMeans checked slots n (value_of_factor (parenthesised e))
+  unfolding evaluate
+  parenthesised-means e n hn z shown = hn z shown
+
+  pub alone-means : (e : Tree N simple) (n : lowered.Number) → NumberMeans checked slots n (value_of_simple e) → NumberMeans checked slots n (value_of_expression (compares e none))
+  unfolding evaluate
+  alone-means e n hn z shown = hn z shown

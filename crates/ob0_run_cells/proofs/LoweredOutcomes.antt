@@ -1,0 +1,152 @@
+-- Steps of lowered code and of the definition, one after the other.
+use Rattle.std.proofs.Common.{◌≡◌, ℕ, zero, suc, ◌<◌, ◌+◌, ◌-ℤ◌, ◌+ℤ◌, ◌*ℤ◌, ◌^◌, Bool, true, false, ℤ, pos, negsuc, if◌then◌else◌, Some, None, Option, option_and_then, sym, refl, ap, ◌∙◌, subst}
+use Rattle.std.proofs.Math.Nat.{mod-eq_of_lt}
+use Rattle.ob0_tree.specs.declared.tree.Relation.{Relation}
+use Rattle.ob0_tree.specs.declared.tree.Relation.TheVariants as relation
+use Rattle.ob0_tree.specs.declared.tree.Sign.TheVariants as sign
+use Rattle.ob0_tree.specs.declared.tree.AddOperator.TheVariants as add_operator
+use Rattle.ob0_tree.specs.declared.tree.MultiplyOperator.TheVariants as multiply_operator
+use Rattle.ob0_values.specs.Values.{End, Outcome, Overflow, Place, Shape, Value, add, divided_by, ends, fits, gives, in_range, multiply, number, or_stuck, quotient, relate, remainder, same_truth, signed, truth, ◌>>=◌}
+use Rattle.ob0_run_rules.specs.Fitting.{PlaceFits, StoreTyping}
+use Rattle.ob0_run_machine.specs.Evaluation as machine
+use Rattle.ob0_run_machine.specs.Lowered as lowered
+use Rattle.ob0_run_cells.specs.Cells.{address}
+use Rattle.ob0_run_cells.specs.Lowering.{GivesPlace, Has32Bits, outcome_of, relation_of}
+
+abbrev pub followed_by : {A B : Type 0} → machine.Outcome A → (A → machine.Outcome B) → machine.Outcome B
+followed_by = machine.◌>>=◌
+
+pub grouped-then : {A B C : Type 0} (o : Outcome A) (f : A → Outcome B) (g : B → Outcome C) → ((o >>= f) >>= g) ≡ (o >>= (λ a. f a >>= g))
+grouped-then (gives a) f g = refl
+grouped-then (ends e) f g = refl
+
+pub gives-then : {A : Type 0} (o : Outcome A) → (o >>= gives) ≡ o
+gives-then (gives a) = refl
+gives-then (ends e) = refl
+
+pub stuck-then : {A B C : Type 0} (o : Option A) (f : A → Option B) (k : B → Outcome C) → (or_stuck (option_and_then f o) >>= k) ≡ (or_stuck o >>= (λ a. or_stuck (f a) >>= k))
+stuck-then None f k = refl
+stuck-then (Some a) f k = refl
+
+-- a step of lowered code and one of the definition, and what follows each
+pub outcome-then : {A B X Y : Type 0} (f : A → X) (g : B → Y) (o : machine.Outcome A) (w : Outcome X) (k : A → machine.Outcome B) (j : X → Outcome Y)
+    → outcome_of f o ≡ w → ((a : A) → outcome_of g (k a) ≡ j (f a)) → outcome_of g (followed_by o k) ≡ (w >>= j)
+outcome-then f g (machine.gives a) w k j e each = each a ∙ ap (λ w. w >>= j) e
+outcome-then f g (machine.ends x) w k j e each = ap (λ w. w >>= j) e
+
+pub bits-then : {A : Type 0} (o : machine.Outcome A) (k : A → machine.Outcome ℤ) → ((a : A) → Has32Bits (k a)) → Has32Bits (followed_by o k)
+bits-then (machine.gives a) k each = each a
+bits-then (machine.ends e) k each = tt
+
+-- numbers of 32 bits
+
+pub fits-same : (n : ℤ) → machine.fits n ≡ fits n
+fits-same (pos n) = refl
+fits-same (negsuc n) = refl
+
+range-same : (n : ℤ) (b : Bool) → outcome_of number (if b then machine.gives n else machine.ends machine.Overflow) ≡ (if b then gives (number n) else ends Overflow)
+range-same n true = refl
+range-same n false = refl
+
+pub in_range-same : (n : ℤ) → outcome_of number (machine.in_range n) ≡ in_range n
+in_range-same n = range-same n (machine.fits n) ∙ ap (λ b. if b then gives (number n) else ends Overflow) (fits-same n)
+
+pub in_range-bits : (n : ℤ) → Has32Bits (machine.in_range n)
+in_range-bits n = (elim (machine.fits n) as (λ b. machine.fits n ≡ b → Has32Bits (if b then machine.gives n else machine.ends machine.Overflow)) [ true ↦ λ e. e | false ↦ λ e. tt ]) refl
+
+pub quotient-same : (a : ℤ) (b : ℕ) → machine.quotient_of a b ≡ quotient a b
+quotient-same (pos a) b = refl
+quotient-same (negsuc a) b = refl
+
+pub remainder-same : (a : ℤ) (b : ℕ) → machine.remainder_of a b ≡ remainder a b
+remainder-same (pos a) b = refl
+remainder-same (negsuc a) b = refl
+
+pub divided-same : (f : ℤ → ℕ → ℤ) (g : ℤ → ℕ → ℤ) → ((a : ℤ) (b : ℕ) → f a b ≡ g a b) → (a b : ℤ) → outcome_of number (machine.divided_by f a b) ≡ divided_by (λ d. in_range (g a d)) b
+divided-same f g same a (pos zero) = refl
+divided-same f g same a (pos (suc b)) = in_range-same (f a (suc b)) ∙ ap in_range (same a (suc b))
+divided-same f g same a (negsuc b) = refl
+
+pub divided-bits : (f : ℤ → ℕ → ℤ) (a b : ℤ) → Has32Bits (machine.divided_by f a b)
+divided-bits f a (pos zero) = tt
+divided-bits f a (pos (suc b)) = in_range-bits (f a (suc b))
+divided-bits f a (negsuc b) = tt
+
+pub operate-bits : (o : lowered.Operator) (a b : ℤ) → Has32Bits (machine.operate o a b)
+operate-bits lowered.sum a b = in_range-bits (a +ℤ b)
+operate-bits lowered.difference a b = in_range-bits (a -ℤ b)
+operate-bits lowered.product a b = in_range-bits (a *ℤ b)
+operate-bits lowered.quotient a b = divided-bits machine.quotient_of a b
+operate-bits lowered.remainder a b = divided-bits machine.remainder_of a b
+
+-- operators between values, by those of lowered code
+abbrev pub Operates : lowered.Operator → (Value → Value → Outcome Value) → Type 0
+Operates o op = (a b : ℤ) → outcome_of number (machine.operate o a b) ≡ op (number a) (number b)
+
+pub sum-operates : Operates lowered.sum (add add_operator.Add)
+sum-operates a b = in_range-same (a +ℤ b)
+
+pub difference-operates : Operates lowered.difference (add add_operator.Subtract)
+difference-operates a b = in_range-same (a -ℤ b)
+
+pub product-operates : Operates lowered.product (multiply multiply_operator.Multiply)
+product-operates a b = in_range-same (a *ℤ b)
+
+pub quotient-operates : Operates lowered.quotient (multiply multiply_operator.Divide)
+quotient-operates a b = divided-same machine.quotient_of quotient quotient-same a b
+
+pub remainder-operates : Operates lowered.remainder (multiply multiply_operator.Modulo)
+remainder-operates a b = divided-same machine.remainder_of remainder remainder-same a b
+
+pub compare-same : (r : Relation) (a b : ℤ) → gives (truth (machine.compare (relation_of r) a b)) ≡ relate r (number a) (number b)
+compare-same relation.Equal a b = refl
+compare-same relation.NotEqual a b = refl
+compare-same relation.Less a b = refl
+compare-same relation.LessEqual a b = refl
+compare-same relation.Greater a b = refl
+compare-same relation.GreaterEqual a b = refl
+
+pub alike-same : (a b : Bool) → machine.alike a b ≡ same_truth a b
+alike-same true b = refl
+alike-same false b = refl
+
+-- a sign before a number of 32 bits
+pub plus-same : (o : machine.Outcome ℤ) (w : Outcome Value) → outcome_of number o ≡ w → Has32Bits o → w ≡ (w >>= signed (Some sign.Plus))
+plus-same (machine.gives n) w e h =
+    subst (λ w. w ≡ (w >>= signed (Some sign.Plus))) e (sym (ap (λ b. if b then gives (number n) else ends Overflow) (sym (fits-same n) ∙ h)))
+plus-same (machine.ends x) w e h = subst (λ w. w ≡ (w >>= signed (Some sign.Plus))) e refl
+
+-- addresses
+
+pub forward-same : (a offset : ℕ) → a + offset < 2 ^ 64 → machine.forward a offset ≡ a + offset
+forward-same a offset h = mod-eq_of_lt h
+
+abbrev pub addresses : StoreTyping → Outcome Place → Outcome ℕ
+addresses typing w = w >>= (λ p. gives (address typing p))
+
+abbrev pub same : ℕ → ℕ
+same a = a
+
+-- what a place of lowered code is, and what the definition's is
+pub record Led (typing : StoreTyping) (s : Shape) (o : machine.Outcome ℕ) (w : Outcome Place) : Type 0 where
+  pub is_same : outcome_of same o ≡ addresses typing w
+  pub is_place : GivesPlace typing s w
+
+pub given-same : {A : Type 0} (a b : A) → gives a ≡ gives b → a ≡ b
+given-same {A} a b e = ap (λ o. elim o [ gives x ↦ x | ends x ↦ a ]) e
+
+abbrev pub ended : End → Outcome ℕ
+ended x = ends x
+
+pub ended-same : (x y : End) → ended x ≡ ended y → x ≡ y
+ended-same x y e = ap (λ o. elim o [ gives a ↦ y | ends z ↦ z ]) e
+
+-- one step further from a place
+pub led-then : (typing : StoreTyping) (s t : Shape) (o : machine.Outcome ℕ) (w : Outcome Place) (k : ℕ → machine.Outcome ℕ) (j : Place → Outcome Place)
+    → Led typing s o w → ((p : Place) → PlaceFits typing p s → Led typing t (k (address typing p)) (j p)) → Led typing t (followed_by o k) (w >>= j)
+led-then typing s t (machine.gives a) (gives p) k j h each =
+    let e : a ≡ address typing p = given-same a (address typing p) h.is_same in
+    subst (λ a. Led typing t (k a) (j p)) (sym e) (each p h.is_place)
+led-then typing s t (machine.ends x) (ends y) k j h each = record { is_same = h.is_same; is_place = tt }
+led-then typing s t (machine.gives a) (ends y) k j h each = let e = h.is_same in absurd (cc)
+led-then typing s t (machine.ends x) (gives p) k j h each = let e = h.is_same in absurd (cc)

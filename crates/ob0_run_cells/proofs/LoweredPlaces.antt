@@ -1,0 +1,285 @@
+-- Places of lowered code mean the designators that they stand for, and cells at them what those are worth.
+use Rattle.std.proofs.Common.{◌≡◌, ℕ, zero, suc, ◌+◌, ◌*◌, ◌<◌, ◌^◌, Bool, true, false, List, [], ◌∷◌, ◌++◌, ℤ, pos, negsuc, if◌then◌else◌, nat_lt, slice_get, Some, None, Option, option_map, option_and_then, unwrap_or, sym, refl, ap, ◌∙◌, subst, subst₂, arith, append_assoc, append-nil}
+use Rattle.std.proofs.lemmas.Option.{get_or_from_slice_get}
+use Rattle.ob0_tree.specs.Tree.{Tree, compares, designator, end, expression, factor, field, index, items, more, none, parenthesised, product, selector, sum}
+use Rattle.ob0_types_rules.specs.Expressions.{Meanings, Object, a_constant, a_procedure, a_standard, a_type, a_variable, designate, element_step, evaluate, follow, place_of, value_of}
+use Rattle.ob0_types_rules.specs.Typing.{shape_of_field}
+use Rattle.ob0_types_rules.specs.WellTyped.{Mode, Typed}
+use Rattle.ob0_values.specs.Values.{FieldShapes, Index, Outcome, Place, Shape, Step, Store, Value, Values, array_shape, at_field, at_index, at_path, boolean_shape, count_values, elements, ends, gives, integer_shape, number, or_stuck, part, read_place, record_shape, truth, ◌>>=◌}
+use Rattle.ob0_run_rules.specs.Fitting.{HasShape, ObjectFits, PlaceFits, StoreFits, StoreTyping, part_shape, shape_at_path}
+use Rattle.ob0_run_rules.proofs.Sound.{is_elements}
+use Rattle.ob0_run_machine.specs.Evaluation as machine
+use Rattle.ob0_run_machine.specs.Evaluation.{Levels}
+use Rattle.ob0_run_machine.specs.Lowered as lowered
+use Rattle.ob0_run_cells.specs.Cells.{address, all_cells, field_offset, offset, size, sizes, step_offset, truth_cell}
+use Rattle.ob0_run_cells.specs.Lowering.{Evaluated, GivesPlace, Has32Bits, Moment, NumberMeans, PlaceLeads, PlaceMeans, Shows, Slot, TruthMeans, ValueAt, cells_in, further, held, lent, of_module, outcome_of, place_of_designator, selectors_left, slot_address, slot_place, value_of_expression, value_of_factor}
+use Rattle.ob0_run_cells.proofs.LoweredNumbers.{each-then}
+use Rattle.ob0_run_cells.proofs.LoweredOutcomes.{Led, addresses, forward-same, given-same, gives-then, grouped-then, led-then, same, stuck-then, followed_by}
+use Rattle.ob0_run_cells.proofs.Places.{numbers_are_cells-holds, parts_have_addresses-holds, place-lies, places_are_slices-holds, truths_are_cells-holds}
+
+-- what names stand for in the run, by what they stand for in the checked module
+
+pub constant-stands : (typing : StoreTyping) (v : Value) (a : Option (Object Place (List Mode))) → ObjectFits typing (Some (a_constant v)) a → a ≡ Some (a_constant v)
+constant-stands typing v (Some (a_constant w)) h = ap (λ v. Some (a_constant v)) (sym h)
+constant-stands typing v None h = absurd h
+constant-stands typing v (Some (a_type s)) h = absurd h
+constant-stands typing v (Some (a_variable p)) h = absurd h
+constant-stands typing v (Some (a_procedure p)) h = absurd h
+constant-stands typing v (Some (a_standard p)) h = absurd h
+
+pub variable-stands : (typing : StoreTyping) (s : Shape) (a : Option (Object Place (List Mode))) → ObjectFits typing (Some (a_variable s)) a → (p : Place) × (a ≡ Some (a_variable p)) × PlaceFits typing p s
+variable-stands typing s (Some (a_variable p)) h = (p, refl, h)
+variable-stands typing s None h = absurd h
+variable-stands typing s (Some (a_type t)) h = absurd h
+variable-stands typing s (Some (a_constant v)) h = absurd h
+variable-stands typing s (Some (a_procedure p)) h = absurd h
+variable-stands typing s (Some (a_standard p)) h = absurd h
+
+-- what lies further on
+
+and-then-twice : {A B C : Type 0} (o : Option A) (f : A → Option C) (g : B → Option C) (h : A → Option B) → ((a : A) → f a ≡ option_and_then g (h a)) → option_and_then f o ≡ option_and_then g (option_and_then h o)
+and-then-twice None f g h each = refl
+and-then-twice (Some a) f g h each = each a
+
+pub at_path-append : (path others : List Step) (v : Value) → at_path (path ++ others) v ≡ option_and_then (at_path others) (at_path path v)
+at_path-append [] others v = refl
+at_path-append (s ∷ path) others v = and-then-twice (part v s) (at_path (path ++ others)) (at_path others) (at_path path) (λ u. at_path-append path others u)
+
+pub read-further : (store : Store) (p : Place) (steps : List Step) → read_place store (further p steps) ≡ option_and_then (at_path steps) (read_place store p)
+read-further store p steps = and-then-twice (slice_get store p.variable) (at_path (p.path ++ steps)) (at_path steps) (at_path p.path) (λ v. at_path-append p.path steps v)
+
+pub further-further : (p : Place) (s : Step) (steps : List Step) → further (further p (s ∷ [])) steps ≡ further p (s ∷ steps)
+further-further p s steps = ap (λ path. record { variable = p.variable; path = path }) (append_assoc p.path (s ∷ []) steps)
+
+then-some : {A : Type 0} (o : Option A) → option_and_then Some o ≡ o
+then-some None = refl
+then-some (Some a) = refl
+
+-- selectors that are left, one step further
+pub left-further : {N : Type 0} (z : Moment N) (p : Place) (s : Step) (rest : Tree N (items selector))
+    → selectors_left rest z (further p (s ∷ [])) ≡ (or_stuck (read_place z.store p) >>= (λ u. or_stuck (part u s) >>= (λ w. follow z.active z.store w rest >>= (λ steps. gives (further p (s ∷ steps))))))
+left-further z p s rest =
+    ap (λ o. or_stuck o >>= (λ w. follow z.active z.store w rest >>= (λ steps. gives (further (further p (s ∷ [])) steps)))) (read-further z.store p (s ∷ []))
+    ∙ (stuck-then (read_place z.store p) (at_path (s ∷ [])) (λ w. follow z.active z.store w rest >>= (λ steps. gives (further (further p (s ∷ [])) steps)))
+    ∙ (λ i. or_stuck (read_place z.store p) >>= (λ u. or_stuck (then-some (part u s) i) >>= (λ w. follow z.active z.store w rest >>= (λ steps. gives (further-further p s steps i))))))
+
+-- the steps that a selector and the others make are those of the others behind it
+pub step-first : (o : Outcome Value) (others : Value → Outcome (List Step)) (s : Step) (p : Place)
+    → ((o >>= (λ w. others w >>= (λ steps. gives (s ∷ steps)))) >>= (λ steps. gives (further p steps))) ≡ (o >>= (λ w. others w >>= (λ steps. gives (further p (s ∷ steps)))))
+step-first (gives w) others s p = grouped-then (others w) (λ steps. gives (s ∷ steps)) (λ steps. gives (further p steps))
+step-first (ends e) others s p = refl
+
+pub each-place : {B : Type 0} (typing : StoreTyping) (s : Shape) (w : Outcome Place) (f g : Place → Outcome B) → GivesPlace typing s w → ((p : Place) → PlaceFits typing p s → f p ≡ g p) → (w >>= f) ≡ (w >>= g)
+each-place typing s (gives p) f g h each = each p h
+each-place typing s (ends e) f g h each = refl
+
+-- addresses of slots
+
+pub slot-found : (ls : Levels) (cells : List ℤ) (slot : Slot) → slot_address ls slot < 2 ^ 64 → machine.address ls cells (slot_place slot) ≡ machine.gives (slot_address ls slot)
+slot-found ls cells (of_module at) h = refl
+slot-found ls cells (held zero at) h = ap machine.gives (forward-same (machine.innermost ls).base at h)
+slot-found ls cells (held (suc up) at) h = ap machine.gives (forward-same (machine.level_at ls (suc up)).base at h)
+slot-found ls cells (lent up i) h = refl
+
+-- one step further, at a moment
+
+pub step-alone : (s t : Shape) (step : Step) → part_shape s step ≡ Some t → offset (step ∷ []) s ≡ step_offset s step
+step-alone s t step e =
+    let h : unwrap_or (option_map (offset []) (part_shape s step)) 0 ≡ 0 = ap (λ o. unwrap_or (option_map (offset []) o) 0) e in omega (arith, h)
+
+pub step-led : (typing : StoreTyping) (store : Store) → StoreFits typing store → sizes typing < 2 ^ 64 → (p : Place) (s t : Shape) (step : Step) → PlaceFits typing p s → part_shape s step ≡ Some t
+    → Led typing t (machine.gives (machine.forward (address typing p) (step_offset s step))) (gives (further p (step ∷ [])))
+step-led typing store fits few p s t step fit e =
+    let (is, there) = parts_have_addresses-holds typing p (step ∷ []) s t fit (ap (option_and_then (shape_at_path [])) e) in
+    let (within, held_there) = places_are_slices-holds typing store (further p (step ∷ [])) t fits is in
+    let alone : offset (step ∷ []) s ≡ step_offset s step = step-alone s t step e in
+    let same_address : address typing (further p (step ∷ [])) ≡ address typing p + step_offset s step = there ∙ ap (λ n. address typing p + n) alone in
+    let bound : address typing p + step_offset s step < 2 ^ 64 = omega (arith, within, few, same_address) in
+    record { is_same = ap gives (forward-same (address typing p) (step_offset s step) bound ∙ sym same_address); is_place = is }
+
+-- an element, by an index that was evaluated
+pub index-led : (typing : StoreTyping) (store : Store) → StoreFits typing store → sizes typing < 2 ^ 64 → (p : Place) (k n : ℕ) (t : Shape) → PlaceFits typing p (array_shape k n t)
+    → (o : machine.Outcome ℤ) (w : Outcome Value) → outcome_of number o ≡ w
+    → Led typing t (followed_by o (machine.element_at (address typing p) n (size t))) (w >>= (λ x. or_stuck (read_place store p) >>= (λ u. element_step u x >>= (λ s. gives (further p (s ∷ []))))))
+index-led typing store fits few p k n t fit o w e =
+    let (u, eu, hu, write, made, keeps, lies) = place-lies typing store p (array_shape k n t) fits fit in
+    let (vs, es) = is_elements u k n t hu in
+    let counted : count_values vs ≡ n = (subst (λ u. HasShape u (array_shape k n t)) es hu).0 in
+    subst₂ (λ w r. Led typing t (followed_by o (machine.element_at (address typing p) n (size t))) (w >>= (λ x. or_stuck r >>= (λ u. element_step u x >>= (λ s. gives (further p (s ∷ []))))))) e (sym (eu ∙ ap Some es)) (go vs counted o)
+  where
+    chosen : (i : ℕ) (b : Bool) → nat_lt i n ≡ b → Led typing t (if b then machine.gives (machine.forward (address typing p) (i * size t)) else machine.ends machine.Index) ((if b then gives (at_index i) else ends Index) >>= (λ s. gives (further p (s ∷ []))))
+    chosen i true below = step-led typing store fits few p (array_shape k n t) t (at_index i) fit (ap (λ b. if b then Some t else None) below)
+    chosen i false below = record { is_same = refl; is_place = tt }
+
+    go : (vs : Values) → count_values vs ≡ n → (o : machine.Outcome ℤ) → Led typing t (followed_by o (machine.element_at (address typing p) n (size t))) (outcome_of number o >>= (λ x. element_step (elements vs) x >>= (λ s. gives (further p (s ∷ [])))))
+    go vs counted (machine.gives (pos i)) =
+        subst (λ m. Led typing t (machine.element_at (address typing p) n (size t) (pos i)) ((if nat_lt i m then gives (at_index i) else ends Index) >>= (λ s. gives (further p (s ∷ []))))) (sym counted) (chosen i (nat_lt i n) refl)
+    go vs counted (machine.gives (negsuc i)) = record { is_same = refl; is_place = tt }
+    go vs counted (machine.ends x) = record { is_same = refl; is_place = tt }
+
+-- a designator in an expression is worth what its place holds
+
+pub value-there : {N : Type 0} (active : Meanings N Place (List Mode)) (store : Store) (x : N) (path : Tree N (items selector)) (p : Place) → active.stands_for x ≡ Some (a_variable p)
+    → (value_of store (active.stands_for x) >>= (λ v. follow active store v path >>= (λ steps. or_stuck (at_path steps v))))
+    ≡ ((place_of (active.stands_for x) >>= (λ p. or_stuck (read_place store p) >>= (λ v. follow active store v path >>= (λ steps. gives (further p steps))))) >>= (λ p. or_stuck (read_place store p)))
+value-there {N} active store x path p e =
+    subst (λ o. (value_of {P = List Mode} store o >>= (λ v. follow active store v path >>= (λ steps. or_stuck (at_path steps v))))
+    ≡ ((place_of o >>= (λ p. or_stuck (read_place store p) >>= (λ v. follow active store v path >>= (λ steps. gives (further p steps))))) >>= (λ p. or_stuck (read_place store p)))) (sym e)
+    (go (read_place store p) refl)
+  where
+    go : (o : Option Value) → read_place store p ≡ o
+        → (or_stuck o >>= (λ v. follow active store v path >>= (λ steps. or_stuck (at_path steps v)))) ≡ ((or_stuck o >>= (λ v. follow active store v path >>= (λ steps. gives (further p steps)))) >>= (λ p. or_stuck (read_place store p)))
+    go None h = refl
+    go (Some v) h =
+        each-then (follow active store v path) (λ steps. or_stuck (at_path steps v)) (λ steps. or_stuck (read_place store (further p steps))) (λ steps. ap or_stuck (sym (read-further store p steps ∙ ap (option_and_then (at_path steps)) h)))
+        ∙ sym (grouped-then (follow active store v path) (λ steps. gives (further p steps)) (λ p. or_stuck (read_place store p)))
+
+pub get-before : {A : Type 0} (xs ys : List A) (i : ℕ) (x : A) → slice_get xs i ≡ Some x → slice_get (xs ++ ys) i ≡ Some x
+get-before [] ys i x e = absurd (cc)
+get-before (y ∷ xs) ys zero x e = e
+get-before (y ∷ xs) ys (suc i) x e = get-before xs ys i x e
+
+pub number-there : (typing : StoreTyping) (store : Store) (passed : List ℤ) → StoreFits typing store → (o : machine.Outcome ℕ) (w : Outcome Place) → Led typing integer_shape o w
+    → outcome_of number (followed_by o (λ a. machine.gives (machine.cell_at (all_cells store ++ passed) a))) ≡ (w >>= (λ p. or_stuck (read_place store p)))
+number-there typing store passed fits (machine.gives a) (gives p) h =
+    let (found, writes) = numbers_are_cells-holds typing store p fits h.is_place in
+    let (n, read, cell) = found in
+    let e : a ≡ address typing p = given-same a (address typing p) h.is_same in
+    ap (λ n. gives (number n)) (get_or_from_slice_get (all_cells store ++ passed) a n (pos 0) (ap (slice_get (all_cells store ++ passed)) e ∙ get-before (all_cells store) passed (address typing p) n cell)) ∙ sym (ap or_stuck read)
+number-there typing store passed fits (machine.ends x) (ends y) h = ap (λ w. w >>= (λ a. ends y)) (h.is_same)
+number-there typing store passed fits (machine.gives a) (ends y) h = let e = h.is_same in absurd (cc)
+number-there typing store passed fits (machine.ends x) (gives p) h = let e = h.is_same in absurd (cc)
+
+is_true-cell : (b : Bool) → machine.is_true (truth_cell b) ≡ b
+is_true-cell true = refl
+is_true-cell false = refl
+
+pub truth-there : (typing : StoreTyping) (store : Store) (passed : List ℤ) → StoreFits typing store → (o : machine.Outcome ℕ) (w : Outcome Place) → Led typing boolean_shape o w
+    → outcome_of truth (followed_by o (λ a. machine.gives (machine.is_true (machine.cell_at (all_cells store ++ passed) a)))) ≡ (w >>= (λ p. or_stuck (read_place store p)))
+truth-there typing store passed fits (machine.gives a) (gives p) h =
+    let (found, writes) = truths_are_cells-holds typing store p fits h.is_place in
+    let (b, read, cell) = found in
+    let e : a ≡ address typing p = given-same a (address typing p) h.is_same in
+    ap (λ n. gives (truth (machine.is_true n))) (get_or_from_slice_get (all_cells store ++ passed) a (truth_cell b) (pos 0) (ap (slice_get (all_cells store ++ passed)) e ∙ get-before (all_cells store) passed (address typing p) (truth_cell b) cell)) ∙ (ap (λ b. gives (truth b)) (is_true-cell b) ∙ sym (ap or_stuck read))
+truth-there typing store passed fits (machine.ends x) (ends y) h = ap (λ w. w >>= (λ a. ends y)) (h.is_same)
+truth-there typing store passed fits (machine.gives a) (ends y) h = let e = h.is_same in absurd (cc)
+truth-there typing store passed fits (machine.ends x) (gives p) h = let e = h.is_same in absurd (cc)
+
+pub bits-at : (o : machine.Outcome ℕ) (cells : List ℤ) → ((a : ℕ) → machine.fits (machine.cell_at cells a) ≡ true) → Has32Bits (followed_by o (λ a. machine.gives (machine.cell_at cells a)))
+bits-at (machine.gives a) cells each = each a
+bits-at (machine.ends x) cells each = tt
+
+-- an index and the selectors behind it, from a place that holds something
+pub index-left : {N : Type 0} (z : Moment N) (p : Place) (e : Tree N expression) (rest : Tree N (items selector)) (u : Value) → read_place z.store p ≡ Some u
+    → ((value_of_expression e z >>= (λ x. or_stuck (read_place z.store p) >>= (λ u. element_step u x >>= (λ s. gives (further p (s ∷ [])))))) >>= selectors_left rest z) ≡ selectors_left (more (index e) rest) z p
+unfolding evaluate
+index-left z p e rest u eu =
+    ap (λ o. (value_of_expression e z >>= (λ x. or_stuck o >>= (λ u. element_step u x >>= (λ s. gives (further p (s ∷ [])))))) >>= selectors_left rest z) eu
+    ∙ (grouped-then (value_of_expression e z) (λ x. element_step u x >>= (λ s. gives (further p (s ∷ [])))) (selectors_left rest z)
+    ∙ (each-then (value_of_expression e z) (λ x. (element_step u x >>= (λ s. gives (further p (s ∷ [])))) >>= selectors_left rest z) (λ x. (element_step u x >>= (λ s. or_stuck (part u s) >>= (λ w. follow z.active z.store w rest >>= (λ steps. gives (s ∷ steps))))) >>= (λ steps. gives (further p steps)))
+    (λ x. grouped-then (element_step u x) (λ s. gives (further p (s ∷ []))) (selectors_left rest z)
+    ∙ (each-then (element_step u x) (λ s. selectors_left rest z (further p (s ∷ []))) (λ s. (or_stuck (part u s) >>= (λ w. follow z.active z.store w rest >>= (λ steps. gives (s ∷ steps)))) >>= (λ steps. gives (further p steps)))
+    (λ s. left-further z p s rest ∙ (ap (λ o. or_stuck o >>= (λ u. or_stuck (part u s) >>= (λ w. follow z.active z.store w rest >>= (λ steps. gives (further p (s ∷ steps)))))) eu ∙ sym (step-first (or_stuck (part u s)) (λ w. follow z.active z.store w rest) s p)))
+    ∙ sym (grouped-then (element_step u x) (λ s. or_stuck (part u s) >>= (λ w. follow z.active z.store w rest >>= (λ steps. gives (s ∷ steps)))) (λ steps. gives (further p steps)))))
+    ∙ (sym (grouped-then (value_of_expression e z) (λ x. element_step u x >>= (λ s. or_stuck (part u s) >>= (λ w. follow z.active z.store w rest >>= (λ steps. gives (s ∷ steps))))) (λ steps. gives (further p steps)))
+    ∙ sym (ap (λ o. or_stuck o >>= (λ u. (value_of_expression e z >>= (λ x. element_step u x >>= (λ s. or_stuck (part u s) >>= (λ w. follow z.active z.store w rest >>= (λ steps. gives (s ∷ steps)))))) >>= (λ steps. gives (further p steps)))) eu))))
+
+module _ {N : Type 0} (checked : Typed N) (slots : N → Slot) where
+  pub led-at : (q : lowered.Place) (s : Shape) (v : Evaluated N Place) → PlaceMeans checked slots q s v → (z : Moment N) → Shows checked slots z → Led z.typing s (machine.address z.levels (cells_in z) q) (v z)
+  led-at q s v h z shown = record { is_same = (h z shown).0; is_place = (h z shown).1 }
+
+  pub variable-leads : (x : N) (s : Shape) (path : Tree N (items selector)) → checked.stands_for x ≡ Some (a_variable s) → PlaceLeads checked slots (slot_place (slots x)) s path (place_of_designator x path)
+  unfolding designate
+  variable-leads x s path e = (
+    (λ z. place_of (z.active.stands_for x)),
+    (λ z shown. let (p, ep, fit) = variable-stands z.typing s (z.active.stands_for x) (subst (λ o. ObjectFits z.typing o (z.active.stands_for x)) e (shown.names_fit.0 x)) in
+        let there : slot_address z.levels (slots x) ≡ address z.typing p = shown.variables_in_slots x p ep in
+        let (within, held_there) = places_are_slices-holds z.typing z.store p s shown.store_fits fit in
+        let few : sizes z.typing < 2 ^ 64 = shown.has_addresses in
+        let bound : slot_address z.levels (slots x) < 2 ^ 64 = omega (arith, within, there, few) in (
+          ap (outcome_of same) (slot-found z.levels (cells_in z) (slots x) bound) ∙ (ap gives there ∙ sym (ap (λ o. addresses z.typing (place_of {P = List Mode} o)) ep)),
+          subst (λ o. GivesPlace z.typing s (place_of {P = List Mode} o)) (sym ep) fit,
+        )),
+    λ z shown. refl,
+  )
+
+  pub field-leads : (q : lowered.Place) (k : ℕ) (fs : FieldShapes) (x : N) (t : Shape) (rest : Tree N (items selector)) (whole : Evaluated N Place)
+      → PlaceLeads checked slots q (record_shape k fs) (more (field x) rest) whole → shape_of_field fs (checked.written x) ≡ Some t → PlaceLeads checked slots (lowered.part q (field_offset fs (checked.written x))) t rest whole
+  unfolding evaluate
+  field-leads q k fs x t rest whole h e =
+      let (v, hv, ev) = h in (
+        (λ z. v z >>= (λ p. gives (further p (at_field (checked.written x) ∷ [])))),
+        (λ z shown. let l = led-then z.typing (record_shape k fs) t (machine.address z.levels (cells_in z) q) (v z) (λ a. machine.gives (machine.forward a (field_offset fs (checked.written x)))) (λ p. gives (further p (at_field (checked.written x) ∷ [])))
+            (led-at q (record_shape k fs) v hv z shown) (λ p fit. step-led z.typing z.store shown.store_fits shown.has_addresses p (record_shape k fs) t (at_field (checked.written x)) fit e) in
+            (l.is_same, l.is_place)),
+        λ z shown. grouped-then (v z) (λ p. gives (further p (at_field (checked.written x) ∷ []))) (selectors_left rest z)
+            ∙ (each-then (v z) (λ p. selectors_left rest z (further p (at_field (checked.written x) ∷ []))) (selectors_left (more (field x) rest) z)
+            (λ p. left-further z p (at_field (checked.written x)) rest
+            ∙ subst (λ y. (or_stuck (read_place z.store p) >>= (λ u. or_stuck (part u (at_field (checked.written x))) >>= (λ w. follow z.active z.store w rest >>= (λ steps. gives (further p (at_field (checked.written x) ∷ steps))))))
+            ≡ (or_stuck (read_place z.store p) >>= (λ u. (or_stuck (part u (at_field y)) >>= (λ w. follow z.active z.store w rest >>= (λ steps. gives (at_field y ∷ steps)))) >>= (λ steps. gives (further p steps))))) (shown.names_fit.1 x)
+            (sym (λ i. or_stuck (read_place z.store p) >>= (λ u. step-first (or_stuck (part u (at_field (checked.written x)))) (λ w. follow z.active z.store w rest) (at_field (checked.written x)) p i)))) ∙ ev z shown),
+      )
+
+  pub index-leads : (q : lowered.Place) (k n : ℕ) (t : Shape) (e : Tree N expression) (i : lowered.Number) (rest : Tree N (items selector)) (whole : Evaluated N Place)
+      → PlaceLeads checked slots q (array_shape k n t) (more (index e) rest) whole → NumberMeans checked slots i (value_of_expression e) → PlaceLeads checked slots (lowered.element q i n (size t)) t rest whole
+  unfolding evaluate
+  index-leads q k n t e i rest whole h hi =
+      let (v, hv, ev) = h in (
+        (λ z. v z >>= (λ p. value_of_expression e z >>= (λ x. or_stuck (read_place z.store p) >>= (λ u. element_step u x >>= (λ s. gives (further p (s ∷ []))))))),
+        (λ z shown. let l = led-then z.typing (array_shape k n t) t (machine.address z.levels (cells_in z) q) (v z) (λ a. followed_by (machine.number z.levels (cells_in z) i) (machine.element_at a n (size t))) (λ p. value_of_expression e z >>= (λ x. or_stuck (read_place z.store p) >>= (λ u. element_step u x >>= (λ s. gives (further p (s ∷ []))))))
+            (led-at q (array_shape k n t) v hv z shown) (λ p fit. index-led z.typing z.store shown.store_fits shown.has_addresses p k n t fit (machine.number z.levels (cells_in z) i) (value_of_expression e z) (hi z shown).0) in
+            (l.is_same, l.is_place)),
+        λ z shown. grouped-then (v z) (λ p. value_of_expression e z >>= (λ x. or_stuck (read_place z.store p) >>= (λ u. element_step u x >>= (λ s. gives (further p (s ∷ [])))))) (selectors_left rest z)
+            ∙ (each-place z.typing (array_shape k n t) (v z) (λ p. (value_of_expression e z >>= (λ x. or_stuck (read_place z.store p) >>= (λ u. element_step u x >>= (λ s. gives (further p (s ∷ [])))))) >>= selectors_left rest z) (selectors_left (more (index e) rest) z) (hv z shown).1
+            (λ p fit. let (u, eu, hu, write, made, keeps, lies) = place-lies z.typing z.store p (array_shape k n t) shown.store_fits fit in index-left z p e rest u eu) ∙ ev z shown),
+      )
+
+  pub selectors-end : (q : lowered.Place) (s : Shape) (whole : Evaluated N Place) → PlaceLeads checked slots q s end whole → PlaceMeans checked slots q s whole
+  unfolding evaluate
+  selectors-end q s whole h z shown =
+      let (v, hv, ev) = h in
+      let same_place : v z ≡ whole z = sym (gives-then (v z)) ∙ (each-place z.typing s (v z) gives (selectors_left end z) (hv z shown).1
+      (λ p fit. let (u, eu, hu, write, made, keeps, lies) = place-lies z.typing z.store p s shown.store_fits fit in
+      ap (λ path. gives record { variable = p.variable; path = path }) (sym (append-nil p.path)) ∙ sym (ap (λ o. or_stuck o >>= (λ v. gives (further p []))) eu)) ∙ ev z shown) in (
+        (hv z shown).0 ∙ ap (addresses z.typing) same_place,
+        subst (GivesPlace z.typing s) same_place (hv z shown).1,
+      )
+
+  pub cell-means : (x : N) (s : Shape) (path : Tree N (items selector)) (q : lowered.Place) → checked.stands_for x ≡ Some (a_variable s) → PlaceMeans checked slots q integer_shape (place_of_designator x path) → NumberMeans checked slots (lowered.cell q) (value_of_factor (designator x path))
+  unfolding evaluate designate
+  cell-means x s path q e h z shown =
+      let (p, ep, fit) = variable-stands z.typing s (z.active.stands_for x) (subst (λ o. ObjectFits z.typing o (z.active.stands_for x)) e (shown.names_fit.0 x)) in (
+        number-there z.typing z.store z.passed shown.store_fits (machine.address z.levels (cells_in z) q) (place_of_designator x path z) (led-at q integer_shape (place_of_designator x path) h z shown) ∙ sym (value-there z.active z.store x path p ep),
+        bits-at (machine.address z.levels (cells_in z) q) (cells_in z) shown.has_numbers,
+      )
+
+  pub flag-means : (x : N) (s : Shape) (path : Tree N (items selector)) (q : lowered.Place) → checked.stands_for x ≡ Some (a_variable s) → PlaceMeans checked slots q boolean_shape (place_of_designator x path) → TruthMeans checked slots (lowered.flag q) (value_of_factor (designator x path))
+  unfolding evaluate designate
+  flag-means x s path q e h z shown =
+      let (p, ep, fit) = variable-stands z.typing s (z.active.stands_for x) (subst (λ o. ObjectFits z.typing o (z.active.stands_for x)) e (shown.names_fit.0 x)) in
+      truth-there z.typing z.store z.passed shown.store_fits (machine.address z.levels (cells_in z) q) (place_of_designator x path z) (led-at q boolean_shape (place_of_designator x path) h z shown) ∙ sym (value-there z.active z.store x path p ep)
+
+  pub number-constant : (x : N) (n : ℤ) → checked.stands_for x ≡ Some (a_constant (number n)) → machine.fits n ≡ true → NumberMeans checked slots (lowered.literal n) (value_of_factor (designator x end))
+  unfolding evaluate
+  number-constant x n e fits z shown =
+      let stands : z.active.stands_for x ≡ Some (a_constant (number n)) = constant-stands z.typing (number n) (z.active.stands_for x) (subst (λ o. ObjectFits z.typing o (z.active.stands_for x)) e (shown.names_fit.0 x)) in
+      (sym (ap (λ o. value_of {P = List Mode} z.store o >>= (λ v. gives [] >>= (λ steps. or_stuck (at_path steps v)))) stands), fits)
+
+  pub truth-constant : (x : N) (b : Bool) → checked.stands_for x ≡ Some (a_constant (truth b)) → TruthMeans checked slots (lowered.constant b) (value_of_factor (designator x end))
+  unfolding evaluate
+  truth-constant x b e z shown =
+      let stands : z.active.stands_for x ≡ Some (a_constant (truth b)) = constant-stands z.typing (truth b) (z.active.stands_for x) (subst (λ o. ObjectFits z.typing o (z.active.stands_for x)) e (shown.names_fit.0 x)) in
+      sym (ap (λ o. value_of {P = List Mode} z.store o >>= (λ v. gives [] >>= (λ steps. or_stuck (at_path steps v)))) stands)
+
+  pub block-designator : (q : lowered.Place) (s : Shape) (x : N) (v : Shape) (path : Tree N (items selector)) → checked.stands_for x ≡ Some (a_variable v) → PlaceMeans checked slots q s (place_of_designator x path) → ValueAt checked slots q s (value_of_factor (designator x path))
+  unfolding evaluate designate
+  block-designator q s x v path e hq =
+      (place_of_designator x path, hq, λ z shown. let (p, ep, fit) = variable-stands z.typing v (z.active.stands_for x) (subst (λ o. ObjectFits z.typing o (z.active.stands_for x)) e (shown.names_fit.0 x)) in value-there z.active z.store x path p ep)
+
+  pub block-parenthesised : (q : lowered.Place) (s : Shape) (e : Tree N expression) → ValueAt checked slots q s (value_of_expression e) → ValueAt checked slots q s (value_of_factor (parenthesised e))
+  unfolding evaluate
+  block-parenthesised q s e h = (h.0, h.1, λ z shown. h.2 z shown)
+
+  pub block-alone : (q : lowered.Place) (s : Shape) (f : Tree N factor) → ValueAt checked slots q s (value_of_factor f) → ValueAt checked slots q s (value_of_expression (compares (sum None (product f end) end) none))
+  unfolding evaluate
+  block-alone q s f h = (h.0, h.1, λ z shown. gives-then (value_of_factor f z >>= gives) ∙ (gives-then (value_of_factor f z) ∙ h.2 z shown))

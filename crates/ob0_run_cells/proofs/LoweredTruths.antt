@@ -1,0 +1,104 @@
+-- Truths of lowered code mean the expressions that they stand for.
+use Rattle.std.proofs.Common.{◌≡◌, Bool, true, false, not, if◌then◌else◌, None, sym, refl, ap, ◌∙◌, subst}
+use Rattle.ob0_tree.specs.declared.tree.Relation.{Relation}
+use Rattle.ob0_tree.specs.declared.tree.Relation.TheVariants as relation
+use Rattle.ob0_tree.specs.declared.tree.AddOperator.TheVariants as add_operator
+use Rattle.ob0_tree.specs.declared.tree.MultiplyOperator.TheVariants as multiply_operator
+use Rattle.ob0_tree.specs.Tree.{Tree, addend, adds, compares, expression, factor, items, more, multiplier, multiplies, negation, none, one, parenthesised, product, relates, simple, sum, term}
+use Rattle.ob0_types_rules.specs.Expressions.{evaluate}
+use Rattle.ob0_types_rules.specs.WellTyped.{Typed}
+use Rattle.ob0_values.specs.Values.{Outcome, Value, add, add_is_settled, gives, multiply, multiply_is_settled, negated, number, relate, truth, ◌>>=◌}
+use Rattle.ob0_run_machine.specs.Evaluation as machine
+use Rattle.ob0_run_machine.specs.Lowered as lowered
+use Rattle.ob0_run_cells.specs.Lowering.{Evaluated, Moment, NumberMeans, Rest, Slot, TruthLeads, TruthMeans, addends_left, cells_in, multipliers_left, outcome_of, relation_of, value_of_expression, value_of_factor, value_of_simple, value_of_term}
+use Rattle.ob0_run_cells.proofs.LoweredNumbers.{each-then}
+use Rattle.ob0_run_cells.proofs.LoweredOutcomes.{alike-same, compare-same, gives-then, grouped-then, outcome-then, followed_by}
+
+-- a right side alone says what an operator gives that its left side doesn't settle
+pub right-alone : (op : Value → Outcome Value) (o : machine.Outcome Bool) (w : Outcome Value) → ((b : Bool) → op (truth b) ≡ gives (truth b)) → outcome_of truth o ≡ w → outcome_of truth o ≡ (w >>= op)
+right-alone op (machine.gives b) w same e = subst (λ w. gives (truth b) ≡ (w >>= op)) e (sym (same b))
+right-alone op (machine.ends x) w same e = ap (λ w. w >>= op) e
+
+module _ {N : Type 0} (checked : Typed N) (slots : N → Slot) where
+  pub either-means : (t u : lowered.Truth) (v w : Evaluated N Value) → TruthMeans checked slots t v → TruthMeans checked slots u w
+      → TruthMeans checked slots (lowered.either t u) (λ z. v z >>= (λ x. elim (add_is_settled add_operator.Or x) [ true ↦ gives x | false ↦ w z >>= add add_operator.Or x ]))
+  either-means t u v w ht hu z shown =
+      outcome-then truth truth (machine.truth z.levels (cells_in z) t) (v z) (λ a. if a then machine.gives true else machine.truth z.levels (cells_in z) u)
+      (λ x. elim (add_is_settled add_operator.Or x) [ true ↦ gives x | false ↦ w z >>= add add_operator.Or x ]) (ht z shown)
+      (λ a. elim a as (λ a. outcome_of truth (if a then machine.gives true else machine.truth z.levels (cells_in z) u) ≡ elim (add_is_settled add_operator.Or (truth a)) [ true ↦ gives (truth a) | false ↦ w z >>= add add_operator.Or (truth a) ])
+      [ true ↦ refl | false ↦ right-alone (add add_operator.Or (truth false)) (machine.truth z.levels (cells_in z) u) (w z) (λ b. refl) (hu z shown) ])
+
+  pub both-means : (t u : lowered.Truth) (v w : Evaluated N Value) → TruthMeans checked slots t v → TruthMeans checked slots u w
+      → TruthMeans checked slots (lowered.both t u) (λ z. v z >>= (λ x. elim (multiply_is_settled multiply_operator.And x) [ true ↦ gives x | false ↦ w z >>= multiply multiply_operator.And x ]))
+  both-means t u v w ht hu z shown =
+      outcome-then truth truth (machine.truth z.levels (cells_in z) t) (v z) (λ a. if a then machine.truth z.levels (cells_in z) u else machine.gives false)
+      (λ x. elim (multiply_is_settled multiply_operator.And x) [ true ↦ gives x | false ↦ w z >>= multiply multiply_operator.And x ]) (ht z shown)
+      (λ a. elim a as (λ a. outcome_of truth (if a then machine.truth z.levels (cells_in z) u else machine.gives false) ≡ elim (multiply_is_settled multiply_operator.And (truth a)) [ true ↦ gives (truth a) | false ↦ w z >>= multiply multiply_operator.And (truth a) ])
+      [ true ↦ right-alone (multiply multiply_operator.And (truth true)) (machine.truth z.levels (cells_in z) u) (w z) (λ b. refl) (hu z shown) | false ↦ refl ])
+
+  pub truth-whole : (t : lowered.Truth) (rest : Rest N Value) (whole : Evaluated N Value) → ((z : Moment N) (v : Value) → rest z v ≡ gives v) → TruthLeads checked slots t rest whole → TruthMeans checked slots t whole
+  truth-whole t rest whole ends_here h z shown =
+      let (v, hv, ev) = h in
+      hv z shown ∙ (sym (gives-then (v z)) ∙ (each-then (v z) gives (rest z) (λ x. sym (ends_here z x)) ∙ ev z shown))
+
+  pub either-leads : (t u : lowered.Truth) (e : Tree N term) (rest : Tree N (items addend)) (whole : Evaluated N Value) → TruthMeans checked slots u (value_of_term e)
+      → TruthLeads checked slots t (addends_left (more (adds add_operator.Or e) rest)) whole → TruthLeads checked slots (lowered.either t u) (addends_left rest) whole
+  unfolding evaluate
+  either-leads t u e rest whole hu h =
+      let (v, hv, ev) = h in (
+        (λ z. v z >>= (λ x. elim (add_is_settled add_operator.Or x) [ true ↦ gives x | false ↦ value_of_term e z >>= add add_operator.Or x ])),
+        either-means t u v (value_of_term e) hv hu,
+        λ z shown. grouped-then (v z) (λ x. elim (add_is_settled add_operator.Or x) [ true ↦ gives x | false ↦ value_of_term e z >>= add add_operator.Or x ]) (addends_left rest z) ∙ ev z shown,
+      )
+
+  pub both-leads : (t u : lowered.Truth) (f : Tree N factor) (rest : Tree N (items multiplier)) (whole : Evaluated N Value) → TruthMeans checked slots u (value_of_factor f)
+      → TruthLeads checked slots t (multipliers_left (more (multiplies multiply_operator.And f) rest)) whole → TruthLeads checked slots (lowered.both t u) (multipliers_left rest) whole
+  unfolding evaluate
+  both-leads t u f rest whole hu h =
+      let (v, hv, ev) = h in (
+        (λ z. v z >>= (λ x. elim (multiply_is_settled multiply_operator.And x) [ true ↦ gives x | false ↦ value_of_factor f z >>= multiply multiply_operator.And x ])),
+        both-means t u v (value_of_factor f) hv hu,
+        λ z shown. grouped-then (v z) (λ x. elim (multiply_is_settled multiply_operator.And x) [ true ↦ gives x | false ↦ value_of_factor f z >>= multiply multiply_operator.And x ]) (multipliers_left rest z) ∙ ev z shown,
+      )
+
+  pub product-begins : (f : Tree N factor) (rest : Tree N (items multiplier)) (t : lowered.Truth) → TruthMeans checked slots t (value_of_factor f) → TruthLeads checked slots t (multipliers_left rest) (value_of_term (product f rest))
+  unfolding evaluate
+  product-begins f rest t ht = (value_of_factor f, ht, λ z shown. refl)
+
+  pub sum-begins : (e : Tree N term) (rest : Tree N (items addend)) (t : lowered.Truth) → TruthMeans checked slots t (value_of_term e) → TruthLeads checked slots t (addends_left rest) (value_of_simple (sum None e rest))
+  unfolding evaluate
+  sum-begins e rest t ht = (value_of_term e, ht, λ z shown. refl)
+
+  pub parenthesised-means : (e : Tree N expression) (t : lowered.Truth) → TruthMeans checked slots t (value_of_expression e) → TruthMeans checked slots t (value_of_factor (parenthesised e))
+  unfolding evaluate
+  parenthesised-means e t ht z shown = ht z shown
+
+  pub alone-means : (e : Tree N simple) (t : lowered.Truth) → TruthMeans checked slots t (value_of_simple e) → TruthMeans checked slots t (value_of_expression (compares e none))
+  unfolding evaluate
+  alone-means e t ht z shown = ht z shown
+
+  pub negation-means : (f : Tree N factor) (t : lowered.Truth) → TruthMeans checked slots t (value_of_factor f) → TruthMeans checked slots (lowered.negation t) (value_of_factor (negation f))
+  unfolding evaluate
+  negation-means f t ht z shown =
+      outcome-then truth truth (machine.truth z.levels (cells_in z) t) (value_of_factor f z) (λ a. machine.gives (not a)) negated (ht z shown) (λ a. refl)
+
+  pub related-means : (d e : Tree N simple) (r : Relation) (m n : lowered.Number) → NumberMeans checked slots m (value_of_simple d) → NumberMeans checked slots n (value_of_simple e)
+      → TruthMeans checked slots (lowered.related (relation_of r) m n) (value_of_expression (compares d (one (relates r e))))
+  unfolding evaluate
+  related-means d e r m n hm hn z shown =
+      outcome-then number truth (machine.number z.levels (cells_in z) m) (value_of_simple d z) (λ a. followed_by (machine.number z.levels (cells_in z) n) (λ b. machine.gives (machine.compare (relation_of r) a b))) (λ x. value_of_simple e z >>= relate r x) (hm z shown).0
+      (λ a. outcome-then number truth (machine.number z.levels (cells_in z) n) (value_of_simple e z) (λ b. machine.gives (machine.compare (relation_of r) a b)) (relate r (number a)) (hn z shown).0 (compare-same r a))
+
+  pub same-means : (d e : Tree N simple) (t u : lowered.Truth) → TruthMeans checked slots t (value_of_simple d) → TruthMeans checked slots u (value_of_simple e)
+      → TruthMeans checked slots (lowered.same t u) (value_of_expression (compares d (one (relates relation.Equal e))))
+  unfolding evaluate
+  same-means d e t u ht hu z shown =
+      outcome-then truth truth (machine.truth z.levels (cells_in z) t) (value_of_simple d z) (λ a. followed_by (machine.truth z.levels (cells_in z) u) (λ b. machine.gives (machine.alike a b))) (λ x. value_of_simple e z >>= relate relation.Equal x) (ht z shown)
+      (λ a. outcome-then truth truth (machine.truth z.levels (cells_in z) u) (value_of_simple e z) (λ b. machine.gives (machine.alike a b)) (relate relation.Equal (truth a)) (hu z shown) (λ b. ap (λ c. gives (truth c)) (alike-same a b)))
+
+  pub different-means : (d e : Tree N simple) (t u : lowered.Truth) → TruthMeans checked slots t (value_of_simple d) → TruthMeans checked slots u (value_of_simple e)
+      → TruthMeans checked slots (lowered.different t u) (value_of_expression (compares d (one (relates relation.NotEqual e))))
+  unfolding evaluate
+  different-means d e t u ht hu z shown =
+      outcome-then truth truth (machine.truth z.levels (cells_in z) t) (value_of_simple d z) (λ a. followed_by (machine.truth z.levels (cells_in z) u) (λ b. machine.gives (not (machine.alike a b)))) (λ x. value_of_simple e z >>= relate relation.NotEqual x) (ht z shown)
+      (λ a. outcome-then truth truth (machine.truth z.levels (cells_in z) u) (value_of_simple e z) (λ b. machine.gives (not (machine.alike a b))) (relate relation.NotEqual (truth a)) (hu z shown) (λ b. ap (λ c. gives (truth (not c))) (alike-same a b)))

@@ -1,0 +1,151 @@
+-- Parts of values lie in the cells of their wholes.
+use Rattle.std.proofs.Common.{◌≡◌, ℕ, zero, suc, ◌+◌, ◌*◌, ◌<◌, ◌≤◌, true, false, List, [], ◌∷◌, ◌++◌, length, ℤ, if◌then◌else◌, nat_lt, Some, None, option_map, option_and_then, unwrap_or, sym, refl, ap, ◌∙◌, subst, arith, length-append}
+use Rattle.std.proofs.Math.Nat.{mul-le-mul_left}
+use Rattle.ob0_scope_rules.specs.Names.{Name, same_name}
+use Rattle.ob0_types_rules.specs.Typing.{field_scalars, shape_of_field}
+use Rattle.ob0_values.specs.Values.{FieldShapes, Members, Shape, Step, Value, Values, array_shape, at_field, at_index, at_path, boolean_shape, count_values, elements, integer_shape, members, named_member, next_field_shape, next_member, next_value, no_field_shape, no_member, no_value, nth_value, number, part, record_shape, truth, with_at_path, with_named_member, with_nth_value, with_part}
+use Rattle.ob0_run_rules.specs.Fitting.{EachHasShape, HasShape, HaveShapes, part_shape, shape_at_path}
+use Rattle.ob0_run_rules.proofs.Sound.{below_of, of_some, some-gives}
+use Rattle.ob0_run_rules.proofs.SoundStatements.{with_path-fits}
+use Rattle.ob0_run_cells.specs.CellLaws.{PartsAreSlices, SizesAreLimited, WritingPartsWritesSlices}
+use Rattle.ob0_run_cells.specs.Cells.{cells_at, cells_of, cells_with, element_cells, field_offset, field_sizes, member_cells, offset, size, step_offset}
+use Rattle.ob0_run_cells.proofs.Splits.{Lies, lies-alone, lies-behind, lies-first, lies-within, split-at, split-with}
+
+-- how many cells
+
+mutual
+  pub cells-size : (v : Value) (s : Shape) → HasShape v s → length (cells_of v) ≡ size s
+  cells-size (number n) integer_shape h = refl
+  cells-size (truth b) boolean_shape h = refl
+  cells-size (elements vs) (array_shape k n s) h = elements-size vs s h.1 ∙ ap (λ n. n * size s) h.0
+  cells-size (members j ms) (record_shape k fs) h = members-size ms fs h.1
+  cells-size _ _ h = absurd h
+
+  pub elements-size : (vs : Values) (s : Shape) → EachHasShape vs s → length (element_cells vs) ≡ count_values vs * size s
+  elements-size no_value s h = omega arith
+  elements-size (next_value v rest) s h =
+      let first : length (cells_of v) ≡ size s = cells-size v s h.0 in
+      let others : length (element_cells rest) ≡ count_values rest * size s = elements-size rest s h.1 in
+      let both : length (cells_of v ++ element_cells rest) ≡ length (cells_of v) + length (element_cells rest) = length-append (cells_of v) (element_cells rest) in
+      omega (arith, first, others, both)
+
+  pub members-size : (ms : Members) (fs : FieldShapes) → HaveShapes ms fs → length (member_cells ms) ≡ field_sizes fs
+  members-size no_member no_field_shape h = refl
+  members-size (next_member x v rest) (next_field_shape y s others) h =
+      length-append (cells_of v) (member_cells rest) ∙ (ap (λ n. n + length (member_cells rest)) (cells-size v s h.1) ∙ ap (λ n. size s + n) (members-size rest others h.2))
+  members-size _ _ h = absurd h
+
+mutual
+  pub sizes_are_limited-holds : SizesAreLimited
+  sizes_are_limited-holds integer_shape = omega arith
+  sizes_are_limited-holds boolean_shape = omega arith
+  sizes_are_limited-holds (array_shape k n s) = mul-le-mul_left n (sizes_are_limited-holds s)
+  sizes_are_limited-holds (record_shape k fs) = let h = fields-limited fs in omega (arith, h)
+
+  pub fields-limited : (fs : FieldShapes) → field_sizes fs ≤ field_scalars fs
+  fields-limited no_field_shape = omega arith
+  fields-limited (next_field_shape x s rest) = let h = sizes_are_limited-holds s in let g = fields-limited rest in omega (arith, h, g)
+
+-- elements and members
+
+pub element-lies : (vs : Values) (s : Shape) (i : ℕ) → i < count_values vs → EachHasShape vs s
+    → (w : Value) × (nth_value vs i ≡ Some w) × HasShape w s × Lies element_cells vs w (with_nth_value vs i) (i * size s)
+element-lies no_value s i below h = absurd (omega (arith, below))
+element-lies (next_value v rest) s zero below h = (
+  v,
+  refl,
+  h.0,
+  subst (λ a. Lies element_cells (next_value v rest) v (with_nth_value (next_value v rest) zero) a) (omega arith)
+      (lies-first element_cells (next_value v rest) v (with_nth_value (next_value v rest) zero) (element_cells rest) refl (λ new. refl)),
+)
+element-lies (next_value v rest) s (suc i) below h =
+    let (w, ew, hw, k) = element-lies rest s i (omega (arith, below)) h.1 in (
+      w,
+      ew,
+      hw,
+      subst (λ a. Lies element_cells (next_value v rest) w (with_nth_value (next_value v rest) (suc i)) a) (omega arith)
+          (lies-behind element_cells element_cells (next_value v rest) rest w (with_nth_value (next_value v rest) (suc i)) (with_nth_value rest i) (cells_of v) (size s) (i * size s) refl (λ new. refl) (cells-size v s h.0) k),
+    )
+
+pub member-lies : (ms : Members) (fs : FieldShapes) (x : Name) (t : Shape) → shape_of_field fs x ≡ Some t → HaveShapes ms fs
+    → (w : Value) × (named_member ms x ≡ Some w) × HasShape w t × Lies member_cells ms w (with_named_member ms x) (field_offset fs x)
+member-lies no_member no_field_shape x t e h = absurd (cc)
+member-lies no_member (next_field_shape y s others) x t e h = absurd h
+member-lies (next_member y v rest) no_field_shape x t e h = absurd h
+member-lies (next_member y v rest) (next_field_shape z s others) x t e h =
+    subst (λ z. shape_of_field (next_field_shape z s others) x ≡ Some t → (w : Value) × (named_member (next_member y v rest) x ≡ Some w) × HasShape w t × Lies member_cells (next_member y v rest) w (with_named_member (next_member y v rest) x) (field_offset (next_field_shape z s others) x)) h.0
+    (elim (same_name x y) as (λ b. (if b then Some s else shape_of_field others x) ≡ Some t
+    → (w : Value) × ((if b then Some v else named_member rest x) ≡ Some w) × HasShape w t × Lies member_cells (next_member y v rest) w (λ new. if b then next_member y new rest else next_member y v (with_named_member rest x new)) (if b then 0 else size s + field_offset others x)) [
+      | true ↦ λ e. (v, refl, of_some (λ s. HasShape v s) e h.1, lies-first member_cells (next_member y v rest) v (λ new. next_member y new rest) (member_cells rest) refl (λ new. refl))
+      | false ↦ λ e. (let (w, ew, hw, k) = member-lies rest others x t e h.2 in
+          (w, ew, hw, lies-behind member_cells member_cells (next_member y v rest) rest w (λ new. next_member y v (with_named_member rest x new)) (with_named_member rest x) (cells_of v) (size s) (field_offset others x) refl (λ new. refl) (cells-size v s h.1) k))
+    ]) e
+
+-- cells of an array or a record are those of its parts
+pub lies-as : {X : Type 0} (cells : X → List ℤ) (make : X → Value) (whole : X) (old : Value) (write : Value → X) (a : ℕ)
+    → ((x : X) → cells_of (make x) ≡ cells x) → Lies cells whole old write a → Lies cells_of (make whole) old (λ new. make (write new)) a
+lies-as cells make whole old write a same h =
+    record { before = h.before; after = h.after; is_split = same whole ∙ h.is_split; begins = h.begins; is_written = λ new. same (write new) ∙ h.is_written new }
+
+pub part-lies : (v : Value) (s : Shape) (step : Step) (t : Shape) → HasShape v s → part_shape s step ≡ Some t
+    → (w : Value) × (part v step ≡ Some w) × HasShape w t × Lies cells_of v w (with_part v step) (step_offset s step)
+part-lies (elements vs) (array_shape k n s) (at_index i) t h e =
+    (elim (nat_lt i n) as (λ b. nat_lt i n ≡ b → (if b then Some s else None) ≡ Some t → (w : Value) × (nth_value vs i ≡ Some w) × HasShape w t × Lies cells_of (elements vs) w (with_part (elements vs) (at_index i)) (i * size s)) [
+      | true ↦ λ below e. (let (w, ew, hw, l) = element-lies vs s i (below_of i (count_values vs) (ap (λ m. nat_lt i m) h.0 ∙ below)) h.1 in
+          (w, ew, of_some (λ t. HasShape w t) e hw, lies-as element_cells elements vs w (with_nth_value vs i) (i * size s) (λ x. refl) l))
+      | false ↦ λ below e. absurd (cc)
+    ]) refl e
+part-lies (members j ms) (record_shape k fs) (at_field x) t h e =
+    let (w, ew, hw, l) = member-lies ms fs x t e h.1 in
+    (w, ew, hw, lies-as member_cells (members j) ms w (with_named_member ms x) (field_offset fs x) (λ x. refl) l)
+part-lies (elements vs) (array_shape k n s) (at_field x) t h e = absurd (cc)
+part-lies (members j ms) (record_shape k fs) (at_index i) t h e = absurd (cc)
+part-lies (number n) integer_shape step t h e = absurd (cc)
+part-lies (truth b) boolean_shape step t h e = absurd (cc)
+part-lies _ _ step t h e = absurd h
+
+-- paths
+
+-- what lies at the end of a path, and what writing it makes of the whole
+abbrev pub PathLies : List Step → Value → Shape → Shape → Type 0
+PathLies path v s t =
+    (w : Value) × (at_path path v ≡ Some w) × HasShape w t × (write : Value → Value) × ((new : Value) → with_at_path path new v ≡ Some (write new)) × Lies cells_of v w write (offset path s)
+
+pub path-lies : (path : List Step) (v : Value) (s t : Shape) → HasShape v s → shape_at_path path s ≡ Some t → PathLies path v s t
+path-lies [] v s t h e = (v, refl, of_some (λ t. HasShape v t) e h, (λ new. new), (λ new. refl), lies-alone v)
+path-lies (step ∷ path) v s t h e =
+    let (u, eu, e₁) = some-gives (part_shape s step) (shape_at_path path) t e in
+    let (w, ew, hw, l) = part-lies v s step u h eu in
+    let (z, ez, hz, write, made, k) = path-lies path w u t hw e₁ in (
+      z,
+      ap (option_and_then (at_path path)) ew ∙ ez,
+      hz,
+      (λ new. with_part v step (write new)),
+      (λ new. ap (option_and_then (λ old. option_map (with_part v step) (with_at_path path new old))) ew ∙ ap (option_map (with_part v step)) (made new)),
+      subst (λ o. Lies cells_of v z (λ new. with_part v step (write new)) (step_offset s step + unwrap_or (option_map (offset path) o) 0)) (sym eu)
+          (lies-within cells_of v w z (with_part v step) write (step_offset s step) (offset path u) l k),
+    )
+
+pub lies-inside : {X : Type 0} (cells : X → List ℤ) (whole : X) (old : Value) (write : Value → X) (a n m : ℕ) → Lies cells whole old write a → length (cells_of old) ≡ n → length (cells whole) ≡ m → a + n ≤ m
+lies-inside cells whole old write a n m h en em =
+    let e : length (cells whole) ≡ length h.before + (length (cells_of old) + length h.after) = ap length h.is_split ∙ (length-append h.before (cells_of old ++ h.after) ∙ ap (λ n. length h.before + n) (length-append (cells_of old) h.after)) in
+    let b : length h.before ≡ a = h.begins in
+    omega (arith, e, b, en, em)
+
+pub parts_are_slices-holds : PartsAreSlices
+parts_are_slices-holds path v s t h e =
+    let (w, ew, hw, write, made, l) = path-lies path v s t h e in (
+      lies-inside cells_of v w write (offset path s) (size t) (size s) l (cells-size w t hw) (cells-size v s h),
+      (w, ew, hw, split-at l.before (cells_of w) l.after (offset path s) (size t) l.begins (cells-size w t hw) ∙ ap (cells_at (offset path s) (size t)) (sym l.is_split)),
+    )
+
+pub writing_parts_writes_slices-holds : WritingPartsWritesSlices
+writing_parts_writes_slices-holds path v new s t h e hn =
+    let (w, ew, hw, write, made, l) = path-lies path v s t h e in
+    let (u, eu, hu) = with_path-fits path v s t new h e hn in
+    let same : write new ≡ u = ap (λ o. unwrap_or o u) (sym (made new) ∙ eu) in (
+      u,
+      eu,
+      hu,
+      ap cells_of (sym same) ∙ (l.is_written new ∙ (split-with l.before (cells_of w) (cells_of new) l.after (offset path s) l.begins (cells-size new t hn ∙ sym (cells-size w t hw)) ∙ ap (cells_with (offset path s) (cells_of new)) (sym l.is_split))),
+    )

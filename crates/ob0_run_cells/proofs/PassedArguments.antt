@@ -1,0 +1,197 @@
+-- Arguments passed by lowered code, and calls.
+use Rattle.std.proofs.Common.{◌≡◌, ℕ, zero, suc, ◌+◌, ◌-◌, ◌≤◌, Bool, true, List, [], ◌∷◌, ◌++◌, length, take, drop, ℤ, if◌then◌else◌, Some, None, Option, sym, refl, ap, ◌∙◌, subst, arith, append-nil, append_assoc, length-append, length-drop}
+use Rattle.std.proofs.lemmas.Bool.{le-leb}
+use Rattle.std.proofs.lemmas.List.{drop-append-le, take-append-le}
+use Rattle.ob0_tree.specs.Tree.{Tree, arguments, calls, expression, maybe}
+use Rattle.ob0_types_rules.specs.Arguments.{arguments_listed}
+use Rattle.ob0_types_rules.specs.Expressions.{Object, a_constant, a_procedure, a_standard, a_type, a_variable, designate, evaluate}
+use Rattle.ob0_types_rules.specs.WellTyped.{Formal, Mode, Signature, Typed}
+use Rattle.ob0_values.specs.Values.{Outcome, Place, Shape, Store, Value, ends, gives, number, or_stuck, read_place, truth, ◌>>=◌}
+use Rattle.ob0_run_rules.specs.Fitting.{ArgumentsFit, HasShape, ObjectFits, PlaceFits, StoreFits, StoreTyping, modes_in}
+use Rattle.ob0_run_rules.specs.Runs.{Argument, Progress, State, evaluate_argument, evaluate_arguments, execute, modes_of, perform, place_argument, use_in, value_argument}
+use Rattle.ob0_run_rules.proofs.SoundStatements.{first-argument}
+use Rattle.ob0_run_machine.specs.Evaluation as machine
+use Rattle.ob0_run_machine.specs.Execution as execution
+use Rattle.ob0_run_machine.specs.Lowered as lowered
+use Rattle.ob0_run_cells.specs.Cells.{address, all_cells, cells_of, size, sizes}
+use Rattle.ob0_run_cells.specs.LoweredStatements.{ArgumentMeans, ArgumentsMean, Body, HaveNumbers, ProgressRepresents, Represents, ShowsBody, StatementMeans, Target, argument_addresses, argument_cells}
+use Rattle.ob0_run_cells.specs.Lowering.{Has32Bits, Slot, end_of, outcome_of, place_of_designator, value_of_expression}
+use Rattle.ob0_run_cells.proofs.LoweredOutcomes.{Led, ended-same, given-same, grouped-then}
+use Rattle.ob0_run_cells.proofs.Places.{places_are_slices-holds, store-size}
+use Rattle.ob0_run_cells.proofs.Represented.{alone-cells, as_cell-same, moment, moment-shown, number-at, numbers-append, numbers-drop, numbers-take, place-at, truth-at, truth-number}
+
+-- both give what is related, or both end alike
+abbrev pub Both : {A B : Type 0} → (A → B → Type 0) → machine.Outcome A → Outcome B → Type 0
+Both R (machine.gives a) (gives b) = R a b
+Both R (machine.ends x) (ends y) = end_of x ≡ y
+Both R _ _ = ⊥
+
+pub both-then : {A B C D : Type 0} (R : A → B → Type 0) (Q : C → D → Type 0) (o : machine.Outcome A) (w : Outcome B) (k : A → machine.Outcome C) (j : B → Outcome D) → Both R o w → ((a : A) (b : B) → R a b → Both Q (k a) (j b)) → Both Q (machine.◌>>=◌ o k) (w >>= j)
+both-then R Q (machine.gives a) (gives b) k j h each = each a b h
+both-then R Q (machine.ends x) (ends y) k j h each = h
+both-then R Q (machine.gives a) (ends y) k j h each = absurd h
+both-then R Q (machine.ends x) (gives b) k j h each = absurd h
+
+pub both-made : {A B D : Type 0} (R : A → B → Type 0) (Q : A → D → Type 0) (o : machine.Outcome A) (w : Outcome B) (g : B → D) → Both R o w → ((a : A) (b : B) → R a b → Q a (g b)) → Both Q o (w >>= (λ b. gives (g b)))
+both-made R Q (machine.gives a) (gives b) g h each = each a b h
+both-made R Q (machine.ends x) (ends y) g h each = h
+both-made R Q (machine.gives a) (ends y) g h each = absurd h
+both-made R Q (machine.ends x) (gives b) g h each = absurd h
+
+pub both-led : (typing : StoreTyping) (shape : Shape) (o : machine.Outcome ℕ) (w : Outcome Place) → Led typing shape o w → Both (λ a p. (a ≡ address typing p) × PlaceFits typing p shape) o w
+both-led typing shape (machine.gives a) (gives p) h = (given-same a (address typing p) h.is_same, h.is_place)
+both-led typing shape (machine.ends x) (ends y) h = ended-same (end_of x) y h.is_same
+both-led typing shape (machine.gives a) (ends y) h = let e = h.is_same in absurd (cc)
+both-led typing shape (machine.ends x) (gives p) h = let e = h.is_same in absurd (cc)
+
+pub both-number : (o : machine.Outcome ℤ) (w : Outcome Value) → outcome_of number o ≡ w → Has32Bits o → Both (λ n v. (number n ≡ v) × (machine.fits n ≡ true)) o w
+both-number (machine.gives n) w e h = subst (λ w. Both (λ n v. (number n ≡ v) × (machine.fits n ≡ true)) (machine.gives n) w) e (refl, h)
+both-number (machine.ends x) w e h = subst (λ w. Both (λ n v. (number n ≡ v) × (machine.fits n ≡ true)) (machine.ends x) w) e refl
+
+pub both-truth : (o : machine.Outcome Bool) (w : Outcome Value) → outcome_of truth o ≡ w → Both (λ b v. truth b ≡ v) o w
+both-truth (machine.gives b) w e = subst (λ w. Both (λ b v. truth b ≡ v) (machine.gives b) w) e refl
+both-truth (machine.ends x) w e = subst (λ w. Both (λ b v. truth b ≡ v) (machine.ends x) w) e refl
+
+pub use-both : {A B : Type 0} (typing : StoreTyping) (R : A → B → Type 0) (low : execution.State) (s : State) (o : machine.Outcome A) (w : Outcome B) (k : A → execution.Progress) (j : B → Progress) → Represents typing low s → Both R o w
+    → ((a : A) (b : B) → R a b → ProgressRepresents typing (k a) (j b)) → ProgressRepresents typing (execution.use_in low o k) (use_in s w j)
+use-both typing R low s (machine.gives a) (gives b) k j h r each = each a b r
+use-both typing R low s (machine.ends x) (ends y) k j h r each = (r, h.same_output)
+use-both typing R low s (machine.gives a) (ends y) k j h r each = absurd r
+use-both typing R low s (machine.ends x) (gives b) k j h r each = absurd r
+
+-- what was passed before, and what is after arguments
+pub record Passes (typing : StoreTyping) (fs : Signature) (done p : execution.Passed) (args : List Argument) : Type 0 where
+  pub arguments_fit : ArgumentsFit typing fs args
+  pub cells_passed : p.cells ≡ done.cells ++ argument_cells args
+  pub addresses_passed : p.addresses ≡ done.addresses ++ argument_addresses typing args
+  pub have_numbers : HaveNumbers p.cells
+
+pub cells-joined : (a : Argument) (args : List Argument) → argument_cells (a ∷ []) ++ argument_cells args ≡ argument_cells (a ∷ args)
+cells-joined (place_argument p) args = refl
+cells-joined (value_argument v) args = ap (λ l. l ++ argument_cells args) (append-nil (cells_of v))
+
+pub addresses-joined : (typing : StoreTyping) (a : Argument) (args : List Argument) → argument_addresses typing (a ∷ []) ++ argument_addresses typing args ≡ argument_addresses typing (a ∷ args)
+addresses-joined typing (place_argument p) args = refl
+addresses-joined typing (value_argument v) args = refl
+
+pub passes-on : (typing : StoreTyping) (f : Formal) (fs : Signature) (done p q : execution.Passed) (a : Argument) (args : List Argument) → Passes typing (f ∷ []) done p (a ∷ []) → Passes typing fs p q args → Passes typing (f ∷ fs) done q (a ∷ args)
+passes-on typing f fs done p q a args h k = record {
+  arguments_fit = first-argument typing f fs a args h.arguments_fit k.arguments_fit;
+  cells_passed = k.cells_passed ∙ (ap (λ l. l ++ argument_cells args) h.cells_passed ∙ (append_assoc done.cells (argument_cells (a ∷ [])) (argument_cells args) ∙ ap (λ l. done.cells ++ l) (cells-joined a args)));
+  addresses_passed = k.addresses_passed ∙ (ap (λ l. l ++ argument_addresses typing args) h.addresses_passed ∙ (append_assoc done.addresses (argument_addresses typing (a ∷ [])) (argument_addresses typing args) ∙ ap (λ l. done.addresses ++ l) (addresses-joined typing a args)));
+  have_numbers = k.have_numbers;
+}
+
+-- a block of cells of a store, with others behind them
+pub block-there : (cells others : List ℤ) (from n : ℕ) → from + n ≤ length cells → execution.block_at (cells ++ others) from n ≡ take n (drop from cells)
+block-there cells others from n h =
+    let whole : length (cells ++ others) ≡ length cells + length others = length-append cells others in
+    let dropped : length (drop from cells) ≡ length cells - from = length-drop from cells in
+    let within : from + n ≤ length (cells ++ others) = omega (arith, h, whole) in
+    let start : from ≤ length cells = omega (arith, h) in
+    let left : n ≤ length (drop from cells) = omega (arith, h, dropped) in
+    ap (λ b. if b then take n (drop from (cells ++ others)) else execution.zeros n) (le-leb (from + n) (length (cells ++ others)) within)
+    ∙ (ap (take n) (drop-append-le from cells others start) ∙ take-append-le n (drop from cells) others left)
+
+pub one-number : (n : ℤ) → machine.fits n ≡ true → HaveNumbers (n ∷ [])
+one-number n h zero = h
+one-number n h (suc i) = refl
+
+pub numbers-before : (xs ys : List ℤ) → HaveNumbers (xs ++ ys) → HaveNumbers xs
+numbers-before [] ys h i = refl
+numbers-before (x ∷ xs) ys h zero = h zero
+numbers-before (x ∷ xs) ys h (suc i) = numbers-before xs ys (λ i. h (suc i)) i
+
+module _ {N : Type 0} (checked : Typed N) (slots : N → Slot) (targets : N → Target) (b : Body N) (shown : ShowsBody checked slots targets b) (store : Store) (fits : StoreFits b.typing store) where
+  pub argument-passed : (f : Formal) (c : lowered.Argument) (e : Tree N expression) → ArgumentMeans checked slots f c e → (done : execution.Passed) (passed : List ℤ) → done.cells ≡ all_cells store ++ passed → HaveNumbers done.cells
+      → Both (λ p a. Passes b.typing (f ∷ []) done p (a ∷ [])) (execution.pass b.levels c done) (evaluate_argument b.active store f.mode e)
+  unfolding evaluate_argument
+  argument-passed f (lowered.by_place q) e h done passed same numbers =
+      let (x, path, v, d, ex, hq) = h.1 in
+      subst (λ m. Both (λ p a. Passes b.typing (f ∷ []) done p (a ∷ [])) (execution.pass b.levels (lowered.by_place q) done) (evaluate_argument b.active store m e)) (sym h.0)
+      (subst (λ o. Both (λ p a. Passes b.typing (f ∷ []) done p (a ∷ [])) (execution.pass b.levels (lowered.by_place q) done) (or_stuck o >>= (λ d. designate b.active store d.0 d.1 >>= (λ p. gives (place_argument p))))) (sym d)
+      (both-then (λ a p. (a ≡ address b.typing p) × PlaceFits b.typing p f.shape) (λ p a. Passes b.typing (f ∷ []) done p (a ∷ [])) (machine.address b.levels done.cells q) (designate b.active store x path) (λ a. machine.gives (record done { addresses = done.addresses ++ a ∷ [] })) (λ p. gives (place_argument p))
+      (both-led b.typing f.shape (machine.address b.levels done.cells q) (designate b.active store x path) (place-at checked slots targets b shown q f.shape (place_of_designator x path) hq store passed done.cells fits same numbers))
+      (λ a p r. record {
+        arguments_fit = (h.0, r.1, tt);
+        cells_passed = sym (append-nil done.cells);
+        addresses_passed = ap (λ a. done.addresses ++ a ∷ []) r.0;
+        have_numbers = numbers;
+      })))
+  argument-passed f (lowered.by_number n) e h done passed same numbers =
+      let (is, bits) = number-at checked slots targets b shown n (value_of_expression e) h.2 store passed done.cells fits same numbers in
+      subst (λ m. Both (λ p a. Passes b.typing (f ∷ []) done p (a ∷ [])) (execution.pass b.levels (lowered.by_number n) done) (evaluate_argument b.active store m e)) (sym h.0)
+      (both-then (λ n v. (number n ≡ v) × (machine.fits n ≡ true)) (λ p a. Passes b.typing (f ∷ []) done p (a ∷ [])) (machine.number b.levels done.cells n) (evaluate b.active store e) (λ a. machine.gives (execution.pass_cells done (a ∷ []))) (λ v. gives (value_argument v))
+      (both-number (machine.number b.levels done.cells n) (evaluate b.active store e) is bits)
+      (λ a v r. record {
+        arguments_fit = (h.0, subst (λ v. HasShape v f.shape) r.0 (subst (λ s. HasShape (number a) s) (sym h.1) tt), tt);
+        cells_passed = ap (λ v. done.cells ++ (cells_of v ++ [])) r.0;
+        addresses_passed = sym (append-nil done.addresses);
+        have_numbers = numbers-append done.cells (a ∷ []) numbers (one-number a r.1);
+      }))
+  argument-passed f (lowered.by_truth t) e h done passed same numbers =
+      subst (λ m. Both (λ p a. Passes b.typing (f ∷ []) done p (a ∷ [])) (execution.pass b.levels (lowered.by_truth t) done) (evaluate_argument b.active store m e)) (sym h.0)
+      (both-then (λ b v. truth b ≡ v) (λ p a. Passes b.typing (f ∷ []) done p (a ∷ [])) (machine.truth b.levels done.cells t) (evaluate b.active store e) (λ a. machine.gives (execution.pass_cells done (machine.as_cell a ∷ []))) (λ v. gives (value_argument v))
+      (both-truth (machine.truth b.levels done.cells t) (evaluate b.active store e) (truth-at checked slots targets b shown t (value_of_expression e) h.2 store passed done.cells fits same numbers))
+      (λ a v r. record {
+        arguments_fit = (h.0, subst (λ v. HasShape v f.shape) r (subst (λ s. HasShape (truth a) s) (sym h.1) tt), tt);
+        cells_passed = ap (λ n. done.cells ++ n ∷ []) (as_cell-same a) ∙ ap (λ v. done.cells ++ (cells_of v ++ [])) r;
+        addresses_passed = sym (append-nil done.addresses);
+        have_numbers = numbers-append done.cells (machine.as_cell a ∷ []) numbers (one-number (machine.as_cell a) (truth-number a));
+      }))
+  argument-passed f (lowered.by_block q n) e h done passed same numbers =
+      let (place, hq, reads_it) = h.2 in
+      let here = moment b store passed in
+      let value : evaluate b.active store e ≡ (place here >>= (λ p. or_stuck (read_place store p))) = reads_it here (moment-shown checked slots targets b shown store passed done.cells fits same numbers) in
+      subst (λ m. Both (λ p a. Passes b.typing (f ∷ []) done p (a ∷ [])) (execution.pass b.levels (lowered.by_block q n) done) (evaluate_argument b.active store m e)) (sym h.0)
+      (subst (λ w. Both (λ p a. Passes b.typing (f ∷ []) done p (a ∷ [])) (execution.pass b.levels (lowered.by_block q n) done) (w >>= (λ v. gives (value_argument v)))) (sym value)
+      (subst (λ w. Both (λ p a. Passes b.typing (f ∷ []) done p (a ∷ [])) (execution.pass b.levels (lowered.by_block q n) done) w) (sym (grouped-then (place here) (λ p. or_stuck (read_place store p)) (λ v. gives (value_argument v))))
+      (both-then (λ a p. (a ≡ address b.typing p) × PlaceFits b.typing p f.shape) (λ p a. Passes b.typing (f ∷ []) done p (a ∷ [])) (machine.address b.levels done.cells q) (place here) (λ a. machine.gives (execution.pass_cells done (execution.block_at done.cells a n))) (λ p. or_stuck (read_place store p) >>= (λ v. gives (value_argument v)))
+      (both-led b.typing f.shape (machine.address b.levels done.cells q) (place here) (place-at checked slots targets b shown q f.shape place hq store passed done.cells fits same numbers))
+      (λ a p r. let (inside, at_p) = places_are_slices-holds b.typing store p f.shape fits r.1 in
+      let (w, read, hw, slice) = at_p in
+      let m : sizes b.typing ≡ length (all_cells store) = sym (store-size b.typing store fits) in
+      let block : execution.block_at done.cells a n ≡ cells_of w =
+      (λ i. execution.block_at (same i) (r.0 i) (h.1 i)) ∙ (block-there (all_cells store) passed (address b.typing p) (size f.shape) (subst (λ k. address b.typing p + size f.shape ≤ k) m inside) ∙ sym slice) in
+      subst (λ o. Both (λ p a. Passes b.typing (f ∷ []) done p (a ∷ [])) (machine.gives (execution.pass_cells done (execution.block_at done.cells a n))) (or_stuck o >>= (λ v. gives (value_argument v)))) (sym read) record {
+        arguments_fit = (h.0, hw, tt);
+        cells_passed = ap (λ l. done.cells ++ l) (block ∙ sym (append-nil (cells_of w)));
+        addresses_passed = sym (append-nil done.addresses);
+        have_numbers = numbers-append done.cells (execution.block_at done.cells a n) numbers
+            (subst HaveNumbers (sym (block ∙ slice)) (numbers-take (size f.shape) (drop (address b.typing p) (all_cells store)) (numbers-drop (address b.typing p) (all_cells store) (numbers-before (all_cells store) passed (subst HaveNumbers same numbers)))));
+      }))))
+
+  pub arguments-passed : (fs : Signature) (cs : List lowered.Argument) (es : List (Tree N expression)) → ArgumentsMean checked slots fs cs es → (done : execution.Passed) (passed : List ℤ) → done.cells ≡ all_cells store ++ passed → HaveNumbers done.cells
+      → Both (λ p args. Passes b.typing fs done p args) (execution.pass_all b.levels cs done) (evaluate_arguments b.active store (modes_in fs) es)
+  unfolding evaluate_arguments
+  arguments-passed [] [] [] h done passed same numbers = record { arguments_fit = tt; cells_passed = sym (append-nil done.cells); addresses_passed = sym (append-nil done.addresses); have_numbers = numbers }
+  arguments-passed (f ∷ fs) (c ∷ cs) (e ∷ es) h done passed same numbers =
+      both-then (λ p a. Passes b.typing (f ∷ []) done p (a ∷ [])) (λ p args. Passes b.typing (f ∷ fs) done p args) (execution.pass b.levels c done) (evaluate_argument b.active store f.mode e) (execution.pass_all b.levels cs) (λ a. evaluate_arguments b.active store (modes_in fs) es >>= (λ rest. gives (a ∷ rest)))
+      (argument-passed f c e h.0 done passed same numbers)
+      (λ p a one. both-made (λ q args. Passes b.typing fs p q args) (λ q args. Passes b.typing (f ∷ fs) done q args) (execution.pass_all b.levels cs p) (evaluate_arguments b.active store (modes_in fs) es) (λ rest. a ∷ rest)
+      (arguments-passed fs cs es h.1 p (passed ++ argument_cells (a ∷ [])) (one.cells_passed ∙ (ap (λ l. l ++ argument_cells (a ∷ [])) same ∙ append_assoc (all_cells store) passed (argument_cells (a ∷ [])))) one.have_numbers)
+      (λ q args more_passed. passes-on b.typing f fs done p q a args one more_passed))
+  arguments-passed [] [] (e ∷ es) h done passed same numbers = absurd h
+  arguments-passed [] (c ∷ cs) es h done passed same numbers = absurd h
+  arguments-passed (f ∷ fs) [] es h done passed same numbers = absurd h
+  arguments-passed (f ∷ fs) (c ∷ cs) [] h done passed same numbers = absurd h
+
+pub procedure-stands : (typing : StoreTyping) (signature : Signature) (a : Option (Object Place (List Mode))) → ObjectFits typing (Some (a_procedure signature)) a → a ≡ Some (a_procedure (modes_in signature))
+procedure-stands typing signature (Some (a_procedure modes)) h = ap (λ m. Some (a_procedure m)) h
+procedure-stands typing signature None h = absurd h
+procedure-stands typing signature (Some (a_type s)) h = absurd h
+procedure-stands typing signature (Some (a_constant v)) h = absurd h
+procedure-stands typing signature (Some (a_variable p)) h = absurd h
+procedure-stands typing signature (Some (a_standard p)) h = absurd h
+
+pub call-means : {N : Type 0} (checked : Typed N) (slots : N → Slot) (targets : N → Target) (x : N) (es : Tree N (maybe arguments)) (signature : Signature) (cs : List lowered.Argument) → checked.stands_for x ≡ Some (a_procedure signature) → ArgumentsMean checked slots signature cs (arguments_listed es)
+    → StatementMeans checked slots targets (lowered.calls (targets x).procedure (targets x).up cs) (calls x es)
+unfolding execution.execute execute
+call-means {N} checked slots targets x es signature cs st ha b shown t low s h =
+    let stands : b.active.stands_for x ≡ Some (a_procedure (modes_in signature)) = procedure-stands b.typing signature (b.active.stands_for x) (subst (λ o. ObjectFits b.typing o (b.active.stands_for x)) st (shown.names_fit.0 x)) in
+    let enter = λ (p : execution.Passed). b.lowered_enters (targets x).procedure (execution.entered b.levels (length low.cells) (targets x).up p) (record low { cells = p.cells }) in
+    let start : execution.Passed = record { cells = low.cells; addresses = [] } in
+    subst (λ o. ProgressRepresents b.typing (execution.use_in low (execution.pass_all b.levels cs start) enter) (use_in s (modes_of o >>= (λ modes. evaluate_arguments b.active s.store modes (arguments_listed es))) (λ args. perform o (b.enters x) args s))) (sym stands)
+    (use-both b.typing (λ p args. Passes b.typing signature start p args) low s (execution.pass_all b.levels cs start) (evaluate_arguments b.active s.store (modes_in signature) (arguments_listed es)) enter (λ args. b.enters x args s) h
+    (arguments-passed checked slots targets b shown s.store h.store_fits signature cs (arguments_listed es) ha start [] (alone-cells checked slots targets b shown low s h) h.cells_have_numbers)
+    (λ p args r. shown.calls_represent x signature st args low s p h r.arguments_fit r.cells_passed r.addresses_passed r.have_numbers))

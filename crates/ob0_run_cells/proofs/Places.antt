@@ -1,0 +1,131 @@
+-- What places hold lies in the cells of the store.
+use Rattle.std.proofs.Common.{◌≡◌, ℕ, zero, suc, ◌+◌, List, [], ◌∷◌, ◌++◌, length, take, ℤ, slice_get, slice_set, Some, option_map, option_and_then, unwrap_or, sym, refl, ap, ◌∙◌, subst, arith, length-append}
+use Rattle.ob0_values.specs.Values.{Place, Shape, Step, Store, Value, at_path, boolean_shape, integer_shape, number, read_place, truth, with_at_path, write_place}
+use Rattle.ob0_run_rules.specs.Fitting.{HasShape, PlaceFits, StoreFits, StoreTyping, part_shape, shape_at_path}
+use Rattle.ob0_run_rules.proofs.Sound.{is_number, is_truth, of_some, some-gives}
+use Rattle.ob0_run_rules.proofs.SoundStatements.{PlaceFits-grows, set-fits, slice_get-grows, with_path-fits}
+use Rattle.ob0_run_cells.specs.CellLaws.{AddressesStay, NumbersAreCells, PartsHaveAddresses, PlacesAreSlices, TruthsAreCells, TypesTellSizes, WritingPlacesWritesSlices}
+use Rattle.ob0_run_cells.specs.Cells.{address, all_cells, cells_at, cells_of, cells_with, offset, size, sizes, truth_cell}
+use Rattle.ob0_run_cells.proofs.Parts.{cells-size, lies-inside, path-lies}
+use Rattle.ob0_run_cells.proofs.Splits.{Lies, lies-behind, lies-first, lies-within, split-at, split-get, split-set, split-with}
+
+pub store-size : (typing : StoreTyping) (store : Store) → StoreFits typing store → length (all_cells store) ≡ sizes typing
+store-size [] [] h = refl
+store-size [] (v ∷ store) h = absurd h
+store-size (s ∷ typing) [] h = absurd h
+store-size (s ∷ typing) (v ∷ store) h =
+    length-append (cells_of v) (all_cells store) ∙ (ap (λ n. n + length (all_cells store)) (cells-size v s h.0) ∙ ap (λ n. size s + n) (store-size typing store h.1))
+
+pub types_tell_sizes-holds : TypesTellSizes
+types_tell_sizes-holds = (cells-size, store-size)
+
+-- a variable lies behind the older ones
+pub variable-lies : (typing : StoreTyping) (store : Store) (n : ℕ) (s : Shape) → StoreFits typing store → slice_get typing n ≡ Some s
+    → (v : Value) × (slice_get store n ≡ Some v) × HasShape v s × Lies all_cells store v (slice_set store n) (sizes (take n typing))
+variable-lies [] [] n s h e = absurd (cc)
+variable-lies [] (v ∷ store) n s h e = absurd h
+variable-lies (t ∷ typing) [] n s h e = absurd h
+variable-lies (t ∷ typing) (v ∷ store) zero s h e =
+    (v, refl, of_some (λ s. HasShape v s) e h.0, lies-first all_cells (v ∷ store) v (slice_set (v ∷ store) zero) (all_cells store) refl (λ new. refl))
+variable-lies (t ∷ typing) (v ∷ store) (suc n) s h e =
+    let (w, ew, hw, l) = variable-lies typing store n s h.1 e in
+    (w, ew, hw, lies-behind all_cells all_cells (v ∷ store) store w (slice_set (v ∷ store) (suc n)) (slice_set store n) (cells_of v) (size t) (sizes (take n typing)) refl (λ new. refl) (cells-size v t h.0) l)
+
+-- what lies at a place, and what writing it makes of the store
+abbrev pub PlaceLies : StoreTyping → Store → Place → Shape → Type 0
+PlaceLies typing store p s =
+    (v : Value) × (read_place store p ≡ Some v) × HasShape v s × (write : Value → Store) × ((new : Value) → write_place store p new ≡ Some (write new)) × ((new : Value) → HasShape new s → StoreFits typing (write new))
+    × Lies all_cells store v write (address typing p)
+
+pub place-lies : (typing : StoreTyping) (store : Store) (p : Place) (s : Shape) → StoreFits typing store → PlaceFits typing p s → PlaceLies typing store p s
+place-lies typing store p s h e =
+    let (t, et, e₁) = some-gives (slice_get typing p.variable) (shape_at_path p.path) s e in
+    let (v, ev, hv, l) = variable-lies typing store p.variable t h et in
+    let (w, ew, hw, write, made, k) = path-lies p.path v t s hv e₁ in (
+      w,
+      ap (option_and_then (at_path p.path)) ev ∙ ew,
+      hw,
+      (λ new. slice_set store p.variable (write new)),
+      (λ new. ap (option_and_then (λ old. option_map (slice_set store p.variable) (with_at_path p.path new old))) ev ∙ ap (option_map (slice_set store p.variable)) (made new)),
+      (λ new hn. let (u, eu, hu) = with_path-fits p.path v t s new hv e₁ hn in
+          let same : u ≡ write new = ap (λ o. unwrap_or o (write new)) (sym eu ∙ made new) in
+          set-fits typing store p.variable t (write new) h et (subst (λ u. HasShape u t) same hu)),
+      subst (λ o. Lies all_cells store w (λ new. slice_set store p.variable (write new)) (sizes (take p.variable typing) + unwrap_or (option_map (offset p.path) o) 0)) (sym et)
+          (lies-within all_cells store v w (slice_set store p.variable) write (sizes (take p.variable typing)) (offset p.path t) l k),
+    )
+
+pub places_are_slices-holds : PlacesAreSlices
+places_are_slices-holds typing store p s h e =
+    let (v, ev, hv, write, made, fits, l) = place-lies typing store p s h e in (
+      lies-inside all_cells store v write (address typing p) (size s) (sizes typing) l (cells-size v s hv) (store-size typing store h),
+      (v, ev, hv, split-at l.before (cells_of v) l.after (address typing p) (size s) l.begins (cells-size v s hv) ∙ ap (cells_at (address typing p) (size s)) (sym l.is_split)),
+    )
+
+pub writing_places_writes_slices-holds : WritingPlacesWritesSlices
+writing_places_writes_slices-holds typing store p s new h e hn =
+    let (v, ev, hv, write, made, fits, l) = place-lies typing store p s h e in (
+      write new,
+      made new,
+      fits new hn,
+      l.is_written new ∙ (split-with l.before (cells_of v) (cells_of new) l.after (address typing p) l.begins (cells-size new s hn ∙ sym (cells-size v s hv)) ∙ ap (cells_with (address typing p) (cells_of new)) (sym l.is_split)),
+    )
+
+-- a value of one cell is read from it, and written to it
+pub one-read : (store : Store) (v : Value) (write : Value → Store) (a : ℕ) (n : ℤ) → Lies all_cells store v write a → cells_of v ≡ n ∷ [] → slice_get (all_cells store) a ≡ Some n
+one-read store v write a n l e =
+    ap (λ cells. slice_get cells a) (l.is_split ∙ ap (λ mine. l.before ++ (mine ++ l.after)) e) ∙ split-get l.before n l.after a l.begins
+
+pub one-written : (store : Store) (v new : Value) (write : Value → Store) (a : ℕ) (m n : ℤ) → Lies all_cells store v write a → cells_of v ≡ m ∷ [] → cells_of new ≡ n ∷ [] → all_cells (write new) ≡ slice_set (all_cells store) a n
+one-written store v new write a m n l e en =
+    l.is_written new ∙ (ap (λ mine. l.before ++ (mine ++ l.after)) en ∙ (split-set l.before m n l.after a l.begins ∙ ap (λ cells. slice_set cells a n) (sym (l.is_split ∙ ap (λ mine. l.before ++ (mine ++ l.after)) e))))
+
+pub numbers_are_cells-holds : NumbersAreCells
+numbers_are_cells-holds typing store p h e =
+    let (v, ev, hv, write, made, fits, l) = place-lies typing store p integer_shape h e in
+    let (m, em) = is_number v hv in (
+      (m, ev ∙ ap Some em, one-read store v write (address typing p) m l (ap cells_of em)),
+      λ n. (write (number n), made (number n), fits (number n) tt, one-written store v (number n) write (address typing p) m n l (ap cells_of em) refl),
+    )
+
+pub truths_are_cells-holds : TruthsAreCells
+truths_are_cells-holds typing store p h e =
+    let (v, ev, hv, write, made, fits, l) = place-lies typing store p boolean_shape h e in
+    let (b, eb) = is_truth v hv in (
+      (b, ev ∙ ap Some eb, one-read store v write (address typing p) (truth_cell b) l (ap cells_of eb)),
+      λ c. (write (truth c), made (truth c), fits (truth c) tt, one-written store v (truth c) write (address typing p) (truth_cell b) (truth_cell c) l (ap cells_of eb) refl),
+    )
+
+-- addresses
+
+pub shape-append : (path more : List Step) (s t u : Shape) → shape_at_path path s ≡ Some t → shape_at_path more t ≡ Some u
+    → (shape_at_path (path ++ more) s ≡ Some u) × (offset (path ++ more) s ≡ offset path s + offset more t)
+shape-append [] more s t u e e' =
+    let same : s ≡ t = ap (λ o. unwrap_or o s) e in
+    (subst (λ t. shape_at_path more t ≡ Some u) (sym same) e', ap (offset more) same ∙ omega arith)
+shape-append (step ∷ path) more s t u e e' =
+    let (r, er, e₁) = some-gives (part_shape s step) (shape_at_path path) t e in
+    let (is, adds) = shape-append path more r t u e₁ e' in
+    let here : unwrap_or (option_map (offset path) (part_shape s step)) 0 ≡ offset path r = ap (λ o. unwrap_or (option_map (offset path) o) 0) er in
+    let there : unwrap_or (option_map (offset (path ++ more)) (part_shape s step)) 0 ≡ offset (path ++ more) r = ap (λ o. unwrap_or (option_map (offset (path ++ more)) o) 0) er in
+    (ap (option_and_then (shape_at_path (path ++ more))) er ∙ is, omega (arith, adds, here, there))
+
+pub parts_have_addresses-holds : PartsHaveAddresses
+parts_have_addresses-holds typing p path s t fit e =
+    let (v, ev, e₁) = some-gives (slice_get typing p.variable) (shape_at_path p.path) s fit in
+    let (is, adds) = shape-append p.path path v s t e₁ e in
+    let here : unwrap_or (option_map (offset p.path) (slice_get typing p.variable)) 0 ≡ offset p.path v = ap (λ o. unwrap_or (option_map (offset p.path) o) 0) ev in
+    let there : unwrap_or (option_map (offset (p.path ++ path)) (slice_get typing p.variable)) 0 ≡ offset (p.path ++ path) v = ap (λ o. unwrap_or (option_map (offset (p.path ++ path)) o) 0) ev in
+    (ap (option_and_then (shape_at_path (p.path ++ path))) ev ∙ is, omega (arith, adds, here, there))
+
+pub taken-stays : (typing others : StoreTyping) (n : ℕ) (s : Shape) → slice_get typing n ≡ Some s → take n (typing ++ others) ≡ take n typing
+taken-stays [] others n s e = absurd (cc)
+taken-stays (t ∷ typing) others zero s e = refl
+taken-stays (t ∷ typing) others (suc n) s e = ap (λ l. t ∷ l) (taken-stays typing others n s e)
+
+pub addresses_stay-holds : AddressesStay
+addresses_stay-holds typing others p s fit =
+    let (t, et, e₁) = some-gives (slice_get typing p.variable) (shape_at_path p.path) s fit in (
+      PlaceFits-grows typing others p s fit,
+      ap (λ l. sizes l + unwrap_or (option_map (offset p.path) (slice_get (typing ++ others) p.variable)) 0) (taken-stays typing others p.variable t et)
+          ∙ ap (λ o. sizes (take p.variable typing) + unwrap_or (option_map (offset p.path) o) 0) (slice_get-grows typing others p.variable t et ∙ sym et),
+    )

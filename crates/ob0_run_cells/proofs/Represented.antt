@@ -1,0 +1,194 @@
+-- Steps that states of lowered code and of the definition make alike.
+use Rattle.std.proofs.Common.{◌≡◌, ℕ, zero, suc, Bool, true, false, List, [], ◌∷◌, ◌++◌, take, drop, ℤ, slice_set, sym, refl, ap, ◌∙◌, subst, append-nil}
+use Rattle.std.proofs.lemmas.List.{map-append}
+use Rattle.ob0_types_rules.specs.WellTyped.{Typed}
+use Rattle.ob0_values.specs.Values.{Outcome, Place, Shape, Store, TurnBound, Value, boolean_shape, ends, gives, integer_shape, number, or_stuck, truth}
+use Rattle.ob0_run_rules.specs.Fitting.{PlaceFits, StoreFits, StoreTyping}
+use Rattle.ob0_run_rules.specs.Runs.{Progress, State, choose, go_on, put_out, read_number, running, stopped, store_at, turns, turns_until, use_in}
+use Rattle.ob0_run_machine.specs.Evaluation as machine
+use Rattle.ob0_run_machine.specs.Execution as execution
+use Rattle.ob0_run_machine.specs.Lowered as lowered
+use Rattle.ob0_run_cells.specs.Cells.{address, all_cells, truth_cell}
+use Rattle.ob0_run_cells.specs.LoweredStatements.{Body, HaveNumbers, ProgressRepresents, Represents, ShowsBody, Target, written_of}
+use Rattle.ob0_run_cells.specs.Lowering.{Evaluated, Has32Bits, Moment, NumberMeans, PlaceMeans, Shows, Slot, TruthMeans, end_of, outcome_of}
+use Rattle.ob0_run_cells.proofs.LoweredOutcomes.{Led, ended-same, given-same}
+use Rattle.ob0_run_cells.proofs.Places.{numbers_are_cells-holds, truths_are_cells-holds}
+
+-- an evaluation, and what comes of what it gives
+
+pub use-represents : {A B : Type 0} (typing : StoreTyping) (f : A → B) (low : execution.State) (s : State) (o : machine.Outcome A) (w : Outcome B) (k : A → execution.Progress) (j : B → Progress) → Represents typing low s → outcome_of f o ≡ w
+    → ((a : A) → o ≡ machine.gives a → ProgressRepresents typing (k a) (j (f a))) → ProgressRepresents typing (execution.use_in low o k) (use_in s w j)
+use-represents typing f low s (machine.gives a) w k j h e each = subst (λ w. ProgressRepresents typing (k a) (use_in s w j)) e (each a refl)
+use-represents typing f low s (machine.ends x) w k j h e each = subst (λ w. ProgressRepresents typing (execution.stopped x low.output) (use_in s w j)) e (refl, h.same_output)
+
+pub use-place : (typing : StoreTyping) (shape : Shape) (low : execution.State) (s : State) (o : machine.Outcome ℕ) (w : Outcome Place) (k : ℕ → execution.Progress) (j : Place → Progress) → Represents typing low s → Led typing shape o w
+    → ((p : Place) → PlaceFits typing p shape → ProgressRepresents typing (k (address typing p)) (j p)) → ProgressRepresents typing (execution.use_in low o k) (use_in s w j)
+use-place typing shape low s (machine.gives a) (gives p) k j h led each =
+    let e : a ≡ address typing p = given-same a (address typing p) led.is_same in
+    subst (λ a. ProgressRepresents typing (k a) (j p)) (sym e) (each p led.is_place)
+use-place typing shape low s (machine.ends x) (ends y) k j h led each = (ended-same (end_of x) y led.is_same, h.same_output)
+use-place typing shape low s (machine.gives a) (ends y) k j h led each = let e = led.is_same in absurd (cc)
+use-place typing shape low s (machine.ends x) (gives p) k j h led each = let e = led.is_same in absurd (cc)
+
+pub choice-represents : (typing : StoreTyping) (low : execution.State) (s : State) (o : machine.Outcome Bool) (w : Outcome Value) (k l : execution.State → execution.Progress) (i j : State → Progress) → Represents typing low s → outcome_of truth o ≡ w
+    → ProgressRepresents typing (k low) (i s) → ProgressRepresents typing (l low) (j s) → ProgressRepresents typing (execution.choose low o k l) (use_in s w (λ v. choose s v i j))
+choice-represents typing low s (machine.gives true) w k l i j h e on off = subst (λ w. ProgressRepresents typing (k low) (use_in s w (λ v. choose s v i j))) e on
+choice-represents typing low s (machine.gives false) w k l i j h e on off = subst (λ w. ProgressRepresents typing (l low) (use_in s w (λ v. choose s v i j))) e off
+choice-represents typing low s (machine.ends x) w k l i j h e on off = subst (λ w. ProgressRepresents typing (execution.stopped x low.output) (use_in s w (λ v. choose s v i j))) e (refl, h.same_output)
+
+-- what follows in every state
+abbrev pub Follows : StoreTyping → (execution.State → execution.Progress) → (State → Progress) → Type 0
+Follows typing k j = (low : execution.State) (s : State) → Represents typing low s → ProgressRepresents typing (k low) (j s)
+
+pub going-on : (typing : StoreTyping) (p : execution.Progress) (q : Progress) (k : execution.State → execution.Progress) (j : State → Progress) → ProgressRepresents typing p q → Follows typing k j → ProgressRepresents typing (execution.go_on p k) (go_on q j)
+going-on typing (execution.running low) (running s) k j h follows = follows low s h
+going-on typing (execution.stopped e out) (stopped f written) k j h follows = h
+going-on typing (execution.running low) (stopped f written) k j h follows = absurd h
+going-on typing (execution.stopped e out) (running s) k j h follows = absurd h
+
+-- a condition that is worth the same in every state
+abbrev pub SameConditions : StoreTyping → (execution.State → machine.Outcome Bool) → (State → Outcome Value) → Type 0
+SameConditions typing c d = (low : execution.State) (s : State) → Represents typing low s → outcome_of truth (c low) ≡ d s
+
+pub turns-represent : (t : ℕ) (typing : StoreTyping) (c : execution.State → machine.Outcome Bool) (d : State → Outcome Value) (k : execution.State → execution.Progress) (j : State → Progress)
+    → SameConditions typing c d → Follows typing k j → Follows typing (execution.turns t c k) (turns t d j)
+turns-represent zero typing c d k j same follows low s h =
+    choice-represents typing low s (c low) (d s) (λ s'. execution.stopped machine.TurnBound s'.output) execution.running (λ s'. stopped TurnBound s'.output) running h (same low s h) (refl, h.same_output) h
+turns-represent (suc t) typing c d k j same follows low s h =
+    choice-represents typing low s (c low) (d s) (λ s'. execution.go_on (k s') (execution.turns t c k)) execution.running (λ s'. go_on (j s') (turns t d j)) running h (same low s h)
+    (going-on typing (k low) (j s) (execution.turns t c k) (turns t d j) (follows low s h) (turns-represent t typing c d k j same follows)) h
+
+pub turns_until-represent : (t : ℕ) (typing : StoreTyping) (c : execution.State → machine.Outcome Bool) (d : State → Outcome Value) (k : execution.State → execution.Progress) (j : State → Progress)
+    → SameConditions typing c d → Follows typing k j → Follows typing (execution.turns_until t c k) (turns_until t d j)
+turns_until-represent zero typing c d k j same follows low s h =
+    going-on typing (k low) (j s) (λ s'. execution.choose s' (c s') execution.running (λ s''. execution.stopped machine.TurnBound s''.output)) (λ s'. use_in s' (d s') (λ v. choose s' v running (λ s''. stopped TurnBound s''.output))) (follows low s h)
+    (λ low s h. choice-represents typing low s (c low) (d s) execution.running (λ s''. execution.stopped machine.TurnBound s''.output) running (λ s''. stopped TurnBound s''.output) h (same low s h) h (refl, h.same_output))
+turns_until-represent (suc t) typing c d k j same follows low s h =
+    going-on typing (k low) (j s) (λ s'. execution.choose s' (c s') execution.running (execution.turns_until t c k)) (λ s'. use_in s' (d s') (λ v. choose s' v running (turns_until t d j))) (follows low s h)
+    (λ low s h. choice-represents typing low s (c low) (d s) execution.running (execution.turns_until t c k) running (turns_until t d j) h (same low s h) h (turns_until-represent t typing c d k j same follows low s h))
+
+-- numbers of 32 bits
+
+pub numbers-set : (cells : List ℤ) (a : ℕ) (n : ℤ) → HaveNumbers cells → machine.fits n ≡ true → HaveNumbers (slice_set cells a n)
+numbers-set [] a n h e i = h i
+numbers-set (c ∷ cells) zero n h e zero = e
+numbers-set (c ∷ cells) zero n h e (suc i) = h (suc i)
+numbers-set (c ∷ cells) (suc a) n h e zero = h zero
+numbers-set (c ∷ cells) (suc a) n h e (suc i) = numbers-set cells a n (λ i. h (suc i)) e i
+
+pub numbers-append : (xs ys : List ℤ) → HaveNumbers xs → HaveNumbers ys → HaveNumbers (xs ++ ys)
+numbers-append [] ys h k i = k i
+numbers-append (x ∷ xs) ys h k zero = h zero
+numbers-append (x ∷ xs) ys h k (suc i) = numbers-append xs ys (λ i. h (suc i)) k i
+
+pub numbers-take : (n : ℕ) (xs : List ℤ) → HaveNumbers xs → HaveNumbers (take n xs)
+numbers-take zero xs h i = refl
+numbers-take (suc n) [] h i = h i
+numbers-take (suc n) (x ∷ xs) h zero = h zero
+numbers-take (suc n) (x ∷ xs) h (suc i) = numbers-take n xs (λ i. h (suc i)) i
+
+pub numbers-drop : (n : ℕ) (xs : List ℤ) → HaveNumbers xs → HaveNumbers (drop n xs)
+numbers-drop zero xs h i = h i
+numbers-drop (suc n) [] h i = h i
+numbers-drop (suc n) (x ∷ xs) h i = numbers-drop n xs (λ i. h (suc i)) i
+
+pub truth-number : (b : Bool) → machine.fits (machine.as_cell b) ≡ true
+truth-number true = refl
+truth-number false = refl
+
+pub as_cell-same : (b : Bool) → machine.as_cell b ≡ truth_cell b
+as_cell-same true = refl
+as_cell-same false = refl
+
+-- what is stored
+
+pub number-stored : (typing : StoreTyping) (low : execution.State) (s : State) (p : Place) (n : ℤ) → Represents typing low s → PlaceFits typing p integer_shape → machine.fits n ≡ true
+    → ProgressRepresents typing (execution.running (execution.store_at low (address typing p) n)) (store_at s p (number n))
+number-stored typing low s p n h fit e =
+    let (found, writes) = numbers_are_cells-holds typing s.store p h.store_fits fit in
+    let (after, wrote, fits_after, cells) = writes n in
+    subst (λ o. ProgressRepresents typing (execution.running (execution.store_at low (address typing p) n)) (use_in s (or_stuck o) (λ store. running record s { store = store }))) (sym wrote) record {
+      store_fits = fits_after;
+      same_cells = ap (λ l. slice_set l (address typing p) n) h.same_cells ∙ sym cells;
+      same_input = h.same_input;
+      same_output = h.same_output;
+      cells_have_numbers = numbers-set low.cells (address typing p) n h.cells_have_numbers e;
+      input_has_numbers = h.input_has_numbers;
+    }
+
+pub truth-stored : (typing : StoreTyping) (low : execution.State) (s : State) (p : Place) (b : Bool) → Represents typing low s → PlaceFits typing p boolean_shape
+    → ProgressRepresents typing (execution.running (execution.store_at low (address typing p) (machine.as_cell b))) (store_at s p (truth b))
+truth-stored typing low s p b h fit =
+    let (found, writes) = truths_are_cells-holds typing s.store p h.store_fits fit in
+    let (after, wrote, fits_after, cells) = writes b in
+    subst (λ o. ProgressRepresents typing (execution.running (execution.store_at low (address typing p) (machine.as_cell b))) (use_in s (or_stuck o) (λ store. running record s { store = store }))) (sym wrote) record {
+      store_fits = fits_after;
+      same_cells = ap (λ l. slice_set l (address typing p) (machine.as_cell b)) h.same_cells ∙ (ap (slice_set (all_cells s.store) (address typing p)) (as_cell-same b) ∙ sym cells);
+      same_input = h.same_input;
+      same_output = h.same_output;
+      cells_have_numbers = numbers-set low.cells (address typing p) (machine.as_cell b) h.cells_have_numbers (truth-number b);
+      input_has_numbers = h.input_has_numbers;
+    }
+
+pub number-read : (typing : StoreTyping) (low : execution.State) (s : State) (p : Place) (input : List ℤ) → Represents typing low s → PlaceFits typing p integer_shape → HaveNumbers input
+    → ProgressRepresents typing (execution.read_number low (address typing p) input) (read_number s p input)
+number-read typing low s p [] h fit k = (refl, h.same_output)
+number-read typing low s p (n ∷ rest) h fit k =
+    number-stored typing (record low { input = rest }) (record s { input = rest }) p n
+    record { store_fits = h.store_fits; same_cells = h.same_cells; same_input = refl; same_output = h.same_output; cells_have_numbers = h.cells_have_numbers; input_has_numbers = λ i. k (suc i) } fit (k zero)
+
+pub put-represents : (typing : StoreTyping) (low : execution.State) (s : State) (i : execution.Written) → Represents typing low s → ProgressRepresents typing (execution.running (execution.put_out low i)) (running (put_out s (written_of i)))
+put-represents typing low s i h = record {
+  store_fits = h.store_fits;
+  same_cells = h.same_cells;
+  same_input = h.same_input;
+  same_output = map-append written_of low.output (i ∷ []) ∙ ap (λ l. l ++ written_of i ∷ []) h.same_output;
+  cells_have_numbers = h.cells_have_numbers;
+  input_has_numbers = h.input_has_numbers;
+}
+
+-- moments of a body
+
+abbrev pub moment : {N : Type 0} → Body N → Store → List ℤ → Moment N
+moment b store passed = record { typing = b.typing; store = store; passed = passed; active = b.active; levels = b.levels }
+
+module _ {N : Type 0} (checked : Typed N) (slots : N → Slot) (targets : N → Target) (b : Body N) (shown : ShowsBody checked slots targets b) where
+  pub moment-shown : (store : Store) (passed cells : List ℤ) → StoreFits b.typing store → cells ≡ all_cells store ++ passed → HaveNumbers cells → Shows checked slots (moment b store passed)
+  moment-shown store passed cells fits e h = record {
+    store_fits = fits;
+    names_fit = shown.names_fit;
+    variables_in_slots = shown.variables_in_slots;
+    has_addresses = shown.has_addresses;
+    has_numbers = subst HaveNumbers e h;
+  }
+
+  pub number-at : (n : lowered.Number) (w : Evaluated N Value) → NumberMeans checked slots n w → (store : Store) (passed cells : List ℤ) → StoreFits b.typing store → cells ≡ all_cells store ++ passed → HaveNumbers cells
+      → (outcome_of number (machine.number b.levels cells n) ≡ w (moment b store passed)) × Has32Bits (machine.number b.levels cells n)
+  number-at n w hn store passed cells fits e h =
+      subst (λ l. (outcome_of number (machine.number b.levels l n) ≡ w (moment b store passed)) × Has32Bits (machine.number b.levels l n)) (sym e) (hn (moment b store passed) (moment-shown store passed cells fits e h))
+
+  pub truth-at : (t : lowered.Truth) (w : Evaluated N Value) → TruthMeans checked slots t w → (store : Store) (passed cells : List ℤ) → StoreFits b.typing store → cells ≡ all_cells store ++ passed → HaveNumbers cells
+      → outcome_of truth (machine.truth b.levels cells t) ≡ w (moment b store passed)
+  truth-at t w ht store passed cells fits e h =
+      subst (λ l. outcome_of truth (machine.truth b.levels l t) ≡ w (moment b store passed)) (sym e) (ht (moment b store passed) (moment-shown store passed cells fits e h))
+
+  pub place-at : (q : lowered.Place) (shape : Shape) (w : Evaluated N Place) → PlaceMeans checked slots q shape w → (store : Store) (passed cells : List ℤ) → StoreFits b.typing store → cells ≡ all_cells store ++ passed → HaveNumbers cells
+      → Led b.typing shape (machine.address b.levels cells q) (w (moment b store passed))
+  place-at q shape w hq store passed cells fits e h =
+      let m = hq (moment b store passed) (moment-shown store passed cells fits e h) in
+      subst (λ l. Led b.typing shape (machine.address b.levels l q) (w (moment b store passed))) (sym e) record { is_same = m.0; is_place = m.1 }
+
+  -- the same in a state, with nothing passed
+
+  pub alone-cells : (low : execution.State) (s : State) → Represents b.typing low s → low.cells ≡ all_cells s.store ++ []
+  alone-cells low s h = h.same_cells ∙ sym (append-nil (all_cells s.store))
+
+  pub number-in : (n : lowered.Number) (w : Evaluated N Value) → NumberMeans checked slots n w → (low : execution.State) (s : State) → Represents b.typing low s
+      → (outcome_of number (machine.number b.levels low.cells n) ≡ w (moment b s.store [])) × Has32Bits (machine.number b.levels low.cells n)
+  number-in n w hn low s h = number-at n w hn s.store [] low.cells h.store_fits (alone-cells low s h) h.cells_have_numbers
+
+  pub truth-in : (t : lowered.Truth) (w : Evaluated N Value) → TruthMeans checked slots t w → (low : execution.State) (s : State) → Represents b.typing low s → outcome_of truth (machine.truth b.levels low.cells t) ≡ w (moment b s.store [])
+  truth-in t w ht low s h = truth-at t w ht s.store [] low.cells h.store_fits (alone-cells low s h) h.cells_have_numbers
+
+  pub place-in : (q : lowered.Place) (shape : Shape) (w : Evaluated N Place) → PlaceMeans checked slots q shape w → (low : execution.State) (s : State) → Represents b.typing low s → Led b.typing shape (machine.address b.levels low.cells q) (w (moment b s.store []))
+  place-in q shape w hq low s h = place-at q shape w hq s.store [] low.cells h.store_fits (alone-cells low s h) h.cells_have_numbers

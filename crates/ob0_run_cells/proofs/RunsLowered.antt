@@ -1,0 +1,74 @@
+-- The run of a lowered program is the run of its module.
+use Rattle.std.proofs.Common.{◌≡◌, ℕ, suc, ◌+◌, ◌*◌, ◌^◌, ◌<◌, ◌≤◌, true, List, [], ℤ, sym, refl, ap, ◌∙◌, subst, arith}
+use Rattle.std.proofs.lemmas.Nat.{mul-le}
+use Rattle.ob0_tree.specs.Tree.{Tree, is_module, module_text}
+use Rattle.ob0_scope_rules.specs.Names.{Naming, as_labels}
+use Rattle.ob0_scope_rules.specs.Parts.{block_statements}
+use Rattle.ob0_scope_rules.specs.Scopes.{numbered}
+use Rattle.ob0_types_rules.specs.Environments.{outermost}
+use Rattle.ob0_types_rules.specs.WellTyped.{WellTyped, fits_over}
+use Rattle.ob0_types_rules.proofs.Proved.{fits_by_ordinal-holds}
+use Rattle.ob0_run_rules.specs.Fitting.{StoreTyping}
+use Rattle.ob0_run_rules.specs.GivenUp.{call_giving_up, run_giving_up}
+use Rattle.ob0_run_rules.specs.Runs.{Frame, Progress, State, execute_body, finished, in_frame, run_numbered, run_over, running, stopped}
+use Rattle.ob0_run_rules.proofs.KeptVariables.{giving_up-keeps}
+use Rattle.ob0_run_rules.proofs.Proved.{runs_by_ordinal-holds}
+use Rattle.ob0_run_machine.specs.Execution as execution
+use Rattle.ob0_run_machine.specs.Lowered as lowered
+use Rattle.ob0_run_cells.specs.ActivationLaws.{BoundsHaveRoom, RunsLowered, run_of}
+use Rattle.ob0_run_cells.specs.Activations.{Placed, ProgramMeans, outermost_placing}
+use Rattle.ob0_run_cells.specs.Cells.{sizes}
+use Rattle.ob0_run_cells.specs.LoweredStatements.{HaveNumbers, ProgressRepresents, Represents}
+use Rattle.ob0_run_cells.specs.Lowering.{of_module}
+use Rattle.ob0_run_cells.proofs.CallsLowered.{body-represents, calls-known, numbers-zero}
+use Rattle.ob0_run_cells.proofs.PlacedDeclarations.{FramePlaced, block-placed}
+
+pub finished-same : (typing : StoreTyping) (p : execution.Progress) (q : Progress) → ProgressRepresents typing p q → run_of (execution.finished p) ≡ finished q
+finished-same typing (execution.running low) (running s) h = ap (λ out. record { output = out; ending = (finished (running s)).ending }) h.same_output
+finished-same typing (execution.stopped x out) (stopped y written) h = λ i. record { output = h.1 i; ending = h.0 i }
+finished-same typing (execution.running low) (stopped y written) h = absurd h
+finished-same typing (execution.stopped x out) (running s) h = absurd h
+
+run-given_up : {N : Type 0} (naming : Naming N) (m : Tree N module_text) (program : lowered.Program) (most c t : ℕ) (input : List ℤ) → fits_over naming m ≡ true → ProgramMeans most naming m program → suc c * most < 2 ^ 64 → HaveNumbers input
+    → run_of (execution.run program input c t) ≡ run_giving_up naming m input c t
+unfolding execution.run run_giving_up fits_over
+run-given_up {N} naming (is_module x b closing) program most c t input fits means few numbers =
+    let start : State = record { store = []; input = input; output = [] } in
+    let low : execution.State = record { cells = execution.zeros program.cells; input = input; output = [] } in
+    let p : Placed N = record { placing = outermost_placing naming; cells = 0; lent_places = 0 } in
+    let f : Frame N = record { env = outermost naming; store = [] } in
+    let frame : FramePlaced program.procedures most naming [] execution.outermost 0 (outermost naming) p f = record {
+      store_fits = tt;
+      environment_fits = (refl, refl, (refl, refl, (refl, refl, (refl, refl, (refl, refl, (refl, refl, (refl, refl, tt)))))));
+      placing_fits = (refl, refl, tt, (refl, refl, tt, (refl, refl, tt, (refl, refl, tt, (refl, refl, tt, (refl, refl, tt, (refl, refl, tt, tt)))))));
+      cells_counted = refl;
+    } in
+    let (g, after, q, eg, total, bounded, body_means, part) = block-placed program.procedures most naming [] execution.outermost 0 of_module (λ c. omega arith) 0 program.cells program.body b (outermost naming) p f frame fits means in
+    let counted : 0 + q.cells ≡ sizes part.typing_now = part.frame.cells_counted in
+    let room : sizes part.typing_now + c * most < 2 ^ 64 = omega (arith, counted, bounded, few) in
+    let represents : Represents part.typing_now low record start { store = g.store } = record {
+      store_fits = part.frame.store_fits;
+      same_cells = sym part.cells_added;
+      same_input = refl;
+      same_output = refl;
+      cells_have_numbers = numbers-zero program.cells;
+      input_has_numbers = numbers;
+    } in
+    subst (λ o. run_of (execution.run program input c t) ≡ finished (in_frame start o (λ f. execute_body naming f.env (call_giving_up naming c t f.env) t (block_statements b)))) (sym eg)
+    (finished-same part.typing_now (execution.execute_all (execution.call program.procedures c t) t execution.outermost program.body low) (execute_body naming g.env (call_giving_up naming c t g.env) t (block_statements b) record start { store = g.store })
+    (body-represents program.procedures most naming c t (calls-known program.procedures most naming c t) part.typing_now execution.outermost after q.placing g.env part.frame.environment_fits part.frame.placing_fits room program.body (block_statements b) body_means low record start { store = g.store } represents))
+
+-- of the store that keeps every variable too: no run reads again what a call gave up
+pub run-lowered : {N : Type 0} (naming : Naming N) (m : Tree N module_text) (program : lowered.Program) (most c t : ℕ) (input : List ℤ) → fits_over naming m ≡ true → ProgramMeans most naming m program → suc c * most < 2 ^ 64 → HaveNumbers input
+    → run_of (execution.run program input c t) ≡ run_over naming m input c t
+run-lowered naming m program most c t input fits means few numbers = run-given_up naming m program most c t input fits means few numbers ∙ giving_up-keeps naming m input c t
+
+pub runs_lowered-holds : RunsLowered
+unfolding WellTyped run_numbered
+runs_lowered-holds m program most c t input well means few numbers =
+    run-lowered as_labels (numbered m) program most c t input (sym (fits_by_ordinal-holds m) ∙ well.1) means few numbers ∙ sym (runs_by_ordinal-holds m input c t)
+
+pub bounds_have_room-holds : BoundsHaveRoom
+bounds_have_room-holds c most h k =
+    let product : suc c * most ≤ 2 ^ 32 * 4294967295 = mul-le (suc c) most (2 ^ 32) 4294967295 h (omega (arith, k)) in
+    omega (arith, product)

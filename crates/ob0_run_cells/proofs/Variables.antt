@@ -1,0 +1,76 @@
+-- Variables that begin, are added, and are given up.
+use Rattle.std.proofs.Common.{◌≡◌, ℕ, zero, suc, ◌+◌, ◌*◌, List, [], ◌∷◌, ◌++◌, length, replicate, take, ℤ, pos, slice_get, Some, option_and_then, option_map, unwrap_or, sym, refl, ap, ◌∙◌, arith, append_assoc, append-nil}
+use Rattle.std.proofs.lemmas.List.{replicate-append-replicate, take_at}
+use Rattle.ob0_values.specs.Values.{FieldShapes, Shape, Store, Value, array_shape, boolean_shape, copies, initial, initial_members, integer_shape, next_field_shape, no_field_shape, record_shape}
+use Rattle.ob0_run_rules.specs.Fitting.{StoreFits, StoreTyping, shape_at_path}
+use Rattle.ob0_run_rules.proofs.SoundCalls.{initial-fits, last-shape, store-appends}
+use Rattle.ob0_run_cells.specs.CellLaws.{InitialCellsAreZero, VariablesAreAdded, VariablesAreGivenUp}
+use Rattle.ob0_run_cells.specs.Cells.{all_cells, cells_of, element_cells, field_sizes, member_cells, offset, size, sizes}
+use Rattle.ob0_run_cells.proofs.Places.{store-size}
+
+pub zeros-join : (m n : ℕ) (a b : List ℤ) → a ≡ replicate m (pos 0) → b ≡ replicate n (pos 0) → a ++ b ≡ replicate (m + n) (pos 0)
+zeros-join m n a b ea eb = (λ i. ea i ++ eb i) ∙ replicate-append-replicate m n (pos 0)
+
+pub copies-zero : (n m : ℕ) (v : Value) → cells_of v ≡ replicate m (pos 0) → element_cells (copies n v) ≡ replicate (n * m) (pos 0)
+copies-zero zero m v e = let z : 0 ≡ zero * m = omega arith in ap (λ n. replicate n (pos 0)) z
+copies-zero (suc n) m v e =
+    let s : m + n * m ≡ suc n * m = omega arith in
+    zeros-join m (n * m) (cells_of v) (element_cells (copies n v)) e (copies-zero n m v e) ∙ ap (λ n. replicate n (pos 0)) s
+
+mutual
+  pub initial-zero : (s : Shape) → cells_of (initial s) ≡ replicate (size s) (pos 0)
+  initial-zero integer_shape = refl
+  initial-zero boolean_shape = refl
+  initial-zero (array_shape k n s) = copies-zero n (size s) (initial s) (initial-zero s)
+  initial-zero (record_shape k fs) = initial_members-zero fs
+
+  pub initial_members-zero : (fs : FieldShapes) → member_cells (initial_members fs) ≡ replicate (field_sizes fs) (pos 0)
+  initial_members-zero no_field_shape = refl
+  initial_members-zero (next_field_shape x s rest) = zeros-join (size s) (field_sizes rest) (cells_of (initial s)) (member_cells (initial_members rest)) (initial-zero s) (initial_members-zero rest)
+
+pub initial_cells_are_zero-holds : InitialCellsAreZero
+initial_cells_are_zero-holds s = (initial-fits s, initial-zero s)
+
+pub cells-append : (a b : Store) → all_cells (a ++ b) ≡ all_cells a ++ all_cells b
+cells-append [] b = refl
+cells-append (v ∷ a) b = ap (λ l. cells_of v ++ l) (cells-append a b) ∙ sym (append_assoc (cells_of v) (all_cells a) (all_cells b))
+
+-- a type added is the one at the place of a variable added
+pub taken-all : (typing : StoreTyping) (store : Store) (s : Shape) → StoreFits typing store → sizes (take (length store) (typing ++ s ∷ [])) ≡ sizes typing
+taken-all [] [] s h = refl
+taken-all [] (v ∷ store) s h = absurd h
+taken-all (t ∷ typing) [] s h = absurd h
+taken-all (t ∷ typing) (v ∷ store) s h = ap (λ n. size t + n) (taken-all typing store s h.1)
+
+pub variables_are_added-holds : VariablesAreAdded
+variables_are_added-holds typing store s v h hv =
+    let e : slice_get (typing ++ s ∷ []) (length store) ≡ Some s = last-shape typing store s h in
+    let b : sizes (take (length store) (typing ++ s ∷ [])) ≡ sizes typing = taken-all typing store s h in
+    let o : unwrap_or (option_map (offset []) (slice_get (typing ++ s ∷ []) (length store))) 0 ≡ 0 = ap (λ o. unwrap_or (option_map (offset []) o) 0) e in (
+      store-appends typing store s v h hv,
+      cells-append store (v ∷ []) ∙ ap (λ l. all_cells store ++ l) (append-nil (cells_of v)),
+      ap (option_and_then (shape_at_path [])) e,
+      omega (arith, b, o),
+    )
+
+pub cut-fits : (typing others : StoreTyping) (old new : Store) → StoreFits typing old → StoreFits (typing ++ others) new → StoreFits typing (take (length old) new)
+cut-fits [] others [] new h k = tt
+cut-fits [] others (v ∷ old) new h k = absurd h
+cut-fits (t ∷ typing) others [] new h k = absurd h
+cut-fits (t ∷ typing) others (v ∷ old) [] h k = absurd k
+cut-fits (t ∷ typing) others (v ∷ old) (w ∷ new) h k = (k.0, cut-fits typing others old new h.1 k.1)
+
+pub cut-split : (typing others : StoreTyping) (old new : Store) → StoreFits typing old → StoreFits (typing ++ others) new → (rest : Store) × (new ≡ take (length old) new ++ rest)
+cut-split [] others [] new h k = (new, refl)
+cut-split [] others (v ∷ old) new h k = absurd h
+cut-split (t ∷ typing) others [] new h k = absurd h
+cut-split (t ∷ typing) others (v ∷ old) [] h k = absurd k
+cut-split (t ∷ typing) others (v ∷ old) (w ∷ new) h k =
+    let (rest, e) = cut-split typing others old new h.1 k.1 in (rest, ap (λ l. w ∷ l) e)
+
+pub variables_are_given_up-holds : VariablesAreGivenUp
+variables_are_given_up-holds typing others old new h k =
+    let fit : StoreFits typing (take (length old) new) = cut-fits typing others old new h k in
+    let (rest, e) = cut-split typing others old new h k in
+    let n : length (all_cells (take (length old) new)) ≡ length (all_cells old) = store-size typing (take (length old) new) fit ∙ sym (store-size typing old h) in
+    (fit, sym (ap (λ l. take (length (all_cells old)) (all_cells l)) e ∙ (ap (take (length (all_cells old))) (cells-append (take (length old) new) rest) ∙ take_at (all_cells (take (length old) new)) (all_cells rest) (length (all_cells old)) n)))

@@ -1,0 +1,117 @@
+-- What lowered statements mean: they do to cells, input and output what the statements of a module do.
+use Rattle.std.specs.Prelude.{◌≡◌, ℕ, ◌^◌, ◌<◌, true, List, [], ◌∷◌, ◌++◌, length, map, ℤ, Some}
+use Rattle.ob0_tree.specs.Tree.{Tree, else_part, elsif_part, expression, further_statement, items, maybe, selector, sequence, statement}
+use Rattle.ob0_types_rules.specs.Expressions.{Meanings, a_procedure, a_variable}
+use Rattle.ob0_types_rules.specs.Typing.{designated}
+use Rattle.ob0_types_rules.specs.WellTyped.{Formal, Mode, Signature, Typed, by_place, by_value}
+use Rattle.ob0_values.specs.Values.{Place, Shape, boolean_shape, integer_shape}
+use Rattle.ob0_run_rules.specs.Fitting.{ArgumentsFit, MeaningsFit, StoreFits, StoreTyping}
+use Rattle.ob0_run_rules.specs.Runs.{Argument, Calls, Progress, State, Written, execute, execute_all, execute_else, execute_elsifs, execute_further, line_out, number_out, place_argument, running, stopped, value_argument}
+use Rattle.ob0_run_machine.specs.Evaluation as machine
+use Rattle.ob0_run_machine.specs.Evaluation.{Levels}
+use Rattle.ob0_run_machine.specs.Execution as execution
+use Rattle.ob0_run_machine.specs.Lowered as lowered
+use Rattle.ob0_run_cells.specs.Cells.{address, all_cells, cells_of, size, sizes}
+use Rattle.ob0_run_cells.specs.Lowering.{NumberMeans, PlaceMeans, Slot, TruthMeans, ValueAt, end_of, place_of_designator, slot_address, value_of_expression}
+
+abbrev pub written_of : execution.Written → Written
+written_of (execution.number_out n) = number_out n
+written_of execution.line_out = line_out
+
+-- all are numbers of 32 bits
+abbrev pub HaveNumbers : List ℤ → Type 0
+HaveNumbers cells = (a : ℕ) → machine.fits (machine.cell_at cells a) ≡ true
+
+-- a state of lowered code with the cells of a store of given types, and the same input and output
+pub record Represents (typing : StoreTyping) (low : execution.State) (s : State) : Type 0 where
+  pub store_fits : StoreFits typing s.store
+  pub same_cells : low.cells ≡ all_cells s.store
+  pub same_input : low.input ≡ s.input
+  pub same_output : map written_of low.output ≡ s.output
+  pub cells_have_numbers : HaveNumbers low.cells
+  pub input_has_numbers : HaveNumbers low.input
+
+-- both go on, or both have ended alike
+abbrev pub ProgressRepresents : StoreTyping → execution.Progress → Progress → Type 0
+ProgressRepresents typing (execution.running low) (running s) = Represents typing low s
+ProgressRepresents typing (execution.stopped e out) (stopped f written) = (end_of e ≡ f) × (map written_of out ≡ written)
+ProgressRepresents typing _ _ = ⊥
+
+-- the cells and the addresses that arguments are passed as
+abbrev pub argument_cells : List Argument → List ℤ
+argument_cells [] = []
+argument_cells (place_argument p ∷ args) = argument_cells args
+argument_cells (value_argument v ∷ args) = cells_of v ++ argument_cells args
+
+abbrev pub argument_addresses : StoreTyping → List Argument → List ℕ
+argument_addresses typing [] = []
+argument_addresses typing (place_argument p ∷ args) = address typing p ∷ argument_addresses typing args
+argument_addresses typing (value_argument v ∷ args) = argument_addresses typing args
+
+-- a procedure's index, and how many levels out the activation is in which it is declared
+pub record Target : Type 0 where
+  pub procedure : ℕ
+  pub up : ℕ
+
+-- what stays as it is while the statements of a body run: the types of the store, what names stand for, the activations that
+-- lowered code sees, and what calls do
+pub record Body (N : Type 0) : Type 0 where
+  pub typing : StoreTyping
+  pub active : Meanings N Place (List Mode)
+  pub levels : Levels
+  pub enters : Calls N
+  pub lowered_enters : execution.Calls
+
+-- calls with the same arguments come to the same
+abbrev pub CallsRepresent : {N : Type 0} → Typed N → (N → Target) → Body N → Type 0
+CallsRepresent {N} checked targets b =
+    (x : N) (signature : Signature) → checked.stands_for x ≡ Some (a_procedure signature) → (args : List Argument) (low : execution.State) (s : State) (p : execution.Passed)
+    → Represents b.typing low s → ArgumentsFit b.typing signature args → p.cells ≡ low.cells ++ argument_cells args → p.addresses ≡ argument_addresses b.typing args → HaveNumbers p.cells
+    → ProgressRepresents b.typing (b.lowered_enters (targets x).procedure (execution.entered b.levels (length low.cells) (targets x).up p) record low { cells = p.cells }) (b.enters x args s)
+
+-- a body of a module that is checked, whose variables are in their slots and whose procedures have their targets
+pub record ShowsBody {N : Type 0} (checked : Typed N) (slots : N → Slot) (targets : N → Target) (b : Body N) : Type 0 where
+  pub names_fit : MeaningsFit b.typing checked b.active
+  pub variables_in_slots : (x : N) (p : Place) → b.active.stands_for x ≡ Some (a_variable p) → slot_address b.levels (slots x) ≡ address b.typing p
+  pub has_addresses : sizes b.typing < 2 ^ 64
+  pub calls_represent : CallsRepresent checked targets b
+
+-- what lowered code does in a body, with so many turns of a loop, and what the module's does
+abbrev pub Does : {N : Type 0} → Typed N → (N → Slot) → (N → Target) → (Body N → ℕ → execution.State → execution.Progress) → (Body N → ℕ → State → Progress) → Type 0
+Does {N} checked slots targets low_step step =
+    (b : Body N) → ShowsBody checked slots targets b → (t : ℕ) (low : execution.State) (s : State) → Represents b.typing low s → ProgressRepresents b.typing (low_step b t low) (step b t s)
+
+abbrev pub StatementMeans : {N : Type 0} → Typed N → (N → Slot) → (N → Target) → lowered.Statement → Tree N statement → Type 0
+StatementMeans checked slots targets c a = Does checked slots targets (λ b t. execution.execute b.lowered_enters t b.levels c) (λ b t. execute b.active b.enters t a)
+
+abbrev pub SequenceMeans : {N : Type 0} → Typed N → (N → Slot) → (N → Target) → lowered.Statements → Tree N sequence → Type 0
+SequenceMeans checked slots targets cs a = Does checked slots targets (λ b t. execution.execute_all b.lowered_enters t b.levels cs) (λ b t. execute_all b.active b.enters t a)
+
+-- the statements behind the first
+abbrev pub FurtherMean : {N : Type 0} → Typed N → (N → Slot) → (N → Target) → lowered.Statements → Tree N (items further_statement) → Type 0
+FurtherMean checked slots targets cs rest = Does checked slots targets (λ b t. execution.execute_all b.lowered_enters t b.levels cs) (λ b t. execute_further b.active b.enters t rest)
+
+abbrev pub ElseMeans : {N : Type 0} → Typed N → (N → Slot) → (N → Target) → lowered.Statements → Tree N (maybe else_part) → Type 0
+ElseMeans checked slots targets cs last = Does checked slots targets (λ b t. execution.execute_all b.lowered_enters t b.levels cs) (λ b t. execute_else b.active b.enters t last)
+
+-- the ELSIF parts, and the ELSE part behind them
+abbrev pub ElsifsMean : {N : Type 0} → Typed N → (N → Slot) → (N → Target) → lowered.Branches → lowered.Statements → Tree N (items elsif_part) → Tree N (maybe else_part) → Type 0
+ElsifsMean checked slots targets bs cs rest last =
+    Does checked slots targets (λ b t. execution.execute_branches b.lowered_enters t b.levels bs (execution.execute_all b.lowered_enters t b.levels cs)) (λ b t. execute_elsifs b.active b.enters t rest (execute_else b.active b.enters t last))
+
+-- an expression that is a designator alone, of a variable, which is at a place
+abbrev pub IsAt : {N : Type 0} → Typed N → (N → Slot) → lowered.Place → Shape → Tree N expression → Type 0
+IsAt {N} checked slots q s e =
+    (x : N) × (path : Tree N (items selector)) × (v : Shape) × (designated e ≡ Some (x, path)) × (checked.stands_for x ≡ Some (a_variable v)) × PlaceMeans checked slots q s (place_of_designator x path)
+
+-- an argument by how its parameter is passed: a place, or a number, a truth or the cells of an array or a record
+abbrev pub ArgumentMeans : {N : Type 0} → Typed N → (N → Slot) → Formal → lowered.Argument → Tree N expression → Type 0
+ArgumentMeans checked slots f (lowered.by_place q) e = (f.mode ≡ by_place) × IsAt checked slots q f.shape e
+ArgumentMeans checked slots f (lowered.by_number n) e = (f.mode ≡ by_value) × (f.shape ≡ integer_shape) × NumberMeans checked slots n (value_of_expression e)
+ArgumentMeans checked slots f (lowered.by_truth t) e = (f.mode ≡ by_value) × (f.shape ≡ boolean_shape) × TruthMeans checked slots t (value_of_expression e)
+ArgumentMeans checked slots f (lowered.by_block q n) e = (f.mode ≡ by_value) × (n ≡ size f.shape) × ValueAt checked slots q f.shape (value_of_expression e)
+
+abbrev pub ArgumentsMean : {N : Type 0} → Typed N → (N → Slot) → Signature → List lowered.Argument → List (Tree N expression) → Type 0
+ArgumentsMean checked slots [] [] [] = Unit {0}
+ArgumentsMean checked slots (f ∷ fs) (c ∷ cs) (e ∷ es) = ArgumentMeans checked slots f c e × ArgumentsMean checked slots fs cs es
+ArgumentsMean checked slots _ _ _ = ⊥

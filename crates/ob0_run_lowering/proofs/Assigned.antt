@@ -1,0 +1,89 @@
+-- Assignments of what an expression is lowered to.
+use Rattle.std.proofs.Common.{◌≡◌, ℕ, true, Some, sym, subst}
+use Rattle.ob0_tree.specs.Tree.{Tree, assigns, expression, items, selector}
+use Rattle.ob0_tree.specs.View.{expression_of}
+use Rattle.ob0_tree.specs.declared.tree.Expression.{Expression}
+use Rattle.ob0_scope_rules.specs.Names.{Label}
+use Rattle.ob0_types_rules.specs.InLabels.{in_labels, label_in}
+use Rattle.ob0_types_rules.specs.Typing.{type_of}
+use Rattle.ob0_types_rules.specs.WellTyped.{Typed, statement_fits, variable_type}
+use Rattle.ob0_values.specs.Values.{Shape, array_shape, boolean_shape, integer_shape, record_shape}
+use Rattle.ob0_run_rules.proofs.SoundStatements.{agree-true}
+use Rattle.ob0_run_machine.specs.declared.code.Number.{Number}
+use Rattle.ob0_run_machine.specs.declared.code.Place.{Place}
+use Rattle.ob0_run_machine.specs.declared.code.Truth.{Truth}
+use Rattle.ob0_run_machine.specs.Lowered as lowered
+use Rattle.ob0_run_machine.specs.View.{number_of, place_of, truth_of}
+use Rattle.ob0_run_cells.specs.Cells.{size}
+use Rattle.ob0_run_cells.specs.LoweredStatements.{StatementMeans, Target}
+use Rattle.ob0_run_cells.specs.Lowering.{PlaceMeans, Slot, ValueAt, place_of_designator, value_of_expression}
+use Rattle.ob0_run_cells.proofs.StatementsLowered.{assignments_lower-holds}
+use Rattle.ob0_run_lowering.specs.Means.{Locates, Lowers, Means}
+use Rattle.ob0_run_lowering.specs.declared.lowered.Located.{Located}
+use Rattle.ob0_run_lowering.specs.declared.lowered.Lowered.TheVariants as code
+use Rattle.ob0_run_lowering.specs.declared.scene.Scene.{Scene}
+use Rattle.ob0_run_lowering.specs.LoweredBodies.{StatementLowers}
+
+module _ (checked : Typed Label) (slots : Label → Slot) (targets : Label → Target) (x : Label) (path : Tree Label (items selector)) (e : Tree Label expression) (q : lowered.Place) where
+  stores_number : (n : Number) (s : Shape) → PlaceMeans checked slots q s (place_of_designator x path) → Means checked slots (code.Number n) s (value_of_expression e) → StatementMeans checked slots targets (lowered.stores_number q (number_of n)) (assigns x path e)
+  stores_number n integer_shape hq hn = (assignments_lower-holds checked slots targets x path e q).0 (number_of n) hq hn
+  stores_number n boolean_shape hq hn = absurd hn
+  stores_number n (array_shape k m s) hq hn = absurd hn
+  stores_number n (record_shape k fs) hq hn = absurd hn
+
+  stores_truth : (t : Truth) (s : Shape) → PlaceMeans checked slots q s (place_of_designator x path) → Means checked slots (code.Truth t) s (value_of_expression e) → StatementMeans checked slots targets (lowered.stores_truth q (truth_of t)) (assigns x path e)
+  stores_truth t integer_shape hq ht = absurd ht
+  stores_truth t boolean_shape hq ht = (assignments_lower-holds checked slots targets x path e q).1 (truth_of t) hq ht
+  stores_truth t (array_shape k m s) hq ht = absurd ht
+  stores_truth t (record_shape k fs) hq ht = absurd ht
+
+  copied : (r : lowered.Place) (n : ℕ) (s : Shape) → PlaceMeans checked slots q s (place_of_designator x path) → (n ≡ size s) × ValueAt checked slots r s (value_of_expression e) → StatementMeans checked slots targets (lowered.copies q r n) (assigns x path e)
+  copied r n s hq hr =
+      let P : ℕ → Type 0 = λ n. StatementMeans checked slots targets (lowered.copies q r n) (assigns x path e) in
+      subst P (sym hr.0) ((assignments_lower-holds checked slots targets x path e q).2 r s hq hr.1)
+
+  copies : (r : Place) (n : ℕ) (s : Shape) → PlaceMeans checked slots q s (place_of_designator x path) → Means checked slots (code.Block r n) s (value_of_expression e) → StatementMeans checked slots targets (lowered.copies q (place_of r) n) (assigns x path e)
+  copies r n integer_shape hq hr = absurd hr
+  copies r n boolean_shape hq hr = absurd hr
+  copies r n (array_shape k m s) hq hr = copied (place_of r) n (array_shape k m s) hq hr
+  copies r n (record_shape k fs) hq hr = copied (place_of r) n (record_shape k fs) hq hr
+
+  nothing : (c : lowered.Statement) (s : Shape) → Means checked slots code.Nothing s (value_of_expression e) → StatementMeans checked slots targets c (assigns x path e)
+  nothing c integer_shape h = absurd h
+  nothing c boolean_shape h = absurd h
+  nothing c (array_shape k m s) h = absurd h
+  nothing c (record_shape k fs) h = absurd h
+
+-- where an assignment fits, both sides have one type
+module _ (scene : Scene) (x : ℕ) (path : Tree ℕ (items selector)) (e : Expression) (l : Located) where
+  abbrev target : Label
+  target = label_in scene.resolved.now x
+
+  abbrev selectors : Tree Label (items selector)
+  selectors = in_labels scene.resolved.now path
+
+  abbrev value : Tree Label expression
+  value = in_labels scene.resolved.now (expression_of e)
+
+  of_one_type : (checked : Typed Label) → statement_fits checked (assigns target selectors value) ≡ true → (s : Shape) × (variable_type checked (Some (target, selectors)) ≡ Some s) × (type_of checked value ≡ Some s)
+  unfolding statement_fits
+  of_one_type checked h = agree-true (variable_type checked (Some (target, selectors))) (type_of checked value) h
+
+  pub number_assigned : (n : Number) → Locates scene x path l → Lowers scene (expression_of e) (code.Number n) → StatementLowers scene (lowered.stores_number (place_of l.place) (number_of n)) (assigns target selectors value)
+  number_assigned n hl he checked slots targets sees fits =
+      let (s, hx, hs) = of_one_type checked fits in
+      stores_number checked slots targets target selectors value (place_of l.place) n s (hl checked slots targets sees s hx).1 (he checked slots targets sees s hs)
+
+  pub truth_assigned : (t : Truth) → Locates scene x path l → Lowers scene (expression_of e) (code.Truth t) → StatementLowers scene (lowered.stores_truth (place_of l.place) (truth_of t)) (assigns target selectors value)
+  truth_assigned t hl he checked slots targets sees fits =
+      let (s, hx, hs) = of_one_type checked fits in
+      stores_truth checked slots targets target selectors value (place_of l.place) t s (hl checked slots targets sees s hx).1 (he checked slots targets sees s hs)
+
+  pub block_assigned : (r : Place) (n : ℕ) → Locates scene x path l → Lowers scene (expression_of e) (code.Block r n) → StatementLowers scene (lowered.copies (place_of l.place) (place_of r) n) (assigns target selectors value)
+  block_assigned r n hl he checked slots targets sees fits =
+      let (s, hx, hs) = of_one_type checked fits in
+      copies checked slots targets target selectors value (place_of l.place) r n s (hl checked slots targets sees s hx).1 (he checked slots targets sees s hs)
+
+  pub nothing_assigned : (c : lowered.Statement) → Lowers scene (expression_of e) code.Nothing → StatementLowers scene c (assigns target selectors value)
+  nothing_assigned c he checked slots targets sees fits =
+      let (s, hx, hs) = of_one_type checked fits in nothing checked slots targets target selectors value (place_of l.place) c s (he checked slots targets sees s hs)

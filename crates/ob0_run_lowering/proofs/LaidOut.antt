@@ -1,0 +1,201 @@
+-- The table of sizes, entry by entry.
+use Rattle.std.proofs.Common.{◌≡◌, ℕ, zero, suc, ◌+◌, ◌<◌, ◌≤◌, List, [], ◌∷◌, ◌++◌, Some, None, Option, option_map, slice_get, slice_index_or, length, take, drop, get_or, sym, refl, ap, ◌∙◌, subst, arith, append_assoc, append-nil, if◌then◌else◌, true, false, Bool, zero-add, add-zero, add-one, ℤ, ◌⊎◌, inl, inr, option_and_then, nat_lt}
+use Rattle.std.proofs.lemmas.Bool.Decides.{nat_tests}
+use Rattle.std.proofs.lemmas.Option.{slice_get_past}
+use Rattle.std.proofs.lemmas.List.{drop_all, drop_more, take_all}
+use Rattle.std.proofs.Math.Seq.{take-suc}
+use Rattle.std.specs.Borrow.{Bor}
+use Rattle.ob0_scope_rules.specs.Names.{Name, same_name}
+use Rattle.ob0_run_machine.specs.Evaluation as machine
+use Rattle.ob0_types_rules.specs.Expressions.{a_constant}
+use Rattle.ob0_types_table.specs.KnownTables.{Tables, declared_in, shapes_of}
+use Rattle.ob0_types_table.specs.declared.known.Entry.{Entry}
+use Rattle.ob0_types_table.specs.FieldPlaces.{field_selected, place_of_field}
+use Rattle.ob0_types_table.specs.Tables.{fields_shape, made_shape, no_shape, object_in, only_array, only_record, shapes_from, type_shape}
+use Rattle.ob0_types_table.proofs.Tables.{shapes_from-push}
+use Rattle.ob0_types_table.specs.declared.known.FieldOf.{FieldOf}
+use Rattle.ob0_types_table.specs.declared.known.Shape as code
+use Rattle.ob0_types_table.specs.declared.known.Field.{Field}
+use Rattle.ob0_values.specs.Values.{FieldShapes, Shape, array_shape, boolean_shape, integer_shape, next_field_shape, no_field_shape, number, record_shape}
+use Rattle.ob0_run_cells.specs.Cells.{field_offset, field_sizes, size}
+use Rattle.ob0_run_lowering.specs.Layouts.{AreLaidOut, LaysOut, LayOut, RecordAt, offsets_from}
+use Rattle.ob0_run_lowering.specs.declared.types.Layout.{Layout}
+use Rattle.ob0_run_lowering.specs.declared.types.Layout.TheVariants as layout
+use Rattle.ob0_run_lowering.specs.declared.types.RecordLayout.{RecordLayout}
+
+-- what is read of an entry
+
+abbrev pub array_size : Option Layout → ℕ
+array_size None = 0
+array_size (Some (layout.Array cells)) = cells
+array_size (Some (layout.Record r)) = 0
+
+array-entry : (s : Shape) (l : Layout) → LaysOut s l → array_size (Some l) ≡ size (only_array s)
+array-entry (array_shape k n s) (layout.Array cells) h = h
+array-entry (record_shape k fs) (layout.Record r) h = refl
+array-entry integer_shape (layout.Array cells) h = absurd h
+array-entry integer_shape (layout.Record r) h = absurd h
+array-entry boolean_shape (layout.Array cells) h = absurd h
+array-entry boolean_shape (layout.Record r) h = absurd h
+array-entry (array_shape k n s) (layout.Record r) h = absurd h
+array-entry (record_shape k fs) (layout.Array cells) h = absurd h
+
+pub array_size-at : (shapes : List Shape) (layouts : List Layout) (i : ℕ) → LayOut shapes layouts → array_size (slice_get layouts i) ≡ size (only_array (slice_index_or shapes i no_shape))
+array_size-at [] [] i h = refl
+array_size-at (s ∷ shapes) (l ∷ layouts) zero h = array-entry s l h.0
+array_size-at (s ∷ shapes) (l ∷ layouts) (suc i) h = array_size-at shapes layouts i h.1
+array_size-at [] (l ∷ layouts) i h = absurd h
+array_size-at (s ∷ shapes) [] i h = absurd h
+
+-- the record of an entry
+abbrev pub HasRecord : Option Layout → Shape → Type 0
+HasRecord (Some (layout.Record r)) s = (k : ℕ) × (fs : FieldShapes) × (s ≡ record_shape k fs) × AreLaidOut fs r
+HasRecord (Some (layout.Array cells)) s = s ≡ no_shape
+HasRecord None s = s ≡ no_shape
+
+record-entry : (s : Shape) (l : Layout) → LaysOut s l → HasRecord (Some l) (only_record s)
+record-entry (array_shape k n s) (layout.Array cells) h = refl
+record-entry (record_shape k fs) (layout.Record r) h = (k, fs, refl, h)
+record-entry integer_shape (layout.Array cells) h = absurd h
+record-entry integer_shape (layout.Record r) h = absurd h
+record-entry boolean_shape (layout.Array cells) h = absurd h
+record-entry boolean_shape (layout.Record r) h = absurd h
+record-entry (array_shape k n s) (layout.Record r) h = absurd h
+record-entry (record_shape k fs) (layout.Array cells) h = absurd h
+
+pub record-there : (shapes : List Shape) (layouts : List Layout) (i : ℕ) → LayOut shapes layouts → HasRecord (slice_get layouts i) (only_record (slice_index_or shapes i no_shape))
+record-there [] [] i h = refl
+record-there (s ∷ shapes) (l ∷ layouts) zero h = record-entry s l h.0
+record-there (s ∷ shapes) (l ∷ layouts) (suc i) h = record-there shapes layouts i h.1
+record-there [] (l ∷ layouts) i h = absurd h
+record-there (s ∷ shapes) [] i h = absurd h
+
+-- one more entry
+pub one_more : (shapes : List Shape) (layouts : List Layout) (s : Shape) (l : Layout) → LayOut shapes layouts → LaysOut s l → LayOut (shapes ++ s ∷ []) (layouts ++ l ∷ [])
+one_more [] [] s l h more = (more, tt)
+one_more (t ∷ shapes) (m ∷ layouts) s l h more = (h.0, one_more shapes layouts s l h.1 more)
+one_more [] (m ∷ layouts) s l h more = absurd h
+one_more (t ∷ shapes) [] s l h more = absurd h
+
+-- where a field begins
+
+further-listed : (b : Bool) (n k : ℕ) (o : Option ℕ) (f : ℕ) (xs : List ℕ) → ((i : ℕ) → o ≡ Some i → slice_index_or xs i 0 ≡ (n + k) + f) → (i : ℕ) → (if b then Some 0 else option_map suc o) ≡ Some i → slice_index_or (n ∷ xs) i 0 ≡ n + (if b then 0 else k + f)
+further-listed true n k o f xs later zero h = omega arith
+further-listed true n k o f xs later (suc i) h = absurd (cc)
+further-listed false n k None f xs later i h = absurd (cc)
+further-listed false n k (Some j) f xs later zero h = absurd (cc)
+further-listed false n k (Some j) f xs later (suc i) h = let e : Some j ≡ Some i = cc in omega (arith, later i e)
+
+pub offset-listed : (fs : FieldShapes) (n : ℕ) (x : Name) (i : ℕ) → place_of_field fs x ≡ Some i → slice_index_or (offsets_from n fs) i 0 ≡ n + field_offset fs x
+offset-listed no_field_shape n x i h = absurd (cc)
+offset-listed (next_field_shape y s rest) n x i h = further-listed (same_name x y) n (size s) (place_of_field rest x) (field_offset rest x) (offsets_from (n + size s) rest) (λ i h. offset-listed rest (n + size s) x i h) i h
+
+further-past : (b : Bool) (k : ℕ) (o : Option ℕ) (f g : ℕ) → (o ≡ None → f ≡ g) → (if b then Some 0 else option_map suc o) ≡ None → (if b then 0 else k + f) ≡ k + g
+further-past true k o f g later h = absurd (cc)
+further-past false k None f g later h = ap (λ n. k + n) (later refl)
+further-past false k (Some j) f g later h = absurd (cc)
+
+pub offset-past : (fs : FieldShapes) (x : Name) → place_of_field fs x ≡ None → field_offset fs x ≡ field_sizes fs
+offset-past no_field_shape x h = refl
+offset-past (next_field_shape y s rest) x h = further-past (same_name x y) (size s) (place_of_field rest x) (field_offset rest x) (field_sizes rest) (λ h. offset-past rest x h) h
+
+-- the fields so far, and those that are left
+pub record LaidSoFar (shapes : List Shape) (fields : List Field) (done cells : ℕ) (offsets : List ℕ) : Type 0 where
+  pub cells_left : cells + field_sizes (fields_shape shapes (drop done fields)) ≡ field_sizes (fields_shape shapes fields)
+  pub offsets_left : offsets ++ offsets_from cells (fields_shape shapes (drop done fields)) ≡ offsets_from 0 (fields_shape shapes fields)
+
+pub laid_begins : (shapes : List Shape) (fields : List Field) (offsets : List ℕ) → offsets ≡ [] → LaidSoFar shapes fields 0 0 offsets
+laid_begins shapes fields offsets none = record {
+  cells_left = zero-add (field_sizes (fields_shape shapes fields));
+  offsets_left = ap (λ os. os ++ offsets_from 0 (fields_shape shapes fields)) none;
+}
+
+pub laid_goes_on : {shapes : List Shape} {fields : List Field} {done cells : ℕ} {offsets : List ℕ} (d : Field) (more cells' : ℕ) (offsets' : List ℕ) → LaidSoFar shapes fields done cells offsets → done < length fields
+    → more ≡ size (type_shape shapes (get_or fields done d).of) → cells' ≡ cells + more → offsets' ≡ offsets ++ cells ∷ [] → LaidSoFar shapes fields (done + 1) cells' offsets'
+laid_goes_on {shapes} {fields} {done} {cells} {offsets} d more cells' offsets' h less sized sum pushed =
+    let rest = fields_shape shapes (drop (done + 1) fields) in
+    let split : drop done fields ≡ get_or fields done d ∷ drop (done + 1) fields = drop_more fields done d less in
+    let sizes : field_sizes (fields_shape shapes (drop done fields)) ≡ size (type_shape shapes (get_or fields done d).of) + field_sizes rest = ap (λ xs. field_sizes (fields_shape shapes xs)) split in
+    let left = h.cells_left in
+    record {
+      cells_left = omega (arith, sizes, left, sized, sum);
+      offsets_left = ap (λ os. os ++ offsets_from cells' rest) pushed
+          ∙ ap (λ n. (offsets ++ cells ∷ []) ++ offsets_from n rest) (sum ∙ ap (λ m. cells + m) sized)
+          ∙ append_assoc offsets (cells ∷ []) (offsets_from (cells + size (type_shape shapes (get_or fields done d).of)) rest)
+          ∙ sym (ap (λ xs. offsets ++ offsets_from cells (fields_shape shapes xs)) split)
+          ∙ h.offsets_left;
+    }
+
+pub laid_ends : {shapes : List Shape} {fields : List Field} {done cells : ℕ} {offsets : List ℕ} → LaidSoFar shapes fields done cells offsets → length fields ≤ done → (cells ≡ field_sizes (fields_shape shapes fields)) × (offsets ≡ offsets_from 0 (fields_shape shapes fields))
+laid_ends {shapes} {fields} {done} {cells} {offsets} h all =
+    let none : drop done fields ≡ [] = drop_all done fields all in (
+      sym (add-zero cells) ∙ sym (ap (λ xs. cells + field_sizes (fields_shape shapes xs)) none) ∙ h.cells_left,
+      sym (append-nil offsets) ∙ sym (ap (λ xs. offsets ++ offsets_from cells (fields_shape shapes xs)) none) ∙ h.offsets_left,
+    )
+
+-- the types so far
+pub table_goes_on : (entries : List code.Shape) (done : ℕ) (layouts : List Layout) (x : code.Shape) (next : Layout) (read layouts' : List Layout) → LayOut (shapes_from [] (take done entries)) layouts → done < length entries → x ≡ get_or entries done x
+    → read ≡ layouts → ((shapes : List Shape) → LayOut shapes read → LaysOut (made_shape shapes x) next) → layouts' ≡ layouts ++ next ∷ [] → LayOut (shapes_from [] (take (done + 1) entries)) layouts'
+table_goes_on entries done layouts x next read layouts' h less here same made pushed =
+    let so_far = shapes_from [] (take done entries) in
+    let split : take (done + 1) entries ≡ take done entries ++ x ∷ [] = ap (λ n. take n entries) (add-one done) ∙ take-suc entries done x less ∙ ap (λ y. take done entries ++ y ∷ []) (sym here) in
+    let shapes : shapes_from [] (take (done + 1) entries) ≡ so_far ++ made_shape so_far x ∷ [] = ap (shapes_from []) split ∙ shapes_from-push [] (take done entries) x in
+    subst (λ ss. LayOut ss layouts') (sym shapes) (subst (λ ls. LayOut (so_far ++ made_shape so_far x ∷ []) ls) (sym pushed) (one_more so_far layouts (made_shape so_far x) next h (made so_far (subst (λ ls. LayOut so_far ls) (sym same) h))))
+
+pub table_ends : (entries : List code.Shape) (done : ℕ) (layouts : List Layout) (all : List code.Shape) → LayOut (shapes_from [] (take done entries)) layouts → length entries ≤ done → entries ≡ all → LayOut (shapes_from [] all) layouts
+table_ends entries done layouts all h past same = subst (λ es. LayOut (shapes_from [] es) layouts) (take_all done entries past ∙ same) h
+
+-- where a field of a record begins
+abbrev field_in : ℕ → ℕ → FieldOf
+field_in k i = record { ordinal = k; index = i }
+
+placed : (k : ℕ) (f : FieldOf) (o : Option ℕ) → Some f ≡ option_map (field_in k) o → o ≡ Some f.index
+placed k f None h = absurd (cc)
+placed k f (Some i) h = ap (option_map (λ (g : FieldOf). g.index)) (sym h)
+
+missing : (k : ℕ) (o : Option ℕ) → ◌≡◌ {A = Option FieldOf} None (option_map (field_in k) o) → o ≡ None
+missing k None h = refl
+missing k (Some i) h = absurd (cc)
+
+pub offset-found : (k : ℕ) (fs : FieldShapes) (x : Name) (r : RecordLayout) (f : FieldOf) → AreLaidOut fs r → Some f ≡ field_selected (record_shape k fs) x → slice_index_or r.offsets.items f.index 0 ≡ field_offset fs x
+offset-found k fs x r f laid h = ap (λ os. slice_index_or os f.index 0) laid.offsets ∙ offset-listed fs 0 x f.index (placed k f (place_of_field fs x) h) ∙ zero-add (field_offset fs x)
+
+pub offset-missing : (k : ℕ) (fs : FieldShapes) (x : Name) (r : RecordLayout) → AreLaidOut fs r → ◌≡◌ {A = Option FieldOf} None (field_selected (record_shape k fs) x) → r.cells ≡ field_offset fs x
+offset-missing k fs x r laid h = laid.cells ∙ sym (offset-past fs x (missing k (place_of_field fs x) h))
+
+-- what a look-up reads
+
+below : (i n : ℕ) → true ≡ nat_lt i n → i < n
+below i n h = grind (arith, nat_tests)
+
+beyond : (i n : ℕ) → false ≡ nat_lt i n → n ≤ i
+beyond i n h = grind (arith, nat_tests)
+
+read-below : (xs : List Layout) (i : ℕ) (x d : Layout) → i < length xs → x ≡ slice_index_or xs i d → slice_get xs i ≡ Some x
+read-below [] i x d less e = absurd (omega arith)
+read-below (y ∷ ys) zero x d less e = ap Some (sym e)
+read-below (y ∷ ys) (suc i) x d less e = read-below ys i x d (omega arith) e
+
+pub read-there : (xs : List Layout) (i : ℕ) (x d : Layout) → true ≡ nat_lt i (length xs) → x ≡ slice_index_or xs i d → slice_get xs i ≡ Some x
+read-there xs i x d h e = read-below xs i x d (below i (length xs) h) e
+
+pub read-past : (xs : List Layout) (i : ℕ) → false ≡ nat_lt i (length xs) → slice_get xs i ≡ None
+read-past xs i h = slice_get_past xs i (beyond i (length xs) h)
+
+-- the constants so far have 32 bits
+abbrev pub SmallBelow : Tables → ℕ → Type 0
+SmallBelow t n = (k : ℕ) (z : ℤ) → k < n → declared_in t k ≡ Some (a_constant (number z)) → machine.fits z ≡ true
+
+either_side : (k n : ℕ) → (k < n) ⊎ (n ≤ k)
+either_side k zero = inr (omega arith)
+either_side zero (suc n) = inl (omega arith)
+either_side (suc k) (suc n) = elim (either_side k n) [ inl h ↦ inl (omega arith) | inr h ↦ inr (omega arith) ]
+
+pub small_goes_on : (t : Tables) (n : ℕ) → SmallBelow t n → ((z : ℤ) → declared_in t n ≡ Some (a_constant (number z)) → machine.fits z ≡ true) → SmallBelow t (n + 1)
+small_goes_on t n h here k z less e = elim (either_side k n) [ inl below ↦ h k z below e | inr past ↦ let same : n ≡ k = omega arith in here z (ap (declared_in t) same ∙ e) ]
+
+none_past : (t : Tables) (k : ℕ) (z : ℤ) → length t.entries ≤ k → declared_in t k ≡ Some (a_constant (number z)) → ⊥
+none_past t k z past e = let none : None ≡ Some (a_constant (number z)) = sym (ap (option_and_then (λ (x : Entry). object_in (shapes_of t) x.object)) (slice_get_past t.entries k past)) ∙ e in absurd (cc)
+
+pub small_ends : (t : Tables) (n last : ℕ) → SmallBelow t n → last ≤ n → last ≡ length t.entries → (k : ℕ) (z : ℤ) → declared_in t k ≡ Some (a_constant (number z)) → machine.fits z ≡ true
+small_ends t n last h all count k z e = elim (either_side k n) [ inl below ↦ h k z below e | inr past ↦ absurd (none_past t k z (omega (arith, count, all, past)) e) ]

@@ -1,0 +1,14 @@
+pub mod CodesMean
+pub mod TreesMean
+pub mod LaidOut
+pub mod CodeChains
+pub mod Lowerings
+pub mod Longer
+pub mod InScene
+pub mod Made
+pub mod Assigned
+pub mod Called
+pub mod DeclaredBlocks
+pub mod Placings
+pub mod Sights
+pub mod LoweredBlocks

@@ -1,0 +1,296 @@
+-- What the code of procedures and blocks means, of what the code of their parts means.
+use Rattle.std.proofs.Common.{◌≡◌, ℕ, zero, suc, ◌+◌, ◌-◌, ◌<◌, ◌≤◌, true, IsTrue, List, [], ◌∷◌, ◌++◌, map, length, drop, get_or, Some, Option, option_map, slice_get, refl, sym, ap, ◌∙◌, subst, arith, le_refl, length-append}
+use Rattle.std.proofs.Math.ListN.{set}
+use Rattle.std.proofs.lemmas.List.{drop_all, length-set}
+use Rattle.std.proofs.lemmas.Option.{slice_get-map, slice_get_within}
+use Rattle.ob0_tree.specs.Tree.{Tree, block, body, constants, declares, declares_procedure, end, formals, has_body, items, maybe, module_text, more, procedure, type_names, variables}
+use Rattle.ob0_tree.specs.Places.{text_at}
+use Rattle.ob0_tree.specs.View.{block_of, body_of, constants_of, formals_of, items_of, types_of, variables_of}
+use Rattle.ob0_tree.specs.View.{procedure_of as tree_procedure_of}
+use Rattle.ob0_tree.specs.declared.tree.Block as tree_block
+use Rattle.ob0_tree.specs.declared.tree.Procedure as tree
+use Rattle.ob0_tree.proofs.Viewed.{block_parts}
+use Rattle.ob0_types_rules.specs.InLabels.{in_labels, label_in}
+use Rattle.ob0_types_rules.proofs.Parts.{procedure_parts, split}
+use Rattle.ob0_scope_rules.specs.Resolution.{Resolution, ordinal_in}
+use Rattle.ob0_scope_rules.specs.Names.{Label, Name, as_labels, as_names}
+use Rattle.ob0_scope_rules.specs.Parts.{constant_names, formal_sections, module_block, named_types, section_constants, section_types, section_variables}
+use Rattle.ob0_scope_rules.specs.Scopes.{as_label, numbered}
+use Rattle.ob0_types_table.specs.KnownTables.{Tables, declared_in}
+use Rattle.ob0_types_rules.specs.Bindings.{declared_object}
+use Rattle.ob0_types_rules.proofs.ConstantsDeclared.{FitParts, block-parts, procedure-parts}
+use Rattle.ob0_types_rules.specs.Declarations.{after_types, after_variables, declare_first, formals_constructors, procedure_constructors}
+use Rattle.ob0_types_rules.specs.Environments.{outermost}
+use Rattle.ob0_types_rules.specs.WellTyped.{TypeEnvironment, TypedParameter, WellTyped, bind_typed, block_fits, body_fits, declare_typed, fits_over, heading, procedures_fit}
+use Rattle.ob0_types_rules.proofs.Proved.{fits_by_ordinal-holds}
+use Rattle.ob0_types_rules.proofs.TypedElsewhere.{then_some}
+use Rattle.ob0_run_machine.specs.Lowered as lowered
+use Rattle.ob0_run_machine.specs.View.{procedure_of, program_of, sequence_of}
+use Rattle.ob0_run_machine.specs.declared.code.Procedure.{Procedure}
+use Rattle.ob0_run_machine.specs.declared.code.Program.{Program}
+use Rattle.ob0_run_cells.specs.Activations.{BlockMeans, Placed, Placing, ProgramMeans, at_target, entered_placing, hide_names, inward, outermost_placing, own_target, place_parameters}
+use Rattle.ob0_run_cells.specs.Lowering.{held, of_module}
+use Rattle.ob0_run_lowering.specs.LoweredBodies.{BodyLowers}
+use Rattle.ob0_run_lowering.specs.Scenes.{seen_from, site_at}
+use Rattle.ob0_run_lowering.specs.declared.scene.Scene.{Scene}
+use Rattle.ob0_run_lowering.specs.declared.scene.Site.TheVariants as site
+use Rattle.ob0_run_lowering.specs.KnownBlocks.{AreDeclared, BlockDeclared, Objects}
+use Rattle.ob0_run_lowering.specs.Blocks.{Goes, Grown, Later, LowersBlock, Ready, BlockState}
+use Rattle.ob0_run_lowering.specs.Placed.{Follows, GoesBack, Holds, IsFrame, Matches, Places, declared_size, most, place_groups, place_sections, put_at, slots_at}
+use Rattle.ob0_run_lowering.specs.declared.programs.Lowering.{Lowering}
+use Rattle.ob0_run_lowering.specs.declared.sight.Frame.{Frame}
+use Rattle.ob0_run_lowering.specs.declared.sight.Sight.{Sight}
+use Rattle.ob0_run_lowering.proofs.DeclaredBlocks.{module-declared}
+use Rattle.ob0_run_lowering.proofs.Placings.{first_match, groups_match, groups_placed, holds_bound, holds_hidden, holds_inward, holds_same, matches_inward, parameters_match, sections_placed, sees, typed_before}
+use Rattle.ob0_run_lowering.proofs.Sights.{follows_back, follows_itself, follows_then}
+
+-- one after the other
+
+pub goes_itself : (t : Tables) (w : Lowering) (d : ℕ) (ps : Tree Label (items procedure)) → Goes t w w d ps ps
+goes_itself t w d ps = record { on = λ s statements ready. (s, ready, λ table code later means. means); follows = follows_itself w.sight; longer = le_refl (length w.procedures.items); grown = λ i e get. get }
+
+pub goes_then : (t : Tables) (w v u : Lowering) (d : ℕ) (ps qs rest : Tree Label (items procedure)) → Goes t w v d ps qs → Goes t v u d qs rest → Goes t w u d ps rest
+goes_then t w v u d ps qs rest a b = record {
+  on = λ s statements ready.
+      let first = a.on s statements ready in
+      let second = b.on first.0 statements first.1 in (
+        second.0,
+        second.1,
+        λ table code later means. first.2 table code (λ i e le get. later i e le (b.grown i e get)) (second.2 table code (λ i e le get. later i e (omega (arith, le, a.longer)) get) means),
+      );
+  follows = follows_then w.sight v.sight u.sight a.follows b.follows;
+  longer = omega (arith, a.longer, b.longer);
+  grown = λ i e get. b.grown i e (a.grown i e get);
+}
+
+-- tables of procedures
+
+get_set_same : {A : Type 0} (xs : List A) (i : ℕ) (x : A) → i < length xs → slice_get (set xs i x) i ≡ Some x
+get_set_same [] i x less = absurd (omega (arith, less))
+get_set_same (y ∷ xs) zero x less = refl
+get_set_same (y ∷ xs) (suc i) x less = get_set_same xs i x (omega (arith, less))
+
+get_set_other : {A : Type 0} (xs : List A) (i j : ℕ) (x : A) → (j ≡ i → ⊥) → slice_get (set xs i x) j ≡ slice_get xs j
+get_set_other [] i j x differ = refl
+get_set_other (y ∷ xs) zero zero x differ = absurd (differ refl)
+get_set_other (y ∷ xs) zero (suc j) x differ = refl
+get_set_other (y ∷ xs) (suc i) zero x differ = refl
+get_set_other (y ∷ xs) (suc i) (suc j) x differ = get_set_other xs i j x (λ e. differ (ap suc e))
+
+get_push : {A : Type 0} (xs : List A) (x : A) (i : ℕ) (e : A) → slice_get xs i ≡ Some e → slice_get (xs ++ x ∷ []) i ≡ Some e
+get_push [] x i e h = absurd (cc)
+get_push (y ∷ xs) x zero e h = h
+get_push (y ∷ xs) x (suc i) e h = get_push xs x i e h
+
+-- what has been announced, and then the code of a procedure
+record Kept (before announced lowered kept : List Procedure) (index : ℕ) (entry : Procedure) : Type 0 where
+  pub at : index ≡ length before
+  pub pushed : (e : Procedure) × (announced ≡ before ++ e ∷ [])
+  pub grown : Grown announced lowered
+  pub longer : length announced ≤ length lowered
+  pub kept_is : kept ≡ set lowered index entry
+
+kept-room : (a b c d : List Procedure) (i : ℕ) (e : Procedure) → Kept a b c d i e → suc i ≤ length c
+kept-room a b c d i e k = omega (arith, k.at, k.longer, ap length k.pushed.1, length-append a (k.pushed.0 ∷ []))
+
+kept-entry : (a b c d : List Procedure) (i : ℕ) (e : Procedure) → Kept a b c d i e → slice_get d i ≡ Some e
+kept-entry a b c d i e k = ap (λ xs. slice_get xs i) k.kept_is ∙ get_set_same c i e (omega (arith, kept-room a b c d i e k))
+
+kept-grown : (a b c d : List Procedure) (i : ℕ) (e : Procedure) → Kept a b c d i e → Grown a d
+kept-grown a b c d i e k = λ j x get.
+    let less : j < length a = slice_get_within a j x get in
+    ap (λ xs. slice_get xs j) k.kept_is ∙ get_set_other c i j e (λ same. omega (arith, same, less, k.at)) ∙ k.grown j x (ap (λ xs. slice_get xs j) k.pushed.1 ∙ get_push a k.pushed.0 j x get)
+
+kept-longer : (a b c d : List Procedure) (i : ℕ) (e : Procedure) → Kept a b c d i e → length a ≤ length d
+kept-longer a b c d i e k = omega (arith, ap length k.kept_is, length-set c i e, kept-room a b c d i e k, k.at)
+
+kept-later : (table : List lowered.Procedure) (a b c d : List Procedure) (i : ℕ) (e : Procedure) → Kept a b c d i e → Later table (length a) d → Later table (length b) c
+kept-later table a b c d i e k later = λ j x le get.
+    let behind : suc i ≤ j = omega (arith, le, k.at, ap length k.pushed.1, length-append a (k.pushed.0 ∷ [])) in
+    later j x (omega (arith, behind, k.at)) (ap (λ xs. slice_get xs j) k.kept_is ∙ get_set_other c i j e (λ same. omega (arith, same, behind)) ∙ get)
+
+-- procedures
+
+-- a procedure announced, its parameters placed, its block lowered, and its code kept
+pub record IsProcedure (t : Tables) (w v u after : Lowering) (depth index : ℕ) (o : Option ℕ) (name : Name) (fs : Tree Label (maybe formals)) (b : Tree Label block) (first f : Frame) (entry : Procedure) : Type 0 where
+  pub index_is : index ≡ length w.procedures.items
+  pub sites : (k : ℕ) → site_at v.sight.sites.items k ≡ put_at o (site.Procedure depth index) (site_at w.sight.sites.items) k
+  pub announced : Follows w.sight v.sight
+  pub pushed : (e : Procedure) × (v.procedures.items ≡ w.procedures.items ++ e ∷ [])
+  pub first_is : first ≡ record { depth = suc depth; cells = 0; lent = 0 }
+  pub placed : (inside : Sight) × Places v.sight inside first (place_sections (slots_at first.depth) (declared_size t) (formal_sections fs)) f × LowersBlock t (record { sight = inside; procedures = v.procedures }) u f b entry
+  pub back : GoesBack v.sight u.sight after.sight
+  pub kept : after.procedures.items ≡ set u.procedures.items index entry
+
+procedure-kept : (t : Tables) (w v u after : Lowering) (depth index : ℕ) (o : Option ℕ) (name : Name) (fs : Tree Label (maybe formals)) (b : Tree Label block) (first f : Frame) (entry : Procedure)
+    → IsProcedure t w v u after depth index o name fs b first f entry → Kept w.procedures.items v.procedures.items u.procedures.items after.procedures.items index entry
+procedure-kept t w v u after depth index o name fs b first f entry is = record { at = is.index_is; pushed = is.pushed; grown = is.placed.2.grown; longer = is.placed.2.longer; kept_is = is.kept }
+
+few : 0 ≤ most
+few = omega arith
+
+pub procedure_goes : (t : Tables) (w v u after : Lowering) (depth index : ℕ) (o : Option ℕ) (name : Name) (fs : Tree Label (maybe formals)) (b : Tree Label block) (closing : Label) (rest : Tree Label (items procedure)) (first f : Frame) (entry : Procedure)
+    → IsProcedure t w v u after depth index o name fs b first f entry → Goes t w after depth (more (declares_procedure (as_label as_names o name) fs b closing) rest) rest
+procedure_goes t w v u after depth index o name fs b closing rest first f entry is =
+    let kept = procedure-kept t w v u after depth index o name fs b first f entry is in
+    let x : Label = as_label as_names o name in
+    let deep : first.depth ≡ suc depth = ap (λ (z : Frame). z.depth) is.first_is in
+    let inside : Lowering = record { sight = is.placed.0; procedures = v.procedures } in
+    let places = is.placed.1 in
+    let block_is : LowersBlock t inside u f b entry = is.placed.2 in
+    record {
+      on = λ s statements ready.
+          let parts : FitParts s.env s.next statements x fs b closing rest = procedure-parts s.env s.next statements x fs b closing rest ready.fits in
+          let ps : List (TypedParameter Label) = parts.listed in
+          let headed : TypeEnvironment Label = heading x ps s.env in
+          let known = ready.declared_behind ps parts.typed in
+          let outer : Placing Label = (x, own_target index) ∷ s.placing in
+          let none : depth - depth ≡ 0 = omega arith in
+          let seen : seen_from depth (site.Procedure depth index) ≡ own_target index = ap (λ n. at_target (record { procedure = index; up = n })) none in
+          let held_there : Holds v.sight.sites.items depth outer = holds_bound w.sight.sites.items v.sight.sites.items depth s.placing o name (site.Procedure depth index) (own_target index) (le_refl depth, seen) is.sites ready.holds in
+          let matched : Matches headed outer = (refl, (record { procedure = index; up = 0 }, refl), ready.matches) in
+          let now : BlockState = record { env = headed; placing = outer; next = s.next + procedure_constructors (declares_procedure x fs b closing) } in
+          let empty : Placed Label = record { placing = inward outer; cells = 0; lent_places = 0 } in
+          let begun : IsFrame v.sight.sites.items first empty = record {
+            holds = subst (λ d. Holds v.sight.sites.items d (inward outer)) (sym deep) (holds_inward v.sight.sites.items depth outer held_there);
+            cells = ap (λ (z : Frame). z.cells) is.first_is;
+            lent_places = ap (λ (z : Frame). z.lent) is.first_is;
+          } in
+          let all_placed : place_parameters ps empty ≡ place_sections (slots_at first.depth) (declared_size t) (formal_sections fs) empty =
+          sections_placed t (formal_sections fs) s.next s.env headed ps empty parts.typed known.0 ∙ ap (λ d. place_sections (slots_at d) (declared_size t) (formal_sections fs) empty) (sym deep) in
+          let entered : IsFrame is.placed.0.sites.items f (entered_placing ps outer) = subst (IsFrame is.placed.0.sites.items f) (sym all_placed) (places.placed empty begun) in
+          let inner_matches : Matches (bind_typed ps headed) (entered_placing ps outer).placing = parameters_match ps headed empty (matches_inward headed outer matched) in
+          let slots : slots_at f.depth ≡ held 0 = ap slots_at (places.depth ∙ deep) in (
+            now,
+            record {
+              declared_there = typed_before (declared_in t) ps headed known.0;
+              matches = matched;
+              holds = holds_same v.sight.sites.items after.sight.sites.items depth outer is.back.1 held_there;
+              fits = parts.rest_right;
+              declared_behind = known.2;
+            },
+            λ table code later means. (
+              ps,
+              index,
+              procedure_of entry,
+              parts.typed,
+              later index entry (omega (arith, is.index_is)) (kept-entry w.procedures.items v.procedures.items u.procedures.items after.procedures.items index entry kept),
+              subst (λ at. BlockMeans table most as_labels at (bind_typed ps headed) (entered_placing ps outer) (s.next + formals_constructors (formal_sections fs)) entry.cells (sequence_of entry.body.items) b) slots
+                  (block_is.means (bind_typed ps headed) (entered_placing ps outer) (s.next + formals_constructors (formal_sections fs)) inner_matches entered (places.few_cells (subst (λ n. n ≤ most) (sym (ap (λ (z : Frame). z.cells) is.first_is)) few)) parts.block_right known.1
+                  table (kept-later table w.procedures.items v.procedures.items u.procedures.items after.procedures.items index entry kept later)),
+              means,
+            ),
+          );
+      follows = follows_back w.sight v.sight u.sight after.sight is.announced (follows_then v.sight is.placed.0 u.sight places.follows block_is.follows) is.back;
+      longer = kept-longer w.procedures.items v.procedures.items u.procedures.items after.procedures.items index entry kept;
+      grown = kept-grown w.procedures.items v.procedures.items u.procedures.items after.procedures.items index entry kept;
+    }
+
+-- blocks
+
+body-fits : (env : TypeEnvironment Label) (k : ℕ) (statements : Tree Label (maybe body)) → procedures_fit as_labels env k statements end ≡ true → IsTrue (body_fits as_labels env statements)
+unfolding block_fits
+body-fits env k statements h = h
+
+pub block_lowers : (t : Tables) (w v : Lowering) (inside : Sight) (cs : Tree Label (maybe constants)) (ts : Tree Label (maybe type_names)) (vs : Tree Label (maybe variables)) (ps : Tree Label (items procedure)) (statements : Tree Label (maybe body)) (f own : Frame) (scene : Scene) (entry : Procedure)
+    → Places w.sight inside f (place_groups (slots_at f.depth) (declared_size t) (section_variables vs)) own → Goes t (record { sight = inside; procedures = w.procedures }) v own.depth ps end
+    → scene.types.now ≡ t → scene.sites.now ≡ v.sight.sites.items → scene.depth ≡ own.depth → BodyLowers scene (sequence_of entry.body.items) statements → entry.cells ≡ own.cells - f.cells
+    → LowersBlock t w v f (has_body (declares cs ts vs ps) statements) entry
+block_lowers t w v inside cs ts vs ps statements f own scene entry places goes types sites deep lowers cells = record {
+  means = λ env p k matches frame few fits known table later.
+      let b : Tree Label block = has_body (declares cs ts vs ps) statements in
+      let parts = block-parts env k b fits in
+      let inner : TypeEnvironment Label = parts.0 in
+      let declared_parts = then_some (declare_first as_labels env k b) (declare_typed as_labels (after_types k b) (section_variables vs)) inner parts.1 in
+      let first : TypeEnvironment Label = declared_parts.0 in
+      let known_parts = known inner parts.1 in
+      let at = slots_at f.depth in
+      let hidden : Placing Label = hide_names (named_types (section_types ts)) (hide_names (constant_names (section_constants cs)) p.placing) in
+      let start : Placed Label = record p { placing = hidden } in
+      let q : Placed Label = place_groups at (declared_size t) (section_variables vs) start in
+      let begun : IsFrame w.sight.sites.items f start = record { holds = holds_hidden w.sight.sites.items f.depth (named_types (section_types ts)) (hide_names (constant_names (section_constants cs)) p.placing) (holds_hidden w.sight.sites.items f.depth (constant_names (section_constants cs)) p.placing frame.holds); cells = frame.cells; lent_places = frame.lent_places } in
+      let laid : IsFrame inside.sites.items own q = places.placed start begun in
+      let ready : Ready t inside.sites.items own.depth (record { env = inner; placing = q.placing; next = after_variables k b }) statements ps = record {
+        declared_there = known_parts.0;
+        matches = groups_match at (declared_size t) (section_variables vs) (after_types k b) first inner start declared_parts.2 (first_match b k env first p.placing declared_parts.1 matches);
+        holds = laid.holds;
+        fits = parts.2;
+        declared_behind = known_parts.1;
+      } in
+      let gone = goes.on (record { env = inner; placing = q.placing; next = after_variables k b }) statements ready in
+      let now : BlockState = gone.0 in
+      let last = gone.1 in
+      let seen = sees scene now.env now.placing (subst (λ z. AreDeclared (declared_in z) now.env) (sym types) last.declared_there) last.matches
+      (subst (λ d. Holds scene.sites.now d now.placing) (sym deep) (subst (λ xs. Holds xs own.depth now.placing) (sym sites) last.holds)) in (
+        first,
+        inner,
+        q,
+        declared_parts.1,
+        declared_parts.2,
+        groups_placed t at (section_variables vs) (after_types k b) first inner start declared_parts.2 known_parts.0,
+        omega (arith, cells, laid.cells, frame.cells, places.more_cells),
+        omega (arith, laid.cells, places.few_cells few),
+        gone.2 table (sequence_of entry.body.items) later (lowers now.env now.placing seen (body-fits now.env now.next statements last.fits)),
+      );
+  follows = follows_then w.sight inside v.sight places.follows goes.follows;
+  longer = goes.longer;
+  grown = goes.grown;
+}
+
+-- the procedures of a block, by the code's list
+
+pub goes_on : (t : Tables) (w v u : Lowering) (d : ℕ) (r : Resolution) (xs : List tree.Procedure) (done : ℕ) (x : tree.Procedure) (all : Tree Label (items procedure)) → Goes t w v d all (in_labels r (items_of tree_procedure_of (drop done xs))) → done < length xs → x ≡ get_or xs done x
+    → ((rest : Tree Label (items procedure)) → Goes t v u d (more (in_labels r (tree_procedure_of x)) rest) rest) → Goes t w u d all (in_labels r (items_of tree_procedure_of (drop (done + 1) xs)))
+goes_on t w v u d r xs done x all a less here b =
+    let rest : Tree Label (items procedure) = in_labels r (items_of tree_procedure_of (drop (done + 1) xs)) in
+    goes_then t w v u d all (in_labels r (items_of tree_procedure_of (drop done xs))) rest a
+    (subst (λ ys. Goes t v u d (in_labels r (items_of tree_procedure_of ys)) rest) (sym (split done xs x less here)) (b rest))
+
+pub block_means : (t : Tables) (w v : Lowering) (inside : Sight) (b : tree_block.Block) (xs : List tree.Procedure) (done : ℕ) (f own : Frame) (scene : Scene) (entry : Procedure) (r : Resolution)
+    → Places w.sight inside f (place_groups (slots_at f.depth) (declared_size t) (section_variables (in_labels r (variables_of (tree_block.out-Block b).variables)))) own
+    → Goes t (record { sight = inside; procedures = w.procedures }) v own.depth (in_labels r (items_of tree_procedure_of xs)) (in_labels r (items_of tree_procedure_of (drop done xs))) → length xs ≤ done → xs ≡ (tree_block.out-Block b).procedures.items
+    → scene.types.now ≡ t → scene.sites.now ≡ v.sight.sites.items → scene.depth ≡ own.depth → BodyLowers scene (sequence_of entry.body.items) (in_labels r (body_of (tree_block.out-Block b).body)) → entry.cells ≡ own.cells - f.cells
+    → LowersBlock t w v f (in_labels r (block_of b)) entry
+block_means t w v inside b xs done f own scene entry r places goes all same types sites deep lowers cells =
+    let o = tree_block.out-Block b in
+    subst (λ z. LowersBlock t w v f (in_labels r z) entry) (sym (block_parts b))
+    (block_lowers t w v inside (in_labels r (constants_of o.constants)) (in_labels r (types_of o.types)) (in_labels r (variables_of o.variables)) (in_labels r (items_of tree_procedure_of o.procedures.items)) (in_labels r (body_of o.body)) f own scene entry places
+    (subst (λ ys. Goes t (record { sight = inside; procedures = w.procedures }) v own.depth (in_labels r (items_of tree_procedure_of ys)) end) same
+    (subst (λ ys. Goes t (record { sight = inside; procedures = w.procedures }) v own.depth (in_labels r (items_of tree_procedure_of xs)) (in_labels r (items_of tree_procedure_of ys))) (drop_all done xs all) goes))
+    types sites deep lowers cells)
+
+pub procedure_means : (t : Tables) (w v u after : Lowering) (depth index : ℕ) (p : tree.Procedure) (r : Resolution) (first f : Frame) (entry : Procedure) (rest : Tree Label (items procedure))
+    → IsProcedure t w v u after depth index (ordinal_in r.ordinals (tree.out-Procedure p).name) (text_at r.module_read.source (tree.out-Procedure p).name) (in_labels r (formals_of (tree.out-Procedure p).formals)) (in_labels r (block_of (tree.out-Procedure p).block)) first f entry
+    → Goes t w after depth (more (in_labels r (tree_procedure_of p)) rest) rest
+procedure_means t w v u after depth index p r first f entry rest is =
+    let o = tree.out-Procedure p in
+    subst (λ z. Goes t w after depth (more (in_labels r z) rest) rest) (sym (procedure_parts p))
+    (procedure_goes t w v u after depth index (ordinal_in r.ordinals o.name) (text_at r.module_read.source o.name) (in_labels r (formals_of o.formals)) (in_labels r (block_of o.block)) (label_in r o.closing) rest first f entry is)
+
+-- the program of a module
+
+outermost-matches : Matches (outermost as_labels) (outermost_placing as_labels)
+outermost-matches = (refl, tt, (refl, tt, (refl, tt, (refl, tt, (refl, tt, (refl, tt, (refl, tt, tt)))))))
+
+outermost-holds : Holds [] 0 (outermost_placing as_labels)
+outermost-holds = holds_hidden [] 0 (as_labels.predeclared 0 ∷ as_labels.predeclared 1 ∷ as_labels.predeclared 2 ∷ as_labels.predeclared 3 ∷ as_labels.predeclared 4 ∷ as_labels.predeclared 5 ∷ as_labels.predeclared 6 ∷ []) [] (λ k. tt)
+
+all-later : (ps : List Procedure) → Later (map procedure_of ps) 0 ps
+all-later ps = λ i e le get. slice_get-map procedure_of ps i ∙ ap (option_map procedure_of) get
+
+module-fits : (m : Tree Name module_text) → WellTyped m → block_fits as_labels (outermost as_labels) 0 (module_block (numbered m)) ≡ true
+unfolding WellTyped fits_over
+module-fits m well = sym (fits_by_ordinal-holds m) ∙ well.1
+
+pub program_means : (t : Tables) (m : Tree Name module_text) (w v : Lowering) (b : Tree Label block) (entry : Procedure) (program : Program) → WellTyped m → ((k : ℕ) → declared_in t k ≡ declared_object m k) → module_block (numbered m) ≡ b
+    → w.sight.sites.items ≡ [] → w.procedures.items ≡ [] → LowersBlock t w v (record { depth = 0; cells = 0; lent = 0 }) b entry
+    → program_of program ≡ record { cells = entry.cells; body = sequence_of entry.body.items; procedures = map procedure_of v.procedures.items } → ProgramMeans most as_labels (numbered m) (program_of program)
+program_means t m w v b entry program well known is sites procedures lowers made =
+    let known_blocks : BlockDeclared (declared_in t) (outermost as_labels) 0 (module_block (numbered m)) = subst (λ (objects : Objects). BlockDeclared objects (outermost as_labels) 0 (module_block (numbered m))) (λ i k. sym (known k) i) (module-declared m well) in
+    let start : Placed Label = record { placing = outermost_placing as_labels; cells = 0; lent_places = 0 } in
+    subst (ProgramMeans most as_labels (numbered m)) (sym made)
+    (subst (λ z. BlockMeans (map procedure_of v.procedures.items) most as_labels of_module (outermost as_labels) start 0 entry.cells (sequence_of entry.body.items) z) (sym is)
+    (lowers.means (outermost as_labels) start 0 outermost-matches
+    (record { holds = subst (λ xs. Holds xs 0 (outermost_placing as_labels)) (sym sites) outermost-holds; cells = refl; lent_places = refl })
+    few (subst (λ z. block_fits as_labels (outermost as_labels) 0 z ≡ true) is (module-fits m well)) (subst (λ z. BlockDeclared (declared_in t) (outermost as_labels) 0 z) is known_blocks)
+    (map procedure_of v.procedures.items) (λ i e le get. all-later v.procedures.items i e (omega arith) get)))

@@ -1,0 +1,248 @@
+-- Sights that follow one another, and names placed one after the other.
+use Rattle.std.proofs.Common.{◌≡◌, ℕ, suc, ◌+◌, ◌-◌, ◌<◌, ◌≤◌, ◌==◌, Bool, true, false, List, [], ◌∷◌, ◌++◌, length, get_or, drop, Some, Option, if◌then◌else◌, refl, sym, ap, ◌∙◌, subst, arith, append_assoc, length-append, eqb-true, eq-eqb, true≢false, le_refl}
+use Rattle.std.proofs.Math.ListN.{set}
+use Rattle.std.proofs.lemmas.List.{append-nil, drop_all, drop_more, get_or-set_other, get_or-set_same, length-set}
+use Rattle.ob0_types_table.proofs.Sighted.{last_of}
+use Rattle.ob0_run_cells.specs.Activations.{Placed, in_slot}
+use Rattle.ob0_run_cells.specs.Lowering.{Slot, lent}
+use Rattle.ob0_run_lowering.specs.Scenes.{seen_from, site_at}
+use Rattle.ob0_run_lowering.specs.declared.scene.Site.{Site}
+use Rattle.ob0_run_lowering.specs.declared.scene.Site.TheVariants as site
+use Rattle.ob0_tree.specs.Tree.{Tree, further_section, items, more, then_section}
+use Rattle.ob0_tree.specs.View.{names_of, section_of}
+use Rattle.ob0_tree.specs.declared.tree.Section.{Section}
+use Rattle.ob0_types_rules.specs.InLabels.{in_labels}
+use Rattle.ob0_types_rules.proofs.Parts.{section-mode, section-names}
+use Rattle.ob0_scope_rules.specs.Parts.{names_listed}
+use Rattle.ob0_scope_rules.specs.Resolution.{Resolution}
+use Rattle.ob0_types_table.specs.Tables.{mode_of}
+use Rattle.ob0_scope_rules.specs.Names.{Label, Name, as_names}
+use Rattle.ob0_scope_rules.specs.Scopes.{as_label}
+use Rattle.ob0_types_rules.specs.WellTyped.{by_place, by_value}
+use Rattle.ob0_run_lowering.specs.Placed.{AllWithin, Follows, GoesBack, Holds, IsFrame, IsNextSite, Places, Tells, before_all, most, place_each, place_one, place_sections, put_at, put_site, slots_at}
+use Rattle.ob0_run_lowering.specs.declared.sight.Frame.{Frame}
+use Rattle.ob0_run_lowering.specs.declared.sight.Hidden.{Hidden}
+use Rattle.ob0_run_lowering.specs.declared.sight.Sight.{Sight}
+use Rattle.ob0_run_lowering.proofs.Placings.{holds_bound}
+
+within-weaken : (m n : ℕ) (hs : List Hidden) → m ≤ n → AllWithin m hs → AllWithin n hs
+within-weaken m n [] le a = tt
+within-weaken m n (h ∷ hs) le a = (omega (arith, a.0, le), within-weaken m n hs le a.1)
+
+within-append : (n : ℕ) (xs ys : List Hidden) → AllWithin n xs → AllWithin n ys → AllWithin n (xs ++ ys)
+within-append n [] ys a b = b
+within-append n (x ∷ xs) ys a b = (a.0, within-append n xs ys a.1 b)
+
+within-front : (n : ℕ) (xs ys : List Hidden) → AllWithin n (xs ++ ys) → AllWithin n xs
+within-front n [] ys a = tt
+within-front n (x ∷ xs) ys a = (a.0, within-front n xs ys a.1)
+
+within-back : (n : ℕ) (xs ys : List Hidden) → AllWithin n (xs ++ ys) → AllWithin n ys
+within-back n [] ys a = a
+within-back n (x ∷ xs) ys a = within-back n xs ys a.1
+
+before_all-append : (xs ys : List Hidden) (f : ℕ → Site) → before_all (xs ++ ys) f ≡ before_all xs (before_all ys f)
+before_all-append [] ys f = refl
+before_all-append (x ∷ xs) ys f = ap (put_site x.ordinal x.before) (before_all-append xs ys f)
+
+-- tables that are the same at each ordinal
+before_all-same : (xs : List Hidden) (f g : ℕ → Site) → ((k : ℕ) → f k ≡ g k) → (k : ℕ) → before_all xs f k ≡ before_all xs g k
+before_all-same xs f g same k = ap (λ (h : ℕ → Site). before_all xs h k) (λ i j. same j i)
+
+pub follows_itself : (w : Sight) → Follows w w
+follows_itself w = record { more = []; added = sym (append-nil w.hidden.items); within = tt; longer = le_refl (length w.sites.items); goes_back = λ k. refl }
+
+pub follows_then : (w v u : Sight) → Follows w v → Follows v u → Follows w u
+follows_then w v u a b = record {
+  more = a.more ++ b.more;
+  added = b.added ∙ ap (λ hs. hs ++ b.more) a.added ∙ append_assoc w.hidden.items a.more b.more;
+  within = within-append (length u.sites.items) a.more b.more (within-weaken (length v.sites.items) (length u.sites.items) a.more b.longer a.within) b.within;
+  longer = omega (arith, a.longer, b.longer);
+  goes_back = λ k.
+      ap (λ f. f k) (before_all-append a.more b.more (site_at u.sites.items))
+      ∙ before_all-same a.more (before_all b.more (site_at u.sites.items)) (site_at v.sites.items) b.goes_back k
+      ∙ a.goes_back k;
+}
+
+-- what was bound in between is gone
+pub follows_back : (w v u after : Sight) → Follows w v → Follows v u → GoesBack v u after → Follows w after
+follows_back w v u after a b g = record {
+  more = a.more;
+  added = g.0 ∙ a.added;
+  within = within-weaken (length v.sites.items) (length after.sites.items) a.more (omega (arith, b.longer, g.2)) a.within;
+  longer = omega (arith, a.longer, b.longer, g.2);
+  goes_back = λ k. before_all-same a.more (site_at after.sites.items) (site_at v.sites.items) g.1 k ∙ a.goes_back k;
+}
+
+-- a site put into the table
+
+pub site-set : (xs : List Site) (j : ℕ) (s : Site) (k : ℕ) → suc j ≤ length xs → site_at (set xs j s) k ≡ (if k == j then s else site_at xs k)
+site-set xs j s k room = by (k == j) refl
+  where
+    by : (t : Bool) → (k == j) ≡ t → site_at (set xs j s) k ≡ (if t then s else site_at xs k)
+    by true same = ap (site_at (set xs j s)) (eqb-true k j same) ∙ get_or-set_same xs j s site.Nowhere (omega (arith, room))
+    by false other = get_or-set_other xs j k s site.Nowhere (λ e. true≢false (sym (eq-eqb k j e) ∙ other))
+
+pub bound_sites : (w mid v : Sight) (j : ℕ) (s : Site) → ((k : ℕ) → site_at mid.sites.items k ≡ site_at w.sites.items k) → suc j ≤ length mid.sites.items → v.sites.items ≡ set mid.sites.items j s
+    → (k : ℕ) → site_at v.sites.items k ≡ put_at (Some j) s (site_at w.sites.items) k
+bound_sites w mid v j s same room put k =
+    ap (λ xs. site_at xs k) put ∙ site-set mid.sites.items j s k room ∙ ap (λ z. if k == j then s else z) (same k)
+
+pub bound_follows : (w mid v : Sight) (j : ℕ) (s before : Site) → ((k : ℕ) → site_at mid.sites.items k ≡ site_at w.sites.items k) → mid.hidden.items ≡ w.hidden.items → length w.sites.items ≤ length mid.sites.items → suc j ≤ length mid.sites.items
+    → before ≡ site_at mid.sites.items j → v.sites.items ≡ set mid.sites.items j s → v.hidden.items ≡ mid.hidden.items ++ record { ordinal = j; before = before } ∷ [] → Follows w v
+bound_follows w mid v j s before same hidden longer room is put pushed =
+    let long : length v.sites.items ≡ length mid.sites.items = ap length put ∙ length-set mid.sites.items j s in
+    record {
+      more = record { ordinal = j; before = before } ∷ [];
+      added = pushed ∙ ap (λ hs. hs ++ record { ordinal = j; before = before } ∷ []) hidden;
+      within = (omega (arith, long, room), tt);
+      longer = omega (arith, long, longer);
+      goes_back = λ k. by k (k == j) refl;
+    }
+  where
+    by : (k : ℕ) (t : Bool) → (k == j) ≡ t → (if t then before else site_at v.sites.items k) ≡ site_at w.sites.items k
+    by k true e = is ∙ same j ∙ ap (site_at w.sites.items) (sym (eqb-true k j e))
+    by k false e = bound_sites w mid v j s same room put k ∙ ap (λ t. if t then s else site_at w.sites.items k) e
+
+-- one hidden site less
+abbrev pub AllBack : Sight → ℕ → Sight → Type 0
+AllBack start mark now = (w : Sight) → Follows w start → mark ≡ length w.hidden.items → Follows w now × (length now.sites.items ≡ length start.sites.items)
+
+pub back_begins : (start : Sight) (mark : ℕ) → AllBack start mark start
+back_begins start mark = λ w f is. (f, refl)
+
+pub back_on : (start now v : Sight) (mark : ℕ) (last : Hidden) → AllBack start mark now → mark < length now.hidden.items → now.hidden.items ≡ v.hidden.items ++ last ∷ [] → v.sites.items ≡ set now.sites.items last.ordinal last.before → AllBack start mark v
+back_on start now v mark last back less popped put = λ w f is.
+    let so_far = back w f is in
+    let a : Follows w now = so_far.0 in
+    let left = last_of w.hidden.items a.more v.hidden.items last (sym a.added ∙ popped) (omega (arith, ap length a.added, is, less)) in
+    let parts : AllWithin (length now.sites.items) (left.0 ++ last ∷ []) = subst (AllWithin (length now.sites.items)) left.1 a.within in
+    let room : suc last.ordinal ≤ length now.sites.items = (within-back (length now.sites.items) left.0 (last ∷ []) parts).0 in
+    let long : length v.sites.items ≡ length now.sites.items = ap length put ∙ length-set now.sites.items last.ordinal last.before in (
+      record {
+        more = left.0;
+        added = left.2;
+        within = within-weaken (length now.sites.items) (length v.sites.items) left.0 (omega (arith, long)) (within-front (length now.sites.items) left.0 (last ∷ []) parts);
+        longer = omega (arith, long, a.longer);
+        goes_back = λ k.
+            before_all-same left.0 (site_at v.sites.items) (before_all (last ∷ []) (site_at now.sites.items)) (λ j. ap (λ xs. site_at xs j) put ∙ site-set now.sites.items last.ordinal last.before j room) k
+            ∙ ap (λ f. f k) (sym (before_all-append left.0 (last ∷ []) (site_at now.sites.items)))
+            ∙ ap (λ hs. before_all hs (site_at now.sites.items) k) (sym left.1)
+            ∙ a.goes_back k;
+      },
+      long ∙ so_far.1,
+    )
+
+nil_of : {A : Type 0} (xs ys : List A) → length (xs ++ ys) ≤ length xs → ys ≡ []
+nil_of xs [] h = refl
+nil_of xs (y ∷ ys) h = absurd (omega (arith, h, length-append xs (y ∷ ys)))
+
+pub back_ends : (start now : Sight) (mark : ℕ) → AllBack start mark now → length now.hidden.items ≤ mark → (w : Sight) → Follows w start → mark ≡ length w.hidden.items → GoesBack w start now
+back_ends start now mark back all w f is =
+    let so_far = back w f is in
+    let a : Follows w now = so_far.0 in
+    let none : a.more ≡ [] = nil_of w.hidden.items a.more (omega (arith, ap length a.added, all, is)) in (
+      a.added ∙ ap (λ hs. w.hidden.items ++ hs) none ∙ append-nil w.hidden.items,
+      λ k. ap (λ hs. before_all hs (site_at now.sites.items) k) (sym none) ∙ a.goes_back k,
+      so_far.1,
+    )
+
+-- steps of placing
+
+pub places_nothing : (w : Sight) (f : Frame) → Places w w f (λ p. p) f
+places_nothing w f = record { placed = λ p h. h; follows = follows_itself w; depth = refl; more_cells = le_refl f.cells; few_cells = λ h. h }
+
+pub places_then : (w v u : Sight) (f g h : Frame) (first second : Placed Label → Placed Label) → Places w v f first g → Places v u g second h → Places w u f (λ p. second (first p)) h
+places_then w v u f g h first second a b = record {
+  placed = λ p is. b.placed (first p) (a.placed p is);
+  follows = follows_then w v u a.follows b.follows;
+  depth = b.depth ∙ a.depth;
+  more_cells = omega (arith, a.more_cells, b.more_cells);
+  few_cells = λ few. b.few_cells (a.few_cells few);
+}
+
+pub places_as : (w v : Sight) (f g : Frame) (first second : Placed Label → Placed Label) → ((p : Placed Label) → first p ≡ second p) → Places w v f first g → Places w v f second g
+places_as w v f g first second same a = subst (λ (step : Placed Label → Placed Label). Places w v f step g) (λ i p. same p i) a
+
+-- one name
+pub place-lent : (w v : Sight) (f g : Frame) (size_of : Label → ℕ) (o : Option ℕ) (name : Name) → ((k : ℕ) → site_at v.sites.items k ≡ put_at o (site.Lent f.depth f.lent) (site_at w.sites.items) k) → Follows w v → g ≡ record f { lent = f.lent + 1 }
+    → Places w v f (place_one (slots_at f.depth) size_of by_place (as_label as_names o name)) g
+place-lent w v f g size_of o name put follows is =
+    let none : f.depth - f.depth ≡ 0 = omega arith in
+    let seen : seen_from f.depth (site.Lent f.depth f.lent) ≡ in_slot (lent 0 f.lent) = ap (λ up. in_slot (lent up f.lent)) none in
+    subst (λ (z : Frame). Places w v f (place_one (slots_at f.depth) size_of by_place (as_label as_names o name)) z) (sym is)
+    record {
+      placed = λ p h. record {
+        holds = holds_bound w.sites.items v.sites.items f.depth p.placing o name (site.Lent f.depth f.lent) (in_slot (lent 0 p.lent_places)) (le_refl f.depth, seen ∙ ap (λ n. in_slot (lent 0 n)) h.lent_places) put h.holds;
+        cells = h.cells;
+        lent_places = ap (λ n. n + 1) h.lent_places ∙ omega arith;
+      };
+      follows = follows;
+      depth = refl;
+      more_cells = le_refl f.cells;
+      few_cells = λ few. few;
+    }
+
+next-tells : (f : Frame) (s : Site) (n : ℕ) → IsNextSite f s → f.cells ≡ n → Tells f.depth s (in_slot (slots_at f.depth n))
+next-tells f s n next e = (next.0, next.1 ∙ ap (λ m. in_slot (slots_at f.depth m)) e)
+
+pub place-held : (w v : Sight) (f g : Frame) (size_of : Label → ℕ) (o : Option ℕ) (name : Name) (s : Site) (n : ℕ) → IsNextSite f s → ((k : ℕ) → site_at v.sites.items k ≡ put_at o s (site_at w.sites.items) k) → Follows w v → g ≡ record f { cells = f.cells + n } → g.cells ≤ most
+    → n ≡ size_of (as_label as_names o name) → Places w v f (place_one (slots_at f.depth) size_of by_value (as_label as_names o name)) g
+place-held w v f g size_of o name s n next put follows is few size =
+    let cells : g.cells ≡ f.cells + n = ap (λ (z : Frame). z.cells) is in
+    record {
+      placed = λ p h. record {
+        holds = subst (λ d. Holds v.sites.items d ((as_label as_names o name, in_slot (slots_at f.depth p.cells)) ∷ p.placing)) (sym (ap (λ (z : Frame). z.depth) is))
+            (holds_bound w.sites.items v.sites.items f.depth p.placing o name s (in_slot (slots_at f.depth p.cells)) (next-tells f s p.cells next h.cells) put h.holds);
+        cells = cells ∙ (λ i. h.cells i + size i);
+        lent_places = ap (λ (z : Frame). z.lent) is ∙ h.lent_places;
+      };
+      follows = follows;
+      depth = ap (λ (z : Frame). z.depth) is;
+      more_cells = omega (arith, cells);
+      few_cells = λ h. few;
+    }
+
+-- names one after the other: what is left to place, over what is placed so far, gives what all give
+pub record InPlaces {A : Type 0} (fold : List A → Placed Label → Placed Label) (xs : List A) (w v : Sight) (f g : Frame) (done : ℕ) : Type 0 where
+  pub on : (p : Placed Label) → IsFrame w.sites.items f p → (now : Placed Label) × IsFrame v.sites.items g now × (fold (drop done xs) now ≡ fold xs p)
+  pub follows : Follows w v
+  pub depth : g.depth ≡ f.depth
+  pub more_cells : f.cells ≤ g.cells
+  pub few_cells : f.cells ≤ most → g.cells ≤ most
+
+pub in_begins : {A : Type 0} (fold : List A → Placed Label → Placed Label) (xs : List A) (w : Sight) (f : Frame) → InPlaces fold xs w w f f 0
+in_begins fold xs w f = record { on = λ p h. (p, h, refl); follows = follows_itself w; depth = refl; more_cells = le_refl f.cells; few_cells = λ h. h }
+
+pub in_on : {A : Type 0} {fold : List A → Placed Label → Placed Label} {xs : List A} {w v : Sight} {f g : Frame} {done : ℕ} (step : A → Placed Label → Placed Label) (u : Sight) (h : Frame) (x d : A)
+    → ((x : A) (xs : List A) (p : Placed Label) → fold (x ∷ xs) p ≡ fold xs (step x p)) → InPlaces fold xs w v f g done → done < length xs → x ≡ get_or xs done d → Places v u g (step x) h → InPlaces fold xs w u f h (done + 1)
+in_on {fold = fold} {xs = xs} {w = w} {v = v} {f = f} {g = g} {done = done} step u h x d folds a less here b =
+    let cut : drop done xs ≡ x ∷ drop (done + 1) xs = drop_more xs done d less ∙ ap (λ y. y ∷ drop (done + 1) xs) (sym here) in
+    record {
+      on = λ p is.
+          let at = a.on p is in (step x at.0, b.placed at.0 at.1, sym (folds x (drop (done + 1) xs) at.0) ∙ ap (λ ys. fold ys at.0) (sym cut) ∙ at.2);
+      follows = follows_then w v u a.follows b.follows;
+      depth = b.depth ∙ a.depth;
+      more_cells = omega (arith, a.more_cells, b.more_cells);
+      few_cells = λ few. b.few_cells (a.few_cells few);
+    }
+
+pub in_ends : {A : Type 0} {fold : List A → Placed Label → Placed Label} {xs : List A} {w v : Sight} {f g : Frame} {done : ℕ} → ((p : Placed Label) → fold [] p ≡ p) → InPlaces fold xs w v f g done → length xs ≤ done → Places w v f (fold xs) g
+in_ends {fold = fold} {xs = xs} {v = v} {g = g} {done = done} ended a all = record {
+  placed = λ p is.
+      let at = a.on p is in
+      subst (IsFrame v.sites.items g) (sym (ended at.0) ∙ ap (λ ys. fold ys at.0) (sym (drop_all done xs all)) ∙ at.2) at.1;
+  follows = a.follows;
+  depth = a.depth;
+  more_cells = a.more_cells;
+  few_cells = a.few_cells;
+}
+
+-- a step of an activation as deep
+pub as_deep : (w v : Sight) (f g : Frame) (m n : ℕ) (step : ℕ → Placed Label → Placed Label) → m ≡ n → Places w v f (step m) g → Places w v f (step n) g
+as_deep w v f g m n step same a = subst (λ k. Places w v f (step k) g) same a
+
+-- the names of a section, by how it is written
+pub section_step : (r : Resolution) (at : ℕ → Slot) (size_of : Label → ℕ) (s : Section) (fs : Tree Label (items further_section)) (p : Placed Label)
+    → place_sections at size_of (more (then_section (in_labels r (section_of s))) fs) p ≡ place_sections at size_of fs (place_each at size_of (mode_of s.by_reference) (names_listed (in_labels r (names_of s.names))) p)
+section_step r at size_of s fs p = λ i. place_sections at size_of fs (place_each at size_of (section-mode mode_of refl refl r s i) (section-names r s i) p)

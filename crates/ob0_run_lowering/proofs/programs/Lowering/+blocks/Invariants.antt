@@ -1,0 +1,10 @@
+use Rattle.std.proofs.Common.{drop}
+use Rattle.ob0_tree.specs.View.{items_of, procedure_of}
+use Rattle.ob0_types_rules.specs.InLabels.{in_labels}
+use Rattle.ob0_run_lowering.specs.Blocks.{Goes}
+use Rattle.ob0_run_lowering.proofs.programs.Lowering.+blocks.Given as goal
+
+abbrev pub invariant-block-loop-p : goal.invariant-block-loop-p
+invariant-block-loop-p l = record {
+  goes : Goes l.ground.types.now l.initial.self l.self l.own.depth (in_labels l.ground.resolved.now (items_of procedure_of l.p-items)) (in_labels l.ground.resolved.now (items_of procedure_of (drop l.p-index l.p-items)));
+}

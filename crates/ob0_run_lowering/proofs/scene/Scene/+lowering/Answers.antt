@@ -1,0 +1,87 @@
+use Rattle.std.proofs.Common.{◌≡◌, IfOk, option_and_then, option_map, sym, ap, ◌∙◌, subst}
+use Rattle.ob0_tree.proofs.Viewed.{designator_made, simple_parts, term_parts}
+use Rattle.ob0_tree.specs.declared.tree.Addend.{out-Addend}
+use Rattle.ob0_tree.specs.declared.tree.Comparison.{out-Comparison}
+use Rattle.ob0_tree.specs.declared.tree.Expression.{out-Expression}
+use Rattle.ob0_tree.specs.declared.tree.Simple.{out-Simple}
+use Rattle.ob0_tree.specs.declared.tree.Term.{out-Term}
+use Rattle.ob0_tree.specs.Tree.{compares, one, relates}
+use Rattle.ob0_tree.specs.View.{items_of, addend_of, multiplier_of, selector_of, term_of, factor_of, simple_of}
+use Rattle.ob0_types_rules.specs.InLabels.{in_labels, label_in}
+use Rattle.ob0_types_table.specs.KnownTables.{shapes_of}
+use Rattle.ob0_types_rules.proofs.TreeParts.{addend_parts, expression_alone, expression_related}
+use Rattle.ob0_run_lowering.specs.Codes.{added, multiplied, related, signed}
+use Rattle.ob0_run_lowering.specs.Trees.{addends_code, code_of, expression_code, factor_code, found_of, multipliers_code, selected_place, simple_code, term_code}
+use Rattle.ob0_run_lowering.proofs.CodeChains.{added_fold, added_once, fold_ends, fold_goes_on, multiplied_fold, selected_fold}
+use Rattle.ob0_run_lowering.proofs.scene.Scene.+lowering.Goals as goal
+
+pub factor-returns-in-Designator : goal.factor-returns-in-Designator
+factor-returns-in-Designator t c =
+    let scene = c.args.self.now in
+    subst (λ z. IfOk c.named.result (λ l. code_of l ≡ factor_code scene (in_labels scene.resolved.now z))) (sym (designator_made c.in-Designator.d) ∙ sym (ap factor_of c.in-Designator.is)) c.named.ensures
+
+pub located-loop-selector-preserved : goal.located-loop-selector-preserved
+located-loop-selector-preserved t c =
+    fold_goes_on c.selector-item.result _ (selected_fold c.args.self.now) c.loop-selector.invariant c.loop-selector-test.true c.selector-item.is c.in_ok-at.ensures
+
+pub located-returns : goal.located-returns
+located-returns t c =
+    let scene = c.args.self.now in
+    let r = scene.resolved.now in
+    fold_ends (selected_fold scene) c.loop-selector.invariant c.loop-selector-test.false
+    ∙ ap (λ xs. selected_place scene (option_map (found_of (shapes_of scene.types.now)) c.base-at.result) (in_labels r (items_of selector_of xs))) c.deref-selector-items.ensures.value
+    ∙ ap (λ o. selected_place scene o (in_labels r (items_of selector_of c.args.d.now.selectors.items))) c.base-at.ensures
+
+pub lowered-returns-in-None : goal.lowered-returns-in-None
+lowered-returns-in-None t c =
+    let scene = c.args.self.now in
+    c.in_ok-left.ensures ∙ sym (ap (λ e. expression_code scene (in_labels scene.resolved.now e)) (expression_alone c.args.e.now c.in-None.is))
+
+pub lowered-returns-in_ok-right-in-Some : goal.lowered-returns-in_ok-right-in-Some
+lowered-returns-in_ok-right-in-Some t c =
+    let scene = c.args.self.now in
+    let r = scene.resolved.now in
+    let compared = out-Comparison c.deref-compared.result.now in
+    let left = simple_of (out-Expression c.args.e.now).left in
+    subst (λ z. IfOk c.related.result (λ l. code_of l ≡ z))
+    (ap (λ a. related compared.relation a (code_of c.in_ok-right-in-Some.right)) c.in_ok-left.ensures
+    ∙ ap (related compared.relation (simple_code scene (in_labels r left))) c.in_ok-right-in-Some.ensures
+    ∙ ap (λ k. expression_code scene (in_labels r (compares left (one (relates (out-Comparison k).relation (simple_of (out-Comparison k).right)))))) c.deref-compared.ensures
+    ∙ sym (ap (λ e. expression_code scene (in_labels r e)) (expression_related c.args.e.now c.in-Some.compared c.in-Some.is)))
+    c.related.ensures
+
+pub simple-loop-addend-preserved : goal.simple-loop-addend-preserved
+simple-loop-addend-preserved t c =
+    let scene = c.args.self.now in
+    let a = c.addend-item.result in
+    fold_goes_on a _ (added_fold scene) c.loop-addend.invariant c.loop-addend-test.true c.addend-item.is
+    (c.in_ok-so_far-2.ensures
+    ∙ ap (added (out-Addend a).operator (code_of c.loop-addend.so_far)) c.in_ok-term.ensures
+    ∙ ap (λ z. added_once scene (code_of c.loop-addend.so_far) (in_labels scene.resolved.now z)) (sym (addend_parts a)))
+
+pub simple-returns : goal.simple-returns
+simple-returns t c =
+    let scene = c.args.self.now in
+    let r = scene.resolved.now in
+    let s = out-Simple c.args.s.now in
+    fold_ends (added_fold scene) c.loop-addend.invariant c.loop-addend-test.false
+    ∙ ap (λ xs. addends_code scene (code_of c.in_ok-so_far.so_far) (in_labels r (items_of addend_of xs))) c.deref-addend-items.ensures.value
+    ∙ ap (λ k. addends_code scene k (in_labels r (items_of addend_of s.more.items))) (c.in_ok-so_far.ensures ∙ ap (signed s.sign) c.in_ok-first.ensures)
+    ∙ sym (ap (λ z. simple_code scene (in_labels r z)) (simple_parts c.args.s.now))
+
+pub term-loop-multiplier-preserved : goal.term-loop-multiplier-preserved
+term-loop-multiplier-preserved t c =
+    let scene = c.args.self.now in
+    let a = c.multiplier-item.result in
+    fold_goes_on a _ (multiplied_fold scene) c.loop-multiplier.invariant c.loop-multiplier-test.true c.multiplier-item.is
+    (c.in_ok-so_far-2.ensures ∙ ap (multiplied a.operator (code_of c.loop-multiplier.so_far)) c.in_ok-factor.ensures)
+
+pub term-returns : goal.term-returns
+term-returns t c =
+    let scene = c.args.self.now in
+    let r = scene.resolved.now in
+    let s = out-Term c.args.t.now in
+    fold_ends (multiplied_fold scene) c.loop-multiplier.invariant c.loop-multiplier-test.false
+    ∙ ap (λ xs. multipliers_code scene (code_of c.in_ok-so_far.so_far) (in_labels r (items_of multiplier_of xs))) c.deref-multiplier-items.ensures.value
+    ∙ ap (λ k. multipliers_code scene k (in_labels r (items_of multiplier_of s.more.items))) c.in_ok-so_far.ensures
+    ∙ sym (ap (λ z. term_code scene (in_labels r z)) (term_parts c.args.t.now))

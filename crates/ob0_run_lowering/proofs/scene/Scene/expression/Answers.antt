@@ -1,0 +1,14 @@
+use Rattle.std.proofs.Common.{◌≡◌}
+use Rattle.std.proofs.lemmas.Result.{IfOk-weaker}
+use Rattle.ob0_tree.specs.View.{expression_of}
+use Rattle.ob0_types_rules.specs.InLabels.{in_labels}
+use Rattle.ob0_run_lowering.specs.Means.{Lowers}
+use Rattle.ob0_run_lowering.specs.Trees.{code_of, expression_code}
+use Rattle.ob0_run_lowering.proofs.Lowerings.{lowers-by}
+use Rattle.ob0_run_lowering.proofs.scene.Scene.expression.Goals as goal
+
+pub returns : goal.returns
+returns c =
+    let scene = c.args.self.now in
+    let e = expression_of c.args.e.now in
+    IfOk-weaker c.lowered.result (λ l. code_of l ≡ expression_code scene (in_labels scene.resolved.now e)) (Lowers scene e) (λ l same. lowers-by scene e l c.has_small.ensures same) c.lowered.ensures

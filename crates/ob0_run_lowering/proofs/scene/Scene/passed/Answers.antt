@@ -1,0 +1,23 @@
+use Rattle.std.proofs.Common.{IfOk, option_map, sym, ap, ◌∙◌}
+use Rattle.std.proofs.lemmas.Result.{IfOk-weaker}
+use Rattle.ob0_tree.specs.View.{expression_of}
+use Rattle.ob0_tree.specs.declared.tree.Designator.{out-Designator}
+use Rattle.ob0_types_rules.specs.Selected.{selectors_in}
+use Rattle.ob0_types_rules.proofs.DesignatedAlone.{labelled_designator, parts_in}
+use Rattle.ob0_run_lowering.specs.Means.{Locates, LocatesAlone}
+use Rattle.ob0_run_lowering.proofs.Lowerings.{alone-by, alone-not}
+use Rattle.ob0_run_lowering.proofs.scene.Scene.passed.Goals as goal
+
+pub returns-in-None : goal.returns-in-None
+returns-in-None c =
+    let scene = c.args.self.now in
+    let e = expression_of c.args.e.now in
+    alone-not scene e c.nowhere.result (labelled_designator scene.resolved.now e ∙ sym (ap (option_map (parts_in scene.resolved.now)) c.in-None.ensures))
+
+pub returns-in-Some : goal.returns-in-Some
+returns-in-Some c =
+    let scene = c.args.self.now in
+    let e = expression_of c.args.e.now in
+    let d = c.in-Some.d.now in
+    IfOk-weaker c.place.result (Locates scene (out-Designator d).name (selectors_in d)) (LocatesAlone scene e)
+    (λ l h. alone-by scene e (out-Designator d).name (selectors_in d) l (labelled_designator scene.resolved.now e ∙ sym (ap (option_map (parts_in scene.resolved.now)) c.in-Some.ensures)) h) c.place.ensures

@@ -1,0 +1,129 @@
+use Rattle.std.proofs.Common.{◌≡◌, ◌+◌, List, [], ◌∷◌, ◌++◌, sym, ap, ◌∙◌, subst}
+use Rattle.ob0_tree.proofs.Viewed as tree
+use Rattle.ob0_tree.specs.Tree as sort
+use Rattle.ob0_tree.specs.Tree.{Tree, branches, repeat_loop, while_loop}
+use Rattle.ob0_tree.specs.View.{else_in, elsif_of, expression_of, items_of, sequence_listed, statement_of}
+use Rattle.ob0_tree.specs.declared.tree.Elsif.{Elsif}
+use Rattle.ob0_tree.specs.declared.tree.If.{out-If}
+use Rattle.ob0_tree.specs.declared.tree.Statement as written
+use Rattle.ob0_scope_rules.specs.Names.{Label}
+use Rattle.ob0_types_rules.specs.InLabels.{in_labels}
+use Rattle.ob0_run_machine.proofs.Viewed.{repeat_made, while_made}
+use Rattle.ob0_run_machine.specs.Lowered as lowered
+use Rattle.ob0_run_machine.specs.View as code
+use Rattle.ob0_run_machine.specs.View.{all_branches, sequence_of, truth_of}
+use Rattle.ob0_run_machine.specs.declared.code.Branch.{Branch}
+use Rattle.ob0_run_machine.specs.declared.code.Repeat.{Repeat}
+use Rattle.ob0_run_machine.specs.declared.code.Statement.{Statement}
+use Rattle.ob0_run_machine.specs.declared.code.While.{While}
+use Rattle.ob0_run_lowering.specs.LoweredBodies.{SequenceLowers, StatementLowers}
+use Rattle.ob0_run_lowering.proofs.InScene.{condition-lowers, repeat-lowers, while-lowers}
+use Rattle.ob0_run_lowering.proofs.Made.{BranchesMade, SequenceMade, branches_begin, branches_end, branches_go_on, if_rolled, none_otherwise, sequence_begins, sequence_ends, sequence_goes_on, some_otherwise}
+use Rattle.ob0_run_lowering.proofs.statements.+statements.Goals as goal
+
+pub branches-loop-part-init : goal.branches-loop-part-init
+branches-loop-part-init t c =
+    let scene = c.args.scene.now in
+    let r = scene.resolved.now in
+    let i = out-If c.args.i.now in
+    let e = in_labels r (expression_of i.condition) in
+    let a = in_labels r (sequence_listed i.then.items) in
+    let b : Branch = record { condition = c.in_ok-first.first; body = c.in_ok-then.then } in
+    let pushed : c.push.new.self.items ≡ b ∷ [] = c.in_ok-push.ensures.items ∙ ap (λ z. z ++ b ∷ []) c.new-branches.ensures.items in
+    let P : List Branch → Type 0 = λ made. BranchesMade scene r e a c.deref-part-items.result.now 0 made in
+    subst P (sym pushed) (branches_begin scene r e a c.deref-part-items.result.now b (condition-lowers scene i.condition c.in_ok-first.first c.in_ok-first.ensures) c.in_ok-then.ensures)
+
+pub branches-loop-part-preserved : goal.branches-loop-part-preserved
+branches-loop-part-preserved t c =
+    let scene = c.args.scene.now in
+    let r = scene.resolved.now in
+    let i = out-If c.args.i.now in
+    let b : Branch = record { condition = c.in_ok-condition.condition; body = c.in_ok-body.body } in
+    let P : List Branch → Type 0 = λ made. BranchesMade scene r (in_labels r (expression_of i.condition)) (in_labels r (sequence_listed i.then.items)) c.deref-part-items.result.now (c.loop-part.part-index + 1) made in
+    let step = branches_go_on c.part-item.result b c.loop-part.invariant c.loop-part-test.true c.part-item.is (condition-lowers scene c.part-item.result.condition c.in_ok-condition.condition c.in_ok-condition.ensures) c.in_ok-body.ensures in
+    subst P (sym c.in_ok-push-2.ensures.items) step
+
+pub branches-returns-in-None : goal.branches-returns-in-None
+branches-returns-in-None t c =
+    let scene = c.args.scene.now in
+    let r = scene.resolved.now in
+    let i = out-If c.args.i.now in
+    let last = in_labels r (else_in i.otherwise) in
+    let made = lowered.chooses (all_branches c.loop-part.branches.items) (sequence_of c.new.result.items) in
+    let whole = branches_end (sequence_of c.new.result.items) last c.loop-part.invariant c.loop-part-test.false (none_otherwise scene r i.otherwise c.new.result.items c.in-None.is c.new.ensures.items) in
+    let P : List Elsif → Type 0 = λ parts. StatementLowers scene made (branches (in_labels r (expression_of i.condition)) (in_labels r (sequence_listed i.then.items)) (in_labels r (items_of elsif_of parts)) last) in
+    let Q : Tree Label sort.statement → Type 0 = λ a. StatementLowers scene made a in
+    let R : lowered.Statement → Type 0 = λ code. StatementLowers scene code (in_labels r (statement_of (written.If c.args.i.now))) in
+    subst R (sym (if_rolled (record { branches = c.loop-part.branches; otherwise = c.new.result }))) (subst Q (sym (ap (in_labels r) (tree.if_parts c.args.i.now))) (subst P c.deref-part-items.ensures.value whole))
+
+pub branches-returns-in_ok-otherwise-in-Some : goal.branches-returns-in_ok-otherwise-in-Some
+branches-returns-in_ok-otherwise-in-Some t c =
+    let scene = c.args.scene.now in
+    let r = scene.resolved.now in
+    let i = out-If c.args.i.now in
+    let last = in_labels r (else_in i.otherwise) in
+    let otherwise = c.in_ok-otherwise-in-Some.otherwise in
+    let made = lowered.chooses (all_branches c.loop-part.branches.items) (sequence_of otherwise.items) in
+    let whole = branches_end (sequence_of otherwise.items) last c.loop-part.invariant c.loop-part-test.false (some_otherwise scene r i.otherwise c.in-Some.statements otherwise.items c.in-Some.is c.in_ok-otherwise-in-Some.ensures) in
+    let P : List Elsif → Type 0 = λ parts. StatementLowers scene made (branches (in_labels r (expression_of i.condition)) (in_labels r (sequence_listed i.then.items)) (in_labels r (items_of elsif_of parts)) last) in
+    let Q : Tree Label sort.statement → Type 0 = λ a. StatementLowers scene made a in
+    let R : lowered.Statement → Type 0 = λ code. StatementLowers scene code (in_labels r (statement_of (written.If c.args.i.now))) in
+    subst R (sym (if_rolled (record { branches = c.loop-part.branches; otherwise = otherwise }))) (subst Q (sym (ap (in_labels r) (tree.if_parts c.args.i.now))) (subst P c.deref-part-items.ensures.value whole))
+
+pub sequence-loop-s-init : goal.sequence-loop-s-init
+sequence-loop-s-init t c =
+    let scene = c.args.scene.now in
+    let P : List Statement → Type 0 = λ made. SequenceMade scene scene.resolved.now c.deref-s-items.result.now 0 made in
+    subst P (sym c.new-made.ensures.items) (sequence_begins scene scene.resolved.now c.deref-s-items.result.now)
+
+pub sequence-loop-s-preserved : goal.sequence-loop-s-preserved
+sequence-loop-s-preserved t c =
+    let scene = c.args.scene.now in
+    let P : List Statement → Type 0 = λ made. SequenceMade scene scene.resolved.now c.deref-s-items.result.now (c.loop-s.s-index + 1) made in
+    subst P (sym c.in_ok-add.ensures) (sequence_goes_on c.s-item.result c.in_ok-next.next c.loop-s.invariant c.loop-s-test.true c.s-item.is c.in_ok-next.ensures)
+
+pub sequence-returns : goal.sequence-returns
+sequence-returns t c =
+    let scene = c.args.scene.now in
+    let P : List written.Statement → Type 0 = λ ss. SequenceLowers scene (sequence_of c.loop-s.made.items) (in_labels scene.resolved.now (sequence_listed ss)) in
+    subst P c.deref-s-items.ensures.value (sequence_ends c.loop-s.invariant c.loop-s-test.false)
+
+pub statement-returns-in_ok-assignment-in-Assign : goal.statement-returns-in_ok-assignment-in-Assign
+statement-returns-in_ok-assignment-in-Assign t c =
+    let scene = c.args.scene.now in
+    let P : written.Statement → Type 0 = λ s. StatementLowers scene (code.statement_of c.in_ok-assignment-in-Assign.field-0) (in_labels scene.resolved.now (statement_of s)) in
+    subst P (sym c.in-Assign.is) c.in_ok-assignment-in-Assign.ensures
+
+pub statement-returns-in_ok-call-in-Call : goal.statement-returns-in_ok-call-in-Call
+statement-returns-in_ok-call-in-Call t c =
+    let scene = c.args.scene.now in
+    let P : written.Statement → Type 0 = λ s. StatementLowers scene (code.statement_of c.in_ok-call-in-Call.field-0) (in_labels scene.resolved.now (statement_of s)) in
+    subst P (sym c.in-Call.is) c.in_ok-call-in-Call.ensures
+
+pub statement-returns-in_ok-branches-in-If : goal.statement-returns-in_ok-branches-in-If
+statement-returns-in_ok-branches-in-If t c =
+    let scene = c.args.scene.now in
+    let P : written.Statement → Type 0 = λ s. StatementLowers scene (code.statement_of c.in_ok-branches-in-If.field-0) (in_labels scene.resolved.now (statement_of s)) in
+    subst P (sym c.in-If.is) c.in_ok-branches-in-If.ensures
+
+pub statement-returns-in_ok-body-in-While : goal.statement-returns-in_ok-body-in-While
+statement-returns-in_ok-body-in-While t c =
+    let scene = c.args.scene.now in
+    let r = scene.resolved.now in
+    let loop = c.in-While.w in
+    let made : While = record { condition = c.in_ok-condition-in-While.condition; body = c.in_ok-body-in-While.body } in
+    let whole = while-lowers scene (in_labels r (expression_of loop.condition)) (in_labels r (sequence_listed loop.body.items)) (truth_of made.condition) (sequence_of made.body.items) (condition-lowers scene loop.condition made.condition c.in_ok-condition-in-While.ensures) c.in_ok-body-in-While.ensures in
+    let P : Tree Label sort.statement → Type 0 = λ a. StatementLowers scene (lowered.while_loop (truth_of made.condition) (sequence_of made.body.items)) a in
+    let R : lowered.Statement → Type 0 = λ code. StatementLowers scene code (in_labels r (statement_of c.args.s.now)) in
+    subst R (sym (while_made made)) (subst P (sym (ap (λ s. in_labels r (statement_of s)) c.in-While.is ∙ ap (in_labels r) (tree.while_made loop))) whole)
+
+pub statement-returns-in_ok-condition-in-Repeat : goal.statement-returns-in_ok-condition-in-Repeat
+statement-returns-in_ok-condition-in-Repeat t c =
+    let scene = c.args.scene.now in
+    let r = scene.resolved.now in
+    let loop = c.in-Repeat.r in
+    let made : Repeat = record { body = c.in_ok-body-in-Repeat.body; condition = c.in_ok-condition-in-Repeat.condition } in
+    let whole = repeat-lowers scene (in_labels r (expression_of loop.condition)) (in_labels r (sequence_listed loop.body.items)) (truth_of made.condition) (sequence_of made.body.items) (condition-lowers scene loop.condition made.condition c.in_ok-condition-in-Repeat.ensures) c.in_ok-body-in-Repeat.ensures in
+    let P : Tree Label sort.statement → Type 0 = λ a. StatementLowers scene (lowered.repeat_loop (sequence_of made.body.items) (truth_of made.condition)) a in
+    let R : lowered.Statement → Type 0 = λ code. StatementLowers scene code (in_labels r (statement_of c.args.s.now)) in
+    subst R (sym (repeat_made made)) (subst P (sym (ap (λ s. in_labels r (statement_of s)) c.in-Repeat.is ∙ ap (in_labels r) (tree.repeat_made loop))) whole)

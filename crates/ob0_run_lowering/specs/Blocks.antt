@@ -1,0 +1,57 @@
+-- What the code of procedures and blocks means, wherever they stand in a well-typed module.
+use Rattle.std.specs.Prelude.{◌≡◌, ℕ, ◌≤◌, true, List, length, Some, slice_get}
+use Rattle.ob0_tree.specs.Tree.{Tree, block, body, items, maybe, procedure}
+use Rattle.ob0_scope_rules.specs.Names.{Label, as_labels}
+use Rattle.ob0_types_table.specs.KnownTables.{Tables, declared_in}
+use Rattle.ob0_types_rules.specs.WellTyped.{TypeEnvironment, block_fits, procedures_fit}
+use Rattle.ob0_run_machine.specs.Lowered as lowered
+use Rattle.ob0_run_machine.specs.View.{procedure_of, sequence_of}
+use Rattle.ob0_run_machine.specs.declared.code.Procedure.{Procedure}
+use Rattle.ob0_run_cells.specs.Activations.{BlockMeans, Placed, Placing, ProceduresMean}
+use Rattle.ob0_run_lowering.specs.declared.scene.Site.{Site}
+use Rattle.ob0_run_lowering.specs.KnownBlocks.{AreDeclared, BlockDeclared, ProceduresDeclared}
+use Rattle.ob0_run_lowering.specs.Placed.{Follows, Holds, IsFrame, Matches, most, slots_at}
+use Rattle.ob0_run_lowering.specs.declared.programs.Lowering.{Lowering}
+use Rattle.ob0_run_lowering.specs.declared.sight.Frame.{Frame}
+
+-- from an index on, a table has the code of procedures
+abbrev pub Later : List lowered.Procedure → ℕ → List Procedure → Type 0
+Later table n ps = (i : ℕ) (e : Procedure) → n ≤ i → slice_get ps i ≡ Some e → slice_get table i ≡ Some (procedure_of e)
+
+-- procedures were added
+abbrev pub Grown : List Procedure → List Procedure → Type 0
+Grown before now = (i : ℕ) (e : Procedure) → slice_get before i ≡ Some e → slice_get now i ≡ Some e
+
+-- before some procedures of a block: what names are bound to, where that is, and the ordinal of the next ARRAY or RECORD
+pub record BlockState : Type 0 where
+  pub env : TypeEnvironment Label
+  pub placing : Placing Label
+  pub next : ℕ
+
+-- the procedures and statements that are left fit there, and all that they see is known and held
+pub record Ready (t : Tables) (sites : List Site) (depth : ℕ) (s : BlockState) (statements : Tree Label (maybe body)) (ps : Tree Label (items procedure)) : Type 0 where
+  pub declared_there : AreDeclared (declared_in t) s.env
+  pub matches : Matches s.env s.placing
+  pub holds : Holds sites depth s.placing
+  pub fits : procedures_fit as_labels s.env s.next statements ps ≡ true
+  pub declared_behind : ProceduresDeclared (declared_in t) s.env s.next ps
+
+abbrev pub AllMean : List lowered.Procedure → BlockState → lowered.Statements → Tree Label (maybe body) → Tree Label (items procedure) → Type 0
+AllMean table s code statements ps = ProceduresMean table most as_labels s.env s.placing s.next code statements ps
+
+-- procedures are lowered, of which some are left: where what is left means what stands there, all do
+pub record Goes (t : Tables) (w v : Lowering) (depth : ℕ) (ps left : Tree Label (items procedure)) : Type 0 where
+  pub on : (s : BlockState) (statements : Tree Label (maybe body)) → Ready t w.sight.sites.items depth s statements ps
+      → (now : BlockState) × Ready t v.sight.sites.items depth now statements left
+      × ((table : List lowered.Procedure) (code : lowered.Statements) → Later table (length w.procedures.items) v.procedures.items → AllMean table now code statements left → AllMean table s code statements ps)
+  pub follows : Follows w.sight v.sight
+  pub longer : length w.procedures.items ≤ length v.procedures.items
+  pub grown : Grown w.procedures.items v.procedures.items
+
+-- a block is lowered to its cells and its statements
+pub record LowersBlock (t : Tables) (w v : Lowering) (f : Frame) (b : Tree Label block) (entry : Procedure) : Type 0 where
+  pub means : (env : TypeEnvironment Label) (p : Placed Label) (k : ℕ) → Matches env p.placing → IsFrame w.sight.sites.items f p → f.cells ≤ most → block_fits as_labels env k b ≡ true → BlockDeclared (declared_in t) env k b
+      → (table : List lowered.Procedure) → Later table (length w.procedures.items) v.procedures.items → BlockMeans table most as_labels (slots_at f.depth) env p k entry.cells (sequence_of entry.body.items) b
+  pub follows : Follows w.sight v.sight
+  pub longer : length w.procedures.items ≤ length v.procedures.items
+  pub grown : Grown w.procedures.items v.procedures.items

@@ -1,0 +1,107 @@
+-- The code of values by their types: of what stands at a place, of an operation on two, of a part.
+use Rattle.std.specs.Prelude.{◌≡◌, ℕ, Some, None, Option, option_map}
+use Rattle.ob0_tree.specs.declared.tree.Relation.{Relation}
+use Rattle.ob0_tree.specs.declared.tree.Relation.TheVariants as relation
+use Rattle.ob0_tree.specs.declared.tree.Sign.{Sign}
+use Rattle.ob0_tree.specs.declared.tree.Sign.TheVariants as sign
+use Rattle.ob0_tree.specs.declared.tree.AddOperator.{AddOperator}
+use Rattle.ob0_tree.specs.declared.tree.AddOperator.TheVariants as add_operator
+use Rattle.ob0_tree.specs.declared.tree.MultiplyOperator.{MultiplyOperator}
+use Rattle.ob0_tree.specs.declared.tree.MultiplyOperator.TheVariants as multiply_operator
+use Rattle.ob0_scope_rules.specs.Names.{Label, Name}
+use Rattle.ob0_types_rules.specs.Typing.{field_type}
+use Rattle.ob0_types_rules.specs.WellTyped.{Typed}
+use Rattle.ob0_values.specs.Values.{Shape, Value, array_shape, at_field, boolean_shape, elements, integer_shape, members, number, record_shape, truth}
+use Rattle.ob0_run_machine.specs.Lowered as lowered
+use Rattle.ob0_run_cells.specs.Cells.{size, step_offset}
+use Rattle.ob0_run_cells.specs.Lowering.{Evaluated, NumberMeans, Slot, TruthMeans, ValueAt, relation_of}
+
+-- a number, a truth, the cells of an array or a record, or nothing that an expression of a well-typed module is
+pub data Code : Type 0 where
+  a_number : lowered.Number → Code
+  a_truth : lowered.Truth → Code
+  a_block : lowered.Place → (cells : ℕ) → Code
+  no_code : Code
+
+-- the code of a value of a type
+abbrev pub CodeMeans : Typed Label → (Label → Slot) → Code → Shape → Evaluated Label Value → Type 0
+CodeMeans checked slots (a_number n) integer_shape value = NumberMeans checked slots n value
+CodeMeans checked slots (a_truth t) boolean_shape value = TruthMeans checked slots t value
+CodeMeans checked slots (a_block q n) (array_shape k m s) value = (n ≡ size (array_shape k m s)) × ValueAt checked slots q (array_shape k m s) value
+CodeMeans checked slots (a_block q n) (record_shape k fs) value = (n ≡ size (record_shape k fs)) × ValueAt checked slots q (record_shape k fs) value
+CodeMeans checked slots _ _ value = ⊥
+
+-- a place, and the type of what is there
+pub record Found : Type 0 where
+  pub place : lowered.Place
+  pub shape : Shape
+
+-- what stands at a place
+abbrev pub standing : lowered.Place → Shape → Code
+standing q integer_shape = a_number (lowered.cell q)
+standing q boolean_shape = a_truth (lowered.flag q)
+standing q (array_shape k n s) = a_block q (size (array_shape k n s))
+standing q (record_shape k fs) = a_block q (size (record_shape k fs))
+
+abbrev pub standing_there : Option Found → Code
+standing_there None = no_code
+standing_there (Some f) = standing f.place f.shape
+
+abbrev pub constant_code : Value → Code
+constant_code (number n) = a_number (lowered.literal n)
+constant_code (truth b) = a_truth (lowered.constant b)
+constant_code (elements vs) = no_code
+constant_code (members k ms) = no_code
+
+-- a constant is its value, a variable what stands at its place
+abbrev pub named_code : Option Value → Option Found → Code
+named_code (Some v) found = constant_code v
+named_code None found = standing_there found
+
+abbrev pub operated : lowered.Operator → Code → Code → Code
+operated o (a_number m) (a_number n) = a_number (lowered.operation o m n)
+operated _ _ _ = no_code
+
+abbrev pub combined : (lowered.Truth → lowered.Truth → lowered.Truth) → Code → Code → Code
+combined operation (a_truth t) (a_truth u) = a_truth (operation t u)
+combined _ _ _ = no_code
+
+abbrev pub added : AddOperator → Code → Code → Code
+added add_operator.Add = operated lowered.sum
+added add_operator.Subtract = operated lowered.difference
+added add_operator.Or = combined lowered.either
+
+abbrev pub multiplied : MultiplyOperator → Code → Code → Code
+multiplied multiply_operator.Multiply = operated lowered.product
+multiplied multiply_operator.Divide = operated lowered.quotient
+multiplied multiply_operator.Modulo = operated lowered.remainder
+multiplied multiply_operator.And = combined lowered.both
+
+abbrev pub signed : Option Sign → Code → Code
+signed None c = c
+signed (Some sign.Plus) (a_number n) = a_number n
+signed (Some sign.Minus) (a_number n) = a_number (lowered.negative n)
+signed _ _ = no_code
+
+abbrev pub negated : Code → Code
+negated (a_truth t) = a_truth (lowered.negation t)
+negated _ = no_code
+
+abbrev pub related : Relation → Code → Code → Code
+related r (a_number m) (a_number n) = a_truth (lowered.related (relation_of r) m n)
+related relation.Equal (a_truth t) (a_truth u) = a_truth (lowered.same t u)
+related relation.NotEqual (a_truth t) (a_truth u) = a_truth (lowered.different t u)
+related _ _ _ = no_code
+
+-- a field is a part at its offset
+abbrev pub field_found : Name → Found → Option Found
+field_found x f = option_map (λ t. record { place = lowered.part f.place (step_offset f.shape (at_field x)); shape = t }) (field_type f.shape x)
+
+-- an element is one of so many, each of so many cells
+abbrev pub element_found : Code → lowered.Place → Shape → Option Found
+element_found (a_number i) q (array_shape k n s) = Some (record { place = lowered.element q i n (size s); shape = s })
+element_found _ _ _ = None
+
+abbrev pub element_of : Code → Option Found → Option Found
+element_of c None = None
+element_of c (Some f) = element_found c f.place f.shape

@@ -1,0 +1,35 @@
+-- How many cells types have, and where the fields of records are, as a table.
+use Rattle.std.specs.Prelude.{◌≡◌, ℕ, ◌+◌, List, [], ◌∷◌, Some, None, Option}
+use Rattle.std.specs.Borrow.{Bor}
+use Rattle.ob0_types_table.specs.Tables.{no_shape}
+use Rattle.ob0_values.specs.Values.{FieldShapes, Shape, array_shape, next_field_shape, no_field_shape, record_shape}
+use Rattle.ob0_run_cells.specs.Cells.{field_sizes, size}
+use Rattle.ob0_run_lowering.specs.declared.types.Layout.{Layout}
+use Rattle.ob0_run_lowering.specs.declared.types.Layout.TheVariants as layout
+use Rattle.ob0_run_lowering.specs.declared.types.RecordLayout.{RecordLayout}
+
+-- where each field begins, the first one at an offset
+abbrev pub offsets_from : ℕ → FieldShapes → List ℕ
+offsets_from n no_field_shape = []
+offsets_from n (next_field_shape x s rest) = n ∷ offsets_from (n + size s) rest
+
+-- the size of a record's fields, and where each of them begins
+pub record AreLaidOut (fs : FieldShapes) (r : RecordLayout) : Type 0 where
+  pub cells : r.cells ≡ field_sizes fs
+  pub offsets : r.offsets.items ≡ offsets_from 0 fs
+
+-- an entry of the table has the sizes of a shape
+abbrev pub LaysOut : Shape → Layout → Type 0
+LaysOut (array_shape k n s) (layout.Array cells) = cells ≡ size (array_shape k n s)
+LaysOut (record_shape k fs) (layout.Record r) = AreLaidOut fs r
+LaysOut _ _ = ⊥
+
+abbrev pub LayOut : List Shape → List Layout → Type 0
+LayOut [] [] = Unit {0}
+LayOut (s ∷ shapes) (l ∷ layouts) = LaysOut s l × LayOut shapes layouts
+LayOut _ _ = ⊥
+
+-- the record at a place, where there is one
+abbrev pub RecordAt : Option (Bor RecordLayout) → Shape → Type 0
+RecordAt None s = s ≡ no_shape
+RecordAt (Some r) s = (k : ℕ) × (fs : FieldShapes) × (s ≡ record_shape k fs) × AreLaidOut fs r.now

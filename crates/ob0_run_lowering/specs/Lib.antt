@@ -1,0 +1,10 @@
+pub mod Layouts
+pub mod Scenes
+pub mod Codes
+pub mod Trees
+pub mod Means
+pub mod Parts
+pub mod LoweredBodies
+pub mod KnownBlocks
+pub mod Placed
+pub mod Blocks

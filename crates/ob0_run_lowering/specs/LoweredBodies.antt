@@ -1,0 +1,60 @@
+-- What the lowered code of statements means in a scene: for whatever is checked, and whatever slots and targets, the scene sees,
+-- the code of statements that fit does what they do.
+use Rattle.std.specs.Prelude.{◌≡◌, ◌&&◌, Bool, List, [], IsTrue, Option, Some, None}
+use Rattle.std.specs.declared.alloc.Global.{Global}
+use Rattle.std.specs.declared.vec.Vec.{Vec}
+use Rattle.ob0_tree.specs.Tree.{Tree, body, else_part, elsif_part, empty, expression, further_statement, items, maybe, sequence, statement}
+use Rattle.ob0_tree.specs.declared.tree.Expression.{Expression}
+use Rattle.ob0_scope_rules.specs.Names.{Label, as_labels}
+use Rattle.ob0_types_rules.specs.Environments.{meanings}
+use Rattle.ob0_types_rules.specs.WellTyped.{Signature, TypeEnvironment, Typed, arguments_fit, body_fits, condition_fits, else_fits, elsifs_fit, sequence_fits, statement_fits, statements_fit}
+use Rattle.ob0_run_machine.specs.Lowered as lowered
+use Rattle.ob0_run_cells.specs.Activations.{BodyMeans, Placing, slots_in, targets_in}
+use Rattle.ob0_run_cells.specs.LoweredStatements.{ArgumentsMean, ElseMeans, ElsifsMean, FurtherMean, SequenceMeans, StatementMeans, Target}
+use Rattle.ob0_run_cells.specs.Lowering.{Slot, TruthMeans, value_of_expression}
+use Rattle.ob0_run_lowering.specs.declared.scene.Scene.{Scene}
+use Rattle.ob0_run_lowering.specs.Scenes.{Sees}
+
+-- for whatever a scene sees, where it fits
+abbrev pub InScene : Scene → (Typed Label → Bool) → (Typed Label → (Label → Slot) → (Label → Target) → Type 0) → Type 0
+InScene scene fits Means = (checked : Typed Label) (slots : Label → Slot) (targets : Label → Target) → Sees scene checked slots targets → IsTrue (fits checked) → Means checked slots targets
+
+abbrev pub ConditionLowers : Scene → lowered.Truth → Tree Label expression → Type 0
+ConditionLowers scene t e = InScene scene (λ checked. condition_fits checked e) (λ checked slots targets. TruthMeans checked slots t (value_of_expression e))
+
+abbrev pub ArgumentsLower : Scene → Signature → List lowered.Argument → List (Tree Label expression) → Type 0
+ArgumentsLower scene signature cs es = InScene scene (λ checked. arguments_fit checked signature es) (λ checked slots targets. ArgumentsMean checked slots signature cs es)
+
+abbrev pub StatementLowers : Scene → lowered.Statement → Tree Label statement → Type 0
+StatementLowers scene c a = InScene scene (λ checked. statement_fits checked a) (λ checked slots targets. StatementMeans checked slots targets c a)
+
+-- the arguments of a call, where there are some
+abbrev pub given_in : Option (Vec Expression Global) → List Expression
+given_in None = []
+given_in (Some es) = es.items
+
+-- an empty statement has no code
+abbrev pub CodeLowers : Scene → Option lowered.Statement → Tree Label statement → Type 0
+CodeLowers scene None a = a ≡ empty
+CodeLowers scene (Some c) a = StatementLowers scene c a
+
+abbrev pub SequenceLowers : Scene → lowered.Statements → Tree Label sequence → Type 0
+SequenceLowers scene cs a = InScene scene (λ checked. sequence_fits checked a) (λ checked slots targets. SequenceMeans checked slots targets cs a)
+
+-- the statements behind the first
+abbrev pub FurtherLower : Scene → lowered.Statements → Tree Label (items further_statement) → Type 0
+FurtherLower scene cs rest = InScene scene (λ checked. statements_fit checked rest) (λ checked slots targets. FurtherMean checked slots targets cs rest)
+
+abbrev pub ElseLowers : Scene → lowered.Statements → Tree Label (maybe else_part) → Type 0
+ElseLowers scene cs last = InScene scene (λ checked. else_fits checked last) (λ checked slots targets. ElseMeans checked slots targets cs last)
+
+-- the ELSIF parts, and the ELSE part behind them
+abbrev pub ElsifsLower : Scene → lowered.Branches → lowered.Statements → Tree Label (items elsif_part) → Tree Label (maybe else_part) → Type 0
+ElsifsLower scene bs cs rest last =
+    InScene scene (λ checked. elsifs_fit checked rest && else_fits checked last) (λ checked slots targets. ElsifsMean checked slots targets bs cs rest last)
+
+-- the code of a body means it where it stands: in each environment and at each placing that the scene sees
+abbrev pub BodyLowers : Scene → lowered.Statements → Tree Label (maybe body) → Type 0
+BodyLowers scene cs b =
+    (env : TypeEnvironment Label) (placing : Placing Label) → Sees scene (meanings as_labels env) (slots_in as_labels placing) (targets_in as_labels placing) → IsTrue (body_fits as_labels env b)
+    → BodyMeans as_labels env placing cs b

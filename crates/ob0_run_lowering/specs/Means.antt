@@ -1,0 +1,63 @@
+-- What the code of expressions, designators and arguments means, wherever a scene is right.
+use Rattle.std.specs.Prelude.{◌≡◌, ℕ, true, List, Some}
+use Rattle.ob0_tree.specs.Tree.{Tree, expression, items, selector}
+use Rattle.ob0_scope_rules.specs.Names.{Label}
+use Rattle.ob0_types_table.specs.KnownTables.{shapes_of}
+use Rattle.ob0_types_table.specs.Tables.{formal_in, type_shape}
+use Rattle.ob0_types_table.specs.declared.known.Formal.{Formal}
+use Rattle.ob0_types_rules.specs.InLabels.{in_labels, label_in}
+use Rattle.ob0_types_rules.specs.Typing.{designated, type_of}
+use Rattle.ob0_types_rules.specs.WellTyped.{Typed, argument_fits, variable_type}
+use Rattle.ob0_values.specs.Values.{Place, Shape, Value, array_shape, boolean_shape, integer_shape, record_shape}
+use Rattle.ob0_run_machine.specs.View.{argument_of, number_of, place_of, truth_of}
+use Rattle.ob0_run_machine.specs.declared.code.Argument.{Argument}
+use Rattle.ob0_run_machine.specs.declared.code.Number.{Number}
+use Rattle.ob0_run_machine.specs.declared.code.Truth.{Truth}
+use Rattle.ob0_run_cells.specs.Cells.{size}
+use Rattle.ob0_run_cells.specs.LoweredStatements.{ArgumentMeans, IsAt, Target}
+use Rattle.ob0_run_cells.specs.Lowering.{Evaluated, NumberMeans, PlaceMeans, Slot, TruthMeans, ValueAt, place_of_designator, value_of_expression}
+use Rattle.ob0_run_lowering.specs.Codes.{CodeMeans}
+use Rattle.ob0_run_lowering.specs.Scenes.{Sees}
+use Rattle.ob0_run_lowering.specs.Trees.{code_of}
+use Rattle.ob0_run_lowering.specs.declared.lowered.Located.{Located}
+use Rattle.ob0_run_lowering.specs.declared.lowered.Lowered.{Lowered}
+use Rattle.ob0_run_lowering.specs.declared.scene.Scene.{Scene}
+
+-- the code of an expression of a type
+abbrev pub Means : Typed Label → (Label → Slot) → Lowered → Shape → Evaluated Label Value → Type 0
+Means checked slots l s value = CodeMeans checked slots (code_of l) s value
+
+-- whatever a scene is right for
+abbrev pub WhereSeen : Scene → (Typed Label → (Label → Slot) → Type 0) → Type 0
+WhereSeen scene P = (checked : Typed Label) (slots : Label → Slot) (targets : Label → Target) → Sees scene checked slots targets → P checked slots
+
+-- the code of an expression, where it has a type
+abbrev pub Lowers : Scene → Tree ℕ expression → Lowered → Type 0
+Lowers scene e l =
+    WhereSeen scene (λ checked slots. (s : Shape) → type_of checked (in_labels scene.resolved.now e) ≡ Some s → Means checked slots l s (value_of_expression (in_labels scene.resolved.now e)))
+
+abbrev pub LowersNumber : Scene → Tree ℕ expression → Number → Type 0
+LowersNumber scene e n =
+    WhereSeen scene (λ checked slots. type_of checked (in_labels scene.resolved.now e) ≡ Some integer_shape → NumberMeans checked slots (number_of n) (value_of_expression (in_labels scene.resolved.now e)))
+
+abbrev pub LowersTruth : Scene → Tree ℕ expression → Truth → Type 0
+LowersTruth scene e t =
+    WhereSeen scene (λ checked slots. type_of checked (in_labels scene.resolved.now e) ≡ Some boolean_shape → TruthMeans checked slots (truth_of t) (value_of_expression (in_labels scene.resolved.now e)))
+
+-- the place of a variable with its selectors, and its type
+abbrev pub Locates : Scene → ℕ → Tree ℕ (items selector) → Located → Type 0
+Locates scene x path l =
+    WhereSeen scene (λ checked slots. (s : Shape) → variable_type checked (Some (label_in scene.resolved.now x, in_labels scene.resolved.now path)) ≡ Some s
+    → (type_shape (shapes_of scene.types.now) l.of ≡ s) × PlaceMeans checked slots (place_of l.place) s (place_of_designator (label_in scene.resolved.now x) (in_labels scene.resolved.now path)))
+
+-- the same of an expression that is a designator alone
+abbrev pub LocatesAlone : Scene → Tree ℕ expression → Located → Type 0
+LocatesAlone scene e l =
+    WhereSeen scene (λ checked slots. (s : Shape) → variable_type checked (designated (in_labels scene.resolved.now e)) ≡ Some s
+    → (type_shape (shapes_of scene.types.now) l.of ≡ s) × IsAt checked slots (place_of l.place) s (in_labels scene.resolved.now e))
+
+-- an argument for a parameter that it fits
+abbrev pub LowersArgument : Scene → Formal → Tree ℕ expression → Argument → Type 0
+LowersArgument scene f e a =
+    WhereSeen scene (λ checked slots. argument_fits checked (formal_in (shapes_of scene.types.now) f) (in_labels scene.resolved.now e) ≡ true
+    → ArgumentMeans checked slots (formal_in (shapes_of scene.types.now) f) (argument_of a) (in_labels scene.resolved.now e))

@@ -1,0 +1,46 @@
+-- What is taken of the code of an expression, where it is what was asked for.
+use Rattle.std.specs.Prelude.{◌≡◌, Option, Some, None}
+use Rattle.ob0_run_machine.specs.declared.code.Argument.{Argument}
+use Rattle.ob0_run_machine.specs.declared.code.Argument.TheVariants as argument
+use Rattle.ob0_run_machine.specs.declared.code.Number.{Number}
+use Rattle.ob0_run_machine.specs.declared.code.Truth.{Truth}
+use Rattle.ob0_run_lowering.specs.declared.lowered.Located.{Located}
+use Rattle.ob0_run_lowering.specs.declared.lowered.Lowered.{Lowered}
+use Rattle.ob0_run_lowering.specs.declared.lowered.Lowered.TheVariants as code
+
+abbrev pub IsNumberOf : Lowered → Number → Type 0
+IsNumberOf (code.Number m) n = m ≡ n
+IsNumberOf (code.Truth t) n = Unit {0}
+IsNumberOf (code.Block q k) n = Unit {0}
+IsNumberOf code.Nothing n = Unit {0}
+
+abbrev pub IsTruthOf : Lowered → Truth → Type 0
+IsTruthOf (code.Number m) t = Unit {0}
+IsTruthOf (code.Truth u) t = u ≡ t
+IsTruthOf (code.Block q k) t = Unit {0}
+IsTruthOf code.Nothing t = Unit {0}
+
+-- a value is passed as what it is
+abbrev pub IsValueOf : Lowered → Argument → Type 0
+IsValueOf (code.Number n) a = argument.Number n ≡ a
+IsValueOf (code.Truth t) a = argument.Truth t ≡ a
+IsValueOf (code.Block q k) a = argument.Block q k ≡ a
+IsValueOf code.Nothing a = Unit {0}
+
+abbrev pub IsPlaceOf : Option Located → Located → Type 0
+IsPlaceOf (Some m) l = m ≡ l
+IsPlaceOf None l = Unit {0}
+
+-- the number that an operand is, where it is one
+abbrev pub number_in : Lowered → Option Number
+number_in (code.Number n) = Some n
+number_in (code.Truth t) = None
+number_in (code.Block q k) = None
+number_in code.Nothing = None
+
+-- the truth that it is, where it is one
+abbrev pub truth_in : Lowered → Option Truth
+truth_in (code.Number n) = None
+truth_in (code.Truth t) = Some t
+truth_in (code.Block q k) = None
+truth_in code.Nothing = None

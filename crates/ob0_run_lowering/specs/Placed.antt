@@ -1,0 +1,141 @@
+-- Where the code's table has what is placed, and how the names of a block and of a heading are placed one by one.
+use Rattle.std.specs.Prelude.{◌≡◌, ℕ, zero, suc, ◌+◌, ◌≤◌, List, [], ◌∷◌, ◌++◌, length, if◌then◌else◌, ◌==◌, Some, None, Option}
+use Rattle.ob0_tree.specs.Tree.{Tree, declares_variable, end, further_section, items, more, then_section, variable}
+use Rattle.ob0_scope_rules.specs.Names.{Label, as_labels, declared}
+use Rattle.ob0_scope_rules.specs.Parts.{names_listed, section_names}
+use Rattle.ob0_types_table.specs.KnownTables.{Tables}
+use Rattle.ob0_types_rules.specs.Expressions.{Object, a_constant, a_procedure, a_standard, a_type, a_variable}
+use Rattle.ob0_types_rules.specs.Typing.{type_declared}
+use Rattle.ob0_types_rules.specs.WellTyped.{Mode, Signature, TypeEnvironment, by_place, by_value, section_mode}
+use Rattle.ob0_values.specs.Values.{Shape}
+use Rattle.ob0_run_cells.specs.Activations.{Placed, Placing, Whereabouts, at_target, from_name, in_slot, nowhere}
+use Rattle.ob0_run_cells.specs.Cells.{size}
+use Rattle.ob0_run_cells.specs.LoweredStatements.{Target}
+use Rattle.ob0_run_cells.specs.Lowering.{Slot, held, lent, of_module}
+use Rattle.ob0_run_lowering.specs.Scenes.{object_at, seen_from, site_at}
+use Rattle.ob0_run_lowering.specs.declared.scene.Site.{Site}
+use Rattle.ob0_run_lowering.specs.declared.scene.Site.TheVariants as site
+use Rattle.ob0_run_lowering.specs.declared.sight.Frame.{Frame}
+use Rattle.ob0_run_lowering.specs.declared.sight.Hidden.{Hidden}
+use Rattle.ob0_run_lowering.specs.declared.sight.Sight.{Sight}
+
+-- where a name is placed
+abbrev pub first_placed : Placing Label → Whereabouts
+first_placed [] = nowhere
+first_placed (b ∷ placing) = b.1
+
+abbrev pub found : Placing Label → Label → Whereabouts
+found placing x = first_placed (from_name as_labels placing x)
+
+-- how deep the activation of a site is
+abbrev pub site_depth : Site → ℕ
+site_depth site.Nowhere = 0
+site_depth (site.Module offset) = 0
+site_depth (site.Held at offset) = at
+site_depth (site.Lent at index) = at
+site_depth (site.Procedure at index) = at
+
+-- a site tells where something is that is somewhere, as it is seen from a depth
+abbrev pub Tells : ℕ → Site → Whereabouts → Type 0
+Tells depth s nowhere = Unit {0}
+Tells depth s (in_slot slot) = (site_depth s ≤ depth) × (seen_from depth s ≡ in_slot slot)
+Tells depth s (at_target t) = (site_depth s ≤ depth) × (seen_from depth s ≡ at_target t)
+
+-- the table has what is placed
+abbrev pub Holds : List Site → ℕ → Placing Label → Type 0
+Holds sites depth placing = (k : ℕ) → Tells depth (site_at sites k) (found placing (declared k))
+
+-- variables are placed in slots and procedures at targets
+abbrev pub Suits : Object Shape Signature → Whereabouts → Type 0
+Suits (a_variable s) w = (slot : Slot) × (w ≡ in_slot slot)
+Suits (a_procedure p) w = (t : Target) × (w ≡ at_target t)
+Suits (a_type s) w = Unit {0}
+Suits (a_constant v) w = Unit {0}
+Suits (a_standard p) w = Unit {0}
+
+abbrev pub Matches : TypeEnvironment Label → Placing Label → Type 0
+Matches [] [] = Unit {0}
+Matches (b ∷ env) (w ∷ placing) = (b.0 ≡ w.0) × Suits b.1 w.1 × Matches env placing
+Matches _ _ = ⊥
+
+-- how many cells a variable has, as the table of declarations tells
+abbrev pub shape_size : Option Shape → ℕ
+shape_size None = 0
+shape_size (Some s) = size s
+
+abbrev pub declared_size : Tables → Label → ℕ
+declared_size t x = shape_size (type_declared (object_at t x))
+
+-- variables of the module are in its cells, those of a procedure in those of its activation
+abbrev pub slots_at : ℕ → ℕ → Slot
+slots_at zero = of_module
+slots_at (suc depth) = held 0
+
+-- where the next variable of an activation is
+abbrev pub IsNextSite : Frame → Site → Type 0
+IsNextSite f s = (site_depth s ≤ f.depth) × (seen_from f.depth s ≡ in_slot (slots_at f.depth f.cells))
+
+-- names placed one by one, by their sizes
+abbrev pub place_one : (ℕ → Slot) → (Label → ℕ) → Mode → Label → Placed Label → Placed Label
+place_one at size_of by_value x p = record p { placing = (x, in_slot (at p.cells)) ∷ p.placing; cells = p.cells + size_of x }
+place_one at size_of by_place x p = record p { placing = (x, in_slot (lent 0 p.lent_places)) ∷ p.placing; lent_places = suc p.lent_places }
+
+abbrev pub place_each : (ℕ → Slot) → (Label → ℕ) → Mode → List Label → Placed Label → Placed Label
+place_each at size_of mode [] p = p
+place_each at size_of mode (x ∷ xs) p = place_each at size_of mode xs (place_one at size_of mode x p)
+
+abbrev pub place_groups : (ℕ → Slot) → (Label → ℕ) → Tree Label (items variable) → Placed Label → Placed Label
+place_groups at size_of end p = p
+place_groups at size_of (more (declares_variable ns u) gs) p = place_groups at size_of gs (place_each at size_of by_value (names_listed ns) p)
+
+abbrev pub place_sections : (ℕ → Slot) → (Label → ℕ) → Tree Label (items further_section) → Placed Label → Placed Label
+place_sections at size_of end p = p
+place_sections at size_of (more (then_section f) fs) p = place_sections at size_of fs (place_each at size_of (section_mode f) (section_names f) p)
+
+-- what ordinals stand for, but for one that stands for something else
+abbrev pub put_site : ℕ → Site → (ℕ → Site) → ℕ → Site
+put_site ordinal s sites k = if k == ordinal then s else sites k
+
+-- a name that has no ordinal is put nowhere
+abbrev pub put_at : Option ℕ → Site → (ℕ → Site) → ℕ → Site
+put_at None s sites = sites
+put_at (Some ordinal) s sites = put_site ordinal s sites
+
+-- what was there before some sites were hidden, the first of them first
+abbrev pub before_all : List Hidden → (ℕ → Site) → ℕ → Site
+before_all [] sites = sites
+before_all (h ∷ later) sites = put_site h.ordinal h.before (before_all later sites)
+
+abbrev pub AllWithin : ℕ → List Hidden → Type 0
+AllWithin n [] = Unit {0}
+AllWithin n (h ∷ hs) = (suc h.ordinal ≤ n) × AllWithin n hs
+
+-- farther on: what is in sight now goes back to what was in sight
+pub record Follows (w v : Sight) : Type 0 where
+  pub more : List Hidden
+  pub added : v.hidden.items ≡ w.hidden.items ++ more
+  pub within : AllWithin (length v.sites.items) more
+  pub longer : length w.sites.items ≤ length v.sites.items
+  pub goes_back : (k : ℕ) → before_all more (site_at v.sites.items) k ≡ site_at w.sites.items k
+
+-- what was in sight is in sight again, and nothing more is hidden than was then
+abbrev pub GoesBack : Sight → Sight → Sight → Type 0
+GoesBack w u v = (v.hidden.items ≡ w.hidden.items) × ((k : ℕ) → site_at v.sites.items k ≡ site_at w.sites.items k) × (length v.sites.items ≡ length u.sites.items)
+
+-- an activation that is laid out so far, as it is placed
+pub record IsFrame (sites : List Site) (f : Frame) (p : Placed Label) : Type 0 where
+  pub holds : Holds sites f.depth p.placing
+  pub cells : f.cells ≡ p.cells
+  pub lent_places : f.lent ≡ p.lent_places
+
+-- no activation has more cells
+abbrev pub most : ℕ
+most = 4294967295
+
+-- a step places something more in an activation
+pub record Places (w v : Sight) (f : Frame) (step : Placed Label → Placed Label) (g : Frame) : Type 0 where
+  pub placed : (p : Placed Label) → IsFrame w.sites.items f p → IsFrame v.sites.items g (step p)
+  pub follows : Follows w v
+  pub depth : g.depth ≡ f.depth
+  pub more_cells : f.cells ≤ g.cells
+  pub few_cells : f.cells ≤ most → g.cells ≤ most

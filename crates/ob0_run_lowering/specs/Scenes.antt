@@ -1,0 +1,56 @@
+-- Where lowering stands: what declarations are, where each of them is, and how deep the running activation is.
+use Rattle.std.specs.Prelude.{◌≡◌, ℕ, ◌-◌, List, slice_index_or, Some, None, Option, true, ℤ, pos}
+use Rattle.ob0_tree.specs.Places.{value_at}
+use Rattle.ob0_run_machine.specs.Evaluation as machine
+use Rattle.ob0_scope_rules.specs.Names.{Label, as_written, declared, label_text}
+use Rattle.ob0_scope_rules.specs.Resolution.{Resolution}
+use Rattle.ob0_types_table.specs.KnownTables.{Tables, declared_in}
+use Rattle.ob0_types_rules.specs.Expressions.{Object, a_constant, a_procedure, a_variable}
+use Rattle.ob0_types_rules.specs.WellTyped.{Signature, Typed}
+use Rattle.ob0_values.specs.Values.{Shape, number}
+use Rattle.ob0_run_cells.specs.Activations.{Whereabouts, at_target, in_slot, nowhere, slot_of, target_of}
+use Rattle.ob0_run_cells.specs.LoweredStatements.{Target}
+use Rattle.ob0_run_cells.specs.Lowering.{Slot, held, lent, of_module}
+use Rattle.ob0_run_lowering.specs.declared.scene.Scene.{Scene}
+use Rattle.ob0_run_lowering.specs.declared.scene.Site.{Site}
+use Rattle.ob0_run_lowering.specs.declared.scene.Site.TheVariants as site
+
+-- a declaration's whereabouts, as they are seen from an activation that is so deep
+abbrev pub seen_from : ℕ → Site → Whereabouts
+seen_from depth site.Nowhere = nowhere
+seen_from depth (site.Module offset) = in_slot (of_module offset)
+seen_from depth (site.Held at offset) = in_slot (held (depth - at) offset)
+seen_from depth (site.Lent at index) = in_slot (lent (depth - at) index)
+seen_from depth (site.Procedure at index) = at_target (record { procedure = index; up = depth - at })
+
+abbrev pub site_at : List Site → ℕ → Site
+site_at sites k = slice_index_or sites k site.Nowhere
+
+-- the same by a label, from a scene
+abbrev pub whereabouts : Scene → Label → Whereabouts
+whereabouts scene (declared k) = seen_from scene.depth (site_at scene.sites.now k)
+whereabouts scene (as_written x) = nowhere
+
+abbrev pub slot_at : Scene → Label → Slot
+slot_at scene x = slot_of (whereabouts scene x)
+
+abbrev pub target_at : Scene → Label → Target
+target_at scene x = target_of (whereabouts scene x)
+
+-- what the declaration of a label is
+abbrev pub object_at : Tables → Label → Option (Object Shape Signature)
+object_at t (declared k) = declared_in t k
+object_at t (as_written x) = None
+
+-- the numbers of the text and the constants of the module have 32 bits
+pub record HasSmall (scene : Scene) : Type 0 where
+  pub numbers : (token : ℕ) → machine.fits (pos (value_at scene.resolved.now.module_read.source token)) ≡ true
+  pub constants : (x : Label) (n : ℤ) → object_at scene.types.now x ≡ Some (a_constant (number n)) → machine.fits n ≡ true
+
+-- A scene is right for what names stand for in a body, for the slots of its variables and the targets of its procedures: what is
+-- bound there is what its declaration is, and is where the scene has it.
+pub record Sees (scene : Scene) (checked : Typed Label) (slots : Label → Slot) (targets : Label → Target) : Type 0 where
+  pub bound : (x : Label) (o : Object Shape Signature) → checked.stands_for x ≡ Some o → object_at scene.types.now x ≡ Some o
+  pub written : checked.written ≡ label_text
+  pub variables : (x : Label) (s : Shape) → checked.stands_for x ≡ Some (a_variable s) → slots x ≡ slot_at scene x
+  pub procedures : (x : Label) (p : Signature) → checked.stands_for x ≡ Some (a_procedure p) → targets x ≡ target_at scene x

@@ -1,0 +1,77 @@
+-- The code of designators and expressions of a scene, by what declarations are and where they are.
+use Rattle.std.specs.Prelude.{◌≡◌, ℕ, List, map, pos, Some, None, Option, option_and_then}
+use Rattle.ob0_tree.specs.Tree.{Tree, addend, adds, compares, designator, end, expression, factor, field, index, integer, item, items, more, multiplier, multiplies, negation, none, one, parenthesised, product, relates, selector, simple, sum, term}
+use Rattle.ob0_scope_rules.specs.Names.{Label, label_text}
+use Rattle.ob0_types_table.specs.KnownTables.{shapes_of}
+use Rattle.ob0_types_table.specs.Tables.{type_shape}
+use Rattle.ob0_types_rules.specs.Expressions.{Object, a_constant, a_procedure, a_standard, a_type, a_variable}
+use Rattle.ob0_types_rules.specs.Typing.{constant_of}
+use Rattle.ob0_types_rules.specs.WellTyped.{Signature}
+use Rattle.ob0_values.specs.Values.{Shape}
+use Rattle.ob0_run_machine.specs.Lowered as lowered
+use Rattle.ob0_run_machine.specs.View.{number_of, place_of, truth_of}
+use Rattle.ob0_run_cells.specs.Lowering.{slot_place}
+use Rattle.ob0_run_lowering.specs.Codes.{Code, Found, a_block, a_number, a_truth, added, element_of, field_found, multiplied, named_code, negated, no_code, related, signed}
+use Rattle.ob0_run_lowering.specs.Scenes.{object_at, slot_at}
+use Rattle.ob0_run_lowering.specs.declared.lowered.Located.{Located}
+use Rattle.ob0_run_lowering.specs.declared.lowered.Lowered.{Lowered}
+use Rattle.ob0_run_lowering.specs.declared.lowered.Lowered.TheVariants as code
+use Rattle.ob0_run_lowering.specs.declared.scene.Scene.{Scene}
+
+-- what values of the code's types stand for
+abbrev pub code_of : Lowered → Code
+code_of (code.Number n) = a_number (number_of n)
+code_of (code.Truth t) = a_truth (truth_of t)
+code_of (code.Block q n) = a_block (place_of q) n
+code_of code.Nothing = no_code
+
+abbrev pub found_of : List Shape → Located → Found
+found_of shapes l = record { place = place_of l.place; shape = type_shape shapes l.of }
+
+-- the whole of a variable
+abbrev pub variable_found : lowered.Place → Option (Object Shape Signature) → Option Found
+variable_found q None = None
+variable_found q (Some (a_variable s)) = Some (record { place = q; shape = s })
+variable_found q (Some (a_type s)) = None
+variable_found q (Some (a_constant v)) = None
+variable_found q (Some (a_procedure p)) = None
+variable_found q (Some (a_standard p)) = None
+
+abbrev pub base_found : Scene → Label → Option Found
+base_found scene x = variable_found (slot_place (slot_at scene x)) (object_at scene.types.now x)
+
+abbrev mutual
+  pub expression_code : Scene → Tree Label expression → Code
+  expression_code scene (compares a none) = simple_code scene a
+  expression_code scene (compares a (one (relates r b))) = related r (simple_code scene a) (simple_code scene b)
+
+  pub simple_code : Scene → Tree Label simple → Code
+  simple_code scene (sum s t rest) = addends_code scene (signed s (term_code scene t)) rest
+
+  pub addends_code : Scene → Code → Tree Label (items addend) → Code
+  addends_code scene c end = c
+  addends_code scene c (more (adds o t) rest) = addends_code scene (added o c (term_code scene t)) rest
+
+  pub term_code : Scene → Tree Label term → Code
+  term_code scene (product f rest) = multipliers_code scene (factor_code scene f) rest
+
+  pub multipliers_code : Scene → Code → Tree Label (items multiplier) → Code
+  multipliers_code scene c end = c
+  multipliers_code scene c (more (multiplies o f) rest) = multipliers_code scene (multiplied o c (factor_code scene f)) rest
+
+  pub factor_code : Scene → Tree Label factor → Code
+  factor_code scene (designator x path) = named_code (constant_of (object_at scene.types.now x)) (selected_place scene (base_found scene x) path)
+  factor_code scene (integer n) = a_number (lowered.literal (pos n))
+  factor_code scene (parenthesised e) = expression_code scene e
+  factor_code scene (negation f) = negated (factor_code scene f)
+
+  -- the place at the end of selectors
+  pub selected_place : Scene → Option Found → Tree Label (items selector) → Option Found
+  selected_place scene found end = found
+  selected_place scene found (more (field x) rest) = selected_place scene (option_and_then (field_found (label_text x)) found) rest
+  selected_place scene found (more (index e) rest) = selected_place scene (element_of (expression_code scene e) found) rest
+
+-- one selector more
+abbrev pub selected_once : Scene → Option Found → Tree Label (item selector) → Option Found
+selected_once scene found (field x) = option_and_then (field_found (label_text x)) found
+selected_once scene found (index e) = element_of (expression_code scene e) found

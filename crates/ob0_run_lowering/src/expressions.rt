@@ -1,0 +1,145 @@
+//! Lowering of expressions, places and arguments, as they are met in statements.
+
+ghost use Rattle.std.specs.Prelude.{◌≡◌, IfOk};
+ghost use Rattle.ob0_tree.specs.View.{expression_of};
+ghost use Rattle.ob0_tree.specs.declared.tree.Designator.{out-Designator};
+ghost use Rattle.ob0_types_rules.specs.Selected.{selectors_in};
+ghost use Rattle.ob0_run_lowering.specs.Means.{Locates, LocatesAlone, Lowers, LowersArgument, LowersNumber, LowersTruth};
+ghost use Rattle.ob0_run_lowering.specs.Parts.{IsNumberOf, IsPlaceOf, IsTruthOf, IsValueOf};
+ghost use Rattle.ob0_run_lowering.specs.Scenes.{HasSmall};
+
+use crate::lowered::{Located, Lowered};
+use crate::scene::Scene;
+use ob0_types_rules::designated::designated;
+use ob0_run_machine::code::{Argument, Number, Place, Truth};
+use ob0_types_table::{Formal, TypeId};
+use ob0_tree::{Designator, Expression};
+use std::alloc::{AllocError, Global};
+
+/// The number that a code is.
+fn number_of(lowered: Lowered) -> Number
+    ensures { IsNumberOf lowered result }
+{
+    match lowered {
+        Lowered::Number(number) => number,
+        Lowered::Truth(_) => Number::Literal(0),
+        Lowered::Block(_, _) => Number::Literal(0),
+        Lowered::Nothing => Number::Literal(0),
+    }
+}
+
+/// The truth that a code is.
+fn truth_of(lowered: Lowered) -> Truth
+    ensures { IsTruthOf lowered result }
+{
+    match lowered {
+        Lowered::Truth(truth) => truth,
+        Lowered::Number(_) => Truth::Constant(false),
+        Lowered::Block(_, _) => Truth::Constant(false),
+        Lowered::Nothing => Truth::Constant(false),
+    }
+}
+
+/// A code as an argument that is passed by its value.
+fn value_of(lowered: Lowered) -> Argument
+    ensures { IsValueOf lowered result }
+{
+    match lowered {
+        Lowered::Number(number) => Argument::Number(number),
+        Lowered::Truth(truth) => Argument::Truth(truth),
+        Lowered::Block(place, cells) => Argument::Block(place, cells),
+        Lowered::Nothing => Argument::Truth(Truth::Constant(false)),
+    }
+}
+
+fn nowhere() -> Located {
+    Located {
+        place: Place::Module(0),
+        of: TypeId::Unknown,
+    }
+}
+
+/// A place that was found.
+fn place_of(found: Option<Located>) -> Located
+    ensures { IsPlaceOf found result }
+{
+    match found {
+        Some(located) => located,
+        None => nowhere(),
+    }
+}
+
+impl<'s, 'k, 't> Scene<'s, 'k, 't> {
+    /// The code of an expression.
+    ///
+    /// # Errors
+    ///
+    /// Out of memory, as for all that follows.
+    pub fn expression(&self, alloc: Global, e: &Expression) -> Result<Lowered, AllocError>
+        ensures { IfOk result (Lowers self.now (expression_of e.now)) }
+    {
+        self.has_small();
+        self.lowered(alloc, e)
+    }
+
+    /// The numbers of the text and the constants of the module have 32 bits.
+    fn has_small(&self)
+        ensures { HasSmall self.now }
+    {
+        let _known = self.types.known();
+        let _text = self.resolved.tokens().text();
+    }
+
+    /// The code of an expression that is worth a number.
+    pub fn number(&self, alloc: Global, e: &Expression) -> Result<Number, AllocError>
+        ensures { IfOk result (LowersNumber self.now (expression_of e.now)) }
+    {
+        let lowered = self.expression(alloc, e)?;
+        Ok(number_of(lowered))
+    }
+
+    /// The code of a condition.
+    pub fn truth(&self, alloc: Global, e: &Expression) -> Result<Truth, AllocError>
+        ensures { IfOk result (LowersTruth self.now (expression_of e.now)) }
+    {
+        let lowered = self.expression(alloc, e)?;
+        Ok(truth_of(lowered))
+    }
+
+    /// The place of a variable with its selectors, and its type.
+    pub fn place(&self, alloc: Global, d: &Designator) -> Result<Located, AllocError>
+        ensures { IfOk result (Locates self.now (out-Designator d.now).name (selectors_in d.now)) }
+    {
+        self.has_small();
+        let found = self.located(alloc, d)?;
+        Ok(place_of(found))
+    }
+
+    /// The place of an argument for a VAR parameter: a designator alone.
+    pub fn passed(&self, alloc: Global, e: &Expression) -> Result<Located, AllocError>
+        ensures { IfOk result (LocatesAlone self.now (expression_of e.now)) }
+    {
+        match designated(e) {
+            Some(d) => self.place(alloc, d),
+            None => Ok(nowhere()),
+        }
+    }
+
+    /// An argument of a call.
+    pub fn argument(
+        &self,
+        alloc: Global,
+        formal: &Formal,
+        e: &Expression,
+    ) -> Result<Argument, AllocError>
+        ensures { IfOk result (LowersArgument self.now formal.now (expression_of e.now)) }
+    {
+        if formal.by_place {
+            let located = self.passed(alloc, e)?;
+            Ok(Argument::Place(located.place))
+        } else {
+            let lowered = self.expression(alloc, e)?;
+            Ok(value_of(lowered))
+        }
+    }
+}

@@ -1,0 +1,22 @@
+//! Lowering of designators, expressions and arguments.
+#![tactic(auto)]
+
+mod assigning;
+mod calling;
+mod chains;
+mod expressions;
+mod ground;
+mod lowered;
+mod lowering;
+mod operators;
+mod programs;
+mod scene;
+mod sight;
+mod statements;
+mod types;
+
+pub use lowered::{Located, Lowered};
+pub use scene::{Scene, Site};
+pub use types::Types;
+pub use statements::body;
+pub use programs::program;

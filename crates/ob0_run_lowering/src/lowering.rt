@@ -1,0 +1,299 @@
+//! Lowering of designators and expressions, at a body. Chains are walked by loops, nestings by calls.
+
+ghost use Rattle.std.specs.Prelude.{◌≡◌, IfOk, Some, option_and_then, option_map, pos};
+ghost use Rattle.ob0_tree.specs.Places.{value_at};
+ghost use Rattle.ob0_tree.specs.View.{designator_of, expression_of, factor_of, selector_of, simple_of, term_of};
+ghost use Rattle.ob0_tree.specs.declared.tree.Designator.{out-Designator};
+ghost use Rattle.ob0_scope_rules.specs.Names.{label_text};
+ghost use Rattle.ob0_types_table.specs.KnownTables.{shapes_of};
+ghost use Rattle.ob0_types_table.specs.Tables.{object_in, type_shape};
+ghost use Rattle.ob0_types_rules.specs.Bindings.{variable_of};
+ghost use Rattle.ob0_types_rules.specs.InLabels.{in_labels, label_in};
+ghost use Rattle.ob0_types_rules.specs.Selected.{selectors_in};
+ghost use Rattle.ob0_types_rules.specs.Typing.{constant_of};
+ghost use Rattle.ob0_values.specs.Scalars.{scalar_value};
+ghost use Rattle.ob0_run_machine.specs.View.{number_of};
+ghost use Rattle.ob0_run_lowering.specs.Codes.{a_number, constant_code, element_found, element_of, field_found, standing, standing_there};
+ghost use Rattle.ob0_run_lowering.specs.Scenes.{object_at};
+ghost use Rattle.ob0_run_lowering.specs.Trees.{base_found, code_of, expression_code, factor_code, found_of, selected_once, selected_place, simple_code, term_code};
+
+use crate::lowered::{Located, Lowered};
+use crate::operators::{added, multiplied, negated, related, signed};
+use crate::scene::Scene;
+use ob0_run_machine::code::{Element, Number, Place, Truth};
+use ob0_types_table::{Object, Parts, TypeId, number_at, text_at};
+use ob0_tree::{Comparison, Designator, Expression, Factor, Selector, Simple, Term};
+use ob0_values::Scalar;
+use std::alloc::{AllocError, Global};
+
+fn constant(value: Scalar) -> Lowered
+    ensures { code_of result ≡ constant_code (scalar_value value) }
+{
+    match value {
+        Scalar::Number(number) => Lowered::Number(Number::Literal(number)),
+        Scalar::Truth(truth) => Lowered::Truth(Truth::Constant(truth)),
+    }
+}
+
+impl<'s, 'k, 't> Scene<'s, 'k, 't> {
+    /// The type of the variable that a name stands for.
+    fn variable_type(&self, name: usize) -> Option<TypeId>
+        ensures { option_map (type_shape (shapes_of self.now.types.now)) result ≡ variable_of (object_at self.now.types.now (label_in self.now.resolved.now name)) }
+    {
+        match self.object(name)? {
+            Object::Variable(of) => Some(*of),
+            Object::Named(_) => None,
+            Object::Constant(_) => None,
+            Object::FaultyConstant => None,
+            Object::Procedure(_) => None,
+            Object::Standard(_) => None,
+        }
+    }
+
+    /// The value of the constant that a name stands for.
+    fn constant(&self, name: usize) -> Option<Scalar>
+        ensures { option_map scalar_value result ≡ constant_of (object_at self.now.types.now (label_in self.now.resolved.now name)) }
+    {
+        match self.object(name)? {
+            Object::Constant(value) => Some(*value),
+            Object::Named(_) => None,
+            Object::FaultyConstant => None,
+            Object::Variable(_) => None,
+            Object::Procedure(_) => None,
+            Object::Standard(_) => None,
+        }
+    }
+
+    /// How a field's name is written. Nothing where a declaration binds the name: that is no field's.
+    fn written(&self, token: usize) -> &'t str
+        ensures { result.now ≡ label_text (label_in self.now.resolved.now token) }
+    {
+        match self.resolved.ordinal_at(token) {
+            None => text_at(self.resolved.tokens(), token),
+            Some(_) => "",
+        }
+    }
+
+    /// The number that a token is.
+    fn integer(&self, token: usize) -> i32
+        ensures { result ≡ pos (value_at self.now.resolved.now.module_read.source token) }
+    {
+        number_at(self.resolved.tokens(), token)
+    }
+
+    /// The whole of a variable.
+    fn base(&self, name: usize) -> Option<Located>
+        ensures { option_map (found_of (shapes_of self.now.types.now)) result ≡ base_found self.now (label_in self.now.resolved.now name) }
+    {
+        let of = self.variable_type(name)?;
+        let place = self.variable(name);
+        Some(Located { place, of })
+    }
+
+    /// What stands at a place.
+    fn standing(&self, at: Located) -> Lowered
+        ensures { code_of result ≡ standing (found_of (shapes_of self.now.types.now) at).place (found_of (shapes_of self.now.types.now) at).shape }
+    {
+        let Located { place, of } = at;
+        match of {
+            TypeId::Integer => Lowered::Number(Number::Cell(place)),
+            TypeId::Boolean => Lowered::Truth(Truth::Flag(place)),
+            TypeId::Array(_) => Lowered::Block(place, self.types.size(of)),
+            TypeId::Record(_) => Lowered::Block(place, self.types.size(of)),
+            TypeId::Unknown => Lowered::Block(place, self.types.size(of)),
+        }
+    }
+
+    fn standing_there(&self, at: Option<Located>) -> Lowered
+        ensures { code_of result ≡ standing_there (option_map (found_of (shapes_of self.now.types.now)) at) }
+    {
+        match at {
+            None => Lowered::Nothing,
+            Some(at) => self.standing(at),
+        }
+    }
+
+    /// A field of what is at a place.
+    fn field(&self, alloc: Global, at: Located, name: usize) -> Result<Option<Located>, AllocError>
+        ensures { IfOk result (λ o. option_map (found_of (shapes_of self.now.types.now)) o ≡ field_found (label_text (label_in self.now.resolved.now name)) (found_of (shapes_of self.now.types.now) at)) }
+    {
+        let Located { place, of } = at;
+        let name = self.written(name);
+        match self.types.known().field(of, name) {
+            None => Ok(None),
+            Some(field) => {
+                let offset = self.types.offset(of, name);
+                let place = Place::Part(Box::new(alloc, place)?, offset);
+                Ok(Some(Located { place, of: field }))
+            }
+        }
+    }
+
+    /// An element of what is at a place.
+    fn element(
+        &self,
+        alloc: Global,
+        at: Located,
+        index: Number,
+    ) -> Result<Option<Located>, AllocError>
+        ensures { IfOk result (λ o. option_map (found_of (shapes_of self.now.types.now)) o ≡ element_found (a_number (number_of index)) (found_of (shapes_of self.now.types.now) at).place (found_of (shapes_of self.now.types.now) at).shape) }
+    {
+        let Located { place, of } = at;
+        match self.types.known().parts(of) {
+            Parts::Array(array) => {
+                let element = Element {
+                    array: place,
+                    index,
+                    length: array.length,
+                    stride: self.types.size(array.element),
+                };
+                let place = Place::Element(Box::new(alloc, element)?);
+                Ok(Some(Located {
+                    place,
+                    of: array.element,
+                }))
+            }
+            Parts::Integer => Ok(None),
+            Parts::Boolean => Ok(None),
+            Parts::Record(_) => Ok(None),
+            Parts::Faulty => Ok(None),
+        }
+    }
+
+    fn element_there(
+        &self,
+        alloc: Global,
+        at: Option<Located>,
+        index: Lowered,
+    ) -> Result<Option<Located>, AllocError>
+        ensures { IfOk result (λ o. option_map (found_of (shapes_of self.now.types.now)) o ≡ element_of (code_of index) (option_map (found_of (shapes_of self.now.types.now)) at)) }
+    {
+        match at {
+            None => Ok(None),
+            Some(at) => match index {
+                Lowered::Number(index) => self.element(alloc, at, index),
+                Lowered::Truth(_) => Ok(None),
+                Lowered::Block(_, _) => Ok(None),
+                Lowered::Nothing => Ok(None),
+            },
+        }
+    }
+
+    fn field_there(
+        &self,
+        alloc: Global,
+        at: Option<Located>,
+        name: usize,
+    ) -> Result<Option<Located>, AllocError>
+        ensures { IfOk result (λ o. option_map (found_of (shapes_of self.now.types.now)) o ≡ option_and_then (field_found (label_text (label_in self.now.resolved.now name))) (option_map (found_of (shapes_of self.now.types.now)) at)) }
+    {
+        match at {
+            None => Ok(None),
+            Some(at) => self.field(alloc, at, name),
+        }
+    }
+
+    /// The code of an expression.
+    #[cycle(lowering)]
+    pub(crate) fn lowered(&self, alloc: Global, e: &Expression) -> Result<Lowered, AllocError>
+        ensures { IfOk result (λ l. code_of l ≡ expression_code self.now (in_labels self.now.resolved.now (expression_of e.now))) }
+    {
+        let left = self.simple(alloc, &e.left)?;
+        match &e.compared {
+            None => Ok(left),
+            Some(compared) => {
+                let compared: &Comparison = compared;
+                let right = self.simple(alloc, &compared.right)?;
+                related(alloc, compared.relation, left, right)
+            }
+        }
+    }
+
+    #[cycle(lowering)]
+    fn simple(&self, alloc: Global, s: &Simple) -> Result<Lowered, AllocError>
+        ensures { IfOk result (λ l. code_of l ≡ simple_code self.now (in_labels self.now.resolved.now (simple_of s.now))) }
+    {
+        let first = self.term(alloc, &s.first)?;
+        let mut so_far = signed(alloc, s.sign, first)?;
+        for addend in &s.more {
+            let term = self.term(alloc, &addend.term)?;
+            so_far = added(alloc, addend.operator, so_far, term)?;
+        }
+        Ok(so_far)
+    }
+
+    #[cycle(lowering)]
+    fn term(&self, alloc: Global, t: &Term) -> Result<Lowered, AllocError>
+        ensures { IfOk result (λ l. code_of l ≡ term_code self.now (in_labels self.now.resolved.now (term_of t.now))) }
+    {
+        let mut so_far = self.factor(alloc, &t.first)?;
+        for multiplier in &t.more {
+            let factor = self.factor(alloc, &multiplier.factor)?;
+            so_far = multiplied(alloc, multiplier.operator, so_far, factor)?;
+        }
+        Ok(so_far)
+    }
+
+    #[cycle(lowering)]
+    fn factor(&self, alloc: Global, f: &Factor) -> Result<Lowered, AllocError>
+        ensures { IfOk result (λ l. code_of l ≡ factor_code self.now (in_labels self.now.resolved.now (factor_of f.now))) }
+    {
+        match f {
+            Factor::Designator(d) => self.named(alloc, d),
+            Factor::Integer(token) => Ok(Lowered::Number(Number::Literal(self.integer(*token)))),
+            Factor::Parenthesised(e) => self.lowered(alloc, e),
+            Factor::Not(f) => {
+                let operand = self.factor(alloc, f)?;
+                negated(alloc, operand)
+            }
+        }
+    }
+
+    /// A constant, or what stands at a designator's place.
+    #[cycle(lowering)]
+    fn named(&self, alloc: Global, d: &Designator) -> Result<Lowered, AllocError>
+        ensures { IfOk result (λ l. code_of l ≡ factor_code self.now (in_labels self.now.resolved.now (designator_of d.now))) }
+    {
+        match self.constant(d.name) {
+            Some(value) => Ok(constant(value)),
+            None => {
+                let at = self.located(alloc, d)?;
+                Ok(self.standing_there(at))
+            }
+        }
+    }
+
+    /// The place of a variable with its selectors.
+    #[cycle(lowering)]
+    pub(crate) fn located(
+        &self,
+        alloc: Global,
+        d: &Designator,
+    ) -> Result<Option<Located>, AllocError>
+        ensures { IfOk result (λ o. option_map (found_of (shapes_of self.now.types.now)) o ≡ selected_place self.now (base_found self.now (label_in self.now.resolved.now (out-Designator d.now).name)) (in_labels self.now.resolved.now (selectors_in d.now))) }
+    {
+        let mut at = self.base(d.name);
+        for selector in &d.selectors {
+            at = self.selected(alloc, at, selector)?;
+        }
+        Ok(at)
+    }
+
+    #[cycle(lowering)]
+    fn selected(
+        &self,
+        alloc: Global,
+        at: Option<Located>,
+        s: &Selector,
+    ) -> Result<Option<Located>, AllocError>
+        ensures { IfOk result (λ o. option_map (found_of (shapes_of self.now.types.now)) o ≡ selected_once self.now (option_map (found_of (shapes_of self.now.types.now)) at) (in_labels self.now.resolved.now (selector_of s.now))) }
+    {
+        match s {
+            Selector::Field(name) => self.field_there(alloc, at, *name),
+            Selector::Index(e) => {
+                let index = self.lowered(alloc, e)?;
+                self.element_there(alloc, at, index)
+            }
+        }
+    }
+}

@@ -1,0 +1,268 @@
+//! The code of operations.
+
+ghost use Rattle.std.specs.Prelude.{◌≡◌, IfOk, Some};
+ghost use Rattle.ob0_tree.specs.declared.tree.Sign.TheVariants as signs;
+ghost use Rattle.ob0_run_machine.specs.Lowered as machine;
+ghost use Rattle.ob0_run_machine.specs.View.{number_of, operator_of, truth_of};
+ghost use Rattle.ob0_run_cells.specs.Lowering.{relation_of};
+ghost use Rattle.ob0_run_machine.specs.View as view;
+ghost use Rattle.ob0_run_lowering.specs.Codes as codes;
+ghost use Rattle.ob0_run_lowering.specs.Parts.{number_in, truth_in};
+ghost use Rattle.ob0_run_lowering.specs.Trees.{code_of};
+
+use crate::chains::{both, either, operation};
+use crate::lowered::Lowered;
+use ob0_run_machine::code;
+use ob0_run_machine::code::{Number, Operands, Operator, Truth, Truths};
+use ob0_tree::{AddOperator, MultiplyOperator, Relation, Sign};
+use std::alloc::{AllocError, Global};
+
+/// The number that an operand is, where it is one.
+fn number_in(operand: Lowered) -> Option<Number>
+    ensures { result ≡ number_in operand }
+{
+    match operand {
+        Lowered::Number(number) => Some(number),
+        Lowered::Truth(_) => None,
+        Lowered::Block(_, _) => None,
+        Lowered::Nothing => None,
+    }
+}
+
+/// The truth that an operand is, where it is one.
+fn truth_in(operand: Lowered) -> Option<Truth>
+    ensures { result ≡ truth_in operand }
+{
+    match operand {
+        Lowered::Truth(truth) => Some(truth),
+        Lowered::Number(_) => None,
+        Lowered::Block(_, _) => None,
+        Lowered::Nothing => None,
+    }
+}
+
+fn operated(
+    alloc: Global,
+    operator: Operator,
+    left: Lowered,
+    right: Lowered,
+) -> Result<Lowered, AllocError>
+    ensures { IfOk result (λ l. code_of l ≡ codes.operated (operator_of operator) (code_of left) (code_of right)) }
+{
+    let Some(first) = number_in(left) else {
+        return Ok(Lowered::Nothing);
+    };
+    let Some(second) = number_in(right) else {
+        return Ok(Lowered::Nothing);
+    };
+    let number = operation(alloc, operator, first, second)?;
+    Ok(Lowered::Number(number))
+}
+
+fn conjunction(alloc: Global, left: Lowered, right: Lowered) -> Result<Lowered, AllocError>
+    ensures { IfOk result (λ l. code_of l ≡ codes.combined machine.both (code_of left) (code_of right)) }
+{
+    let Some(first) = truth_in(left) else {
+        return Ok(Lowered::Nothing);
+    };
+    let Some(second) = truth_in(right) else {
+        return Ok(Lowered::Nothing);
+    };
+    let truth = both(alloc, first, second)?;
+    Ok(Lowered::Truth(truth))
+}
+
+fn disjunction(alloc: Global, left: Lowered, right: Lowered) -> Result<Lowered, AllocError>
+    ensures { IfOk result (λ l. code_of l ≡ codes.combined machine.either (code_of left) (code_of right)) }
+{
+    let Some(first) = truth_in(left) else {
+        return Ok(Lowered::Nothing);
+    };
+    let Some(second) = truth_in(right) else {
+        return Ok(Lowered::Nothing);
+    };
+    let truth = either(alloc, first, second)?;
+    Ok(Lowered::Truth(truth))
+}
+
+pub(crate) fn added(
+    alloc: Global,
+    operator: AddOperator,
+    left: Lowered,
+    right: Lowered,
+) -> Result<Lowered, AllocError>
+    ensures { IfOk result (λ l. code_of l ≡ codes.added operator (code_of left) (code_of right)) }
+{
+    match operator {
+        AddOperator::Add => operated(alloc, Operator::Sum, left, right),
+        AddOperator::Subtract => operated(alloc, Operator::Difference, left, right),
+        AddOperator::Or => disjunction(alloc, left, right),
+    }
+}
+
+pub(crate) fn multiplied(
+    alloc: Global,
+    operator: MultiplyOperator,
+    left: Lowered,
+    right: Lowered,
+) -> Result<Lowered, AllocError>
+    ensures { IfOk result (λ l. code_of l ≡ codes.multiplied operator (code_of left) (code_of right)) }
+{
+    match operator {
+        MultiplyOperator::Multiply => operated(alloc, Operator::Product, left, right),
+        MultiplyOperator::Divide => operated(alloc, Operator::Quotient, left, right),
+        MultiplyOperator::Modulo => operated(alloc, Operator::Remainder, left, right),
+        MultiplyOperator::And => conjunction(alloc, left, right),
+    }
+}
+
+fn negative(alloc: Global, operand: Lowered) -> Result<Lowered, AllocError>
+    ensures { IfOk result (λ l. code_of l ≡ codes.signed (Some signs.Minus) (code_of operand)) }
+{
+    match operand {
+        Lowered::Number(number) => {
+            Ok(Lowered::Number(Number::Negative(Box::new(alloc, number)?)))
+        }
+        Lowered::Truth(_) => Ok(Lowered::Nothing),
+        Lowered::Block(_, _) => Ok(Lowered::Nothing),
+        Lowered::Nothing => Ok(Lowered::Nothing),
+    }
+}
+
+fn only_number(operand: Lowered) -> Lowered
+    ensures { code_of result ≡ codes.signed (Some signs.Plus) (code_of operand) }
+{
+    match operand {
+        Lowered::Number(number) => Lowered::Number(number),
+        Lowered::Truth(_) => Lowered::Nothing,
+        Lowered::Block(_, _) => Lowered::Nothing,
+        Lowered::Nothing => Lowered::Nothing,
+    }
+}
+
+/// A term with its sign. `+` leaves a number as it is.
+pub(crate) fn signed(
+    alloc: Global,
+    sign: Option<Sign>,
+    operand: Lowered,
+) -> Result<Lowered, AllocError>
+    ensures { IfOk result (λ l. code_of l ≡ codes.signed sign (code_of operand)) }
+{
+    match sign {
+        None => Ok(operand),
+        Some(sign) => match sign {
+            Sign::Plus => Ok(only_number(operand)),
+            Sign::Minus => negative(alloc, operand),
+        },
+    }
+}
+
+pub(crate) fn negated(alloc: Global, operand: Lowered) -> Result<Lowered, AllocError>
+    ensures { IfOk result (λ l. code_of l ≡ codes.negated (code_of operand)) }
+{
+    match operand {
+        Lowered::Truth(truth) => Ok(Lowered::Truth(Truth::Negation(Box::new(alloc, truth)?))),
+        Lowered::Number(_) => Ok(Lowered::Nothing),
+        Lowered::Block(_, _) => Ok(Lowered::Nothing),
+        Lowered::Nothing => Ok(Lowered::Nothing),
+    }
+}
+
+fn relation_in(relation: Relation) -> code::Relation
+    ensures { view.relation_of result ≡ relation_of relation }
+{
+    match relation {
+        Relation::Equal => code::Relation::Equal,
+        Relation::NotEqual => code::Relation::NotEqual,
+        Relation::Less => code::Relation::Less,
+        Relation::LessEqual => code::Relation::LessEqual,
+        Relation::Greater => code::Relation::Greater,
+        Relation::GreaterEqual => code::Relation::GreaterEqual,
+    }
+}
+
+/// A relation of two numbers.
+fn compared(
+    alloc: Global,
+    relation: Relation,
+    left: Number,
+    right: Number,
+) -> Result<Truth, AllocError>
+    ensures { IfOk result (λ t. truth_of t ≡ machine.related (relation_of relation) (number_of left) (number_of right)) }
+{
+    let operands = Box::new(alloc, Operands { left, right })?;
+    Ok(Truth::Related(relation_in(relation), operands))
+}
+
+/// `=` or `#` of two truths.
+fn alike(
+    alloc: Global,
+    relation: Relation,
+    left: Truth,
+    right: Truth,
+) -> Result<Lowered, AllocError>
+    ensures { IfOk result (λ l. code_of l ≡ codes.related relation (codes.a_truth (truth_of left)) (codes.a_truth (truth_of right))) }
+{
+    let truths = Truths { left, right };
+    match relation {
+        Relation::Equal => {
+            let sides = Box::new(alloc, truths)?;
+            Ok(Lowered::Truth(Truth::Same(sides)))
+        }
+        Relation::NotEqual => {
+            let sides = Box::new(alloc, truths)?;
+            Ok(Lowered::Truth(Truth::Different(sides)))
+        }
+        Relation::Less => Ok(Lowered::Nothing),
+        Relation::LessEqual => Ok(Lowered::Nothing),
+        Relation::Greater => Ok(Lowered::Nothing),
+        Relation::GreaterEqual => Ok(Lowered::Nothing),
+    }
+}
+
+/// A relation of a number with what should be one.
+fn number_related(
+    alloc: Global,
+    relation: Relation,
+    left: Number,
+    right: Lowered,
+) -> Result<Lowered, AllocError>
+    ensures { IfOk result (λ l. code_of l ≡ codes.related relation (codes.a_number (number_of left)) (code_of right)) }
+{
+    let Some(second) = number_in(right) else {
+        return Ok(Lowered::Nothing);
+    };
+    let truth = compared(alloc, relation, left, second)?;
+    Ok(Lowered::Truth(truth))
+}
+
+/// A relation of a truth with what should be one.
+fn truth_related(
+    alloc: Global,
+    relation: Relation,
+    left: Truth,
+    right: Lowered,
+) -> Result<Lowered, AllocError>
+    ensures { IfOk result (λ l. code_of l ≡ codes.related relation (codes.a_truth (truth_of left)) (code_of right)) }
+{
+    let Some(second) = truth_in(right) else {
+        return Ok(Lowered::Nothing);
+    };
+    alike(alloc, relation, left, second)
+}
+
+pub(crate) fn related(
+    alloc: Global,
+    relation: Relation,
+    left: Lowered,
+    right: Lowered,
+) -> Result<Lowered, AllocError>
+    ensures { IfOk result (λ l. code_of l ≡ codes.related relation (code_of left) (code_of right)) }
+{
+    match left {
+        Lowered::Number(number) => number_related(alloc, relation, number, right),
+        Lowered::Truth(truth) => truth_related(alloc, relation, truth, right),
+        Lowered::Block(_, _) => Ok(Lowered::Nothing),
+        Lowered::Nothing => Ok(Lowered::Nothing),
+    }
+}

@@ -1,0 +1,167 @@
+//! Procedures, blocks, and the program of a module.
+
+ghost use Rattle.std.specs.Prelude.{◌≡◌, ℕ, IfOk, OnOk, slice_set};
+ghost use Rattle.ob0_tree.specs.Tree.{more};
+ghost use Rattle.ob0_tree.specs.View.{block_of, procedure_of};
+ghost use Rattle.ob0_tree.specs.Parsed.{named_tree_of};
+ghost use Rattle.ob0_scope_rules.specs.Names.{as_labels};
+ghost use Rattle.ob0_scope_rules.specs.Scopes.{numbered};
+ghost use Rattle.ob0_types_table.specs.KnownTables.{declared_in};
+ghost use Rattle.ob0_types_rules.specs.Bindings.{declared_object};
+ghost use Rattle.ob0_types_rules.specs.WellTyped.{WellTyped};
+ghost use Rattle.ob0_types_rules.specs.InLabels.{in_labels};
+ghost use Rattle.ob0_run_machine.specs.View.{program_of};
+ghost use Rattle.ob0_run_cells.specs.Activations.{ProgramMeans};
+ghost use Rattle.ob0_run_lowering.specs.Blocks.{Goes, LowersBlock};
+ghost use Rattle.ob0_run_lowering.specs.Placed.{most};
+
+use crate::ground::Ground;
+use crate::sight::{Frame, Sight};
+use crate::body;
+use crate::{Scene, Site, Types};
+use ob0_run_machine::code;
+use ob0_scope_rules::Resolved;
+use ob0_types_table::Known;
+use ob0_tree::{Block, Procedure};
+use std::alloc::{AllocError, Global};
+
+/// A module on its way to a program: where what is in sight is, and the procedures so far.
+#[derive(Drop)]
+pub(crate) struct Lowering {
+    pub(crate) sight: Sight,
+    pub(crate) procedures: Vec<code::Procedure>,
+}
+
+impl Lowering {
+    ghost use Rattle.std.specs.Prelude.{◌++◌, ◌∷◌, [], length};
+    ghost use Rattle.ob0_tree.specs.Tree.{Tree, items, procedure};
+    ghost use Rattle.ob0_scope_rules.specs.Names.{Label};
+    ghost use Rattle.ob0_scope_rules.specs.Resolution.{ordinal_in};
+    ghost use Rattle.ob0_run_lowering.specs.Scenes.{site_at};
+    ghost use Rattle.ob0_run_lowering.specs.declared.scene.Site.TheVariants as site;
+    ghost use Rattle.ob0_run_machine.specs.declared.code.Procedure as code;
+    ghost use Rattle.ob0_run_lowering.specs.Placed.{Follows, put_at};
+
+    /// Keeps the code of a procedure at its index.
+    fn keep(&mut self, index: usize, entry: code::Procedure)
+        ensures procedures { self.new.procedures.items ≡ slice_set self.old.procedures.items index entry }
+        ensures sight { self.new.sight ≡ self.old.sight }
+    {
+        if index < self.procedures.len() {
+            self.procedures[index] = entry;
+        }
+    }
+
+    /// A procedure's place in the program, which its name has from its heading on. Its code comes later.
+    fn announce(
+        &mut self,
+        ground: &Ground<'_, '_, '_>,
+        depth: usize,
+        name: usize,
+    ) -> Result<usize, AllocError>
+        ensures index { IfOk result (λ i. i ≡ length self.old.procedures.items) }
+        ensures sites { IfOk result (λ i. (k : ℕ) → site_at self.new.sight.sites.items k ≡ put_at (ordinal_in ground.now.resolved.now.ordinals name) (site.Procedure depth i) (site_at self.old.sight.sites.items) k) }
+        ensures follows { IfOk result (λ i. Follows self.old.sight self.new.sight) }
+        ensures pushed { IfOk result (λ i. (e : code.Procedure) × (self.new.procedures.items ≡ self.old.procedures.items ++ e ∷ [])) }
+    {
+        let index = self.procedures.len();
+        let ordinal = ground.resolved.ordinal_at(name);
+        self.sight.bind(ordinal, Site::Procedure(depth, index))?;
+        self.procedures.push(code::Procedure {
+            cells: 0,
+            body: Vec::new(ground.alloc),
+        })?;
+        Ok(index)
+    }
+
+    /// A procedure is in sight behind its heading, and so in its own body; its parameters and what it declares are in sight up to
+    /// its end.
+    #[cycle(blocks)]
+    fn procedure(
+        &mut self,
+        ground: &Ground<'_, '_, '_>,
+        depth: usize,
+        p: &Procedure,
+    ) -> Result<(), AllocError>
+        ensures { OnOk result ((rest : Tree Label (items procedure)) → Goes ground.now.types.now self.old self.new depth (more (in_labels ground.now.resolved.now (procedure_of p.now)) rest) rest) }
+    {
+        let Some(inside) = depth.checked_add(1) else {
+            return Err(AllocError);
+        };
+        let index = self.announce(ground, depth, p.name)?;
+        let outside = self.sight.mark();
+        let frame = Frame {
+            depth: inside,
+            cells: 0,
+            lent: 0,
+        };
+        let frame = self.sight.parameters(ground, frame, &p.formals)?;
+        let entry = self.block(ground, frame, &p.block)?;
+        self.sight.back_to(outside);
+        self.keep(index, entry);
+        Ok(())
+    }
+
+    /// A block: its variables, its procedures, and then its statements.
+    #[cycle(blocks)]
+    fn block(
+        &mut self,
+        ground: &Ground<'_, '_, '_>,
+        frame: Frame,
+        b: &Block,
+    ) -> Result<code::Procedure, AllocError>
+        ensures { IfOk result (LowersBlock ground.now.types.now self.old self.new frame (in_labels ground.now.resolved.now (block_of b.now))) }
+    {
+        let own = self.sight.variables(ground, frame, &b.variables)?;
+        for p in &b.procedures {
+            self.procedure(ground, own.depth, p)?;
+        }
+        let scene = Scene {
+            resolved: ground.resolved,
+            types: ground.types,
+            sites: self.sight.sites.as_slice(),
+            depth: own.depth,
+        };
+        let body = body(ground.alloc, &scene, &b.body)?;
+        Ok(code::Procedure {
+            cells: own.cells - frame.cells,
+            body,
+        })
+    }
+}
+
+/// The program of a module, by what is known of its declarations. A module one of whose activations would have 2^32 cells or more
+/// is out of memory.
+///
+/// # Errors
+///
+/// Out of memory.
+pub fn program<'t>(
+    alloc: Global,
+    resolved: &Resolved<'t>,
+    known: &Known<'t>,
+) -> Result<code::Program, AllocError>
+    ensures { IfOk result (λ made. WellTyped (named_tree_of resolved.now.module_read) → ((k : ℕ) → declared_in known.now k ≡ declared_object (named_tree_of resolved.now.module_read) k) → ProgramMeans most as_labels (numbered (named_tree_of resolved.now.module_read)) (program_of made)) }
+{
+    let types = Types::new(alloc, known)?;
+    let ground = Ground {
+        alloc,
+        resolved,
+        types: &types,
+    };
+    let mut lowering = Lowering {
+        sight: Sight::new(alloc),
+        procedures: Vec::new(alloc),
+    };
+    let frame = Frame {
+        depth: 0,
+        cells: 0,
+        lent: 0,
+    };
+    let entry = lowering.block(&ground, frame, resolved.module().block())?;
+    Ok(code::Program {
+        cells: entry.cells,
+        body: entry.body,
+        procedures: lowering.procedures,
+    })
+}

@@ -1,0 +1,103 @@
+//! Where lowering stands.
+
+ghost use Rattle.std.specs.Prelude.{◌≡◌};
+ghost use Rattle.ob0_run_machine.specs.View.{place_of};
+ghost use Rattle.ob0_run_cells.specs.Lowering.{slot_place};
+ghost use Rattle.ob0_run_cells.specs.Lowering as slots;
+
+use crate::types::Types;
+use ob0_run_machine::code::Place;
+use ob0_scope_rules::Resolved;
+use ob0_types_table::Object;
+
+/// Where a declaration is. The first number of a place in an activation is how deep that activation is: 1 for those of the
+/// module's own procedures.
+#[derive(Clone, Copy, PartialEq, Eq)]
+pub enum Site {
+    /// Nowhere in lowered code: a constant or a type.
+    Nowhere,
+    /// A variable, at an offset in the cells of the module.
+    Module(usize),
+    /// A variable, at an offset in the cells of an activation.
+    Held(usize, usize),
+    /// A VAR parameter of an activation, by its index among these.
+    Lent(usize, usize),
+    /// A procedure that is declared in an activation (0 for the module), by its index in the program.
+    Procedure(usize, usize),
+}
+
+/// What lowering knows at a body: the module, its types, where each declaration is by its ordinal, and how deep the body's
+/// activation is, 0 for the module's own.
+#[derive(Clone, Copy)]
+pub struct Scene<'s, 'k, 't> {
+    pub resolved: &'s Resolved<'t>,
+    pub types: &'s Types<'k, 't>,
+    pub sites: &'s [Site],
+    pub depth: usize,
+}
+
+impl<'s, 'k, 't> Scene<'s, 'k, 't> {
+    ghost use Rattle.std.specs.Prelude.{option_and_then};
+    ghost use Rattle.ob0_types_rules.specs.InLabels.{label_in};
+    ghost use Rattle.ob0_types_table.specs.KnownTables.{shapes_of};
+    ghost use Rattle.ob0_types_table.specs.Tables.{object_in};
+    ghost use Rattle.ob0_run_lowering.specs.Scenes.{object_at, seen_from, slot_at, target_at, whereabouts};
+
+    /// What the declaration of a name is.
+    pub fn object(&self, name: usize) -> Option<&'k Object>
+        ensures { option_and_then (λ o. object_in (shapes_of self.now.types.now) o.now) result ≡ object_at self.now.types.now (label_in self.now.resolved.now name) }
+    {
+        let ordinal = self.resolved.ordinal_at(name)?;
+        self.types.known().object(ordinal)
+    }
+
+    /// Where the declaration of a name is.
+    fn site(&self, name: usize) -> Site
+        ensures { seen_from self.now.depth result ≡ whereabouts self.now (label_in self.now.resolved.now name) }
+    {
+        match self.resolved.ordinal_at(name) {
+            None => Site::Nowhere,
+            Some(ordinal) => match self.sites.get(ordinal) {
+                None => Site::Nowhere,
+                Some(site) => *site,
+            },
+        }
+    }
+
+    /// Which procedure a name stands for: its index, and how many levels out it is declared.
+    pub fn target(&self, name: usize) -> (usize, usize)
+        ensures { record { procedure = result.0; up = result.1 } ≡ target_at self.now (label_in self.now.resolved.now name) }
+    {
+        match self.site(name) {
+            Site::Procedure(at, index) => (index, self.depth.saturating_sub(at)),
+            Site::Nowhere => (0, 0),
+            Site::Module(_) => (0, 0),
+            Site::Held(_, _) => (0, 0),
+            Site::Lent(_, _) => (0, 0),
+        }
+    }
+
+    /// Where a variable is.
+    pub(crate) fn variable(&self, name: usize) -> Place
+        ensures { place_of result ≡ slot_place (slot_at self.now (label_in self.now.resolved.now name)) }
+    {
+        match self.site(name) {
+            Site::Module(offset) => Place::Module(offset),
+            Site::Held(at, offset) => held(self.depth.saturating_sub(at), offset),
+            Site::Lent(at, index) => Place::Passed(self.depth.saturating_sub(at), index),
+            Site::Nowhere => Place::Module(0),
+            Site::Procedure(_, _) => Place::Module(0),
+        }
+    }
+}
+
+/// A place in the cells of the activation so many levels out.
+fn held(up: usize, offset: usize) -> Place
+    ensures { place_of result ≡ slot_place (slots.held up offset) }
+{
+    if up == 0 {
+        Place::Here(offset)
+    } else {
+        Place::Outside(up, offset)
+    }
+}

@@ -1,0 +1,118 @@
+//! Statements, their branches and their loops.
+
+ghost use Rattle.std.specs.Prelude.{◌≡◌, ◌++◌, IfOk, OnOk, option_map, option_to_list};
+ghost use Rattle.ob0_tree.specs.View as view;
+ghost use Rattle.ob0_tree.specs.View.{body_of, if_of, sequence_in};
+ghost use Rattle.ob0_types_rules.specs.InLabels.{in_labels};
+ghost use Rattle.ob0_run_machine.specs.View.{sequence_of, statement_of};
+ghost use Rattle.ob0_run_lowering.specs.LoweredBodies.{BodyLowers, CodeLowers, SequenceLowers, StatementLowers};
+
+use crate::assigning::assignment;
+use crate::calling::call;
+use crate::Scene;
+use ob0_run_machine::code;
+use ob0_tree::{If, Statement};
+use std::alloc::{AllocError, Global};
+
+/// The code of a body: none where there is no BEGIN.
+pub fn body(
+    alloc: Global,
+    scene: &Scene<'_, '_, '_>,
+    statements: &Option<Vec<Statement>>,
+) -> Result<Vec<code::Statement>, AllocError>
+    ensures { IfOk result (λ made. BodyLowers scene.now (sequence_of made.items) (in_labels scene.now.resolved.now (body_of statements.now))) }
+{
+    match statements {
+        None => Ok(Vec::new(alloc)),
+        Some(statements) => sequence(alloc, scene, statements),
+    }
+}
+
+/// Adds the code of a statement, where it has some.
+fn add(made: &mut Vec<code::Statement>, next: Option<code::Statement>) -> Result<(), AllocError>
+    ensures { OnOk result (made.new.items ≡ made.old.items ++ option_to_list next) }
+{
+    match next {
+        None => Ok(()),
+        Some(next) => {
+            made.push(next)?;
+            Ok(())
+        }
+    }
+}
+
+/// The code of a statement: none for an empty one.
+#[cycle(statements)]
+fn statement(
+    alloc: Global,
+    scene: &Scene<'_, '_, '_>,
+    s: &Statement,
+) -> Result<Option<code::Statement>, AllocError>
+    ensures { IfOk result (λ made. CodeLowers scene.now (option_map statement_of made) (in_labels scene.now.resolved.now (view.statement_of s.now))) }
+{
+    match s {
+        Statement::Empty => Ok(None),
+        Statement::Assign(a) => Ok(Some(assignment(alloc, scene, a)?)),
+        Statement::Call(c) => Ok(Some(call(alloc, scene, c)?)),
+        Statement::If(i) => Ok(Some(branches(alloc, scene, i)?)),
+        Statement::While(w) => {
+            let condition = scene.truth(alloc, &w.condition)?;
+            let body = sequence(alloc, scene, &w.body)?;
+            Ok(Some(code::Statement::While(code::While { condition, body })))
+        }
+        Statement::Repeat(r) => {
+            let body = sequence(alloc, scene, &r.body)?;
+            let condition = scene.truth(alloc, &r.condition)?;
+            Ok(Some(code::Statement::Repeat(code::Repeat { body, condition })))
+        }
+    }
+}
+
+/// The code of statements, in order.
+#[cycle(statements)]
+fn sequence(
+    alloc: Global,
+    scene: &Scene<'_, '_, '_>,
+    statements: &Vec<Statement>,
+) -> Result<Vec<code::Statement>, AllocError>
+    ensures { IfOk result (λ made. SequenceLowers scene.now (sequence_of made.items) (in_labels scene.now.resolved.now (sequence_in statements.now))) }
+{
+    let mut made = Vec::new(alloc);
+    for s in statements {
+        let next = statement(alloc, scene, s)?;
+        add(&mut made, next)?;
+    }
+    Ok(made)
+}
+
+/// The code of IF with its ELSIF and ELSE parts.
+#[cycle(statements)]
+fn branches(alloc: Global, scene: &Scene<'_, '_, '_>, i: &If) -> Result<code::Statement, AllocError>
+    ensures { IfOk result (λ made. StatementLowers scene.now (statement_of made) (in_labels scene.now.resolved.now (if_of i.now))) }
+{
+    let mut branches = Vec::new(alloc);
+    let first = scene.truth(alloc, &i.condition)?;
+    let then = sequence(alloc, scene, &i.then)?;
+    branches.push(code::Branch {
+        condition: first,
+        body: then,
+    })?;
+    for part in &i.elsifs {
+        let condition = scene.truth(alloc, &part.condition)?;
+        let body = sequence(alloc, scene, &part.then)?;
+        branches.push(code::Branch { condition, body })?;
+    }
+    match &i.otherwise {
+        None => Ok(code::Statement::If(code::If {
+            branches,
+            otherwise: Vec::new(alloc),
+        })),
+        Some(statements) => {
+            let otherwise = sequence(alloc, scene, statements)?;
+            Ok(code::Statement::If(code::If {
+                branches,
+                otherwise,
+            }))
+        }
+    }
+}

@@ -1,0 +1,258 @@
+//! The types of a module, with how many cells they have.
+
+ghost use Rattle.std.specs.Prelude.{◌≡◌, ◌+◌, ◌*◌, ℕ, ℤ, Some, true, IfOk, IfSome, List, pos, slice_get, slice_index_or};
+ghost use Rattle.ob0_run_cells.specs.Cells.{field_offset, size, step_offset};
+ghost use Rattle.ob0_run_machine.specs.Evaluation as machine;
+ghost use Rattle.ob0_scope_rules.specs.Names.{Name};
+ghost use Rattle.ob0_types_table.specs.FieldPlaces.{field_selected};
+ghost use Rattle.ob0_types_table.specs.KnownTables.{declared_in, shapes_of};
+ghost use Rattle.ob0_types_table.specs.Tables.{fields_shape, made_shape, no_shape, only_array, only_record, type_shape};
+ghost use Rattle.ob0_types_rules.specs.Expressions.{a_constant};
+ghost use Rattle.ob0_values.specs.Values as values;
+ghost use Rattle.ob0_run_lowering.specs.Layouts.{AreLaidOut, LayOut, LaysOut, RecordAt};
+
+use ob0_types_table::{Field, FieldOf, Known, Shape, TypeId};
+use ob0_values::Scalar;
+use std::alloc::{AllocError, Global};
+use std::marker::Model;
+
+/// A record: how many cells it has, and where each field begins.
+#[derive(Drop)]
+struct RecordLayout {
+    cells: usize,
+    offsets: Vec<usize>,
+}
+
+/// The sizes of an entry of the table of types.
+#[derive(Drop)]
+enum Layout {
+    Array(usize),
+    Record(RecordLayout),
+}
+
+/// What is known of a module, with the sizes of its types.
+#[derive(Drop)]
+pub struct Types<'k, 't> {
+    known: &'k Known<'t>,
+    layouts: Vec<Layout>,
+}
+
+/// A sum of cells. What has no number is more than there is memory for.
+fn plus(cells: usize, more: usize) -> Result<usize, AllocError>
+    ensures { IfOk result (λ n. n ≡ cells + more) }
+{
+    match cells.checked_add(more) {
+        None => Err(AllocError),
+        Some(sum) => Ok(sum),
+    }
+}
+
+/// So many times so many cells.
+fn times(count: usize, cells: usize) -> Result<usize, AllocError>
+    ensures { IfOk result (λ n. n ≡ count * cells) }
+{
+    match count.checked_mul(cells) {
+        None => Err(AllocError),
+        Some(product) => Ok(product),
+    }
+}
+
+/// The cells of the array at a place of the table.
+fn array_cells(layouts: &[Layout], place: usize) -> usize
+    ensures { (shapes : List values.Shape) → LayOut shapes layouts.now → result ≡ size (only_array (slice_index_or shapes place no_shape)) }
+{
+    match layouts.get(place) {
+        None => 0,
+        Some(layout) => match layout {
+            Layout::Array(cells) => *cells,
+            Layout::Record(_) => 0,
+        },
+    }
+}
+
+/// The record at a place of the table.
+fn record_at(layouts: &[Layout], place: usize) -> Option<&RecordLayout>
+    ensures { (shapes : List values.Shape) → LayOut shapes layouts.now → RecordAt result (only_record (slice_index_or shapes place no_shape)) }
+{
+    match layouts.get(place) {
+        None => None,
+        Some(layout) => match layout {
+            Layout::Record(record) => Some(record),
+            Layout::Array(_) => None,
+        },
+    }
+}
+
+fn record_cells(layouts: &[Layout], place: usize) -> usize
+    ensures { (shapes : List values.Shape) → LayOut shapes layouts.now → result ≡ size (only_record (slice_index_or shapes place no_shape)) }
+{
+    match record_at(layouts, place) {
+        None => 0,
+        Some(record) => record.cells,
+    }
+}
+
+/// How many cells a type has, by the types that were laid out so far.
+fn size_in(layouts: &[Layout], of: TypeId) -> usize
+    ensures { (shapes : List values.Shape) → LayOut shapes layouts.now → result ≡ size (type_shape shapes of) }
+{
+    match of {
+        TypeId::Integer => 1,
+        TypeId::Boolean => 1,
+        TypeId::Array(place) => array_cells(layouts, place),
+        TypeId::Record(place) => record_cells(layouts, place),
+        TypeId::Unknown => 0,
+    }
+}
+
+/// The fields of a record one behind the other.
+fn laid_out(alloc: Global, layouts: &[Layout], fields: &[Field]) -> Result<RecordLayout, AllocError>
+    ensures { (shapes : List values.Shape) → LayOut shapes layouts.now → IfOk result (AreLaidOut (fields_shape shapes fields.now)) }
+{
+    let mut offsets = Vec::new(alloc);
+    let mut cells = 0;
+    for field in fields {
+        offsets.push(cells)?;
+        cells = plus(cells, size_in(layouts, field.of))?;
+    }
+    Ok(RecordLayout { cells, offsets })
+}
+
+/// An entry of the table, by those before it.
+fn entry(alloc: Global, layouts: &[Layout], shape: &Shape) -> Result<Layout, AllocError>
+    ensures { (shapes : List values.Shape) → LayOut shapes layouts.now → IfOk result (LaysOut (made_shape shapes shape.now)) }
+{
+    match shape {
+        Shape::Array(array) => {
+            let cells = times(array.length, size_in(layouts, array.element))?;
+            Ok(Layout::Array(cells))
+        }
+        Shape::Record(record) => {
+            let layout = laid_out(alloc, layouts, record.fields.as_slice())?;
+            Ok(Layout::Record(layout))
+        }
+    }
+}
+
+/// The constant of an ordinal has 32 bits.
+fn constant_is_small(known: &Known, ordinal: usize)
+    ensures { (n : ℤ) → declared_in known.now ordinal ≡ Some (a_constant (values.number n)) → machine.fits n ≡ true }
+{
+    match known.constant(ordinal) {
+        None => {}
+        Some(value) => match value {
+            Scalar::Number(_number) => {}
+            Scalar::Truth(_truth) => {}
+        },
+    }
+}
+
+/// The constants of a module have 32 bits.
+fn constants_are_small(known: &Known)
+    ensures { (k : ℕ) (n : ℤ) → declared_in known.now k ≡ Some (a_constant (values.number n)) → machine.fits n ≡ true }
+{
+    for ordinal in 0..known.count() {
+        constant_is_small(known, ordinal);
+    }
+}
+
+impl<'k, 't> Model for Types<'k, 't> {
+    ghost use Rattle.std.specs.Prelude.{◌≡◌, ℕ, ℤ, Some, true};
+    ghost use Rattle.ob0_run_machine.specs.Evaluation as machine;
+    ghost use Rattle.ob0_types_table.specs.KnownTables.{Tables, declared_in, shapes_of};
+    ghost use Rattle.ob0_types_rules.specs.Expressions.{a_constant};
+    ghost use Rattle.ob0_values.specs.Values.{number};
+    ghost use Rattle.ob0_run_lowering.specs.Layouts.{LayOut};
+
+    ghost Value = { Tables };
+
+    ghost view = { λ t. t.known.now };
+
+    ghost invariant = { λ t. LayOut (shapes_of t.known.now) t.layouts.items × ((k : ℕ) (n : ℤ) → declared_in t.known.now k ≡ Some (a_constant (number n)) → machine.fits n ≡ true) };
+}
+
+impl<'k, 't> Types<'k, 't> {
+    ghost use Rattle.ob0_types_table.specs.KnownTables.{shapes_of};
+    ghost use Rattle.ob0_values.specs.Values.{at_field};
+
+    /// The sizes of all types, each found once.
+    ///
+    /// # Errors
+    ///
+    /// Out of memory.
+    pub fn new(alloc: Global, known: &'k Known<'t>) -> Result<Types<'k, 't>, AllocError>
+        ensures { IfOk result (λ t. t ≡ known.now) }
+    {
+        constants_are_small(known);
+        let layouts = all_laid_out(alloc, known)?;
+        Ok(Types { known, layouts })
+    }
+
+    /// What is known of the module. Its constants have 32 bits.
+    pub fn known(&self) -> &'k Known<'t>
+        ensures value { result.now ≡ self.now }
+        ensures small { (k : ℕ) (n : ℤ) → declared_in self.now k ≡ Some (a_constant (values.number n)) → machine.fits n ≡ true }
+    {
+        self.known
+    }
+
+    /// How many cells a type has.
+    pub fn size(&self, of: TypeId) -> usize
+        ensures { result ≡ size (type_shape (shapes_of self.now) of) }
+    {
+        size_in(self.layouts.as_slice(), of)
+    }
+
+    /// Where the first field of this name begins, in the cells of a record.
+    pub fn offset(&self, of: TypeId, name: &str) -> usize
+        ensures { result ≡ step_offset (type_shape (shapes_of self.now) of) (at_field name.now) }
+    {
+        offset_in(self.known, self.layouts.as_slice(), of, name)
+    }
+}
+
+fn offset_at(offsets: &[usize], index: usize) -> usize
+    ensures { result ≡ slice_index_or offsets.now index 0 }
+{
+    match offsets.get(index) {
+        None => 0,
+        Some(offset) => *offset,
+    }
+}
+
+/// Where a field begins that was found, or all of them end.
+fn record_offset(laid: &RecordLayout, field: Option<FieldOf>) -> usize
+    ensures { (k : ℕ) (fs : values.FieldShapes) (x : Name) → AreLaidOut fs laid.now → field ≡ field_selected (values.record_shape k fs) x → result ≡ field_offset fs x }
+{
+    match field {
+        None => laid.cells,
+        Some(field) => offset_at(laid.offsets.as_slice(), field.index),
+    }
+}
+
+fn offset_in(known: &Known, layouts: &[Layout], of: TypeId, name: &str) -> usize
+    ensures { LayOut (shapes_of known.now) layouts.now → result ≡ step_offset (type_shape (shapes_of known.now) of) (values.at_field name.now) }
+{
+    match of {
+        TypeId::Record(place) => match record_at(layouts, place) {
+            None => 0,
+            Some(record) => record_offset(record, known.field_of(of, name)),
+        },
+        TypeId::Integer => 0,
+        TypeId::Boolean => 0,
+        TypeId::Array(_) => 0,
+        TypeId::Unknown => 0,
+    }
+}
+
+/// All types of the table, each by those before it.
+fn all_laid_out(alloc: Global, known: &Known) -> Result<Vec<Layout>, AllocError>
+    ensures { IfOk result (λ layouts. LayOut (shapes_of known.now) layouts.items) }
+{
+    let mut layouts = Vec::new(alloc);
+    for shape in known.shapes() {
+        let next = entry(alloc, layouts.as_slice(), shape)?;
+        layouts.push(next)?;
+    }
+    Ok(layouts)
+}

@@ -1,0 +1,70 @@
+-- Chains: operations in a row, from left to right.
+use Rattle.std.proofs.Common.{◌≡◌, ℕ, ◌+◌, ◌<◌, ◌≤◌, ℤ, List, [], ◌∷◌, length, get_or, drop, refl, sym, ap, ◌∙◌}
+use Rattle.std.proofs.lemmas.List.{drop_all, drop_more}
+use Rattle.ob0_run_machine.specs.declared.code.Link.{Link, out-Link}
+use Rattle.ob0_run_machine.specs.declared.code.Number.{Chain}
+use Rattle.ob0_run_machine.specs.declared.code.Chain.{out-Chain, roll-Chain, rolls-Chain', roll-out-Chain, Row_of-Link, end_of-Link, more_of-Link, items-the_row-Link, items_hidden-the_row-Link-0}
+use Rattle.ob0_run_machine.specs.declared.code.Number.TheBlock.{hidden-the_row-Link-0}
+use Rattle.ob0_run_machine.specs.Evaluation.{Levels, Outcome, ends, gives, number, ◌>>=◌}
+use Rattle.ob0_run_machine.specs.Lowered as lowered
+use Rattle.ob0_run_machine.specs.Answers.{linked}
+use Rattle.ob0_run_machine.specs.View.{chain_of, chained_by, chained_from, chained_in, number_of, operator_of}
+
+pub bind_gives : {A : Type 0} (o : Outcome A) → (o >>= (λ a. gives a)) ≡ o
+bind_gives (gives a) = refl
+bind_gives (ends e) = refl
+
+pub bind_assoc : {A B C : Type 0} (o : Outcome A) (f : A → Outcome B) (g : B → Outcome C) → ((o >>= f) >>= g) ≡ (o >>= (λ a. f a >>= g))
+bind_assoc (gives a) f g = refl
+bind_assoc (ends e) f g = refl
+
+pub bind_same : {A B : Type 0} (o : Outcome A) (f g : A → Outcome B) → ((a : A) → f a ≡ g a) → (o >>= f) ≡ (o >>= g)
+bind_same (gives a) f g h = h a
+bind_same (ends e) f g h = refl
+
+-- what a number becomes by the operations that are left
+abbrev pub continued : Levels → List ℤ → List Link → ℤ → Outcome ℤ
+continued ls cells [] a = gives a
+continued ls cells (l ∷ rest) a = linked ls cells l a >>= continued ls cells rest
+
+pub chained : (ls : Levels) (cells : List ℤ) (left : lowered.Number) (links : List Link) → number ls cells (chained_from left links) ≡ (number ls cells left >>= continued ls cells links)
+chained ls cells left [] = sym (bind_gives (number ls cells left))
+chained ls cells left (l ∷ rest) = chained ls cells (lowered.operation (operator_of (out-Link l).operator) left (number_of (out-Link l).operand)) rest
+    ∙ bind_assoc (number ls cells left) (linked ls cells l) (continued ls cells rest)
+
+-- what was operated so far, with what is left, is the whole
+pub record Continuing (ls : Levels) (cells : List ℤ) (whole : Outcome ℤ) (links : List Link) (done : ℕ) (left : ℤ) : Type 0 where
+  pub so_far : whole ≡ continued ls cells (drop done links) left
+
+pub chain_fails : (ls : Levels) (cells : List ℤ) (first : lowered.Number) (links : List Link) (o : Outcome ℤ) → o ≡ number ls cells first → (o >>= continued ls cells links) ≡ number ls cells (chained_from first links)
+chain_fails ls cells first links o h = ap (λ o. o >>= continued ls cells links) h ∙ sym (chained ls cells first links)
+
+pub chain_begins : (ls : Levels) (cells : List ℤ) (first : lowered.Number) (links : List Link) (a : ℤ) → gives a ≡ number ls cells first → Continuing ls cells (number ls cells (chained_from first links)) links 0 a
+chain_begins ls cells first links a h = record { so_far = sym (chain_fails ls cells first links (gives a) h) }
+
+pub chain_goes : {ls : Levels} {cells : List ℤ} {whole : Outcome ℤ} {links : List Link} {done : ℕ} {left : ℤ} (l : Link) (o : Outcome ℤ)
+    → Continuing ls cells whole links done left → done < length links → l ≡ get_or links done l
+    → o ≡ linked ls cells l left
+    → whole ≡ (o >>= continued ls cells (drop (done + 1) links))
+chain_goes {ls = ls} {cells = cells} {links = links} {done = done} {left = left} l o c less is h =
+    let split : drop done links ≡ l ∷ drop (done + 1) links = drop_more links done l less ∙ ap (λ z. z ∷ drop (done + 1) links) (sym is) in
+    c.so_far ∙ ap (λ ls'. continued ls cells ls' left) split ∙ ap (λ o. o >>= continued ls cells (drop (done + 1) links)) (sym h)
+
+pub chain_on : {ls : Levels} {cells : List ℤ} {whole : Outcome ℤ} {links : List Link} {done : ℕ} {left : ℤ} (l : Link) (b : ℤ)
+    → Continuing ls cells whole links done left → done < length links → l ≡ get_or links done l
+    → gives b ≡ linked ls cells l left
+    → Continuing ls cells whole links (done + 1) b
+chain_on l b c less is h = record { so_far = chain_goes l (gives b) c less is h }
+
+pub chain_ends : {ls : Levels} {cells : List ℤ} {whole : Outcome ℤ} {links : List Link} {done : ℕ} {left : ℤ} → Continuing ls cells whole links done left → length links ≤ done → gives left ≡ whole
+chain_ends {ls = ls} {cells = cells} {links = links} {done = done} {left = left} c all = sym (c.so_far ∙ ap (λ ls'. continued ls cells ls' left) (drop_all done links all))
+
+chained_listed : (n : _) (row : Row_of-Link n) (left : lowered.Number) → chained_by row left ≡ chained_from left (items-the_row-Link n row)
+chained_listed _ end_of-Link left = refl
+chained_listed _ (more_of-Link o right row) left = chained_listed _ row (lowered.operation (operator_of o) left (number_of right))
+
+chain_rolled : (c : _) → chain_of (roll-Chain c) ≡ chained_from (number_of c.first) c.rest.items
+chain_rolled c = ap chain_of (rolls-Chain' c) ∙ chained_listed _ (hidden-the_row-Link-0 c.rest) (number_of c.first) ∙ ap (chained_from (number_of c.first)) (items_hidden-the_row-Link-0 c.rest)
+
+pub chain_made : (c : _) → number_of (Chain c) ≡ chained_in c.value
+chain_made c = sym (ap chain_of (roll-out-Chain c.value)) ∙ chain_rolled (out-Chain c.value)

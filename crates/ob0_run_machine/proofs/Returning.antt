@@ -1,0 +1,89 @@
+-- Calls: the body of a procedure runs, and its cells are given up.
+use Rattle.std.proofs.Common.{◌≡◌, ◌≢◌, ℕ, zero, suc, arith, ◌-◌, ℤ, refl, sym, ap, ◌∙◌, subst, Ok, Err, List, [], ◌++◌, take, Option, None, Some, Result}
+use Rattle.ob0_run_machine.specs.declared.code.Program.{Program}
+use Rattle.ob0_run_machine.specs.declared.ending.Ending.TheVariants as ending
+use Rattle.ob0_run_machine.specs.declared.ending.Stop.{Stop}
+use Rattle.ob0_run_machine.specs.declared.ending.Stop.TheVariants as stop
+use Rattle.ob0_run_machine.specs.declared.level.Level as level
+use Rattle.ob0_run_machine.specs.declared.machine.Machine.{Machine}
+use Rattle.ob0_run_machine.specs.Evaluation.{CallBound, Levels, innermost}
+use Rattle.ob0_run_machine.specs.Execution.{Progress, State, Written, activate, call, execute_all, finished, drop_variables, outermost, run, running, stopped, zeros}
+use Rattle.ob0_run_machine.specs.Levels.{levels_of}
+use Rattle.ob0_run_machine.specs.Lowered.{Procedure}
+use Rattle.ob0_run_machine.specs.Machines.{Does, Enters, Performs, Post, Steps, activated, executed_all, items_out, state_of}
+use Rattle.ob0_run_machine.specs.declared.machine.Item.{Item}
+use Rattle.ob0_run_machine.specs.Lowered as lowered
+use Rattle.ob0_run_machine.specs.Answers.{end_of}
+use Rattle.ob0_run_machine.specs.declared.ending.Ending.{Ending}
+use Rattle.ob0_run_machine.specs.View.{program_of, sequence_of}
+use Rattle.ob0_run_machine.specs.declared.code.Statement.{Statement}
+use Rattle.ob0_run_machine.specs.Outcomes.{block_run}
+use Rattle.std.specs.Prelude.{slice_get}
+
+call-none : (ps : List Procedure) (c t k : ℕ) (ls : Levels) (s : State) → c ≡ 0 → call ps c t k ls s ≡ stopped CallBound s.output
+unfolding call
+call-none ps c t k ls s e = ap (λ c. call ps c t k ls s) e
+
+one_less : (n : ℕ) → n ≢ 0 → n ≡ suc (n - 1)
+one_less zero h = absurd (h refl)
+one_less (suc n) h = omega arith
+
+call-goes : (ps : List Procedure) (c t k : ℕ) (ls : Levels) (s : State) → c ≢ 0 → call ps c t k ls s ≡ drop_variables (innermost ls).base (activate (call ps (c - 1) t) t ls (slice_get ps k) s)
+unfolding call
+call-goes ps c t k ls s e = ap (λ c. call ps c t k ls s) (one_less c e)
+
+pub call_ends : (m : Machine) (program : Program) (c t k : ℕ) (l : level.Level) → c ≡ 0 → Enters (Err (stop.Ended ending.CallBound)) m m program c t k l
+call_ends m program c t k l e = call-none (program_of program).procedures c t k (levels_of l) (state_of m) e
+
+module _ (m m₂ : Machine) (program : Program) (c t k : ℕ) (l : level.Level) (o : Option Procedure) (post : Post) (more : c ≢ 0) (found : o ≡ slice_get (program_of program).procedures k)
+    (performs : Performs post (call (program_of program).procedures (c - 1) t)) where
+  goes : call (program_of program).procedures c t k (levels_of l) (state_of m) ≡ drop_variables (innermost (levels_of l)).base (activate (call (program_of program).procedures (c - 1) t) t (levels_of l) o (state_of m))
+  goes = call-goes (program_of program).procedures c t k (levels_of l) (state_of m) more
+      ∙ ap (λ o. drop_variables (innermost (levels_of l)).base (activate (call (program_of program).procedures (c - 1) t) t (levels_of l) o (state_of m))) (sym found)
+
+  pub call_fails : (e : Stop) → Does post (Err e) m m₂ (activated o t (levels_of l)) → Enters (Err e) m m₂ program c t k l
+  call_fails (stop.Ended x) d = goes ∙ ap (drop_variables (innermost (levels_of l)).base) (d.as_defined _ performs)
+  call_fails stop.Memory d = tt
+
+  pub call_returns : (m₃ : Machine) (u v : Unit {0}) → Does post (Ok u) m m₂ (activated o t (levels_of l)) → state_of m₃ ≡ record (state_of m₂) { cells = take (innermost (levels_of l)).base m₂.cells.items } → Enters (Ok v) m m₃ program c t k l
+  call_returns m₃ u v d cut = goes ∙ ap (drop_variables (innermost (levels_of l)).base) (d.as_defined _ performs) ∙ ap running (sym cut)
+
+-- the body
+pub activates_none : {post : Post} {m : Machine} {o : Option Procedure} (u : Unit {0}) (t : ℕ) (ls : Levels) → o ≡ None → Does post (Ok u) m m (activated o t ls)
+unfolding activate
+activates_none {m = m} u t ls e = record { as_defined = λ enters p. ap (λ o. activate enters t ls o (state_of m)) e }
+
+activate-goes : (enters : _) (t : ℕ) (ls : Levels) (o : Option Procedure) (p : Procedure) (s : State) → o ≡ Some p → activate enters t ls o s ≡ execute_all enters t ls p.body (record s { cells = s.cells ++ zeros p.cells })
+unfolding activate
+activate-goes enters t ls o p s e = ap (λ o. activate enters t ls o s) e
+
+pub activates : {post : Post} {r : Result (Unit {0}) Stop} {m m₂ m' : Machine} {o : Option Procedure} (t : ℕ) (ls : Levels) (p : Procedure) → o ≡ Some p → state_of m₂ ≡ record (state_of m) { cells = m.cells.items ++ zeros p.cells }
+    → Does post r m₂ m' (executed_all t ls p.body) → Does post r m m' (activated o t ls)
+activates {r = r} {m = m} {m' = m'} {o = o} t ls p e more d = record {
+  as_defined = λ enters performs.
+      subst (Steps r m') (sym (activate-goes enters t ls o p (state_of m) e ∙ ap (execute_all enters t ls p.body) (sym more))) (d.as_defined enters performs);
+}
+
+pub leaving_steps : (r : Result (Unit {0}) Stop) (e : Stop) (m : Machine) (p : Progress) → (y : Stop) × (r ≡ Err y) × (y ≡ e) → Steps (Err e) m p → Steps r m p
+leaving_steps r e m p q h = subst (λ r. Steps r m p) (sym q.1) (subst (λ y. Steps (Err y) m p) (sym q.2) h)
+
+-- the statements of a program
+pub block_runs : (m m' : Machine) (program : Program) (c t : ℕ) (r : Result (Unit {0}) Stop) (post : Post) (inner : Levels) (xs : List Statement) → Performs post (call (program_of program).procedures c t)
+    → inner ≡ outermost → xs ≡ program.body.items → Does post r m m' (executed_all t inner (sequence_of xs)) → Steps r m' (block_run (program_of program) c t (state_of m))
+block_runs m m' program c t r post inner xs performs seen same d =
+    subst (λ xs. Steps r m' (executed_all t outermost (sequence_of xs) (call (program_of program).procedures c t) (state_of m))) same
+    (subst (λ inner. Steps r m' (executed_all t inner (sequence_of xs) (call (program_of program).procedures c t) (state_of m))) seen (d.as_defined _ performs))
+
+-- whole runs
+abbrev pub state_with : List ℤ → List ℤ → List Written → State
+state_with cells input output = record { cells = cells; input = input; output = output }
+
+pub ended_by : (m : Machine) (p : Progress) (y : Stop) (x : Ending) → y ≡ stop.Ended x → Steps (Err y) m p → p ≡ stopped (end_of x) (items_out m.output.items)
+ended_by m p y x e h = let P : Stop → Type 0 = λ y. Steps (Err y) m p in subst P e h
+
+pub finishes : (program : lowered.Program) (input : List ℤ) (c t : ℕ) (s : State) (p : Progress) → s ≡ record { cells = zeros program.cells; input = input; output = [] } → block_run program c t s ≡ p → finished p ≡ run program input c t
+unfolding run
+finishes program input c t s p begun h = sym (ap finished h) ∙ ap (λ s. finished (block_run program c t s)) begun
+
+pub begins_with : (cells before zs input : List ℤ) (out : List Item) → cells ≡ before ++ zs → before ≡ [] → out ≡ [] → state_with cells input (items_out out) ≡ state_with zs input []
+begins_with cells before zs input out a b d = ap (λ cells. state_with cells input (items_out out)) (a ∙ ap (λ xs. xs ++ zs) b) ∙ ap (λ out. state_with zs input (items_out out)) d

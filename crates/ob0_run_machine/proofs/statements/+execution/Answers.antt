@@ -1,0 +1,90 @@
+use Rattle.std.proofs.Common.{sym, ap, ◌∙◌}
+use Rattle.std.proofs.lemmas.Result.{err_from_is_err_and}
+use Rattle.ob0_run_machine.specs.Levels.{levels_of}
+use Rattle.ob0_run_machine.specs.View.{statement_of}
+use Rattle.ob0_run_machine.proofs.Executing.{branch_taken, branches_begin, does_statement, branches_end, branches_fail, branches_on, leaving, repeat_begins, repeat_body_fails, repeat_bound, repeat_ends, repeat_fails, repeat_on, sequence_begins, sequence_ends, sequence_fails, sequence_on, settled, turn_made, while_begins, while_body_fails, while_bound, while_ends, while_fails, while_on}
+use Rattle.ob0_run_machine.proofs.Viewed.{if_made, repeat_made, while_made}
+use Rattle.ob0_run_machine.proofs.statements.+execution.Goals as goal
+
+pub branches-loop-branch-init : goal.branches-loop-branch-init
+branches-loop-branch-init g t c = branches_begin c.deref-branch-items.ensures.value
+
+pub branches-returns-in_err-holds : goal.branches-returns-in_err-holds
+branches-returns-in_err-holds g t c = leaving (err_from_is_err_and c.from_residual.result c.from_residual.ensures.1)
+    (branches_fail c.in_err-holds.field-0.0 c.branch-item.result c.loop-branch.invariant c.loop-branch-test.true c.branch-item.is c.in_err-holds.ensures)
+
+pub branches-returns-then-branch : goal.branches-returns-then-branch
+branches-returns-then-branch g t c =
+    branch_taken c.sequence.result _ c.branch-item.result c.loop-branch.invariant c.loop-branch-test.true c.branch-item.is (settled c.in_ok-holds.ensures c.if-branch.true) c.deref.ensures.value c.sequence.ensures
+
+pub branches-loop-branch-preserved : goal.branches-loop-branch-preserved
+branches-loop-branch-preserved g t c =
+    branches_on c.branch-item.result c.loop-branch.invariant c.loop-branch-test.true c.branch-item.is (settled c.in_ok-holds.ensures c.if-branch.false)
+
+pub branches-returns : goal.branches-returns
+branches-returns g t c = branches_end c.sequence-2.result _ c.loop-branch.invariant c.loop-branch-test.false c.deref-2.ensures.value c.sequence-2.ensures
+
+pub run_loop-loop-left-init : goal.run_loop-loop-left-init
+run_loop-loop-left-init g t c = while_begins
+
+pub run_loop-returns-in_err-holds : goal.run_loop-returns-in_err-holds
+run_loop-returns-in_err-holds g t c = leaving (err_from_is_err_and c.from_residual.result c.from_residual.ensures.1)
+    (while_fails c.in_err-holds.field-0.0 c.loop-left.invariant c.in_err-holds.ensures)
+
+pub run_loop-returns-then-not-branch : goal.run_loop-returns-then-not-branch
+run_loop-returns-then-not-branch g t c = while_ends tt c.loop-left.invariant (settled c.in_ok-holds.ensures c.if-not-branch.true)
+
+pub run_loop-returns-then-left-eq0 : goal.run_loop-returns-then-left-eq0
+run_loop-returns-then-left-eq0 g t c = while_bound c.loop-left.invariant (settled c.in_ok-holds.ensures c.if-not-branch.false) c.if-left-eq0.true
+
+pub run_loop-loop-left-preserved : goal.run_loop-loop-left-preserved
+run_loop-loop-left-preserved g t c = while_on c.in_ok-sequence.field-0 _ c.loop-left.invariant (settled c.in_ok-holds.ensures c.if-not-branch.false) c.if-left-eq0.false c.deref.ensures.value c.in_ok-sequence.ensures
+
+pub run_loop-returns-in_err-sequence : goal.run_loop-returns-in_err-sequence
+run_loop-returns-in_err-sequence g t c = leaving (err_from_is_err_and c.from_residual-in_err-sequence.result c.from_residual-in_err-sequence.ensures.1)
+    (while_body_fails c.in_err-sequence.field-0.0 _ c.loop-left.invariant (settled c.in_ok-holds.ensures c.if-not-branch.false) c.if-left-eq0.false c.deref.ensures.value c.in_err-sequence.ensures)
+
+pub sequence-loop-s-init : goal.sequence-loop-s-init
+sequence-loop-s-init g t c = sequence_begins
+
+pub sequence-returns-in_err-statement : goal.sequence-returns-in_err-statement
+sequence-returns-in_err-statement g t c = leaving (err_from_is_err_and c.from_residual.result c.from_residual.ensures.1)
+    (sequence_fails c.in_err-statement.field-0.0 c.s-item.result c.loop-s.invariant c.loop-s-test.true c.s-item.is c.in_err-statement.ensures)
+
+pub sequence-loop-s-preserved : goal.sequence-loop-s-preserved
+sequence-loop-s-preserved g t c = sequence_on c.in_ok-statement.field-0 c.s-item.result c.loop-s.invariant c.loop-s-test.true c.s-item.is c.in_ok-statement.ensures
+
+pub sequence-returns : goal.sequence-returns
+sequence-returns g t c = sequence_ends tt c.loop-s.invariant c.loop-s-test.false
+
+pub statement-returns-in-If : goal.statement-returns-in-If
+statement-returns-in-If g t c = does_statement c.args.turns (levels_of c.args.level.now) (sym (ap statement_of c.in-If.is ∙ if_made c.in-If.i)) c.branches.ensures
+
+pub statement-returns-in-While : goal.statement-returns-in-While
+statement-returns-in-While g t c = does_statement c.args.turns (levels_of c.args.level.now) (sym (ap statement_of c.in-While.is ∙ while_made c.in-While.w)) c.run_loop.ensures
+
+pub statement-returns-in-Repeat : goal.statement-returns-in-Repeat
+statement-returns-in-Repeat g t c = does_statement c.args.turns (levels_of c.args.level.now) (sym (ap statement_of c.in-Repeat.is ∙ repeat_made c.in-Repeat.r)) c.until.ensures
+
+pub until-loop-machine-init : goal.until-loop-machine-init
+until-loop-machine-init g t c = repeat_begins c.saturating_sub-further.ensures
+
+pub until-returns-in_err-sequence : goal.until-returns-in_err-sequence
+until-returns-in_err-sequence g t c = leaving (err_from_is_err_and c.from_residual.result c.from_residual.ensures.1)
+    (repeat_body_fails c.in_err-sequence.field-0.0 _ c.loop-machine.invariant c.deref.ensures.value c.in_err-sequence.ensures)
+
+pub until-returns-in_err-holds : goal.until-returns-in_err-holds
+until-returns-in_err-holds g t c = leaving (err_from_is_err_and c.from_residual-in_err-holds.result c.from_residual-in_err-holds.ensures.1)
+    (repeat_fails c.in_err-holds.field-0.0 (turn_made c.in_ok-sequence.field-0 _ c.loop-machine.invariant c.deref.ensures.value c.in_ok-sequence.ensures) c.in_err-holds.ensures)
+
+pub until-returns-then-branch : goal.until-returns-then-branch
+until-returns-then-branch g t c =
+    repeat_ends tt (turn_made c.in_ok-sequence.field-0 _ c.loop-machine.invariant c.deref.ensures.value c.in_ok-sequence.ensures) (settled c.in_ok-holds.ensures c.if-branch.true)
+
+pub until-returns-then-further-eq0 : goal.until-returns-then-further-eq0
+until-returns-then-further-eq0 g t c =
+    repeat_bound (turn_made c.in_ok-sequence.field-0 _ c.loop-machine.invariant c.deref.ensures.value c.in_ok-sequence.ensures) (settled c.in_ok-holds.ensures c.if-branch.false) c.if-further-eq0.true
+
+pub until-loop-machine-preserved : goal.until-loop-machine-preserved
+until-loop-machine-preserved g t c =
+    repeat_on (turn_made c.in_ok-sequence.field-0 _ c.loop-machine.invariant c.deref.ensures.value c.in_ok-sequence.ensures) (settled c.in_ok-holds.ensures c.if-branch.false) c.if-further-eq0.false

@@ -1,0 +1,39 @@
+-- What the machine's steps answer.
+use Rattle.std.specs.Prelude.{◌≡◌, ℤ, List, Option, Some, None, Ok, Err, Result}
+use Rattle.ob0_run_machine.specs.declared.ending.Ending.{Ending}
+use Rattle.ob0_run_machine.specs.declared.ending.Ending.TheVariants as ending
+use Rattle.ob0_run_machine.specs.declared.ending.Stop.{Stop}
+use Rattle.ob0_run_machine.specs.declared.ending.Stop.TheVariants as stop
+use Rattle.ob0_run_machine.specs.Evaluation as evaluation
+use Rattle.ob0_run_machine.specs.Evaluation.{End, Levels, Outcome, ends, gives, number, operate, ◌>>=◌}
+use Rattle.ob0_run_machine.specs.declared.code.Link.{Link, out-Link}
+use Rattle.ob0_run_machine.specs.View.{number_of, operator_of}
+
+-- how a run ends
+abbrev pub end_of : Ending → End
+end_of ending.Overflow = evaluation.Overflow
+end_of ending.Divisor = evaluation.Divisor
+end_of ending.Index = evaluation.Index
+end_of ending.InputEnd = evaluation.InputEnd
+end_of ending.CallBound = evaluation.CallBound
+end_of ending.TurnBound = evaluation.TurnBound
+
+-- an answer is what a step gives or how it ends the run
+abbrev pub outcome_of_result : {A : Type 0} → Result A Ending → Outcome A
+outcome_of_result (Ok a) = gives a
+outcome_of_result (Err e) = ends (end_of e)
+
+-- the same where memory may be refused
+abbrev pub Answers : {A B : Type 0} → (A → B) → Result A Stop → Outcome B → Type 0
+Answers view (Ok a) o = o ≡ gives (view a)
+Answers view (Err (stop.Ended e)) o = o ≡ ends (end_of e)
+Answers view (Err stop.Memory) o = Unit {0}
+
+-- a number that is there is given, one that isn't is past the 32 bits
+abbrev pub if_there : Option ℤ → Outcome ℤ
+if_there None = ends evaluation.Overflow
+if_there (Some n) = gives n
+
+-- a number with one operation more
+abbrev pub linked : Levels → List ℤ → Link → ℤ → Outcome ℤ
+linked ls cells l left = number ls cells (number_of (out-Link l).operand) >>= operate (operator_of (out-Link l).operator) left

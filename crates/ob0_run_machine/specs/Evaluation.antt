@@ -1,0 +1,124 @@
+-- What places, numbers and truths of lowered code are worth, in activations and over cells.
+use Rattle.std.specs.Prelude.{ℕ, zero, suc, ◌+◌, ◌-◌, ◌*◌, ◌/◌, ◌%◌, ◌^◌, Bool, true, false, not, ◌&&◌, List, [], ◌∷◌, ℤ, pos, negsuc, ◌+ℤ◌, ◌-ℤ◌, ◌*ℤ◌, neg_ℤ, if◌then◌else◌, nat_lt, slice_index_or, int_lt, int_le, drop}
+use Rattle.ob0_run_machine.specs.Lowered.{Place, in_module, here, outside, passed, element, part, Number, literal, cell, negative, operation, Operator, sum, difference, product, quotient, remainder, Relation, equal, not_equal, less, less_equal, greater, greater_equal, Truth, constant, flag, negation, both, either, related, same, different}
+
+infixl 20 ◌>>=◌
+-- how a run ends
+pub data End : Type 0 where
+  Done Overflow Divisor Index InputEnd CallBound TurnBound : End
+
+-- a step of a run gives something, or it ends the run
+pub data Outcome (A : Type 0) : Type 0 where
+  gives : A → Outcome A
+  ends : End → Outcome A
+
+abbrev pub ◌>>=◌ : {A B : Type 0} → Outcome A → (A → Outcome B) → Outcome B
+◌>>=◌ (gives a) next = next a
+◌>>=◌ (ends e) next = ends e
+
+-- an activation: where its cells begin, and where its VAR parameters lead
+pub record Level : Type 0 where
+  pub base : ℕ
+  pub addresses : List ℕ
+
+-- the activations that running code can see, the running one first
+abbrev pub Levels : Type 0
+Levels = List Level
+
+abbrev pub innermost : Levels → Level
+innermost [] = record { base = 0; addresses = [] }
+innermost (l ∷ ls) = l
+
+abbrev pub level_at : Levels → ℕ → Level
+level_at ls up = innermost (drop up ls)
+
+-- addresses wrap at 64 bits
+abbrev pub forward : ℕ → ℕ → ℕ
+forward address offset = (address + offset) % 2 ^ 64
+
+-- an element of an array is there for an index from 0 on and below the length
+abbrev pub element_at : ℕ → ℕ → ℕ → ℤ → Outcome ℕ
+element_at address length stride (pos i) = if nat_lt i length then gives (forward address (i * stride)) else ends Index
+element_at address length stride (negsuc i) = ends Index
+
+-- what isn't there is worth 0
+abbrev pub cell_at : List ℤ → ℕ → ℤ
+cell_at cells address = slice_index_or cells address (pos 0)
+
+-- a number of 32 bits
+abbrev pub fits : ℤ → Bool
+fits (pos n) = nat_lt n (2 ^ 31)
+fits (negsuc n) = nat_lt n (2 ^ 31)
+
+abbrev pub in_range : ℤ → Outcome ℤ
+in_range n = if fits n then gives n else ends Overflow
+
+-- DIV rounds down and MOD is the rest from 0 on, for a divisor above 0
+abbrev pub quotient_of : ℤ → ℕ → ℤ
+quotient_of (pos a) b = pos (a / b)
+quotient_of (negsuc a) b = negsuc (a / b)
+
+abbrev pub remainder_of : ℤ → ℕ → ℤ
+remainder_of (pos a) b = pos (a % b)
+remainder_of (negsuc a) b = pos (b - suc (a % b))
+
+-- by a divisor below 1 nothing is divided
+abbrev pub divided_by : (ℤ → ℕ → ℤ) → ℤ → ℤ → Outcome ℤ
+divided_by result a (pos zero) = ends Divisor
+divided_by result a (pos (suc b)) = in_range (result a (suc b))
+divided_by result a (negsuc b) = ends Divisor
+
+abbrev pub operate : Operator → ℤ → ℤ → Outcome ℤ
+operate sum a b = in_range (a +ℤ b)
+operate difference a b = in_range (a -ℤ b)
+operate product a b = in_range (a *ℤ b)
+operate quotient a b = divided_by quotient_of a b
+operate remainder a b = divided_by remainder_of a b
+
+abbrev mutual
+  pub address : Levels → List ℤ → Place → Outcome ℕ
+  address ls cells (in_module offset) = gives offset
+  address ls cells (here offset) = gives (forward (innermost ls).base offset)
+  address ls cells (outside up offset) = gives (forward (level_at ls up).base offset)
+  address ls cells (passed up index) = gives (slice_index_or (level_at ls up).addresses index 0)
+  address ls cells (element p i length stride) =
+      address ls cells p >>= (λ a. number ls cells i >>= element_at a length stride)
+  address ls cells (part p offset) = address ls cells p >>= (λ a. gives (forward a offset))
+
+  pub number : Levels → List ℤ → Number → Outcome ℤ
+  number ls cells (literal n) = gives n
+  number ls cells (cell p) = address ls cells p >>= (λ a. gives (cell_at cells a))
+  number ls cells (negative n) = number ls cells n >>= (λ a. in_range (neg_ℤ a))
+  number ls cells (operation o m n) = number ls cells m >>= (λ a. number ls cells n >>= operate o a)
+
+abbrev pub compare : Relation → ℤ → ℤ → Bool
+compare equal a b = int_le a b && int_le b a
+compare not_equal a b = not (int_le a b && int_le b a)
+compare less a b = int_lt a b
+compare less_equal a b = int_le a b
+compare greater a b = int_lt b a
+compare greater_equal a b = int_le b a
+
+-- 0 is FALSE, all else TRUE
+abbrev pub is_true : ℤ → Bool
+is_true (pos zero) = false
+is_true (pos (suc n)) = true
+is_true (negsuc n) = true
+
+abbrev pub as_cell : Bool → ℤ
+as_cell false = pos 0
+as_cell true = pos 1
+
+abbrev pub alike : Bool → Bool → Bool
+alike true b = b
+alike false b = not b
+
+abbrev pub truth : Levels → List ℤ → Truth → Outcome Bool
+truth ls cells (constant b) = gives b
+truth ls cells (flag p) = address ls cells p >>= (λ a. gives (is_true (cell_at cells a)))
+truth ls cells (negation t) = truth ls cells t >>= (λ a. gives (not a))
+truth ls cells (both t u) = truth ls cells t >>= (λ a. if a then truth ls cells u else gives false)
+truth ls cells (either t u) = truth ls cells t >>= (λ a. if a then gives true else truth ls cells u)
+truth ls cells (related r m n) = number ls cells m >>= (λ a. number ls cells n >>= (λ b. gives (compare r a b)))
+truth ls cells (same t u) = truth ls cells t >>= (λ a. truth ls cells u >>= (λ b. gives (alike a b)))
+truth ls cells (different t u) = truth ls cells t >>= (λ a. truth ls cells u >>= (λ b. gives (not (alike a b))))

@@ -1,0 +1,166 @@
+-- Runs of lowered code, by big steps: statements, calls and whole programs, over the activations that are seen, the cells, the
+-- rest of the input, and bounds c on open calls and t on the turns of a loop.
+use Rattle.std.specs.Prelude.{ℕ, zero, suc, ◌+◌, ◌-◌, Bool, true, false, ◌&&◌, List, [], ◌∷◌, ◌++◌, length, take, drop, replicate, ℤ, pos, Some, None, Option, if◌then◌else◌, nat_le, slice_get, slice_set}
+use Rattle.ob0_run_machine.specs.Lowered.{Argument, by_place, by_number, by_truth, by_block, Statement, stores_number, stores_truth, copies, reads, writes, writes_line, chooses, while_loop, repeat_loop, calls, Statements, no_statement, before, Branches, no_branch, branch, Procedure, Program}
+use Rattle.ob0_run_machine.specs.Evaluation.{CallBound, Done, End, InputEnd, Outcome, Levels, TurnBound, address, as_cell, ends, gives, innermost, number, truth, ◌>>=◌}
+
+pub data Written : Type 0 where
+  number_out : ℤ → Written
+  line_out : Written
+
+-- the cells of all variables, those of the module first
+pub record State : Type 0 where
+  pub cells : List ℤ
+  pub input : List ℤ
+  pub output : List Written
+
+-- a run goes on, or it has ended; what was put out before stands
+pub data Progress : Type 0 where
+  running : State → Progress
+  stopped : End → List Written → Progress
+
+-- what an evaluation gives, used in a state
+abbrev pub use_in : {A : Type 0} → State → Outcome A → (A → Progress) → Progress
+use_in s (gives a) next = next a
+use_in s (ends e) next = stopped e s.output
+
+abbrev pub go_on : Progress → (State → Progress) → Progress
+go_on (running s) next = next s
+go_on (stopped e out) next = stopped e out
+
+abbrev pub choose : State → Outcome Bool → (State → Progress) → (State → Progress) → Progress
+choose s (gives true) when_true when_false = when_true s
+choose s (gives false) when_true when_false = when_false s
+choose s (ends e) when_true when_false = stopped e s.output
+
+abbrev pub put_out : State → Written → State
+put_out s i = record s { output = s.output ++ i ∷ [] }
+
+-- a cell that isn't there stays so
+abbrev pub store_at : State → ℕ → ℤ → State
+store_at s a n = record s { cells = slice_set s.cells a n }
+
+-- so many cells from one address go to another, where both are there; else nothing changes
+abbrev pub copied : List ℤ → (to from n : ℕ) → List ℤ
+copied cells to from n =
+    if nat_le (to + n) (length cells) && nat_le (from + n) (length cells)
+    then take to cells ++ (take n (drop from cells) ++ drop (to + n) cells)
+    else cells
+
+-- so many new cells, each 0
+abbrev pub zeros : ℕ → List ℤ
+zeros n = replicate n (pos 0)
+
+-- so many cells from an address on, 0 where they aren't there
+abbrev pub block_at : List ℤ → (from n : ℕ) → List ℤ
+block_at cells from n = if nat_le (from + n) (length cells) then take n (drop from cells) else zeros n
+
+-- `Read` takes the next number of the input, or ends with InputEnd
+abbrev pub read_number : State → ℕ → List ℤ → Progress
+read_number s a [] = stopped InputEnd s.output
+read_number s a (n ∷ rest) = running (store_at (record s { input = rest }) a n)
+
+-- what was passed: values are cells at the end, and places are addresses, both in the order of the parameters
+pub record Passed : Type 0 where
+  pub cells : List ℤ
+  pub addresses : List ℕ
+
+abbrev pub pass_cells : Passed → List ℤ → Passed
+pass_cells p more = record p { cells = p.cells ++ more }
+
+abbrev pub pass : Levels → Argument → Passed → Outcome Passed
+pass ls (by_place p) done = address ls done.cells p >>= (λ a. gives record done { addresses = done.addresses ++ a ∷ [] })
+pass ls (by_number n) done = number ls done.cells n >>= (λ a. gives (pass_cells done (a ∷ [])))
+pass ls (by_truth t) done = truth ls done.cells t >>= (λ a. gives (pass_cells done (as_cell a ∷ [])))
+pass ls (by_block p n) done = address ls done.cells p >>= (λ a. gives (pass_cells done (block_at done.cells a n)))
+
+-- arguments are evaluated and passed from left to right
+abbrev pub pass_all : Levels → List Argument → Passed → Outcome Passed
+pass_all ls [] done = gives done
+pass_all ls (a ∷ as_given) done = pass ls a done >>= pass_all ls as_given
+
+-- a loop evaluates its condition; where it is TRUE and t turns were made, it ends with TurnBound; else one more turn is made
+abbrev pub turns : ℕ → (State → Outcome Bool) → (State → Progress) → State → Progress
+turns zero condition statements s = choose s (condition s) (λ s'. stopped TurnBound s'.output) running
+turns (suc t) condition statements s =
+    choose s (condition s) (λ s'. go_on (statements s') (turns t condition statements)) running
+
+-- REPEAT makes a turn and then evaluates its condition: TRUE ends the statement; FALSE ends it with TurnBound where no more
+-- turns may be made, t more after this one; else one more turn is made
+abbrev pub turns_until : ℕ → (State → Outcome Bool) → (State → Progress) → State → Progress
+turns_until zero condition turn s =
+    go_on (turn s) (λ s'. choose s' (condition s') running (λ s''. stopped TurnBound s''.output))
+turns_until (suc t) condition turn s =
+    go_on (turn s) (λ s'. choose s' (condition s') running (turns_until t condition turn))
+
+-- what a procedure does where it is called: the activations that its body sees, its own first, whose arguments are passed
+abbrev pub Calls : Type 0
+Calls = ℕ → Levels → State → Progress
+
+-- the activations that a called procedure sees
+abbrev pub entered : Levels → (base up : ℕ) → Passed → Levels
+entered ls base up p = record { base = base; addresses = p.addresses } ∷ drop up ls
+
+-- an assignment finds its place, then evaluates its right side, then stores
+unfoldable mutual
+  pub execute : Calls → ℕ → Levels → Statement → State → Progress
+  execute enter t ls (stores_number p n) s =
+      use_in s (address ls s.cells p) (λ a. use_in s (number ls s.cells n) (λ v. running (store_at s a v)))
+  execute enter t ls (stores_truth p u) s =
+      use_in s (address ls s.cells p) (λ a. use_in s (truth ls s.cells u) (λ v. running (store_at s a (as_cell v))))
+  execute enter t ls (copies p q n) s =
+      use_in s (address ls s.cells p) (λ to. use_in s (address ls s.cells q) (λ from. running record s { cells = copied s.cells to from n }))
+  execute enter t ls (reads p) s = use_in s (address ls s.cells p) (λ a. read_number s a s.input)
+  execute enter t ls (writes n) s = use_in s (number ls s.cells n) (λ v. running (put_out s (number_out v)))
+  execute enter t ls writes_line s = running (put_out s line_out)
+  execute enter t ls (chooses bs otherwise) s = execute_branches enter t ls bs (execute_all enter t ls otherwise) s
+  execute enter t ls (while_loop c body) s = turns t (λ s'. truth ls s'.cells c) (execute_all enter t ls body) s
+  execute enter t ls (repeat_loop body c) s = turns_until (t - 1) (λ s'. truth ls s'.cells c) (execute_all enter t ls body) s
+  execute enter t ls (calls k up args) s =
+      use_in s (pass_all ls args record { cells = s.cells; addresses = [] })
+      (λ p. enter k (entered ls (length s.cells) up p) record s { cells = p.cells })
+
+  pub execute_all : Calls → ℕ → Levels → Statements → State → Progress
+  execute_all enter t ls no_statement s = running s
+  execute_all enter t ls (before a rest) s = go_on (execute enter t ls a s) (execute_all enter t ls rest)
+
+  pub execute_branches : Calls → ℕ → Levels → Branches → (State → Progress) → State → Progress
+  execute_branches enter t ls no_branch otherwise s = otherwise s
+  execute_branches enter t ls (branch c body rest) otherwise s =
+      choose s (truth ls s.cells c) (execute_all enter t ls body) (execute_branches enter t ls rest otherwise)
+
+-- a call that returns gives up its cells: the first n stay
+abbrev pub drop_variables : ℕ → Progress → Progress
+drop_variables n (running s) = running record s { cells = take n s.cells }
+drop_variables n (stopped e out) = stopped e out
+
+-- the body of a procedure runs with its own cells behind its arguments; what isn't there does nothing
+unfoldable pub activate : Calls → ℕ → Levels → Option Procedure → State → Progress
+unfolding execute_all
+activate enter t ls None s = running s
+activate enter t ls (Some p) s = execute_all enter t ls p.body record s { cells = s.cells ++ zeros p.cells }
+
+-- calls, of which c more may be open
+unfoldable pub call : List Procedure → ℕ → ℕ → Calls
+unfolding activate
+call procedures zero t k ls s = stopped CallBound s.output
+call procedures (suc c) t k ls s = drop_variables (innermost ls).base (activate (call procedures c t) t ls (slice_get procedures k) s)
+
+pub record Run : Type 0 where
+  pub output : List Written
+  pub ending : End
+
+-- a run that reaches the end of the program ends with Done
+abbrev pub finished : Progress → Run
+finished (running s) = record { output = s.output; ending = Done }
+finished (stopped e out) = record { output = out; ending = e }
+
+-- the module's own activation is the outermost one
+abbrev pub outermost : Levels
+outermost = record { base = 0; addresses = [] } ∷ []
+
+-- the run of a program on an input
+unfoldable pub run : Program → List ℤ → ℕ → ℕ → Run
+unfolding execute_all call
+run program input c t =
+    finished (execute_all (call program.procedures c t) t outermost program.body record { cells = zeros program.cells; input = input; output = [] })

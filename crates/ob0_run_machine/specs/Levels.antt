@@ -1,0 +1,25 @@
+-- The activations that an activation sees, itself first, and where VAR parameters lead.
+use Rattle.std.specs.Prelude.{ℕ, List, Option, Some, None, [], ◌∷◌}
+use denote.Ref.{Bor}
+use Rattle.ob0_run_machine.specs.declared.addresses.Addresses.{Addresses}
+use Rattle.ob0_run_machine.specs.declared.addresses.Addresses.TheVariants as addresses
+use Rattle.ob0_run_machine.specs.declared.level.Level as code
+use Rattle.ob0_run_machine.specs.Evaluation.{Levels}
+
+abbrev mutual
+  pub levels_of : code.Level → Levels
+  levels_of (code.Level' base addresses enclosing) = record { base = base; addresses = addresses.now } ∷ levels_behind enclosing
+
+  pub levels_behind : code.Held-Level-enclosing → Levels
+  levels_behind code.None' = []
+  levels_behind (code.Some' pointer l) = levels_of l
+
+abbrev pub levels_seen : Option (Bor code.Level) → Levels
+levels_seen None = []
+levels_seen (Some l) = levels_of l.now
+
+abbrev pub addresses_in : Addresses → List ℕ
+addresses_in addresses.Empty = []
+addresses_in (addresses.One a) = a ∷ []
+addresses_in (addresses.Two a b) = a ∷ b ∷ []
+addresses_in (addresses.More all) = all.items

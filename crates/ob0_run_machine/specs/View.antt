@@ -1,0 +1,178 @@
+-- The lowered code that a value of the code's types stands for, and the activations.
+use Rattle.std.specs.Prelude.{List, [], ◌∷◌, map}
+use Rattle.ob0_run_machine.specs.declared.code.Place as place
+use Rattle.ob0_run_machine.specs.declared.code.Place.{Place}
+use Rattle.ob0_run_machine.specs.declared.code.Number as number
+use Rattle.ob0_run_machine.specs.declared.code.Number.{Number}
+use Rattle.ob0_run_machine.specs.declared.code.Chain as chain
+use Rattle.ob0_run_machine.specs.declared.code.Operator.{Operator}
+use Rattle.ob0_run_machine.specs.declared.code.Operator.TheVariants as operator
+use Rattle.ob0_run_machine.specs.declared.code.Element.{Element, out-Element}
+use Rattle.ob0_run_machine.specs.declared.code.Link.{Link, out-Link}
+use Rattle.ob0_run_machine.specs.declared.code.Operands.{Operands, out-Operands}
+use Rattle.ob0_run_machine.specs.declared.code.Relation.{Relation}
+use Rattle.ob0_run_machine.specs.declared.code.Relation.TheVariants as relation
+use Rattle.ob0_run_machine.specs.declared.code.Truth as truth
+use Rattle.ob0_run_machine.specs.declared.code.Truth.{Truth}
+use Rattle.ob0_run_machine.specs.declared.code.Several.{Several, out-Several}
+use Rattle.ob0_run_machine.specs.declared.code.Argument as argument_type
+use Rattle.ob0_run_machine.specs.declared.code.Argument.TheVariants as argument
+use Rattle.ob0_run_machine.specs.declared.code.Statement as statement
+use Rattle.ob0_run_machine.specs.declared.code.Statement.{Statement}
+use Rattle.ob0_run_machine.specs.declared.code.If as if_statement
+use Rattle.ob0_run_machine.specs.declared.code.Branch.{Branch}
+use Rattle.ob0_run_machine.specs.declared.code.While.{While}
+use Rattle.ob0_run_machine.specs.declared.code.Repeat.{Repeat}
+use Rattle.ob0_run_machine.specs.declared.code.Call as call
+use Rattle.ob0_run_machine.specs.declared.code.Procedure as procedure
+use Rattle.ob0_run_machine.specs.declared.code.Program as program
+use Rattle.ob0_run_machine.specs.Lowered as lowered
+
+abbrev pub operator_of : Operator → lowered.Operator
+operator_of operator.Sum = lowered.sum
+operator_of operator.Difference = lowered.difference
+operator_of operator.Product = lowered.product
+operator_of operator.Quotient = lowered.quotient
+operator_of operator.Remainder = lowered.remainder
+
+abbrev mutual
+  pub place_of : Place → lowered.Place
+  place_of (place.Module offset) = lowered.in_module offset
+  place_of (place.Here offset) = lowered.here offset
+  place_of (place.Outside up offset) = lowered.outside up offset
+  place_of (place.Passed up index) = lowered.passed up index
+  place_of (place.Element' pointer array index length stride) = lowered.element (place_of array) (number_of index) length stride
+  place_of (place.Part' pointer p offset) = lowered.part (place_of p) offset
+
+  pub number_of : Number → lowered.Number
+  number_of (number.Literal n) = lowered.literal n
+  number_of (number.Cell p) = lowered.cell (place_of p)
+  number_of (number.Negative' pointer n) = lowered.negative (number_of n)
+  number_of (number.Operation' o pointer left right) = lowered.operation (operator_of o) (number_of left) (number_of right)
+  number_of (number.Chain' pointer c) = chain_of c
+
+  pub chain_of : chain.Chain → lowered.Number
+  chain_of (chain.Chain' first shape row) = chained_by row (number_of first)
+
+  -- operations in a row
+  pub chained_by : {n : _} → chain.Row_of-Link n → lowered.Number → lowered.Number
+  chained_by chain.end_of-Link left = left
+  chained_by (chain.more_of-Link o right row) left = chained_by row (lowered.operation (operator_of o) left (number_of right))
+
+-- the same by the fields of a node
+abbrev pub element_of : Element → lowered.Place
+element_of e = lowered.element (place_of (out-Element e).array) (number_of (out-Element e).index) (out-Element e).length (out-Element e).stride
+
+abbrev pub operation_of : Operator → Operands → lowered.Number
+operation_of o operands = lowered.operation (operator_of o) (number_of (out-Operands operands).left) (number_of (out-Operands operands).right)
+
+abbrev pub chained_from : lowered.Number → List Link → lowered.Number
+chained_from left [] = left
+chained_from left (l ∷ ls) = chained_from (lowered.operation (operator_of (out-Link l).operator) left (number_of (out-Link l).operand)) ls
+
+abbrev pub chained_in : chain.Chain → lowered.Number
+chained_in c = chained_from (number_of (chain.out-Chain c).first) (chain.out-Chain c).rest.items
+
+abbrev pub relation_of : Relation → lowered.Relation
+relation_of relation.Equal = lowered.equal
+relation_of relation.NotEqual = lowered.not_equal
+relation_of relation.Less = lowered.less
+relation_of relation.LessEqual = lowered.less_equal
+relation_of relation.Greater = lowered.greater
+relation_of relation.GreaterEqual = lowered.greater_equal
+
+abbrev pub related_by : Relation → Operands → lowered.Truth
+related_by r o = lowered.related (relation_of r) (number_of (out-Operands o).left) (number_of (out-Operands o).right)
+
+abbrev mutual
+  pub truth_of : Truth → lowered.Truth
+  truth_of (truth.Constant b) = lowered.constant b
+  truth_of (truth.Flag p) = lowered.flag (place_of p)
+  truth_of (truth.Negation' pointer t) = lowered.negation (truth_of t)
+  truth_of (truth.Both' pointer left right) = lowered.both (truth_of left) (truth_of right)
+  truth_of (truth.Either' pointer left right) = lowered.either (truth_of left) (truth_of right)
+  truth_of (truth.All' pointer first shape row) = all_of row (truth_of first)
+  truth_of (truth.Any' pointer first shape row) = any_of row (truth_of first)
+  truth_of (truth.Related r o) = related_by r o.value
+  truth_of (truth.Same' pointer left right) = lowered.same (truth_of left) (truth_of right)
+  truth_of (truth.Different' pointer left right) = lowered.different (truth_of left) (truth_of right)
+
+  pub all_of : {n : _} → truth.Row_of-Truth n → lowered.Truth → lowered.Truth
+  all_of truth.end_of-Truth left = left
+  all_of (truth.more_of-Truth t row) left = all_of row (lowered.both left (truth_of t))
+
+  pub any_of : {n : _} → truth.Row_of-Truth n → lowered.Truth → lowered.Truth
+  any_of truth.end_of-Truth left = left
+  any_of (truth.more_of-Truth t row) left = any_of row (lowered.either left (truth_of t))
+
+-- the same by the fields of a node
+abbrev pub all_from : lowered.Truth → List Truth → lowered.Truth
+all_from left [] = left
+all_from left (t ∷ ts) = all_from (lowered.both left (truth_of t)) ts
+
+abbrev pub any_from : lowered.Truth → List Truth → lowered.Truth
+any_from left [] = left
+any_from left (t ∷ ts) = any_from (lowered.either left (truth_of t)) ts
+
+abbrev pub all_in : Several → lowered.Truth
+all_in s = all_from (truth_of (out-Several s).first) (out-Several s).rest.items
+
+abbrev pub any_in : Several → lowered.Truth
+any_in s = any_from (truth_of (out-Several s).first) (out-Several s).rest.items
+
+abbrev pub argument_of : argument_type.Argument → lowered.Argument
+argument_of (argument.Place p) = lowered.by_place (place_of p)
+argument_of (argument.Number n) = lowered.by_number (number_of n)
+argument_of (argument.Truth t) = lowered.by_truth (truth_of t)
+argument_of (argument.Block p n) = lowered.by_block (place_of p) n
+
+abbrev pub call_of : call.Call → lowered.Statement
+call_of c = lowered.calls c.procedure c.up (map argument_of c.arguments.items)
+
+abbrev mutual
+  pub statement_of : Statement → lowered.Statement
+  statement_of (statement.StoreNumber p n) = lowered.stores_number (place_of p) (number_of n)
+  statement_of (statement.StoreTruth p t) = lowered.stores_truth (place_of p) (truth_of t)
+  statement_of (statement.Copy p q n) = lowered.copies (place_of p) (place_of q) n
+  statement_of (statement.Read p) = lowered.reads (place_of p)
+  statement_of (statement.Write n) = lowered.writes (number_of n)
+  statement_of statement.WriteLine = lowered.writes_line
+  statement_of (statement.If i) = if_of i
+  statement_of (statement.While' c shape row) = lowered.while_loop (truth_of c) (statements_of row)
+  statement_of (statement.Repeat' shape row c) = lowered.repeat_loop (statements_of row) (truth_of c)
+  statement_of (statement.Call c) = call_of c
+
+  pub if_of : if_statement.If → lowered.Statement
+  if_of (if_statement.If' shape branches shape' otherwise) = lowered.chooses (branches_of branches) (statements_of otherwise)
+
+  pub statements_of : {n : _} → statement.Row_of-Statement n → lowered.Statements
+  statements_of statement.end_of-Statement = lowered.no_statement
+  statements_of (statement.more_of-Statement s row) = lowered.before (statement_of s) (statements_of row)
+
+  pub branches_of : {n : _} → if_statement.Row_of-Branch n → lowered.Branches
+  branches_of if_statement.end_of-Branch = lowered.no_branch
+  branches_of (if_statement.more_of-Branch c shape body row) = lowered.branch (truth_of c) (statements_of body) (branches_of row)
+
+-- the same of a `Vec`'s elements
+abbrev pub sequence_of : List Statement → lowered.Statements
+sequence_of [] = lowered.no_statement
+sequence_of (s ∷ ss) = lowered.before (statement_of s) (sequence_of ss)
+
+abbrev pub while_of : While → lowered.Statement
+while_of w = lowered.while_loop (truth_of w.condition) (sequence_of w.body.items)
+
+abbrev pub repeat_of : Repeat → lowered.Statement
+repeat_of r = lowered.repeat_loop (sequence_of r.body.items) (truth_of r.condition)
+
+abbrev pub all_branches : List Branch → lowered.Branches
+all_branches [] = lowered.no_branch
+all_branches (b ∷ bs) = lowered.branch (truth_of b.condition) (sequence_of b.body.items) (all_branches bs)
+
+abbrev pub procedure_of : procedure.Procedure → lowered.Procedure
+procedure_of p = record { cells = p.cells; body = sequence_of p.body.items }
+
+abbrev pub program_of : program.Program → lowered.Program
+program_of p = record { cells = p.cells; body = sequence_of p.body.items; procedures = map procedure_of p.procedures.items }
+
+abbrev pub branches_in : if_statement.If → lowered.Statement
+branches_in i = lowered.chooses (all_branches (if_statement.out-If i).branches.items) (sequence_of (if_statement.out-If i).otherwise.items)

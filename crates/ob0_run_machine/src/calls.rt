@@ -1,0 +1,75 @@
+//! Calls of procedures. The cells of a call are given up at its return.
+
+ghost use Rattle.std.specs.Prelude.{◌≡◌, length, map, option_map, slice_get, take};
+ghost use Rattle.ob0_run_machine.specs.Evaluation.{innermost};
+ghost use Rattle.ob0_run_machine.specs.Levels.{levels_of};
+ghost use Rattle.ob0_run_machine.specs.Machines.{Does, Enters, activated, state_of};
+ghost use Rattle.ob0_run_machine.specs.View.{procedure_of, program_of};
+
+use crate::code::{Procedure, Program};
+use crate::ending::{Ending, Stop};
+use crate::level::Level;
+use crate::machine::{Machine, push_zeros};
+use crate::statements::sequence;
+
+/// The procedure at an index.
+#[inline(always)]
+fn procedure_at<'p>(procedures: &'p [Procedure], procedure: usize) -> Option<&'p Procedure>
+    ensures { option_map (λ p. procedure_of p.now) result ≡ slice_get (map procedure_of procedures.now) procedure }
+{
+    if procedure >= procedures.len() {
+        return None;
+    }
+    Some(&procedures[procedure])
+}
+
+/// The body of a procedure, with its own cells behind its arguments.
+fn activate<F: Fn(&mut Machine<'_>, usize, &Level<'_>) -> Result<(), Stop>>(
+    procedure: Option<&Procedure>,
+    level: &Level<'_>,
+    turns: u32,
+    machine: &mut Machine<'_>,
+    enter: &F,
+) -> Result<(), Stop>
+    requires { F.IsAlwaysCallable enter.now }
+    ensures { Does (F.post enter.now) result machine.old machine.new (activated (option_map (λ p. procedure_of p.now) procedure.entry) turns (levels_of level.now)) }
+{
+    match procedure {
+        None => Ok(()),
+        Some(procedure) => {
+            push_zeros(&mut machine.cells, procedure.cells)?;
+            sequence(&procedure.body, level, turns, machine, enter)
+        }
+    }
+}
+
+/// Gives up the cells of an activation.
+fn drop_variables(machine: &mut Machine<'_>, level: &Level<'_>)
+    ensures { state_of machine.new ≡ record (state_of machine.old) { cells = take (innermost (levels_of level.now)).base machine.old.cells.items } }
+{
+    machine.cells.truncate(level.base);
+}
+
+/// A call of a procedure, where so many calls more may be open.
+pub(crate) fn call(
+    program: &Program,
+    calls: u32,
+    turns: u32,
+    machine: &mut Machine<'_>,
+    procedure: usize,
+    level: &Level<'_>,
+) -> Result<(), Stop>
+    ensures { Enters result machine.old machine.new program.now calls turns procedure level.now }
+{
+    if calls == 0 {
+        return Err(Stop::Ended(Ending::CallBound));
+    }
+    let left = calls - 1;
+    let enter = |machine: &mut Machine<'_>, procedure: usize, level: &Level<'_>|
+        ensures { Enters result machine.old machine.new program.entry.now left turns procedure level.now }
+    { call(program, left, turns, machine, procedure, level) };
+    let called = procedure_at(program.procedures.as_slice(), procedure);
+    activate(called, level, turns, machine, &enter)?;
+    drop_variables(machine, level);
+    Ok(())
+}

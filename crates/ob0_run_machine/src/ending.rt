@@ -1,0 +1,60 @@
+//! How runs end.
+
+ghost use Rattle.std.specs.Prelude.{◌≡◌};
+
+use std::alloc::{AllocError, AllocFailed};
+
+/// How a run ends where it doesn't reach the end of the program.
+#[derive(Clone, Copy, PartialEq, Eq, Debug)]
+pub enum Ending {
+    /// A result outside the 32 bits.
+    Overflow,
+    /// A divisor below 1.
+    Divisor,
+    /// An index outside its array.
+    Index,
+    /// Nothing left to read.
+    InputEnd,
+    /// A call more than may be open.
+    CallBound,
+    /// A turn more than an execution of a loop may make.
+    TurnBound,
+}
+
+/// Why a step of a run gives nothing.
+#[derive(Clone, Copy, PartialEq, Eq, Debug)]
+pub enum Stop {
+    Ended(Ending),
+    /// Memory was refused.
+    Memory,
+}
+
+impl From<Ending> for Stop {
+    ghost use Rattle.ob0_run_machine.specs.declared.ending.Stop.TheVariants.{Ended};
+
+    ghost from_gives = { λ x e. e ≡ Ended x };
+
+    fn from(ending: Ending) -> Stop {
+        Stop::Ended(ending)
+    }
+}
+
+impl From<AllocError> for Stop {
+    ghost use Rattle.ob0_run_machine.specs.declared.ending.Stop.TheVariants.{Memory};
+
+    ghost from_gives = { λ _ e. e ≡ Memory };
+
+    fn from(_: AllocError) -> Stop {
+        Stop::Memory
+    }
+}
+
+impl<T: Drop> From<AllocFailed<T>> for Stop {
+    ghost use Rattle.ob0_run_machine.specs.declared.ending.Stop.TheVariants.{Memory};
+
+    ghost from_gives = { λ _ e. e ≡ Memory };
+
+    fn from(_: AllocFailed<T>) -> Stop {
+        Stop::Memory
+    }
+}

@@ -1,0 +1,121 @@
+//! What the operators give of numbers and truths.
+
+ghost use Rattle.std.specs.Prelude.{◌≡◌, neg_ℤ};
+ghost use Rattle.ob0_run_machine.specs.Answers.{if_there, outcome_of_result};
+ghost use Rattle.ob0_run_machine.specs.Evaluation.{alike, compare, divided_by, element_at, forward, in_range, is_true, as_cell, operate, quotient_of, remainder_of};
+ghost use Rattle.ob0_run_machine.specs.View.{operator_of, relation_of};
+
+use crate::code::{Operator, Relation};
+use crate::ending::Ending;
+
+/// A number where it could be computed in 32 bits, else an overflow.
+#[inline(always)]
+fn in_range(number: Option<i32>) -> Result<i32, Ending>
+    ensures { outcome_of_result result ≡ if_there number }
+{
+    match number {
+        Some(number) => Ok(number),
+        None => Err(Ending::Overflow),
+    }
+}
+
+/// DIV, which rounds down, for a divisor from 1 on.
+#[inline(always)]
+fn divide(left: i32, right: i32) -> Result<i32, Ending>
+    ensures { outcome_of_result result ≡ divided_by quotient_of left right }
+{
+    if right < 1 {
+        return Err(Ending::Divisor);
+    }
+    Ok(left.div_euclid(right))
+}
+
+/// MOD, the rest from 0 on, for a divisor from 1 on.
+#[inline(always)]
+fn modulo(left: i32, right: i32) -> Result<i32, Ending>
+    ensures { outcome_of_result result ≡ divided_by remainder_of left right }
+{
+    if right < 1 {
+        return Err(Ending::Divisor);
+    }
+    Ok(left.rem_euclid(right))
+}
+
+#[inline(always)]
+pub fn operate(operator: Operator, left: i32, right: i32) -> Result<i32, Ending>
+    ensures { outcome_of_result result ≡ operate (operator_of operator) left right }
+{
+    match operator {
+        Operator::Sum => in_range(left.checked_add(right)),
+        Operator::Difference => in_range(left.checked_sub(right)),
+        Operator::Product => in_range(left.checked_mul(right)),
+        Operator::Quotient => divide(left, right),
+        Operator::Remainder => modulo(left, right),
+    }
+}
+
+#[inline(always)]
+pub fn negative(number: i32) -> Result<i32, Ending>
+    ensures { outcome_of_result result ≡ in_range (neg_ℤ number) }
+{
+    in_range(number.checked_neg())
+}
+
+#[inline(always)]
+pub fn compare(relation: Relation, left: i32, right: i32) -> bool
+    ensures { result ≡ compare (relation_of relation) left right }
+{
+    match relation {
+        Relation::Equal => left == right,
+        Relation::NotEqual => left != right,
+        Relation::Less => left < right,
+        Relation::LessEqual => left <= right,
+        Relation::Greater => right < left,
+        Relation::GreaterEqual => right <= left,
+    }
+}
+
+#[inline(always)]
+pub fn alike(left: bool, right: bool) -> bool
+    ensures { result ≡ alike left right }
+{
+    left == right
+}
+
+#[inline(always)]
+pub fn is_true(number: i32) -> bool
+    ensures { result ≡ is_true number }
+{
+    number != 0
+}
+
+#[inline(always)]
+pub fn as_cell(truth: bool) -> i32
+    ensures { result ≡ as_cell truth }
+{
+    if truth { 1 } else { 0 }
+}
+
+/// The address so far behind another one.
+#[inline(always)]
+pub fn forward(address: usize, offset: usize) -> usize
+    ensures { result ≡ forward address offset }
+{
+    address.wrapping_add(offset)
+}
+
+/// The address of an array's element.
+#[inline(always)]
+pub fn element_at(address: usize, length: usize, stride: usize, index: i32) -> Result<usize, Ending>
+    ensures { outcome_of_result result ≡ element_at address length stride index }
+{
+    if index < 0 {
+        return Err(Ending::Index);
+    }
+    let index = index as usize;
+    if index < length {
+        Ok(address.wrapping_add(index.wrapping_mul(stride)))
+    } else {
+        Err(Ending::Index)
+    }
+}

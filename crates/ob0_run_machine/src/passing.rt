@@ -1,0 +1,63 @@
+//! Arguments: values are cells at the end, VAR parameters addresses.
+
+ghost use Rattle.std.specs.Prelude.{map};
+ghost use Rattle.ob0_run_machine.specs.Execution.{pass, pass_all};
+ghost use Rattle.ob0_run_machine.specs.Levels.{addresses_in, levels_of};
+ghost use Rattle.ob0_run_machine.specs.Machines.{Passes, passed_in};
+ghost use Rattle.ob0_run_machine.specs.View.{argument_of};
+
+use crate::addresses::Addresses;
+use crate::code::Argument;
+use crate::ending::Stop;
+use crate::evaluating::{locate, truth, evaluate_number};
+use crate::level::Level;
+use crate::machine::push_block;
+use crate::operators::as_cell;
+use std::alloc::Global;
+
+/// Evaluates an argument and passes it.
+fn pass(
+    alloc: Global,
+    argument: &Argument,
+    level: &Level<'_>,
+    cells: &mut Vec<i32>,
+    addresses: &mut Addresses,
+) -> Result<(), Stop>
+    ensures { Passes result cells.new.items (addresses_in addresses.new) (pass (levels_of level.now) (argument_of argument.now) (passed_in cells.old.items (addresses_in addresses.old))) }
+{
+    match argument {
+        Argument::Place(place) => {
+            let a = locate(place, level, cells.as_slice())?;
+            addresses.push(alloc, a)?;
+        }
+        Argument::Number(n) => {
+            let a = evaluate_number(n, level, cells.as_slice())?;
+            cells.push(a)?;
+        }
+        Argument::Truth(t) => {
+            let a = truth(t, level, cells.as_slice())?;
+            cells.push(as_cell(a))?;
+        }
+        Argument::Block(place, count) => {
+            let a = locate(place, level, cells.as_slice())?;
+            push_block(cells, a, *count)?;
+        }
+    }
+    Ok(())
+}
+
+/// Evaluates and passes arguments, from left to right.
+pub(crate) fn pass_all(
+    alloc: Global,
+    arguments: &[Argument],
+    level: &Level<'_>,
+    cells: &mut Vec<i32>,
+    addresses: &mut Addresses,
+) -> Result<(), Stop>
+    ensures { Passes result cells.new.items (addresses_in addresses.new) (pass_all (levels_of level.now) (map argument_of arguments.now) (passed_in cells.old.items (addresses_in addresses.old))) }
+{
+    for argument in arguments {
+        pass(alloc, argument, level, cells, addresses)?;
+    }
+    Ok(())
+}

@@ -1,0 +1,82 @@
+//! Runs of programs.
+
+ghost use Rattle.std.specs.Prelude.{◌≡◌, IfOk};
+ghost use Rattle.ob0_run_machine.specs.Execution.{run};
+ghost use Rattle.ob0_run_machine.specs.Outcomes.{block_run, end_in, run_of};
+ghost use Rattle.ob0_run_machine.specs.Machines.{Steps, state_of};
+ghost use Rattle.ob0_run_machine.specs.View.{program_of};
+ghost use Rattle.ob0_run_machine.specs.Answers.{end_of};
+
+use crate::calls::call;
+use crate::code::Program;
+use crate::ending::{Ending, Stop};
+use crate::level::Level;
+use crate::machine::{Item, Machine, push_zeros};
+use crate::statements::sequence;
+use std::alloc::{AllocError, Global};
+
+/// How a run ends.
+#[derive(Clone, Copy, PartialEq, Eq, Debug)]
+pub enum End {
+    /// The end of the program.
+    Done,
+    Ended(Ending),
+}
+
+/// What a run put out, and how it ended.
+#[derive(Drop)]
+pub struct Outcome {
+    pub output: Vec<Item>,
+    pub end: End,
+}
+
+/// The statements of a program.
+fn execute(program: &Program, calls: u32, turns: u32, machine: &mut Machine<'_>) -> Result<(), Stop>
+    ensures { Steps result machine.new (block_run (program_of program.now) calls turns (state_of machine.old)) }
+{
+    let level = Level {
+        base: 0,
+        addresses: &[],
+        enclosing: None,
+    };
+    let enter = |machine: &mut Machine<'_>, procedure: usize, level: &Level<'_>| {
+        call(program, calls, turns, machine, procedure, level)
+    };
+    sequence(&program.body, &level, turns, machine, &enter)
+}
+
+/// Runs a program on an input, with at most so many calls open at a time, and at most so many turns of each execution of a loop.
+/// The program's own statements are no call.
+///
+/// # Errors
+///
+/// Want of memory.
+pub fn run(
+    alloc: Global,
+    program: &Program,
+    input: &[i32],
+    calls: u32,
+    turns: u32,
+) -> Result<Outcome, AllocError>
+    ensures { IfOk result (λ o. run_of o ≡ run (program_of program.now) input.now calls turns) }
+{
+    let mut cells = Vec::new(alloc);
+    push_zeros(&mut cells, program.cells)?;
+    let mut machine = Machine {
+        alloc,
+        cells,
+        input,
+        output: Vec::new(alloc),
+    };
+    let end = match execute(program, calls, turns, &mut machine) {
+        Ok(()) => End::Done,
+        Err(stop) => match stop {
+            Stop::Ended(ending) => End::Ended(ending),
+            Stop::Memory => return Err(AllocError),
+        },
+    };
+    Ok(Outcome {
+        output: machine.output,
+        end,
+    })
+}

@@ -1,0 +1,266 @@
+//! Statements. What calls do is handed in.
+
+ghost use Rattle.std.specs.Prelude.{◌≡◌, ℕ};
+ghost use Rattle.ob0_run_machine.specs.Answers.{outcome_of_result};
+ghost use Rattle.ob0_run_machine.specs.Evaluation.{truth};
+ghost use Rattle.ob0_run_machine.specs.Execution.{Calls, execute};
+ghost use Rattle.ob0_run_machine.specs.Levels.{levels_of};
+ghost use Rattle.ob0_run_machine.specs.Lowered as lowered;
+ghost use Rattle.ob0_run_machine.specs.Machines.{Does, Steps, entering, executed, executed_all, moved, state_of};
+ghost use Rattle.ob0_run_machine.specs.View.{branches_in, call_of, number_of, place_of, repeat_of, sequence_of, statement_of, truth_of, while_of};
+
+use crate::addresses::Addresses;
+use crate::code::{Call, If, Number, Place, Repeat, Statement, Truth, While};
+use crate::ending::{Ending, Stop};
+use crate::evaluating::{locate, truth, evaluate_number};
+use crate::level::{Level, outside};
+use crate::machine::{Item, Machine, copy, store};
+use crate::operators::as_cell;
+use crate::passing::pass_all;
+
+#[tactic(auto, unfolding(crate::specs::Execution::execute))]
+#[inline(always)]
+fn store_number(
+    place: &Place,
+    n: &Number,
+    level: &Level<'_>,
+    machine: &mut Machine<'_>,
+) -> Result<(), Ending>
+    ensures { (enters : Calls) (t : ℕ) → moved result machine.new ≡ execute enters t (levels_of level.now) (lowered.stores_number (place_of place.now) (number_of n.now)) (state_of machine.old) }
+{
+    let a = locate(place, level, machine.cells.as_slice())?;
+    let v = evaluate_number(n, level, machine.cells.as_slice())?;
+    store(&mut machine.cells, a, v);
+    Ok(())
+}
+
+#[tactic(auto, unfolding(crate::specs::Execution::execute))]
+#[inline(always)]
+fn store_truth(
+    place: &Place,
+    t: &Truth,
+    level: &Level<'_>,
+    machine: &mut Machine<'_>,
+) -> Result<(), Ending>
+    ensures { (enters : Calls) (turns : ℕ) → moved result machine.new ≡ execute enters turns (levels_of level.now) (lowered.stores_truth (place_of place.now) (truth_of t.now)) (state_of machine.old) }
+{
+    let a = locate(place, level, machine.cells.as_slice())?;
+    let v = truth(t, level, machine.cells.as_slice())?;
+    store(&mut machine.cells, a, as_cell(v));
+    Ok(())
+}
+
+#[tactic(auto, unfolding(crate::specs::Execution::execute))]
+fn copy_block(
+    to: &Place,
+    from: &Place,
+    count: usize,
+    level: &Level<'_>,
+    machine: &mut Machine<'_>,
+) -> Result<(), Ending>
+    ensures { (enters : Calls) (t : ℕ) → moved result machine.new ≡ execute enters t (levels_of level.now) (lowered.copies (place_of to.now) (place_of from.now) count) (state_of machine.old) }
+{
+    let a = locate(to, level, machine.cells.as_slice())?;
+    let b = locate(from, level, machine.cells.as_slice())?;
+    copy(&mut machine.cells, a, b, count);
+    Ok(())
+}
+
+#[tactic(auto, unfolding(crate::specs::Execution::execute))]
+fn read(place: &Place, level: &Level<'_>, machine: &mut Machine<'_>) -> Result<(), Ending>
+    ensures { (enters : Calls) (t : ℕ) → moved result machine.new ≡ execute enters t (levels_of level.now) (lowered.reads (place_of place.now)) (state_of machine.old) }
+{
+    let a = locate(place, level, machine.cells.as_slice())?;
+    machine.read_number(a)
+}
+
+#[tactic(auto, unfolding(crate::specs::Execution::execute))]
+fn write(n: &Number, level: &Level<'_>, machine: &mut Machine<'_>) -> Result<(), Stop>
+    ensures { (enters : Calls) (t : ℕ) → Steps result machine.new (execute enters t (levels_of level.now) (lowered.writes (number_of n.now)) (state_of machine.old)) }
+{
+    let v = evaluate_number(n, level, machine.cells.as_slice())?;
+    machine.put_out(Item::Number(v))?;
+    Ok(())
+}
+
+#[tactic(auto, unfolding(crate::specs::Execution::execute))]
+fn write_line(level: &Level<'_>, machine: &mut Machine<'_>) -> Result<(), Stop>
+    ensures { (enters : Calls) (t : ℕ) → Steps result machine.new (execute enters t (levels_of level.now) lowered.writes_line (state_of machine.old)) }
+{
+    machine.put_out(Item::Line)?;
+    Ok(())
+}
+
+/// Enters the procedure of a call, whose arguments are passed.
+#[inline(always)]
+fn go_in<F: Fn(&mut Machine<'_>, usize, &Level<'_>) -> Result<(), Stop>>(
+    c: &Call,
+    base: usize,
+    addresses: &[usize],
+    level: &Level<'_>,
+    machine: &mut Machine<'_>,
+    enter: &F,
+) -> Result<(), Stop>
+    requires { F.IsAlwaysCallable enter.now }
+    ensures { Does (F.post enter.now) result machine.old machine.new (entering c.now.procedure c.now.up (levels_of level.now) base addresses.now) }
+{
+    let entered = Level {
+        base,
+        addresses,
+        enclosing: outside(level, c.up),
+    };
+    enter(machine, c.procedure, &entered)
+}
+
+/// A call: its arguments are passed, then the procedure is entered.
+#[inline(never)]
+fn run_call<F: Fn(&mut Machine<'_>, usize, &Level<'_>) -> Result<(), Stop>>(
+    c: &Call,
+    level: &Level<'_>,
+    machine: &mut Machine<'_>,
+    enter: &F,
+) -> Result<(), Stop>
+    requires { F.IsAlwaysCallable enter.now }
+    ensures { (t : ℕ) → Does (F.post enter.now) result machine.old machine.new (executed t (levels_of level.now) (call_of c.now)) }
+{
+    let base = machine.size();
+    let mut addresses = Addresses::Empty;
+    pass_all(
+        machine.alloc,
+        c.arguments.as_slice(),
+        level,
+        &mut machine.cells,
+        &mut addresses,
+    )?;
+    match &addresses {
+        Addresses::Empty => go_in(c, base, &[], level, machine, enter),
+        Addresses::One(a) => go_in(c, base, &[*a], level, machine, enter),
+        Addresses::Two(a, b) => go_in(c, base, &[*a, *b], level, machine, enter),
+        Addresses::More(all) => go_in(c, base, all.as_slice(), level, machine, enter),
+    }
+}
+
+/// Whether a condition holds, now.
+#[inline(always)]
+fn holds(condition: &Truth, level: &Level<'_>, machine: &Machine<'_>) -> Result<bool, Ending>
+    ensures { outcome_of_result result ≡ truth (levels_of level.now) machine.now.cells.items (truth_of condition.now) }
+{
+    truth(condition, level, machine.cells.as_slice())
+}
+
+#[inline(always)]
+#[cycle(execution)]
+fn statement<F: Fn(&mut Machine<'_>, usize, &Level<'_>) -> Result<(), Stop>>(
+    s: &Statement,
+    level: &Level<'_>,
+    turns: u32,
+    machine: &mut Machine<'_>,
+    enter: &F,
+) -> Result<(), Stop>
+    requires { F.IsAlwaysCallable enter.now }
+    ensures { Does (F.post enter.now) result machine.old machine.new (executed turns (levels_of level.now) (statement_of s.now)) }
+{
+    match s {
+        Statement::StoreNumber(place, n) => Ok(store_number(place, n, level, machine)?),
+        Statement::StoreTruth(place, t) => Ok(store_truth(place, t, level, machine)?),
+        Statement::Copy(to, from, count) => Ok(copy_block(to, from, *count, level, machine)?),
+        Statement::Read(place) => Ok(read(place, level, machine)?),
+        Statement::Write(n) => write(n, level, machine),
+        Statement::WriteLine => write_line(level, machine),
+        Statement::If(i) => branches(i, level, turns, machine, enter),
+        Statement::While(w) => run_loop(w, level, turns, machine, enter),
+        Statement::Repeat(r) => until(r, level, turns, machine, enter),
+        Statement::Call(c) => run_call(c, level, machine, enter),
+    }
+}
+
+/// Statements in order.
+#[cycle(execution)]
+pub(crate) fn sequence<F: Fn(&mut Machine<'_>, usize, &Level<'_>) -> Result<(), Stop>>(
+    statements: &[Statement],
+    level: &Level<'_>,
+    turns: u32,
+    machine: &mut Machine<'_>,
+    enter: &F,
+) -> Result<(), Stop>
+    requires { F.IsAlwaysCallable enter.now }
+    ensures { Does (F.post enter.now) result machine.old machine.new (executed_all turns (levels_of level.now) (sequence_of statements.now)) }
+{
+    for s in statements {
+        statement(s, level, turns, machine, enter)?;
+    }
+    Ok(())
+}
+
+/// IF: the statements behind the first condition that is TRUE.
+#[inline(never)]
+#[cycle(execution)]
+fn branches<F: Fn(&mut Machine<'_>, usize, &Level<'_>) -> Result<(), Stop>>(
+    i: &If,
+    level: &Level<'_>,
+    turns: u32,
+    machine: &mut Machine<'_>,
+    enter: &F,
+) -> Result<(), Stop>
+    requires { F.IsAlwaysCallable enter.now }
+    ensures { Does (F.post enter.now) result machine.old machine.new (executed turns (levels_of level.now) (branches_in i.now)) }
+{
+    for branch in &i.branches {
+        if holds(&branch.condition, level, machine)? {
+            return sequence(&branch.body, level, turns, machine, enter);
+        }
+    }
+    sequence(&i.otherwise, level, turns, machine, enter)
+}
+
+/// WHILE: where the condition is TRUE and this execution has made as many turns as it may, it ends with TurnBound.
+#[inline(never)]
+#[cycle(execution)]
+fn run_loop<F: Fn(&mut Machine<'_>, usize, &Level<'_>) -> Result<(), Stop>>(
+    w: &While,
+    level: &Level<'_>,
+    turns: u32,
+    machine: &mut Machine<'_>,
+    enter: &F,
+) -> Result<(), Stop>
+    requires { F.IsAlwaysCallable enter.now }
+    ensures { Does (F.post enter.now) result machine.old machine.new (executed turns (levels_of level.now) (while_of w.now)) }
+{
+    let mut left = turns;
+    loop {
+        if !holds(&w.condition, level, machine)? {
+            return Ok(());
+        }
+        if left == 0 {
+            return Err(Stop::Ended(Ending::TurnBound));
+        }
+        left -= 1;
+        sequence(&w.body, level, turns, machine, enter)?;
+    }
+}
+
+/// REPEAT: the first turn is made whatever the bound.
+#[inline(never)]
+#[cycle(execution)]
+fn until<F: Fn(&mut Machine<'_>, usize, &Level<'_>) -> Result<(), Stop>>(
+    r: &Repeat,
+    level: &Level<'_>,
+    turns: u32,
+    machine: &mut Machine<'_>,
+    enter: &F,
+) -> Result<(), Stop>
+    requires { F.IsAlwaysCallable enter.now }
+    ensures { Does (F.post enter.now) result machine.old machine.new (executed turns (levels_of level.now) (repeat_of r.now)) }
+{
+    let mut further = turns.saturating_sub(1);
+    loop {
+        sequence(&r.body, level, turns, machine, enter)?;
+        if holds(&r.condition, level, machine)? {
+            return Ok(());
+        }
+        if further == 0 {
+            return Err(Stop::Ended(Ending::TurnBound));
+        }
+        further -= 1;
+    }
+}

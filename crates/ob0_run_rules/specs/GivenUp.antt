@@ -1,0 +1,23 @@
+-- Runs in which a call that returns gives up its variables, so that the store has only those of the calls that are open.
+use Rattle.std.specs.Prelude.{ℕ, zero, suc, length, take, List, ℤ}
+use Rattle.ob0_tree.specs.Tree.{Tree, module_text}
+use Rattle.ob0_scope_rules.specs.Names.{Naming}
+use Rattle.ob0_types_rules.specs.Environments.{from_binding}
+use Rattle.ob0_values.specs.Values.{CallBound}
+use Rattle.ob0_run_rules.specs.Runs.{Activation, Calls, Progress, Run, activate, run_by, running, stopped}
+
+-- the first n of the store stay
+abbrev pub drop_variables : ℕ → Progress → Progress
+drop_variables n (running s) = running record s { store = take n s.store }
+drop_variables n (stopped e out) = stopped e out
+
+-- calls, of which c more may be open; the store is as long after one that returns as it was before
+unfoldable pub call_giving_up : {N : Type 0} → Naming N → ℕ → ℕ → Activation N → Calls N
+unfolding activate
+call_giving_up naming zero t env x args s = stopped CallBound s.output
+call_giving_up naming (suc c) t env x args s =
+    drop_variables (length s.store) (activate naming (call_giving_up naming c t) t (from_binding naming env x) args s)
+
+unfoldable pub run_giving_up : {N : Type 0} → Naming N → Tree N module_text → List ℤ → ℕ → ℕ → Run
+unfolding run_by call_giving_up
+run_giving_up naming m input c t = run_by naming (call_giving_up naming c t) t m input

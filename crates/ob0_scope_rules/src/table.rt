@@ -1,0 +1,35 @@
+//! Tables of ordinals by token, and where tokens stand.
+
+ghost use Rattle.std.specs.Prelude.{◌≡◌};
+ghost use Rattle.ob0_scope_rules.specs.Resolution.{ordinal_in, span_at};
+
+use ob0_scan::{Span, Tokens};
+
+/// The ordinal that a table has at a token; None also where it has no such token.
+pub fn ordinal_at(ordinals: &[Option<u32>], token: usize) -> Option<usize>
+    ensures { result ≡ ordinal_in ordinals.now token }
+{
+    match ordinals.get(token) {
+        Some(ordinal) => widened(*ordinal),
+        None => None,
+    }
+}
+
+fn widened(ordinal: Option<u32>) -> Option<usize>
+    ensures { result ≡ ordinal }
+{
+    match ordinal {
+        Some(ordinal) => Some(ordinal as usize),
+        None => None,
+    }
+}
+
+/// Where a token stands; the text's start where there is no such token.
+pub fn token_span(tokens: &Tokens, token: usize) -> Span
+    ensures { result ≡ span_at tokens.now token }
+{
+    match tokens.tokens().get(token) {
+        Some(found) => found.span,
+        None => Span { start: 0, end: 0 },
+    }
+}

@@ -1,0 +1,105 @@
+-- Code actions on request: a constant is inlined, here or everywhere.
+use Rattle.std.specs.Prelude.{◌≡◌, ◌⊎◌, ℕ, ℤ, List, [], ◌∷◌, ◌++◌, Bool, true, false, ◌&&◌, ◌||◌, min, Option, Some, None, Result, Ok, Err, Vec, codes}
+use Rattle.std.specs.List.{list_any}
+use Rattle.std.specs.Str.{bytes_eq}
+use Rattle.std.specs.declared.alloc.Global.{Global}
+use Rattle.serde_json.specs.Data.{Data, array, no_items}
+use Rattle.serde_json.specs.View.{items_of}
+use Rattle.ob0_rpc.specs.Seen.{id_data, kinds_seen}
+use Rattle.ob0_rpc.specs.Shapes.{result_message}
+use Rattle.ob0_rpc.specs.declared.clients.Client.{Client}
+use Rattle.ob0_text.specs.Texts.{offset_of}
+use Rattle.ob0_text.specs.Units.{width_of}
+use Rattle.ob0_text.specs.declared.edits.Edit.{Edit}
+use Rattle.ob0_text.specs.declared.positions.Range.{Range}
+use Rattle.ob0_text.specs.declared.positions.Unit.{Unit}
+use Rattle.ob0_text.specs.declared.refusals.EditRefusal.{EditRefusal}
+use Rattle.ob0_text.specs.declared.refusals.EditRefusal.TheVariants.{Memory}
+use Rattle.ob0_analysis.specs.Diagnosed.{IsWellTypedModule}
+use Rattle.ob0_analysis.specs.Texts.{utf8}
+use Rattle.ob0_session_offers.specs.Inlinings.{InlinesIn, IsNotInlinedIn}
+use Rattle.ob0_session_json.specs.Shapes.{action_value, workspace_edit}
+use Rattle.ob0_analysis.specs.declared.analysis.Asked.{Asked}
+use Rattle.ob0_analysis.specs.declared.analysis.Asked.TheVariants.{Answered, IllTyped}
+use Rattle.ob0_session_edits.specs.declared.actions.ActionsRequest.{ActionsRequest}
+use Rattle.ob0_session_edits.specs.declared.actions.Inlinings.{Inlinings}
+use Rattle.ob0_session_offers.specs.declared.inlining.Inlining.{Inlining}
+use Rattle.ob0_session_offers.specs.declared.inlining.Inlining.TheVariants.{Here, Everywhere}
+
+-- ---- the request
+
+-- its id, the client, the document and its version, the range, and the kinds of which the actions must be, where there are such
+pub record ActionsAsked : Type 0 where
+  pub id : Data
+  pub client : Client
+  pub uri : List ℕ
+  pub version : ℤ
+  pub range : Range
+  pub only : Option (List (List ℕ))
+
+abbrev pub actions_asked : ActionsRequest → ActionsAsked
+actions_asked r = record { id = id_data r.id.now; client = r.client; uri = r.uri.now; version = r.version; range = r.range; only = kinds_seen r.only.now }
+
+-- inlining is of this kind
+abbrev pub is_of_kind : List ℕ → Bool
+is_of_kind kind = bytes_eq kind [] || bytes_eq kind (codes "refactor") || bytes_eq kind (codes "refactor.inline")
+
+-- where kinds are named, inlining is of one of them
+abbrev pub allows_inlining : Option (List (List ℕ)) → Bool
+allows_inlining (Some kinds) = list_any is_of_kind kinds
+allows_inlining None = true
+
+-- the client takes actions that are no commands, and these among them
+abbrev pub wants_inlining : ActionsAsked → Bool
+wants_inlining asked = asked.client.takes_literal_actions && allows_inlining asked.only
+
+-- the place in bytes at which actions work: the start of the range, and the end of one that is swapped
+abbrev pub place_of : Unit → List ℕ → Range → ℕ
+place_of unit text range = min (offset_of (width_of unit) text range.start) (offset_of (width_of unit) text range.end)
+
+-- ---- what is offered
+
+-- what is offered of an inliner's answer
+abbrev pub IsOffered : Result (Vec Edit Global) EditRefusal → Option (Vec Edit Global) → Type 0
+IsOffered answer (Some edits) = answer ≡ Ok edits
+IsOffered answer None = (refusal : EditRefusal) × ¬ (refusal ≡ Memory) × (answer ≡ Err refusal)
+
+-- offered exactly where it isn't refused
+abbrev pub Offers : Inlining → Unit → List ℕ → ℕ → Option (Vec Edit Global) → Type 0
+Offers how unit text offset (Some edits) = InlinesIn how unit text offset edits
+Offers how unit text offset None = IsNotInlinedIn how unit text offset
+
+-- what is offered at a place of a text, if it is a well-typed module
+abbrev pub FindsInlinings : Unit → List ℕ → ℕ → Asked Inlinings → Type 0
+FindsInlinings unit text offset (Answered found) = Offers Here unit text offset found.here × Offers Everywhere unit text offset found.everywhere
+FindsInlinings unit text offset (IllTyped told) = ¬ IsWellTypedModule (utf8 text)
+
+-- ---- the message
+
+abbrev pub title : Inlining → List ℕ
+title Here = codes "Inline here"
+title Everywhere = codes "Inline everywhere"
+
+-- the action, with the edits in the form that the client takes
+abbrev pub action_of : ActionsAsked → Inlining → List Edit → Data
+action_of asked how edits = action_value (workspace_edit asked.client asked.uri asked.version edits) (title how)
+
+abbrev pub action_values : ActionsAsked → Inlining → Option (Vec Edit Global) → List Data
+action_values asked how (Some edits) = action_of asked how edits.items ∷ []
+action_values asked how None = []
+
+-- inlining here stands before inlining everywhere
+abbrev pub actions_value : ActionsAsked → Option (Vec Edit Global) → Option (Vec Edit Global) → Data
+actions_value asked here everywhere = array (items_of (action_values asked Here here ++ action_values asked Everywhere everywhere))
+
+-- These actions are offered, as a list; none to a client that wants none, and none of a text that is no well-typed module.
+abbrev pub ListsActions : Unit → ActionsAsked → List ℕ → Data → Type 0
+ListsActions unit asked text value =
+    ((here : Option (Vec Edit Global)) × (everywhere : Option (Vec Edit Global)) × (wants_inlining asked ≡ true)
+    × Offers Here unit text (place_of unit text asked.range) here × Offers Everywhere unit text (place_of unit text asked.range) everywhere
+    × (value ≡ actions_value asked here everywhere))
+    ⊎ (((wants_inlining asked ≡ false) ⊎ ¬ IsWellTypedModule (utf8 text)) × (value ≡ array no_items))
+
+-- this message answers the request, where positions are counted in the unit and the document has the text
+abbrev pub AnswersActions : Unit → ActionsAsked → List ℕ → Data → Type 0
+AnswersActions unit asked text message = (value : Data) × ListsActions unit asked text value × (message ≡ result_message asked.id value)

@@ -1,0 +1,21 @@
+-- The diagnostics of a text: what is told of it, at positions.
+use Rattle.std.specs.Prelude.{◌≡◌, ℕ, List, map}
+use Rattle.ob0_text.specs.Texts.{position_of}
+use Rattle.ob0_text.specs.Units.{width_of}
+use Rattle.ob0_text.specs.declared.positions.Unit.{Unit}
+use Rattle.ob0_analysis.specs.Diagnosed.{Complaint, Tells}
+use Rattle.ob0_analysis.specs.Texts.{utf8}
+use Rattle.ob0_session_json.specs.Shapes.{Diagnostic}
+
+-- a complaint is shown at the positions of its ends
+abbrev pub diagnostic_of : Unit → List ℕ → Complaint → Diagnostic
+diagnostic_of unit text c = record {
+  code = c.code;
+  said = c.said;
+  start = position_of (width_of unit) text c.span.start;
+  end = position_of (width_of unit) text c.span.end;
+}
+
+-- these are the diagnostics of the text
+abbrev pub Diagnoses : Unit → List ℕ → List Diagnostic → Type 0
+Diagnoses unit text ds = (told : List Complaint) × Tells (utf8 text) told × (ds ≡ map (diagnostic_of unit text) told)

@@ -1,0 +1,38 @@
+-- Renaming on request: the edits, and the answer.
+use Rattle.std.specs.Prelude.{◌≡◌, ◌⊎◌, ℕ, ℤ, List, codes}
+use Rattle.serde_json.specs.Data.{Data}
+use Rattle.ob0_rpc.specs.Asks.{At}
+use Rattle.ob0_rpc.specs.Seen.{at_seen, id_data}
+use Rattle.ob0_rpc.specs.Shapes.{result_message}
+use Rattle.ob0_rpc.specs.declared.clients.Client.{Client}
+use Rattle.ob0_text.specs.RefusalTexts.{refusal_text}
+use Rattle.ob0_text.specs.declared.edits.Edit.{Edit}
+use Rattle.ob0_text.specs.declared.positions.Unit.{Unit}
+use Rattle.ob0_text.specs.declared.refusals.EditRefusal.{EditRefusal}
+use Rattle.ob0_rename.specs.InTexts.{IsRefusedIn, RenamesIn}
+use Rattle.ob0_analysis.specs.Diagnosed.{IsWellTypedModule}
+use Rattle.ob0_analysis.specs.Texts.{utf8}
+use Rattle.ob0_session_json.specs.Shapes.{edit_refused, workspace_edit}
+use Rattle.ob0_session_edits.specs.declared.renaming.RenameRequest.{RenameRequest}
+
+-- a request for another name: its id, the client, the place in a document, the document's version, and the name
+pub record RenameAsked : Type 0 where
+  pub id : Data
+  pub client : Client
+  pub at : At
+  pub version : ℤ
+  pub new : List ℕ
+
+abbrev pub asked_of : RenameRequest → RenameAsked
+asked_of r = record { id = id_data r.id.now; client = r.client; at = at_seen r.place.now; version = r.version; new = r.new.now }
+
+-- the edits as they are answered to the client
+abbrev pub edits_for_client : RenameAsked → List Edit → Data
+edits_for_client asked edits = workspace_edit asked.client asked.at.uri asked.version edits
+
+-- this message answers the request, where positions are counted in the unit and the document has the text
+abbrev pub AnswersRenaming : Unit → RenameAsked → List ℕ → Data → Type 0
+AnswersRenaming unit asked text message =
+    ((edits : List Edit) × RenamesIn unit text asked.at.position asked.new edits × (message ≡ result_message asked.id (edits_for_client asked edits)))
+    ⊎ (((refusal : EditRefusal) × IsRefusedIn unit text asked.at.position asked.new refusal × (message ≡ edit_refused asked.id (refusal_text refusal)))
+    ⊎ (¬ IsWellTypedModule (utf8 text) × (message ≡ edit_refused asked.id (codes "ill-typed"))))

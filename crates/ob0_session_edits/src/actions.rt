@@ -1,0 +1,251 @@
+//! Code actions on request: a constant is inlined, here or everywhere.
+
+ghost use Rattle.std.specs.Prelude.{◌≡◌, [], ◌∷◌, ◌++◌, ◌&&◌, false, is_some, IfOk, OnOk, map, string_bytes};
+ghost use Rattle.std.specs.List.{list_any};
+ghost use Rattle.std.specs.Str.{chars};
+ghost use Rattle.serde_json.specs.Data.{Data, array, no_items};
+ghost use Rattle.serde_json.specs.Written.{comma_if};
+ghost use Rattle.ob0_rpc.specs.Appending.{AppendsEach};
+ghost use Rattle.ob0_rpc.specs.Seen.{id_data, kinds_seen};
+ghost use Rattle.ob0_rpc.specs.Shapes.{result_message};
+ghost use Rattle.ob0_rpc.specs.Writing.{Writes};
+ghost use Rattle.ob0_text.specs.Texts.{offset_of};
+ghost use Rattle.ob0_text.specs.Units.{width_of};
+ghost use Rattle.ob0_session_offers.specs.Inlinings.{Inlines};
+ghost use Rattle.ob0_session_edits.specs.Actions.{AnswersActions, FindsInlinings, IsOffered, action_of, action_values, actions_asked, actions_value, allows_inlining as allows, is_of_kind as of_kind, place_of as place_in, title, wants_inlining as wants};
+ghost use Rattle.ob0_session_offers.specs.declared.inlining.Inlining.TheVariants as how;
+
+use ob0_analysis::{Asked, Question, WellTyped, ask};
+use ob0_inline::{inline_all, inline_here};
+use ob0_session_offers::Inlining;
+use ob0_session_json::writing::{DocumentEdits, write_action};
+use ob0_rpc::{Client, Id, Written, result, result_of, write_comma, write_piece};
+use ob0_scan::Tokens;
+use ob0_text::{Edit, EditRefusal, Position, Range, TextStore};
+use serde_json::Value;
+use std::alloc::{AllocError, Global};
+
+/// The edits of each inlining that isn't refused.
+#[derive(Drop)]
+pub struct Inlinings {
+    pub here: Option<Vec<Edit>>,
+    pub everywhere: Option<Vec<Edit>>,
+}
+
+/// What can be inlined at a place of the text in a store?
+#[derive(Drop)]
+struct InlinedAt<'a, T: TextStore> {
+    store: &'a T,
+    place: Position,
+}
+
+impl<'a, T: TextStore> Question for InlinedAt<'a, T> {
+    type Answer = Inlinings;
+
+    ghost is_about = { λ q text. T.content q.store.now ≡ chars text };
+
+    ghost answers = { λ q names found. Inlines how.Here (T.unit_of q.store.now) (T.content q.store.now) names.module_read (offset_of (width_of (T.unit_of q.store.now)) (T.content q.store.now) q.place) found.here
+        × Inlines how.Everywhere (T.unit_of q.store.now) (T.content q.store.now) names.module_read (offset_of (width_of (T.unit_of q.store.now)) (T.content q.store.now) q.place) found.everywhere };
+
+    fn answer(&self, alloc: Global, module: &WellTyped<'_, '_>) -> Result<Inlinings, AllocError> {
+        let here = offered(inline_here(alloc, self.store, module, self.place))?;
+        let everywhere = offered(inline_all(alloc, self.store, module, self.place))?;
+        Ok(Inlinings { here, everywhere })
+    }
+}
+
+/// The edits of an inliner; none where they are refused. Running out of memory is no refusal.
+fn offered(answer: Result<Vec<Edit>, EditRefusal>) -> Result<Option<Vec<Edit>>, AllocError>
+    ensures { IfOk result (λ edits. IsOffered answer edits) }
+{
+    match answer {
+        Ok(edits) => Ok(Some(edits)),
+        Err(refusal) => {
+            if refusal == EditRefusal::Memory {
+                Err(AllocError)
+            } else {
+                Ok(None)
+            }
+        }
+    }
+}
+
+/// What can be inlined at the place of a range of the text in a store, if that is a well-typed module.
+fn inlinings_in<T: TextStore>(
+    alloc: Global,
+    store: &T,
+    kept: Option<&Tokens>,
+    range: Range,
+) -> Result<Asked<Inlinings>, AllocError>
+    ensures { IfOk result (λ found. FindsInlinings (T.unit_of store.now) (T.content store.now) (place_in (T.unit_of store.now) (T.content store.now) range) found) }
+{
+    let place = place_of(store, range);
+    ask(alloc, store.as_str(), kept, &InlinedAt { store, place })
+}
+
+/// The start of a range, and the end of one that is swapped.
+fn place_of<T: TextStore>(store: &T, range: Range) -> Position
+    ensures { offset_of (width_of (T.unit_of store.now)) (T.content store.now) result ≡ place_in (T.unit_of store.now) (T.content store.now) range }
+{
+    if store.offset(range.start) <= store.offset(range.end) {
+        range.start
+    } else {
+        range.end
+    }
+}
+
+/// A request for code actions in a range of a document of some version.
+#[derive(Drop)]
+pub struct ActionsRequest<'a> {
+    pub id: &'a Id,
+    pub client: Client,
+    pub uri: &'a str,
+    pub version: i64,
+    pub range: Range,
+    /// The kinds of which the actions must be, where there are such.
+    pub only: &'a Option<Vec<String>>,
+}
+
+/// The answer to a request for code actions in the text in a store. Where the tokens that were kept are the text's, it isn't
+/// scanned again.
+pub fn code_actions<T: TextStore>(
+    alloc: Global,
+    store: &T,
+    kept: Option<&Tokens>,
+    request: &ActionsRequest<'_>,
+) -> Result<Vec<u8>, AllocError>
+    ensures { IfOk result (λ bytes. (message : Data) × AnswersActions (T.unit_of store.now) (actions_asked request.now) (T.content store.now) message × Writes message bytes.items) }
+{
+    if !wants_inlining(request) {
+        return no_actions(alloc, request.id);
+    }
+    match inlinings_in(alloc, store, kept, request.range)? {
+        Asked::Answered(found) => listed(alloc, request, &found),
+        Asked::IllTyped(_) => no_actions(alloc, request.id),
+    }
+}
+
+fn no_actions(alloc: Global, id: &Id) -> Result<Vec<u8>, AllocError>
+    ensures { IfOk result (λ bytes. Writes (result_message (id_data id.now) (array no_items)) bytes.items) }
+{
+    result(alloc, id, Value::Array(Vec::new(alloc)))
+}
+
+/// Whether the client takes actions that are no commands, and these among them.
+fn wants_inlining(request: &ActionsRequest<'_>) -> bool
+    ensures { result ≡ wants (actions_asked request.now) }
+{
+    request.client.takes_literal_actions && allows_inlining(request.only)
+}
+
+fn allows_inlining(only: &Option<Vec<String>>) -> bool
+    ensures { result ≡ allows (kinds_seen only.now) }
+{
+    match only {
+        Some(kinds) => any_of_kind(kinds.as_slice()),
+        None => true,
+    }
+}
+
+fn any_of_kind(kinds: &[String]) -> bool
+    ensures { result ≡ list_any of_kind (map string_bytes kinds.now) }
+{
+    for kind in kinds {
+        if is_of_kind(kind.as_str()) {
+            return true;
+        }
+    }
+    false
+}
+
+/// Whether inlining is of this kind.
+fn is_of_kind(kind: &str) -> bool
+    ensures { result ≡ of_kind kind.now }
+{
+    kind == "" || kind == "refactor" || kind == "refactor.inline"
+}
+
+/// What is offered, as a list of actions.
+#[derive(Drop)]
+struct Actions<'a> {
+    request: &'a ActionsRequest<'a>,
+    found: &'a Inlinings,
+}
+
+impl<'a> Written for Actions<'a> {
+    ghost value = { λ a. actions_value (actions_asked a.request.now) a.found.now.here a.found.now.everywhere };
+
+    fn write(&self, out: &mut Vec<u8>) -> Result<(), AllocError> {
+        write_piece(out, b"[")?;
+        write_offered(out, self.request, Inlining::Here, &self.found.here)?;
+        write_between(out, self.found)?;
+        write_offered(
+            out,
+            self.request,
+            Inlining::Everywhere,
+            &self.found.everywhere,
+        )?;
+        write_piece(out, b"]")
+    }
+}
+
+/// Writes a comma where both are offered.
+fn write_between(out: &mut Vec<u8>, found: &Inlinings) -> Result<(), AllocError>
+    ensures { OnOk result (out.new.items ≡ out.old.items ++ comma_if (is_some found.now.here && is_some found.now.everywhere)) }
+{
+    let both = found.here.is_some() && found.everywhere.is_some();
+    write_comma(out, both)
+}
+
+/// The actions, inlining here before inlining everywhere.
+fn listed(
+    alloc: Global,
+    request: &ActionsRequest<'_>,
+    found: &Inlinings,
+) -> Result<Vec<u8>, AllocError>
+    ensures { IfOk result (λ bytes. Writes (result_message (id_data request.now.id.now) (actions_value (actions_asked request.now) found.now.here found.now.everywhere)) bytes.items) }
+{
+    result_of(alloc, request.id, &Actions { request, found })
+}
+
+/// Writes the action that makes these edits; nothing where there are none.
+fn write_offered(
+    out: &mut Vec<u8>,
+    request: &ActionsRequest<'_>,
+    how: Inlining,
+    edits: &Option<Vec<Edit>>,
+) -> Result<(), AllocError>
+    ensures { OnOk result (AppendsEach false (action_values (actions_asked request.now) how edits.now) out.old.items out.new.items) }
+{
+    match edits {
+        Some(edits) => write_inlining(out, request, how, edits.as_slice()),
+        None => Ok(()),
+    }
+}
+
+/// Writes the action that makes these edits.
+fn write_inlining(
+    out: &mut Vec<u8>,
+    request: &ActionsRequest<'_>,
+    how: Inlining,
+    edits: &[Edit],
+) -> Result<(), AllocError>
+    ensures { OnOk result (AppendsEach false (action_of (actions_asked request.now) how edits.now ∷ []) out.old.items out.new.items) }
+{
+    let edits = DocumentEdits {
+        client: request.client,
+        uri: request.uri,
+        version: request.version,
+        edits,
+    };
+    write_action(out, &edits, title_of(how))
+}
+
+fn title_of(how: Inlining) -> &'static str
+    ensures { result.now ≡ title how }
+{
+    match how {
+        Inlining::Here => "Inline here",
+        Inlining::Everywhere => "Inline everywhere",
+    }
+}

@@ -1,0 +1,111 @@
+//! The diagnostics of a text.
+
+ghost use Rattle.std.specs.Prelude.{◌≡◌, List, IfOk, OnOk, map};
+ghost use Rattle.serde_json.specs.View.{view};
+ghost use Rattle.ob0_analysis.specs.Diagnosed.{Keeps, complaint_in};
+ghost use Rattle.ob0_analysis.specs.Texts.{utf8};
+ghost use Rattle.ob0_session_json.specs.Shapes.{DiagnosticsAre};
+ghost use Rattle.ob0_session_edits.specs.Diagnostics.{Diagnoses, diagnostic_of};
+ghost use Rattle.ob0_session_json.specs.Shapes.{Diagnostic, diagnostic_value};
+ghost use Rattle.ob0_text.specs.Texts.{position_of};
+ghost use Rattle.ob0_text.specs.Units.{width_of};
+
+use ob0_analysis::{Diagnosis, diagnose_again};
+use ob0_session_json::results::range_value;
+use ob0_scan::Tokens;
+use ob0_text::{Position, TextStore};
+use serde_json::{Value, json};
+use std::alloc::{AllocError, Global};
+
+/// The list that is published for a text. What the text has in common with that of the tokens that were kept is taken over from
+/// these, and where it has lexemes its own tokens are kept in their place.
+pub fn diagnostics<T: TextStore>(
+    alloc: Global,
+    store: &T,
+    kept: &mut Option<Tokens>,
+) -> Result<Vec<Value>, AllocError>
+    ensures list { IfOk result (λ list. (ds : List Diagnostic) × Diagnoses (T.unit_of store.now) (T.content store.now) ds × DiagnosticsAre ds list.items) }
+    ensures keeps { OnOk result (Keeps (utf8 (T.content store.now)) kept.old kept.new) }
+{
+    let told = diagnose_again(alloc, store.as_str(), kept)?;
+    all_diagnostics(alloc, store, told.as_slice())
+}
+
+/// The diagnostics at their positions, which are found in one pass over the text.
+fn all_diagnostics<T: TextStore>(
+    alloc: Global,
+    store: &T,
+    told: &[Diagnosis],
+) -> Result<Vec<Value>, AllocError>
+    ensures { IfOk result (λ list. DiagnosticsAre (map (λ d. diagnostic_of (T.unit_of store.now) (T.content store.now) (complaint_in d)) told.now) list.items) }
+{
+    let offsets = offsets_of(alloc, told)?;
+    let positions = store.positions(alloc, offsets.as_slice())?;
+    listed(alloc, store, offsets.as_slice(), positions.as_slice(), told)
+}
+
+/// Where diagnostics start and end, in text order.
+fn offsets_of(alloc: Global, told: &[Diagnosis]) -> Result<Vec<usize>, AllocError> {
+    let mut offsets = Vec::new(alloc);
+    for diagnosis in told {
+        offsets.push(diagnosis.span.start)?;
+        offsets.push(diagnosis.span.end)?;
+    }
+    offsets.sort_unstable();
+    Ok(offsets)
+}
+
+/// The diagnostics, by some offsets in text order and their positions.
+fn listed<T: TextStore>(
+    alloc: Global,
+    store: &T,
+    offsets: &[usize],
+    positions: &[Position],
+    told: &[Diagnosis],
+) -> Result<Vec<Value>, AllocError>
+    requires { positions.now ≡ map (position_of (width_of (T.unit_of store.now)) (T.content store.now)) offsets.now }
+    ensures { IfOk result (λ list. DiagnosticsAre (map (λ d. diagnostic_of (T.unit_of store.now) (T.content store.now) (complaint_in d)) told.now) list.items) }
+{
+    let mut list = Vec::new(alloc);
+    for diagnosis in told {
+        let start = position_at(store, offsets, positions, diagnosis.span.start);
+        let end = position_at(store, offsets, positions, diagnosis.span.end);
+        list.push(diagnostic(alloc, diagnosis, start, end)?)?;
+    }
+    Ok(list)
+}
+
+/// The position of an offset, which is looked up among some in text order.
+fn position_at<T: TextStore>(
+    store: &T,
+    offsets: &[usize],
+    positions: &[Position],
+    offset: usize,
+) -> Position
+    requires { positions.now ≡ map (position_of (width_of (T.unit_of store.now)) (T.content store.now)) offsets.now }
+    ensures { result ≡ position_of (width_of (T.unit_of store.now)) (T.content store.now) offset }
+{
+    match offsets.binary_search(&offset) {
+        Ok(index) => positions[index],
+        Err(_) => store.position(offset),
+    }
+}
+
+fn diagnostic(
+    alloc: Global,
+    diagnosis: &Diagnosis,
+    start: Position,
+    end: Position,
+) -> Result<Value, AllocError>
+    ensures { IfOk result (λ v. view v ≡ diagnostic_value (record {
+      code = (complaint_in diagnosis.now).code;
+      said = (complaint_in diagnosis.now).said;
+      start = start;
+      end = end;
+    })) }
+{
+    let code = diagnosis.code;
+    let said = diagnosis.message.as_str();
+    let range = range_value(alloc, start, end)?;
+    json!(in alloc; {"code": code, "message": said, "range": range, "severity": 1u8})
+}

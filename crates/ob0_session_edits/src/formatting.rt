@@ -1,0 +1,76 @@
+// Laying out a text on request.
+ghost use Rattle.std.specs.Prelude.{◌≡◌, IfOk};
+ghost use Rattle.std.specs.Str.{chars};
+ghost use Rattle.serde_json.specs.Data.{Data};
+ghost use Rattle.ob0_rpc.specs.Seen.{id_data};
+ghost use Rattle.ob0_rpc.specs.Writing.{Writes};
+ghost use Rattle.ob0_analysis.specs.Analysed.{IsModuleIn};
+ghost use Rattle.ob0_analysis.specs.Texts.{utf8};
+ghost use Rattle.ob0_session_edits.specs.Formatted.{AnswersFormatting, Formats};
+
+use ob0_analysis::{Asked, Question, WellTyped, ask};
+use ob0_layout::format;
+use ob0_layout::laws::{gaps_make_the_layout, lexemes_stay, module_stays};
+use ob0_session_json::results::{refused, refused_ill_typed};
+use ob0_session_json::writing::Edits;
+use ob0_rpc::{Id, result_of};
+use ob0_scan::Tokens;
+use ob0_text::{Edit, EditRefusal, Indent, TextStore};
+use std::alloc::{AllocError, Global};
+
+/// How the text in a store is to be laid out.
+#[derive(Drop)]
+struct Formatting<'a, T: TextStore> {
+    store: &'a T,
+    indent: Indent,
+}
+
+impl<'a, T: TextStore> Question for Formatting<'a, T> {
+    type Answer = Result<Vec<Edit>, EditRefusal>;
+
+    ghost answers = { λ q names outcome. IsModuleIn (utf8 (T.content q.store.now)) names → T.content q.store.now ≡ chars names.module_read.source.text
+        → Formats (T.unit_of q.store.now) q.indent (T.content q.store.now) outcome };
+
+    fn answer(
+        &self,
+        alloc: Global,
+        module: &WellTyped<'_, '_>,
+    ) -> Result<Result<Vec<Edit>, EditRefusal>, AllocError> {
+        lexemes_stay();
+        module_stays();
+        gaps_make_the_layout();
+        let module = module.resolved().module();
+        match format(alloc, self.store, module, self.indent) {
+            Ok(edits) => Ok(Ok(edits)),
+            Err(refusal) => {
+                if refusal == EditRefusal::Memory {
+                    Err(AllocError)
+                } else {
+                    Ok(Err(refusal))
+                }
+            }
+        }
+    }
+}
+
+/// The answer to a request to lay out the text in a store. Where the tokens that were kept are the text's, it isn't scanned again.
+pub fn format_document<T: TextStore>(
+    alloc: Global,
+    id: &Id,
+    store: &T,
+    kept: Option<&Tokens>,
+    indent: Indent,
+) -> Result<Vec<u8>, AllocError>
+    ensures { IfOk result (λ bytes. (message : Data) × AnswersFormatting (T.unit_of store.now) (id_data id.now) indent (T.content store.now) message × Writes message bytes.items) }
+{
+    match ask(alloc, store.as_str(), kept, &Formatting { store, indent })? {
+        Asked::Answered(outcome) => match outcome {
+            Ok(edits) => {
+                let edits = edits.as_slice();
+                result_of(alloc, id, &Edits { edits })
+            }
+            Err(refusal) => refused(alloc, id, refusal.text(alloc)?.as_str()),
+        },
+        Asked::IllTyped(_) => refused_ill_typed(alloc, id),
+    }
+}

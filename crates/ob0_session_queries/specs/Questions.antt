@@ -1,0 +1,82 @@
+-- Questions about the name or field at a position: what is answered of a document's text.
+use Rattle.std.specs.Prelude.{◌≡◌, ◌⊎◌, ℕ, List, Bool, Option, Some, None, map, option_map, option_and_then}
+use Rattle.serde_json.specs.Data.{Data, null, array, no_items}
+use Rattle.serde_json.specs.View.{items_of}
+use Rattle.ob0_scan.specs.declared.lexeme.Span.{Span}
+use Rattle.ob0_text.specs.Texts.{offset_of}
+use Rattle.ob0_text.specs.Units.{width_of}
+use Rattle.ob0_text.specs.declared.positions.Unit.{Unit}
+use Rattle.ob0_edits.specs.Ranges.{range_of}
+use Rattle.ob0_scope_rules.specs.Resolution.{Resolution}
+use Rattle.ob0_refs.specs.Shown.{Shown}
+use Rattle.ob0_refs.specs.Questions.{AreReferencesAt, all_shown_at, definition_at, stands_at}
+use Rattle.ob0_refs.specs.declared.answers.At as told
+use Rattle.ob0_refs.specs.declared.answers.Of as of
+use Rattle.ob0_refs.specs.declared.answers.Of.TheVariants as tells
+use Rattle.ob0_rpc.specs.Asks.{At}
+use Rattle.ob0_rpc.specs.Shapes.{range_value}
+use Rattle.ob0_analysis.specs.Analysed.{IsModuleIn}
+use Rattle.ob0_analysis.specs.Diagnosed.{IsWellTypedModule}
+use Rattle.ob0_analysis.specs.Texts.{utf8}
+use Rattle.ob0_session_json.specs.Shapes.{hover_value, location_in}
+use Rattle.ob0_session_queries.specs.declared.questions.NameQuestion.{NameQuestion}
+use Rattle.ob0_session_queries.specs.declared.questions.NameQuestion.TheVariants.{Hover, Definition, References, PrepareRename}
+
+-- ---- names and fields that can be renamed, in bytes of a module's text
+
+-- predeclared names keep their names
+abbrev pub can_be_renamed : of.Of → Span → Option Span
+can_be_renamed (tells.Declared ordinal) span = Some span
+can_be_renamed tells.Predeclared span = None
+can_be_renamed (tells.Field ordinal index) span = Some span
+
+-- the name or field itself that stands there, where it can be renamed
+abbrev pub renamable_in : Resolution → ℕ → Option Span
+renamable_in names offset = option_and_then (λ (a : told.At). can_be_renamed a.of a.span) (stands_at names offset)
+
+-- ---- as values, at positions of a unit: the unit, the uri and the characters of the text
+
+abbrev pub range_at : Unit → List ℕ → Span → Data
+range_at unit text span = let range = range_of (width_of unit) text span in range_value range.start range.end
+
+abbrev pub location_at : Unit → List ℕ → List ℕ → Span → Data
+location_at unit uri text span = location_in uri (range_of (width_of unit) text span)
+
+-- what is shown, and where
+abbrev pub hover_at : Unit → List ℕ → Shown → Data
+hover_at unit text shown = hover_value shown.text (range_at unit text shown.span)
+
+abbrev pub or_null : Option Data → Data
+or_null (Some value) = value
+or_null None = null
+
+-- the place in bytes
+abbrev pub place_in : Unit → List ℕ → At → ℕ
+place_in unit text at = offset_of (width_of unit) text at.position
+
+-- all the references and no others, in text order
+abbrev pub AnswersReferences : Unit → List ℕ → At → Bool → Resolution → Data → Type 0
+AnswersReferences unit text at include names value =
+    (spans : List Span) × AreReferencesAt names (place_in unit text at) include spans × (value ≡ array (items_of (map (location_at unit at.uri text) spans)))
+
+-- this value answers the question about a well-typed module
+abbrev pub AnswersIn : Unit → List ℕ → At → NameQuestion → Resolution → Data → Type 0
+AnswersIn unit text at Hover names value = value ≡ or_null (option_map (hover_at unit text) (all_shown_at names (place_in unit text at)))
+AnswersIn unit text at Definition names value = value ≡ or_null (option_map (location_at unit at.uri text) (definition_at names (place_in unit text at)))
+AnswersIn unit text at (References include) names value = AnswersReferences unit text at include names value
+AnswersIn unit text at PrepareRename names value = value ≡ or_null (option_map (range_at unit text) (renamable_in names (place_in unit text at)))
+
+-- the answer about every other text
+abbrev pub no_answer : NameQuestion → Data
+no_answer Hover = null
+no_answer Definition = null
+no_answer (References include) = array no_items
+no_answer PrepareRename = null
+
+-- ---- texts
+
+-- this value answers a question about what stands at a position of a text
+abbrev pub AnswersName : Unit → List ℕ → At → NameQuestion → Data → Type 0
+AnswersName unit text at question value =
+    ((names : Resolution) × IsModuleIn (utf8 text) names × AnswersIn unit text at question names value)
+    ⊎ (¬ IsWellTypedModule (utf8 text) × (value ≡ no_answer question))

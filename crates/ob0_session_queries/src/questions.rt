@@ -1,0 +1,284 @@
+//! Questions about the name or field at a position.
+
+ghost use Rattle.std.specs.Prelude.{◌≡◌, IfOk, option_map, map};
+ghost use Rattle.serde_json.specs.Data.{Data, array};
+ghost use Rattle.serde_json.specs.View.{view, items_of};
+ghost use Rattle.ob0_rpc.specs.Seen.{at_seen, id_data};
+ghost use Rattle.ob0_rpc.specs.Shapes.{result_message};
+ghost use Rattle.ob0_rpc.specs.Writing.{Writes};
+ghost use Rattle.ob0_refs.specs.Parts.{hover_in};
+ghost use Rattle.ob0_refs.specs.Questions.{AreReferencesAt, all_shown_at, definition_at};
+ghost use Rattle.ob0_session_queries.specs.Questions.{AnswersName, can_be_renamed, hover_at, renamable_in, location_at, range_at, or_null};
+ghost use Rattle.ob0_session_queries.specs.declared.questions.NameQuestion.TheVariants.{Hover, Definition, References, PrepareRename};
+
+use ob0_analysis::{Asked, Question, WellTyped, ask};
+use ob0_edits::ranges;
+use ob0_refs::{Of, at, definition, hover, references};
+use ob0_session_json::results::{hover_value, location_value, range_value};
+use ob0_session_json::writing::Locations;
+use ob0_rpc::{Id, Place, result, result_of};
+use ob0_scan::{Span, Tokens};
+use ob0_text::TextStore;
+use serde_json::Value;
+use std::alloc::{AllocError, Global};
+
+/// What is asked about a name or a field.
+#[derive(Clone, Copy, Debug, Drop, PartialEq, Eq)]
+pub enum NameQuestion {
+    Hover,
+    Definition,
+    References { include_declaration: bool },
+    PrepareRename,
+}
+
+/// What is shown of what is named at this place of the text?
+#[derive(Drop)]
+struct HoverAt {
+    offset: usize,
+}
+
+impl Question for HoverAt {
+    type Answer = Option<ob0_refs::Hover>;
+
+    ghost answers = { λ q names found. option_map hover_in found ≡ all_shown_at names q.offset };
+
+    fn answer(
+        &self,
+        alloc: Global,
+        module: &WellTyped<'_, '_>,
+    ) -> Result<Option<ob0_refs::Hover>, AllocError> {
+        hover(alloc, module, self.offset)
+    }
+}
+
+/// Where is declared what is named at this place of the text?
+#[derive(Drop)]
+struct DefinitionAt {
+    offset: usize,
+}
+
+impl Question for DefinitionAt {
+    type Answer = Option<Span>;
+
+    ghost answers = { λ q names found. found ≡ definition_at names q.offset };
+
+    fn answer(
+        &self,
+        _alloc: Global,
+        module: &WellTyped<'_, '_>,
+    ) -> Result<Option<Span>, AllocError> {
+        Ok(definition(module, self.offset))
+    }
+}
+
+/// Where is the declaration named that is named at this place of the text?
+#[derive(Drop)]
+struct ReferencesAt {
+    offset: usize,
+    include_declaration: bool,
+}
+
+impl Question for ReferencesAt {
+    type Answer = Vec<Span>;
+
+    ghost answers = { λ q names found. AreReferencesAt names q.offset q.include_declaration found.items };
+
+    fn answer(&self, alloc: Global, module: &WellTyped<'_, '_>) -> Result<Vec<Span>, AllocError> {
+        references(alloc, module, self.offset, self.include_declaration)
+    }
+}
+
+/// Which name or field at this place of the text could be renamed?
+#[derive(Drop)]
+struct RenamableAt {
+    offset: usize,
+}
+
+impl Question for RenamableAt {
+    type Answer = Option<Span>;
+
+    ghost answers = { λ q names found. found ≡ renamable_in names q.offset };
+
+    fn answer(
+        &self,
+        _alloc: Global,
+        module: &WellTyped<'_, '_>,
+    ) -> Result<Option<Span>, AllocError> {
+        match at(module, self.offset) {
+            Some(name) => Ok(renamable(name.of, name.span)),
+            None => Ok(None),
+        }
+    }
+}
+
+fn renamable(of: Of, span: Span) -> Option<Span>
+    ensures { result ≡ can_be_renamed of span }
+{
+    match of {
+        Of::Declared(_) => Some(span),
+        Of::Predeclared => None,
+        Of::Field { .. } => Some(span),
+    }
+}
+
+/// The answer to a question about what stands at a position of the text in a store. Where the tokens that were kept are the text's,
+/// it isn't scanned again.
+pub fn answer_question<T: TextStore>(
+    alloc: Global,
+    id: &Id,
+    store: &T,
+    kept: Option<&Tokens>,
+    place: &Place,
+    question: NameQuestion,
+) -> Result<Vec<u8>, AllocError>
+    ensures { IfOk result (λ bytes. (value : Data) × AnswersName (T.unit_of store.now) (T.content store.now) (at_seen place.now) question value
+        × Writes (result_message (id_data id.now) value) bytes.items) }
+{
+    match question {
+        NameQuestion::Hover => result(alloc, id, shown_value(alloc, store, kept, place)?),
+        NameQuestion::Definition => result(alloc, id, definition_value(alloc, store, kept, place)?),
+        NameQuestion::References {
+            include_declaration,
+        } => references_answer(alloc, id, store, kept, place, include_declaration),
+        NameQuestion::PrepareRename => result(
+            alloc,
+            id,
+            renamable_value(alloc, store, kept, place)?,
+        ),
+    }
+}
+
+fn shown_value<T: TextStore>(
+    alloc: Global,
+    store: &T,
+    kept: Option<&Tokens>,
+    place: &Place,
+) -> Result<Value, AllocError>
+    ensures { IfOk result (λ v. AnswersName (T.unit_of store.now) (T.content store.now) (at_seen place.now) Hover (view v)) }
+{
+    let offset = store.offset(place.position);
+    match ask(alloc, store.as_str(), kept, &HoverAt { offset })? {
+        Asked::Answered(found) => shown_or_null(alloc, store, found),
+        Asked::IllTyped(_told) => Ok(Value::Null),
+    }
+}
+
+fn definition_value<T: TextStore>(
+    alloc: Global,
+    store: &T,
+    kept: Option<&Tokens>,
+    place: &Place,
+) -> Result<Value, AllocError>
+    ensures { IfOk result (λ v. AnswersName (T.unit_of store.now) (T.content store.now) (at_seen place.now) Definition (view v)) }
+{
+    let offset = store.offset(place.position);
+    match ask(alloc, store.as_str(), kept, &DefinitionAt { offset })? {
+        Asked::Answered(found) => location_or_null(alloc, store, place.uri.as_str(), found),
+        Asked::IllTyped(_told) => Ok(Value::Null),
+    }
+}
+
+fn references_answer<T: TextStore>(
+    alloc: Global,
+    id: &Id,
+    store: &T,
+    kept: Option<&Tokens>,
+    place: &Place,
+    include_declaration: bool,
+) -> Result<Vec<u8>, AllocError>
+    ensures { IfOk result (λ bytes. (value : Data) × AnswersName (T.unit_of store.now) (T.content store.now) (at_seen place.now) (References include_declaration) value
+        × Writes (result_message (id_data id.now) value) bytes.items) }
+{
+    let question = ReferencesAt {
+        offset: store.offset(place.position),
+        include_declaration,
+    };
+    match ask(alloc, store.as_str(), kept, &question)? {
+        Asked::Answered(found) => locations(alloc, id, store, place.uri.as_str(), found.as_slice()),
+        Asked::IllTyped(_) => {
+            let none = Vec::new(alloc);
+            result(alloc, id, Value::Array(none))
+        }
+    }
+}
+
+fn renamable_value<T: TextStore>(
+    alloc: Global,
+    store: &T,
+    kept: Option<&Tokens>,
+    place: &Place,
+) -> Result<Value, AllocError>
+    ensures { IfOk result (λ v. AnswersName (T.unit_of store.now) (T.content store.now) (at_seen place.now) PrepareRename (view v)) }
+{
+    let offset = store.offset(place.position);
+    match ask(alloc, store.as_str(), kept, &RenamableAt { offset })? {
+        Asked::Answered(found) => range_or_null(alloc, store, found),
+        Asked::IllTyped(_told) => Ok(Value::Null),
+    }
+}
+
+fn shown_or_null<T: TextStore>(
+    alloc: Global,
+    store: &T,
+    found: Option<ob0_refs::Hover>,
+) -> Result<Value, AllocError>
+    ensures { IfOk result (λ v. view v ≡ or_null (option_map (hover_at (T.unit_of store.now) (T.content store.now)) (option_map hover_in found))) }
+{
+    match found {
+        Some(shown) => hover_value(
+            alloc,
+            shown.text.as_str(),
+            span_value(alloc, store, shown.span)?,
+        ),
+        None => Ok(Value::Null),
+    }
+}
+
+fn location_or_null<T: TextStore>(
+    alloc: Global,
+    store: &T,
+    uri: &str,
+    found: Option<Span>,
+) -> Result<Value, AllocError>
+    ensures { IfOk result (λ v. view v ≡ or_null (option_map (location_at (T.unit_of store.now) uri.now (T.content store.now)) found)) }
+{
+    match found {
+        Some(span) => location_value(alloc, uri, span_value(alloc, store, span)?),
+        None => Ok(Value::Null),
+    }
+}
+
+fn range_or_null<T: TextStore>(
+    alloc: Global,
+    store: &T,
+    found: Option<Span>,
+) -> Result<Value, AllocError>
+    ensures { IfOk result (λ v. view v ≡ or_null (option_map (range_at (T.unit_of store.now) (T.content store.now)) found)) }
+{
+    match found {
+        Some(span) => span_value(alloc, store, span),
+        None => Ok(Value::Null),
+    }
+}
+
+/// The range of a span.
+fn span_value<T: TextStore>(alloc: Global, store: &T, span: Span) -> Result<Value, AllocError>
+    ensures { IfOk result (λ v. view v ≡ range_at (T.unit_of store.now) (T.content store.now) span) }
+{
+    range_value(alloc, store.position(span.start), store.position(span.end))
+}
+
+/// Spans in text order as places of a document, found in one pass.
+fn locations<T: TextStore>(
+    alloc: Global,
+    id: &Id,
+    store: &T,
+    uri: &str,
+    spans: &[Span],
+) -> Result<Vec<u8>, AllocError>
+    ensures { IfOk result (λ bytes. Writes (result_message (id_data id.now) (array (items_of (map (location_at (T.unit_of store.now) uri.now (T.content store.now)) spans.now)))) bytes.items) }
+{
+    let ranges = ranges(alloc, store, spans)?;
+    let ranges = ranges.as_slice();
+    result_of(alloc, id, &Locations { uri, ranges })
+}

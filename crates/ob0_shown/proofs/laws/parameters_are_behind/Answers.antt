@@ -1,5 +1,0 @@
-use Rattle.ob0_shown.proofs.ParametersBehind.{parameters_are_behind-holds}
-use Rattle.ob0_shown.proofs.laws.parameters_are_behind.Goals as goal
-
-pub returns : goal.returns
-returns c = parameters_are_behind-holds

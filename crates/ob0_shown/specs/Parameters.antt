@@ -1,7 +1,0 @@
--- What the code's parameters stand for.
-use Rattle.std.specs.Prelude.{string_bytes}
-use Rattle.ob0_shown.specs.Hovers as shown
-use Rattle.ob0_shown.specs.declared.hovers.Parameter.{Parameter}
-
-abbrev pub parameter_in : Parameter → shown.Parameter
-parameter_in p = record { by_place = p.by_place; name = p.name.now; of = string_bytes p.of }

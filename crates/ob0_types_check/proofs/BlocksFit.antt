@@ -1,0 +1,232 @@
+-- Blocks, procedures and modules of which nothing is told fit.
+use Rattle.std.proofs.Common.{◌≡◌, ◌≢◌, ℕ, suc, ◌+◌, ◌<◌, ◌≤◌, Bool, true, false, ◌&&◌, List, [], ◌∷◌, ◌++◌, length, map, Option, Some, None, option_and_then, refl, sym, ap, ◌∙◌, subst, le_refl, le_trans, arith, length-append, lit<}
+use Rattle.std.proofs.lemmas.List.{length-map}
+use Rattle.std.specs.List.{filter}
+use Rattle.ob0_tree.specs.Parsed.{tree_of}
+use Rattle.ob0_tree.specs.Places.{named, text_at, value_at}
+use Rattle.ob0_tree.specs.Tree.{Tree, begins, block, body, constants, declares, declares_procedure, end, has_body, item, items, mapped, maybe, more, none, one, procedure, type_names, variables}
+use Rattle.ob0_scope_rules.specs.Names.{Name, as_names}
+use Rattle.ob0_scope_rules.specs.Parts.{constant_names, formal_names, formal_sections, module_block, named_types, procedure_formals, procedure_name, section_constants, section_types, section_variables, variable_names}
+use Rattle.ob0_scope_rules.specs.Resolution.{Resolution, is_of_occurrences}
+use Rattle.ob0_scope_rules.specs.Scopes.{Scope, after_names, after_procedure, first_procedure, first_type, first_variable, predeclared_scope}
+use Rattle.ob0_scope_rules.proofs.Ordinals.{le-after_names, le-after_procedure}
+use Rattle.ob0_types_rules.specs.Declarations.{after_types, after_variables, declare_constants, declare_first, declare_types, formals_constructors, procedure_constructors}
+use Rattle.ob0_types_rules.specs.Environments.{meanings, outermost}
+use Rattle.ob0_types_rules.specs.Expressions as meant
+use Rattle.ob0_types_rules.specs.WellTyped.{Signature, TypeEnvironment, TypedParameter, bind_typed, block_fits, body_fits, by_place, by_value, declare_typed, fits_over, heading, hold, procedure_fits, procedures_fit, sequence_fits, typed_parameters}
+use Rattle.ob0_values.specs.Values.{Shape, boolean_shape, integer_shape, truth}
+use Rattle.ob0_types_check.specs.DeclarationFaults.{Heading, behind_heading, told_block, told_body, reported_constants, reported_module, told_procedure, told_procedures, told_sections, told_types, told_variables}
+use Rattle.ob0_types_check.specs.Known.{Meaning, Reported, a_procedure}
+use Rattle.ob0_types_table.specs.declared.types.TypeId.{TypeId}
+use Rattle.ob0_types_check.specs.SoFar.{SoFar, at_first, predeclared_meanings}
+use Rattle.ob0_types_check.proofs.PartsFitting.{PartsFit, parts_fit}
+use Rattle.ob0_types_check.specs.ModuleLaws.{ModulesFit}
+use Rattle.ob0_types_check.proofs.DeclaredModules.{module_placed, numbering_of}
+use Rattle.ob0_types_check.proofs.DeclaredNames.{AreSeen, BlockPlaced, ConstantsPlaced, Numbering, ProcedurePlaced, ProceduresPlaced, TypesPlaced, VariablesPlaced, after_names-map, behind_constants, behind_procedure, behind_types, behind_variables, constants-mapped, formals-mapped, inside_procedure, types-mapped, variables-mapped}
+use Rattle.ob0_types_check.proofs.DeclaredStanding.{Later, NamesStand, Stands, agrees_where_seen, defined, later_of, later_same, later_then, stands_defined, stands_later}
+use Rattle.ob0_types_check.proofs.DeclaredTypes.{none_both}
+use Rattle.ob0_types_check.proofs.BlocksDeclared.{Declared, constants_declare, declared_then, next_le, types_declare, variables_declare}
+use Rattle.ob0_types_check.proofs.BlocksParameters.{formals_of, parameters_kept, parameters_over, sections_declare}
+
+-- it fits, and what is known behind it
+pub record FitsLater (n : ℕ) (p q : SoFar) (before : List Shape) (fits : Bool) : Type 0 where
+  pub right : fits ≡ true
+  pub after : List Shape
+  pub later : Later n p q before after
+
+-- a procedure that fits, and what is known behind it
+pub record ProcedureFits (w : Numbering) (n : ℕ) (p q : SoFar) (before : List Shape) (scope : Scope Name) (env : TypeEnvironment Name) (k : ℕ) (d : Tree ℕ (item procedure)) : Type 0 where
+  pub parameters : List (TypedParameter Name)
+  pub typed : typed_parameters as_names env k (procedure_formals (named w.source d)) ≡ Some parameters
+  pub right : procedure_fits as_names (bind_typed parameters (heading (procedure_name (named w.source d)) parameters env)) k (named w.source d) ≡ true
+  pub after : List Shape
+  pub later : Later n p q before after
+  pub stands : Stands w q after (after_procedure (suc n) d) (behind_procedure w scope n d) (heading (procedure_name (named w.source d)) parameters env)
+
+body_known : (p : SoFar) (statements : Tree ℕ (maybe body)) → (told_body p statements).known ≡ p
+unfolding told_body
+body_known p none = refl
+body_known p (one (begins statements)) = refl
+
+above : (j n : ℕ) → n < j → j ≢ n
+above j n less e = absurd (omega (arith, e, less))
+
+module _ (w : Numbering) (fit : PartsFit) where
+  body_told : (statements : Tree ℕ (maybe body)) (n : ℕ) (p : SoFar) (before : List Shape) (scope : Scope Name) (env : TypeEnvironment Name) → Stands w p before n scope env → AreSeen w scope statements → (told_body p statements).faults ≡ [] → body_fits as_names env (named w.source statements) ≡ true
+  unfolding told_body body_fits
+  body_told none n p before scope env st seen h = refl
+  body_told (one (begins s)) n p before scope env st seen h =
+      ap (λ z. sequence_fits (meanings as_names env) (mapped (text_at w.source) (value_at z) s)) (sym st.source)
+      ∙ fit.statements p before (text_at w.source) (meanings as_names env) s (agrees_where_seen w p false before n scope env st fit s seen) h
+
+  -- a block's constants, types and variables
+  declarations_told : (cs : Tree ℕ (maybe constants)) (ts : Tree ℕ (maybe type_names)) (vs : Tree ℕ (maybe variables)) (ps : Tree ℕ (items procedure)) (statements : Tree ℕ (maybe body)) (k n : ℕ) (p : SoFar) (before : List Shape) (scope : Scope Name) (env : TypeEnvironment Name) → Stands w p before n scope env
+      → ConstantsPlaced w scope n (section_constants cs)
+      → TypesPlaced w (behind_constants w scope n (has_body (declares cs ts vs ps) statements)) (first_type n (has_body (declares cs ts vs ps) statements)) (section_types ts)
+      → VariablesPlaced w (behind_types w scope n (has_body (declares cs ts vs ps) statements)) (first_variable n (has_body (declares cs ts vs ps) statements)) (section_variables vs)
+      → (reported_constants p (section_constants cs)).faults ≡ []
+      → (told_types (reported_constants p (section_constants cs)).known (section_types ts)).faults ≡ []
+      → (told_variables (told_types (reported_constants p (section_constants cs)).known (section_types ts)).known (section_variables vs)).faults ≡ []
+      → Declared w n (first_procedure n (has_body (declares cs ts vs ps) statements)) p (told_variables (told_types (reported_constants p (section_constants cs)).known (section_types ts)).known (section_variables vs)).known before (behind_variables w scope n (has_body (declares cs ts vs ps) statements))
+      (option_and_then (declare_typed as_names (after_types k (named w.source (has_body (declares cs ts vs ps) statements))) (section_variables (named w.source vs))) (declare_first as_names env k (named w.source (has_body (declares cs ts vs ps) statements))))
+  unfolding declare_first
+  declarations_told cs ts vs ps statements k n p before scope env st placed₀ placed₁ placed₂ none₀ none₁ none₂ =
+      let text : ℕ → Name = text_at w.source in
+      let value : ℕ → ℕ = value_at w.source in
+      let b : Tree ℕ block = has_body (declares cs ts vs ps) statements in
+      let nb : Tree Name block = named w.source b in
+      let p₁ : SoFar = (reported_constants p (section_constants cs)).known in
+      let p₂ : SoFar = (told_types p₁ (section_types ts)).known in
+      let p₃ : SoFar = (told_variables p₂ (section_variables vs)).known in
+      let dc = constants_declare w fit (section_constants cs) n p before scope env st placed₀ none₀ in
+      let dt = types_declare w fit (section_types ts) k (first_type n b) p₁ dc.after (behind_constants w scope n b) dc.env dc.stands placed₁ none₁ in
+      let le₁ : n ≤ first_type n b = le-after_names n (constant_names (section_constants cs)) in
+      let le₂ : n ≤ first_variable n b = le_trans le₁ (le-after_names (first_type n b) (named_types (section_types ts))) in
+      let first : Declared w n (first_variable n b) p p₂ before (behind_types w scope n b) (declare_first as_names env k nb) =
+      declared_then w n (first_type n b) (first_variable n b) p p₁ p₂ before dc.after (behind_types w scope n b) (declare_constants as_names env (section_constants (named w.source cs))) dc.env (λ e. declare_types as_names e k (section_types (named w.source ts))) le₁
+      (ap (declare_constants as_names env) (constants-mapped text value cs) ∙ dc.given_is) dc.later
+      (subst (λ z. Declared w (first_type n b) (first_variable n b) p₁ p₂ dc.after (behind_types w scope n b) (declare_types as_names dc.env k z)) (sym (types-mapped text value ts)) dt) in
+      let dv = variables_declare w fit (section_variables vs) (after_types k nb) (first_variable n b) p₂ first.after (behind_types w scope n b) first.env first.stands placed₂ none₂ in
+      declared_then w n (first_variable n b) (first_procedure n b) p p₂ p₃ before first.after (behind_variables w scope n b) (declare_first as_names env k nb) first.env (declare_typed as_names (after_types k nb) (section_variables (named w.source vs))) le₂ first.given_is first.later
+      (subst (λ z. Declared w (first_variable n b) (first_procedure n b) p₂ p₃ first.after (behind_variables w scope n b) (declare_typed as_names (after_types k nb) z first.env)) (sym (variables-mapped text value vs)) dv)
+
+  -- a block behind its declarations
+  block_then : (p v q : SoFar) (before : List Shape) (n m : ℕ) (scope : Scope Name) (given : Option (TypeEnvironment Name)) (statements : Tree ℕ (maybe body)) (test : TypeEnvironment Name → Bool) → n ≤ m → (d : Declared w n m p v before scope given) → FitsLater m v q d.after (test d.env)
+      → FitsLater n p (told_body q statements).known before (hold given test)
+  block_then p v q before n m scope given statements test le d f =
+      subst (λ z. FitsLater n p z before (hold given test)) (sym (body_known q statements)) (record {
+        right = ap (λ o. hold o test) d.given_is ∙ f.right;
+        after = f.after;
+        later = later_then n m p v q before d.after f.after le d.later f.later;
+      })
+
+  mutual
+    unfolding told_block block_fits
+
+    pub block_told : (b : Tree ℕ block) (k n : ℕ) (p : SoFar) (before : List Shape) (scope : Scope Name) (env : TypeEnvironment Name) → Stands w p before n scope env → BlockPlaced w scope n b → (told_block p b).faults ≡ []
+        → FitsLater n p (told_block p b).known before (block_fits as_names env k (named w.source b))
+    block_told (has_body (declares cs ts vs ps) statements) k n p before scope env st placed h =
+        let b : Tree ℕ block = has_body (declares cs ts vs ps) statements in
+        let nb : Tree Name block = named w.source b in
+        let t₁ : Reported SoFar = reported_constants p (section_constants cs) in
+        let t₂ : Reported SoFar = told_types t₁.known (section_types ts) in
+        let t₃ : Reported SoFar = told_variables t₂.known (section_variables vs) in
+        let t₄ : Reported SoFar = told_procedures t₃.known ps in
+        let t₅ : Reported SoFar = told_body t₄.known statements in
+        let a₁ = none_both t₁.faults (t₂.faults ++ (t₃.faults ++ (t₄.faults ++ t₅.faults))) h in
+        let a₂ = none_both t₂.faults (t₃.faults ++ (t₄.faults ++ t₅.faults)) a₁.1 in
+        let a₃ = none_both t₃.faults (t₄.faults ++ t₅.faults) a₂.1 in
+        let a₄ = none_both t₄.faults t₅.faults a₃.1 in
+        let d = declarations_told cs ts vs ps statements k n p before scope env st placed.0 placed.1 placed.2 a₁.0 a₂.0 a₃.0 in
+        let le : n ≤ first_procedure n b = le_trans (le-after_names n (constant_names (section_constants cs))) (le_trans (le-after_names (first_type n b) (named_types (section_types ts))) (le-after_names (first_variable n b) (variable_names (section_variables vs)))) in
+        let rest = procedures_told ps statements (after_variables k nb) (first_procedure n b) t₃.known d.after (behind_variables w scope n b) d.env d.stands placed.3 a₄.0 a₄.1 in
+        block_then p t₃.known t₄.known before n (first_procedure n b) (behind_variables w scope n b) (option_and_then (declare_typed as_names (after_types k nb) (section_variables (named w.source vs))) (declare_first as_names env k nb)) statements
+        (λ inner. procedures_fit as_names inner (after_variables k nb) (named w.source statements) (named w.source ps)) le d rest
+
+    procedures_told : (ps : Tree ℕ (items procedure)) (statements : Tree ℕ (maybe body)) (k n : ℕ) (p : SoFar) (before : List Shape) (scope : Scope Name) (env : TypeEnvironment Name) → Stands w p before n scope env → ProceduresPlaced w scope n statements ps → (told_procedures p ps).faults ≡ []
+        → (told_body (told_procedures p ps).known statements).faults ≡ [] → FitsLater n p (told_procedures p ps).known before (procedures_fit as_names env k (named w.source statements) (named w.source ps))
+    procedures_told end statements k n p before scope env st placed h last = record { right = body_told statements n p before scope env st placed last; after = before; later = later_same n p before st.table }
+    procedures_told (more d rest) statements k n p before scope env st placed h last =
+        let nd : Tree Name (item procedure) = named w.source d in
+        let q : SoFar = (told_procedure p d).known in
+        let a = none_both (told_procedure p d).faults (told_procedures q rest).faults h in
+        let f = procedure_told d k n p before scope env st placed.0 a.0 in
+        let others = procedures_told rest statements (k + procedure_constructors nd) (after_procedure (suc n) d) q f.after (behind_procedure w scope n d) (heading (procedure_name nd) f.parameters env) f.stands placed.1 a.1 last in
+        record {
+          right = ap (λ o. hold o (λ ps. procedure_fits as_names (bind_typed ps (heading (procedure_name nd) ps env)) k nd && procedures_fit as_names (heading (procedure_name nd) ps env) (k + procedure_constructors nd) (named w.source statements) (named w.source rest))) f.typed
+              ∙ (λ i. f.right i && others.right i);
+          after = others.after;
+          later = later_then n (after_procedure (suc n) d) p q (told_procedures q rest).known before f.after others.after (le_trans (next_le n) (le-after_procedure (suc n) d)) f.later others.later;
+        }
+
+    procedure_told : (d : Tree ℕ (item procedure)) (k n : ℕ) (p : SoFar) (before : List Shape) (scope : Scope Name) (env : TypeEnvironment Name) → Stands w p before n scope env → ProcedurePlaced w scope n d → (told_procedure p d).faults ≡ []
+        → ProcedureFits w n p (told_procedure p d).known before scope env k d
+    procedure_told (declares_procedure x fs b closing) k n p before scope env st placed h =
+        let d : Tree ℕ (item procedure) = declares_procedure x fs b closing in
+        let text : ℕ → Name = text_at w.source in
+        let start : Heading = record { formals = []; behind = p } in
+        let g : Heading = (told_sections start (formal_sections fs)).known in
+        let q₁ : SoFar = behind_heading x g in
+        let q : SoFar = (told_block q₁ b).known in
+        let a = none_both (told_sections start (formal_sections fs)).faults (told_block q₁ b).faults h in
+        let weak = stands_later w n n (suc n) p p before before scope env (le_refl n) (next_le n) st (later_same n p before st.table) in
+        let ps = sections_declare w fit (formal_sections fs) k (suc n) start before scope env weak placed.1 a.0 in
+        let signature : Signature = formals_of ps.parameters in
+        let outer = stands_later w n (suc n) n p g.behind before ps.after scope env (next_le n) (le_refl n) st ps.later in
+        let made = defined w g.behind ps.after n (a_procedure g.formals) x outer.ordinals outer.room outer.table placed.0 in
+        let own = stands_defined w g.behind q₁ ps.after n scope env (a_procedure g.formals) (text x) (meant.a_procedure signature) outer made (signature, refl, ps.formals [] tt) in
+        let xs : List Name = map text (formal_names (formal_sections fs)) in
+        let m : ℕ = after_names (suc n) (formal_names (formal_sections fs)) in
+        let kept = parameters_kept ps.after ps.after g.behind.declared q₁.declared (suc n) (after_names (suc n) xs) (λ t s e. e) (λ j from to. made.others j (above j n from)) xs ps.parameters (le_refl (after_names (suc n) xs)) ps.own in
+        let inner = parameters_over ps.after q₁.declared (suc n) ((text x, n) ∷ scope) ((text x, meant.a_procedure signature) ∷ env) xs ps.parameters own.names kept in
+        let inside : Stands w q₁ ps.after m (inside_procedure w scope n d) (bind_typed ps.parameters (heading (text x) ps.parameters env)) = record {
+          source = own.source;
+          ordinals = own.ordinals;
+          room = own.room;
+          table = own.table;
+          names = subst (λ j. NamesStand ps.after q₁.declared j (inside_procedure w scope n d) (bind_typed ps.parameters (heading (text x) ps.parameters env))) (after_names-map text (suc n) (formal_names (formal_sections fs))) inner;
+        } in
+        let f = block_told b (k + formals_constructors (formal_sections (named w.source fs))) m q₁ ps.after (inside_procedure w scope n d) (bind_typed ps.parameters (heading (text x) ps.parameters env)) inside placed.2 a.1 in
+        let le : suc n ≤ m = le-after_names (suc n) (formal_names (formal_sections fs)) in
+        let to_heading = later_then n n p g.behind q₁ before ps.after ps.after (le_refl n) (later_of n (suc n) p g.behind before ps.after (next_le n) ps.later) made.later in
+        record {
+          parameters = ps.parameters;
+          typed = ap (typed_parameters as_names env k) (formals-mapped text (value_at w.source) fs) ∙ ps.given_is;
+          right = f.right;
+          after = f.after;
+          later = later_then n m p q₁ q before ps.after f.after (le_trans (next_le n) le) to_heading f.later;
+          stands = stands_later w (suc n) m (after_procedure (suc n) d) q₁ q ps.after f.after ((text x, n) ∷ scope) (heading (text x) ps.parameters env) le (le-after_procedure (suc n) d) own f.later;
+        }
+
+room_first : (xs : List ℕ) → length (predeclared_meanings ++ map (λ token. None) xs) ≡ 7 + length xs
+room_first xs =
+    let later : List (Option (Meaning TypeId)) = map (λ token. None) xs in
+    let count : length later ≡ length xs = length-map {B = Option (Meaning TypeId)} xs (λ token. None) in
+    omega (arith, length-append predeclared_meanings later, count)
+
+-- where a module begins
+first_stands : (r : Resolution) → Stands (numbering_of r) (at_first r) [] 7 (predeclared_scope as_names) (outermost as_names)
+first_stands r = record {
+  source = refl;
+  ordinals = refl;
+  room = room_first r.declarations;
+  table = tt;
+  names = (
+    lit< tt,
+    refl,
+    ([], refl, tt),
+    (
+      lit< tt,
+      refl,
+      (record { mode = by_value; shape = integer_shape } ∷ [], refl, (refl, refl, tt)),
+      (
+        lit< tt,
+        refl,
+        (record { mode = by_place; shape = integer_shape } ∷ [], refl, (refl, refl, tt)),
+        (
+          lit< tt,
+          refl,
+          (truth false, refl, refl, refl),
+          (
+            lit< tt,
+            refl,
+            (truth true, refl, refl, refl),
+            (
+              lit< tt,
+              refl,
+              (boolean_shape, refl, refl),
+              (lit< tt, refl, (integer_shape, refl, refl), tt),
+            ),
+          ),
+        ),
+      ),
+    ),
+  );
+}
+
+pub modules_fit-holds : ModulesFit
+unfolding reported_module fits_over
+modules_fit-holds r is h =
+    let m = r.module_read in
+    let a = none_both (filter is_of_occurrences r.faults) (told_block (at_first r) (module_block (tree_of m))).faults h in
+    (block_told (numbering_of r) parts_fit (module_block (tree_of m)) 0 7 (at_first r) [] (predeclared_scope as_names) (outermost as_names) (first_stands r) (module_placed r is a.0) a.1).right

@@ -1,0 +1,189 @@
+-- Formal parameters of which nothing is told have the types of a signature.
+use Rattle.std.proofs.Common.{◌≡◌, ℕ, suc, ◌+◌, ◌<◌, ◌≤◌, Bool, true, false, List, [], ◌∷◌, ◌++◌, map, Option, Some, None, option_and_then, slice_index_or, refl, sym, ap, ◌∙◌, subst, le_refl, le_of_lt, le_trans, append_assoc, append-nil}
+use Rattle.std.proofs.lemmas.List.{map-append}
+use Rattle.ob0_tree.specs.Places.{named, text_at, value_at}
+use Rattle.ob0_tree.specs.Tree.{Tree, end, further_section, items, more, then_section, value_section, variable_section, written_type}
+use Rattle.ob0_scope_rules.specs.Names.{Name, as_names}
+use Rattle.ob0_scope_rules.specs.Parts.{formal_names, names_listed}
+use Rattle.ob0_scope_rules.specs.Scopes.{Scope, after_names, declare_names}
+use Rattle.ob0_scope_rules.proofs.Ordinals.{le-after_names}
+use Rattle.ob0_types_table.specs.Tables.{mode_of}
+use Rattle.ob0_types_table.specs.declared.types.TypeId.{TypeId}
+use Rattle.ob0_types_rules.specs.Environments.{meanings}
+use Rattle.ob0_types_rules.specs.Expressions as meant
+use Rattle.ob0_types_rules.specs.Typing.{constructors, denoted}
+use Rattle.ob0_types_rules.specs.WellTyped.{Mode, Signature, TypeEnvironment, TypedParameter, bind_names, bind_typed, by_place, by_value, typed_parameters}
+use Rattle.ob0_values.specs.Values.{Shape}
+use Rattle.ob0_types_check.specs.DeclarationFaults.{Heading, told_parameters, told_section, told_sections, with_parameters}
+use Rattle.ob0_types_check.specs.Known.{Formal, Meaning, Reported, a_variable}
+use Rattle.ob0_types_check.specs.SoFar.{SoFar, Typed, define, define_all}
+use Rattle.ob0_types_check.specs.WrittenTypeFaults.{told_type}
+use Rattle.ob0_types_check.specs.Agreement.{FormalsAgree, StandsAlike, shape_in}
+use Rattle.ob0_types_check.proofs.PartsFitting.{PartsFit}
+use Rattle.ob0_types_check.proofs.DeclaredNames.{AreSeen, NamesPlaced, Numbering, SectionsPlaced, after_names-map, names_listed-mapped, scope_behind}
+use Rattle.ob0_types_check.proofs.DeclaredShapes.{Longer}
+use Rattle.ob0_types_check.proofs.DeclaredStanding.{Later, NamesStand, Stands, all_defined, defined, formals_kept, later_same, later_then, names_later, stands_defined, stands_kept, stands_later}
+use Rattle.ob0_types_check.proofs.DeclaredTypes.{none_both, type_denotes}
+
+-- parameters from an ordinal on, each known as a variable
+abbrev pub ParametersStand : List Shape → List (Option (Meaning TypeId)) → ℕ → List Name → List (TypedParameter Name) → Type 0
+ParametersStand shapes declared k [] [] = Unit {0}
+ParametersStand shapes declared k [] (p ∷ ps) = ⊥
+ParametersStand shapes declared k (x ∷ xs) [] = ⊥
+ParametersStand shapes declared k (x ∷ xs) (p ∷ ps) =
+    (p.name ≡ x) × StandsAlike (shape_in shapes) (slice_index_or declared k None) (Some (meant.a_variable p.formal.shape)) × ParametersStand shapes declared (suc k) xs ps
+
+pub parameters_kept : (before after : List Shape) (old new : List (Option (Meaning TypeId))) (k m : ℕ) → Longer before after → ((j : ℕ) → k ≤ j → j < m → slice_index_or new j None ≡ slice_index_or old j None) → (xs : List Name) (ps : List (TypedParameter Name)) → after_names k xs ≤ m
+    → ParametersStand before old k xs ps → ParametersStand after new k xs ps
+parameters_kept before after old new k m longer kept [] [] le h = tt
+parameters_kept before after old new k m longer kept [] (p ∷ ps) le h = absurd h
+parameters_kept before after old new k m longer kept (x ∷ xs) [] le h = absurd h
+parameters_kept before after old new k m longer kept (x ∷ xs) (p ∷ ps) le h = (
+  h.0,
+  subst (λ o. StandsAlike (shape_in after) o (Some (meant.a_variable p.formal.shape))) (sym (kept k (le_refl k) (le_trans (le-after_names (suc k) xs) le))) (stands_kept before after longer (slice_index_or old k None) (Some (meant.a_variable p.formal.shape)) h.1),
+  parameters_kept before after old new (suc k) m longer (λ j from to. kept j (le_of_lt from) to) xs ps le h.2,
+)
+
+-- they stand above what stands
+pub parameters_over : (shapes : List Shape) (declared : List (Option (Meaning TypeId))) (k : ℕ) (scope : Scope Name) (env : TypeEnvironment Name) (xs : List Name) (ps : List (TypedParameter Name)) → NamesStand shapes declared k scope env → ParametersStand shapes declared k xs ps
+    → NamesStand shapes declared (after_names k xs) (declare_names k xs scope) (bind_typed ps env)
+parameters_over shapes declared k scope env [] [] below h = below
+parameters_over shapes declared k scope env [] (p ∷ ps) below h = absurd h
+parameters_over shapes declared k scope env (x ∷ xs) [] below h = absurd h
+parameters_over shapes declared k scope env (x ∷ xs) (p ∷ ps) below h =
+    parameters_over shapes declared (suc k) ((x, k) ∷ scope) ((p.name, meant.a_variable p.formal.shape) ∷ env) xs ps
+    (le_refl (suc k), h.0, h.1, names_later shapes shapes declared declared k (suc k) (λ t s e. e) (λ j less. refl) (le_of_lt (le_refl (suc k))) scope env below) h.2
+
+parameters_both : (shapes : List Shape) (declared : List (Option (Meaning TypeId))) (k : ℕ) (xs ys : List Name) (ps qs : List (TypedParameter Name)) → ParametersStand shapes declared k xs ps → ParametersStand shapes declared (after_names k xs) ys qs → ParametersStand shapes declared k (xs ++ ys) (ps ++ qs)
+parameters_both shapes declared k [] ys [] qs h next = next
+parameters_both shapes declared k [] ys (p ∷ ps) qs h next = absurd h
+parameters_both shapes declared k (x ∷ xs) ys [] qs h next = absurd h
+parameters_both shapes declared k (x ∷ xs) ys (p ∷ ps) qs h next = (h.0, h.1, parameters_both shapes declared (suc k) xs ys ps qs h.2 next)
+
+formals_both : (shape : TypeId → Option Shape) (fs gs : List (Formal TypeId)) (s t : Signature) → FormalsAgree shape fs s → FormalsAgree shape gs t → FormalsAgree shape (fs ++ gs) (s ++ t)
+formals_both shape [] gs [] t h next = next
+formals_both shape [] gs (a ∷ s) t h next = absurd h
+formals_both shape (f ∷ fs) gs [] t h next = absurd h
+formals_both shape (f ∷ fs) gs (a ∷ s) t h next = (h.0, h.1, formals_both shape fs gs s t h.2 next)
+
+-- parameters of one type
+abbrev pub typed_as : Mode → Shape → Name → TypedParameter Name
+typed_as mode s x = record { name = x; formal = record { mode = mode; shape = s } }
+
+abbrev pub formals_of : List (TypedParameter Name) → Signature
+formals_of ps = map (λ p. p.formal) ps
+
+formals_same : (shape : TypeId → Option Shape) (text : ℕ → Name) (by : Bool) (t : TypeId) (s : Shape) → shape t ≡ Some s → (xs : List ℕ) → FormalsAgree shape (map (λ x. record { by_place = by; of = t }) xs) (formals_of (map (typed_as (mode_of by) s) (map text xs)))
+formals_same shape text by t s e [] = tt
+formals_same shape text by t s e (x ∷ xs) = (refl, e, formals_same shape text by t s e xs)
+
+bound_typed : (mode : Mode) (s : Shape) (xs : List Name) (env : TypeEnvironment Name) → bind_typed (map (typed_as mode s) xs) env ≡ bind_names xs (meant.a_variable s) env
+bound_typed mode s [] env = refl
+bound_typed mode s (x ∷ xs) env = bound_typed mode s xs ((x, meant.a_variable s) ∷ env)
+
+own_stand : (w : Numbering) (p : SoFar) (shapes : List Shape) (n : ℕ) (scope : Scope Name) (env : TypeEnvironment Name) (mode : Mode) (t : TypeId) (s : Shape) (xs : List ℕ) → shape_in shapes t ≡ Some s → Stands w p shapes n scope env → NamesPlaced w n xs
+    → ParametersStand shapes (define_all p (a_variable t) xs).declared n (map (text_at w.source) xs) (map (typed_as mode s) (map (text_at w.source) xs))
+own_stand w p shapes n scope env mode t s [] is st placed = tt
+own_stand w p shapes n scope env mode t s (x ∷ xs) is st placed =
+    let q : SoFar = define p (a_variable t) x in
+    let o : meant.Object Shape Signature = meant.a_variable s in
+    let d = defined w p shapes n (a_variable t) x st.ordinals st.room st.table placed.0 in
+    let next = stands_defined w p q shapes n scope env (a_variable t) (text_at w.source x) o st d (s, is, refl) in
+    let rest = all_defined w q shapes (suc n) ((text_at w.source x, n) ∷ scope) ((text_at w.source x, o) ∷ env) (a_variable t) xs o next placed.1 (s, is, refl) in
+    let slot : slice_index_or (define_all q (a_variable t) xs).declared n None ≡ Some (a_variable t) = rest.later.kept n (le_refl (suc n)) ∙ d.here in (
+      refl,
+      subst (λ z. StandsAlike (shape_in shapes) z (Some o)) (sym slot) (s, is, refl),
+      own_stand w q shapes (suc n) ((text_at w.source x, n) ∷ scope) ((text_at w.source x, o) ∷ env) mode t s xs is next placed.1,
+    )
+
+-- parameters from the ordinal n on, behind a heading's others
+pub record Parameters (n : ℕ) (h g : Heading) (before : List Shape) (xs : List Name) (given : Option (List (TypedParameter Name))) : Type 0 where
+  pub parameters : List (TypedParameter Name)
+  pub given_is : given ≡ Some parameters
+  pub after : List Shape
+  pub later : Later n h.behind g.behind before after
+  pub own : ParametersStand after g.behind.declared n xs parameters
+  pub formals : (signature : Signature) → FormalsAgree (shape_in before) h.formals signature → FormalsAgree (shape_in after) g.formals (signature ++ formals_of parameters)
+
+-- those of one type, and what is known behind them
+pub record OneType (w : Numbering) (n m : ℕ) (h g : Heading) (before : List Shape) (scope : Scope Name) (env : TypeEnvironment Name) (mode : Mode) (xs : List Name) (given : Option Shape) : Type 0 where
+  pub shape : Shape
+  pub given_is : given ≡ Some shape
+  pub after : List Shape
+  pub later : Later n h.behind g.behind before after
+  pub stands : Stands w g.behind after m scope (bind_names xs (meant.a_variable shape) env)
+  pub own : ParametersStand after g.behind.declared n xs (map (typed_as mode shape) xs)
+  pub formals : (signature : Signature) → FormalsAgree (shape_in before) h.formals signature → FormalsAgree (shape_in after) g.formals (signature ++ formals_of (map (typed_as mode shape) xs))
+
+module _ (w : Numbering) (fit : PartsFit) where
+  one_type : (by : Bool) (xs : List ℕ) (t : Tree ℕ written_type) (k n : ℕ) (h : Heading) (before : List Shape) (scope : Scope Name) (env : TypeEnvironment Name) → Stands w h.behind before n scope env → NamesPlaced w n xs → AreSeen w scope t → (told_type h.behind t).faults ≡ []
+      → OneType w n (after_names n xs) h (with_parameters h by xs (told_type h.behind t).known) before (scope_behind w n xs scope) env (mode_of by) (map (text_at w.source) xs) (denoted (meanings as_names env) k (named w.source t))
+  one_type by xs t k n h before scope env st placed seen none =
+      let u : Typed = (told_type h.behind t).known in
+      let s = type_denotes w fit n scope env k t h.behind before st seen none in
+      let behind = stands_later w n n n h.behind u.behind before s.after scope env (le_refl n) (le_refl n) st s.later in
+      let all = all_defined w u.behind s.after n scope env (a_variable u.of) xs (meant.a_variable s.shape) behind placed (s.shape, s.known, refl) in
+      record {
+        shape = s.shape;
+        given_is = s.given_is;
+        after = s.after;
+        later = later_then n n h.behind u.behind (define_all u.behind (a_variable u.of) xs) before s.after s.after (le_refl n) s.later all.later;
+        stands = all.stands;
+        own = own_stand w u.behind s.after n scope env (mode_of by) u.of s.shape xs s.known behind placed;
+        formals = λ signature agree. formals_both (shape_in s.after) h.formals (map (λ x. record { by_place = by; of = u.of }) xs) signature (formals_of (map (typed_as (mode_of by) s.shape) (map (text_at w.source) xs)))
+            (formals_kept before s.after s.later.longer h.formals signature agree) (formals_same (shape_in s.after) (text_at w.source) by u.of s.shape s.known xs);
+      }
+
+  -- one type, and then the others
+  parameters_then : (mode : Mode) (xs : List ℕ) (ns ys : List Name) (n : ℕ) (h g l : Heading) (before : List Shape) (scope : Scope Name) (env : TypeEnvironment Name) (given : Option Shape) (next : TypeEnvironment Name → Option (List (TypedParameter Name))) → ns ≡ map (text_at w.source) xs
+      → (one : OneType w n (after_names n xs) h g before (scope_behind w n xs scope) env mode (map (text_at w.source) xs) given) → Parameters (after_names n xs) g l one.after ys (next (bind_names (map (text_at w.source) xs) (meant.a_variable one.shape) env))
+      → Parameters n h l before (map (text_at w.source) xs ++ ys) (option_and_then (λ s. option_and_then (λ rest. Some (map (typed_as mode s) ns ++ rest)) (next (bind_names ns (meant.a_variable s) env))) given)
+  parameters_then mode xs ns ys n h g l before scope env given next e one rest =
+      let own : List (TypedParameter Name) = map (typed_as mode one.shape) (map (text_at w.source) xs) in
+      let last : ℕ = after_names n (map (text_at w.source) xs) in
+      let same : last ≡ after_names n xs = after_names-map (text_at w.source) n xs in
+      record {
+        parameters = own ++ rest.parameters;
+        given_is = ap (option_and_then (λ s. option_and_then (λ rest. Some (map (typed_as mode s) ns ++ rest)) (next (bind_names ns (meant.a_variable s) env)))) one.given_is
+            ∙ (λ i. option_and_then (λ rest. Some (map (typed_as mode one.shape) (e i) ++ rest)) (next (bind_names (e i) (meant.a_variable one.shape) env)))
+            ∙ ap (option_and_then (λ rest. Some (own ++ rest))) rest.given_is;
+        after = rest.after;
+        later = later_then n (after_names n xs) h.behind g.behind l.behind before one.after rest.after (le-after_names n xs) one.later rest.later;
+        own = parameters_both rest.after l.behind.declared n (map (text_at w.source) xs) ys own rest.parameters
+            (parameters_kept one.after rest.after g.behind.declared l.behind.declared n last rest.later.longer (λ j from to. rest.later.kept j (subst (λ m. j < m) same to)) (map (text_at w.source) xs) own (le_refl last) one.own)
+            (subst (λ m. ParametersStand rest.after l.behind.declared m ys rest.parameters) (sym same) rest.own);
+        formals = λ signature agree. subst (FormalsAgree (shape_in rest.after) l.formals) (append_assoc signature (formals_of own) (formals_of rest.parameters) ∙ ap (λ z. signature ++ z) (sym (map-append (λ p. p.formal) own rest.parameters)))
+            (rest.formals (signature ++ formals_of own) (one.formals signature agree));
+      }
+
+  pub sections_declare : (fs : Tree ℕ (items further_section)) (k n : ℕ) (h : Heading) (before : List Shape) (scope : Scope Name) (env : TypeEnvironment Name) → Stands w h.behind before n scope env → SectionsPlaced w scope n fs → (told_sections h fs).faults ≡ []
+      → Parameters n h (told_sections h fs).known before (map (text_at w.source) (formal_names fs)) (typed_parameters as_names env k (named w.source fs))
+  unfolding told_sections told_section told_parameters typed_parameters
+  sections_declare end k n h before scope env st placed none = record {
+    parameters = [];
+    given_is = refl;
+    after = before;
+    later = later_same n h.behind before st.table;
+    own = tt;
+    formals = λ signature agree. subst (FormalsAgree (shape_in before) h.formals) (sym (append-nil signature)) agree;
+  }
+  sections_declare (more (then_section (value_section ns t)) fs) k n h before scope env st placed none =
+      let xs : List ℕ = names_listed ns in
+      let u : Reported Typed = told_type h.behind t in
+      let g : Heading = with_parameters h false xs u.known in
+      let a = none_both (u.faults ++ []) (told_sections g fs).faults none in
+      let one = one_type false xs t k n h before scope env st placed.0 placed.1 (none_both u.faults [] a.0).0 in
+      let rest = sections_declare fs (k + constructors (named w.source t)) (after_names n xs) g one.after (scope_behind w n xs scope) (bind_names (map (text_at w.source) xs) (meant.a_variable one.shape) env) one.stands placed.2 a.1 in
+      subst (λ ys. Parameters n h (told_sections g fs).known before ys (typed_parameters as_names env k (named w.source (more (then_section (value_section ns t)) fs)))) (sym (map-append (text_at w.source) xs (formal_names fs)))
+      (parameters_then by_value xs (names_listed (named w.source ns)) (map (text_at w.source) (formal_names fs)) n h g (told_sections g fs).known before scope env (denoted (meanings as_names env) k (named w.source t))
+      (λ e. typed_parameters as_names e (k + constructors (named w.source t)) (named w.source fs)) (names_listed-mapped (text_at w.source) (value_at w.source) ns) one rest)
+  sections_declare (more (then_section (variable_section ns t)) fs) k n h before scope env st placed none =
+      let xs : List ℕ = names_listed ns in
+      let u : Reported Typed = told_type h.behind t in
+      let g : Heading = with_parameters h true xs u.known in
+      let a = none_both (u.faults ++ []) (told_sections g fs).faults none in
+      let one = one_type true xs t k n h before scope env st placed.0 placed.1 (none_both u.faults [] a.0).0 in
+      let rest = sections_declare fs (k + constructors (named w.source t)) (after_names n xs) g one.after (scope_behind w n xs scope) (bind_names (map (text_at w.source) xs) (meant.a_variable one.shape) env) one.stands placed.2 a.1 in
+      subst (λ ys. Parameters n h (told_sections g fs).known before ys (typed_parameters as_names env k (named w.source (more (then_section (variable_section ns t)) fs)))) (sym (map-append (text_at w.source) xs (formal_names fs)))
+      (parameters_then by_place xs (names_listed (named w.source ns)) (map (text_at w.source) (formal_names fs)) n h g (told_sections g fs).known before scope env (denoted (meanings as_names env) k (named w.source t))
+      (λ e. typed_parameters as_names e (k + constructors (named w.source t)) (named w.source fs)) (names_listed-mapped (text_at w.source) (value_at w.source) ns) one rest)

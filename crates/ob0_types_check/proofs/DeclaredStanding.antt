@@ -1,0 +1,200 @@
+-- What is known at a place of a module, beside the scope and the environment there.
+use Rattle.std.proofs.Common.{map, ◌≡◌, ◌≢◌, ℕ, suc, ◌<◌, ◌≤◌, Bool, true, false, List, [], ◌∷◌, length, Option, Some, None, option_and_then, slice_index_or, slice_set, refl, sym, ap, ◌∙◌, subst, arith, le_trans, le_of_lt, le_refl, get_or-set_other, get_or-set_same}
+use Rattle.std.proofs.lemmas.List.{length-set}
+use Rattle.ob0_tree.proofs.Occurring.{looked_up-occurrences, looked_up_only}
+use Rattle.ob0_tree.specs.Places.{text_at}
+use Rattle.ob0_tree.specs.Tree.{Sort, Tree, identifiers}
+use Rattle.ob0_tree.specs.declared.tree.Role.{Role}
+use Rattle.ob0_tree.specs.declared.tree.Role.TheVariants as role
+use Rattle.ob0_scope_rules.specs.Names.{Name, as_names, same_name}
+use Rattle.ob0_scope_rules.specs.Resolution.{ordinal_in}
+use Rattle.ob0_scope_rules.specs.Scopes.{Scope, after_names, ordinal_of}
+use Rattle.ob0_types_table.specs.declared.types.TypeId.{TypeId}
+use Rattle.ob0_types_rules.specs.Environments.{from_binding, meanings, newest}
+use Rattle.ob0_types_rules.specs.Expressions as meant
+use Rattle.ob0_types_rules.specs.WellTyped.{Signature, TypeEnvironment, bind_names}
+use Rattle.ob0_values.specs.Values.{Shape}
+use Rattle.ob0_types_check.specs.Known.{Formal, Meaning, a_constant, a_procedure, a_type, a_variable}
+use Rattle.ob0_types_check.specs.SoFar.{SoFar, define, define_all, facts_at, with_declared}
+use Rattle.ob0_types_check.specs.Agreement.{Agrees, FormalsAgree, MeaningAgrees, StandsAlike, TableAgrees, TokensAgree, shape_in}
+use Rattle.ob0_types_check.proofs.PartsFitting.{PartsFit}
+use Rattle.ob0_types_check.proofs.DeclaredNames.{AreSeen, Each, IsPlaced, IsSeen, NamesPlaced, Numbering, scope_behind}
+use Rattle.ob0_types_check.proofs.DeclaredShapes.{Longer, longer_same, longer_then}
+
+pub formals_kept : (before after : List Shape) → Longer before after → (fs : List (Formal TypeId)) (gs : Signature) → FormalsAgree (shape_in before) fs gs → FormalsAgree (shape_in after) fs gs
+formals_kept before after longer [] [] h = tt
+formals_kept before after longer [] (g ∷ gs) h = absurd h
+formals_kept before after longer (f ∷ fs) [] h = absurd h
+formals_kept before after longer (f ∷ fs) (g ∷ gs) h = (h.0, longer f.of g.shape h.1, formals_kept before after longer fs gs h.2)
+
+meaning_kept : (before after : List Shape) → Longer before after → (m : Meaning TypeId) (o : Option (meant.Object Shape Signature)) → MeaningAgrees (shape_in before) m o → MeaningAgrees (shape_in after) m o
+meaning_kept before after longer (a_type t) o (s, e, h) = (s, longer t s e, h)
+meaning_kept before after longer (a_constant c) o h = h
+meaning_kept before after longer (a_variable t) o (s, e, h) = (s, longer t s e, h)
+meaning_kept before after longer (a_procedure fs) o (signature, e, h) = (signature, e, formals_kept before after longer fs signature h)
+
+pub stands_kept : (before after : List Shape) → Longer before after → (m : Option (Meaning TypeId)) (o : Option (meant.Object Shape Signature)) → StandsAlike (shape_in before) m o → StandsAlike (shape_in after) m o
+stands_kept before after longer None o h = absurd h
+stands_kept before after longer (Some m) o h = meaning_kept before after longer m o h
+
+-- each name of a scope stands for the same in the environment beside it, as is known of its declaration; all ordinals are below n
+abbrev pub NamesStand : List Shape → List (Option (Meaning TypeId)) → ℕ → Scope Name → TypeEnvironment Name → Type 0
+NamesStand shapes declared n [] [] = Unit {0}
+NamesStand shapes declared n [] (c ∷ env) = ⊥
+NamesStand shapes declared n (b ∷ scope) [] = ⊥
+NamesStand shapes declared n (b ∷ scope) (c ∷ env) = (b.1 < n) × (c.0 ≡ b.0) × StandsAlike (shape_in shapes) (slice_index_or declared b.1 None) (Some c.1) × NamesStand shapes declared n scope env
+
+pub names_later : (before after : List Shape) (old new : List (Option (Meaning TypeId))) (n m : ℕ) → Longer before after → ((k : ℕ) → k < n → slice_index_or new k None ≡ slice_index_or old k None) → n ≤ m → (scope : Scope Name) (env : TypeEnvironment Name) → NamesStand before old n scope env → NamesStand after new m scope env
+names_later before after old new n m longer kept le [] [] h = tt
+names_later before after old new n m longer kept le [] (c ∷ env) h = absurd h
+names_later before after old new n m longer kept le (b ∷ scope) [] h = absurd h
+names_later before after old new n m longer kept le (b ∷ scope) (c ∷ env) h = (
+  le_trans h.0 le,
+  h.1,
+  subst (λ o. StandsAlike (shape_in after) o (Some c.1)) (sym (kept b.1 h.0)) (stands_kept before after longer (slice_index_or old b.1 None) (Some c.1) h.2),
+  names_later before after old new n m longer kept le scope env h.3,
+)
+
+-- a name that is found in the scope
+abbrev FoundAlike : List Shape → List (Option (Meaning TypeId)) → TypeEnvironment Name → ℕ → Type 0
+FoundAlike shapes declared env k = StandsAlike (shape_in shapes) (slice_index_or declared k None) (newest env)
+
+first_found : (shapes : List Shape) (declared : List (Option (Meaning TypeId))) (j k : ℕ) (c : Name × meant.Object Shape Signature) (env below : TypeEnvironment Name) (v : Bool) (o : Option ℕ) → StandsAlike (shape_in shapes) (slice_index_or declared j None) (Some c.1)
+    → (o ≡ Some k → FoundAlike shapes declared below k) → (elim v [ true ↦ Some j | false ↦ o ]) ≡ Some k → FoundAlike shapes declared (elim v [ true ↦ c ∷ env | false ↦ below ]) k
+first_found shapes declared j k c env below true o h next e = subst (λ i. StandsAlike (shape_in shapes) (slice_index_or declared i None) (Some c.1)) (ap (λ u. elim u [ None ↦ j | Some i ↦ i ]) e) h
+first_found shapes declared j k c env below false o h next e = next e
+
+name_found : (shapes : List Shape) (declared : List (Option (Meaning TypeId))) (n : ℕ) (scope : Scope Name) (env : TypeEnvironment Name) → NamesStand shapes declared n scope env → (x : Name) (k : ℕ) → ordinal_of as_names scope x ≡ Some k
+    → StandsAlike (shape_in shapes) (slice_index_or declared k None) (newest (from_binding as_names env x))
+name_found shapes declared n [] [] h x k e = absurd (cc)
+name_found shapes declared n [] (c ∷ env) h x k e = absurd h
+name_found shapes declared n (b ∷ scope) [] h x k e = absurd h
+name_found shapes declared n (b ∷ scope) (c ∷ env) h x k e =
+    subst (λ v. FoundAlike shapes declared (elim v [ true ↦ c ∷ env | false ↦ from_binding as_names env x ]) k) (ap (same_name x) (sym h.1))
+    (first_found shapes declared b.1 k c env (from_binding as_names env x) (same_name x b.0) (ordinal_of as_names scope x) h.2 (name_found shapes declared n scope env h.3 x k) e)
+
+-- what is known at a place, beside the scope and the environment there; n is the next ordinal
+pub record Stands (w : Numbering) (p : SoFar) (shapes : List Shape) (n : ℕ) (scope : Scope Name) (env : TypeEnvironment Name) : Type 0 where
+  pub source : p.source ≡ w.source
+  pub ordinals : p.ordinals ≡ w.ordinals
+  pub room : length p.declared ≡ w.room
+  pub table : TableAgrees p.made shapes
+  pub names : NamesStand shapes p.declared n scope env
+
+-- what is known later: declarations before the ordinal n are what they were
+pub record Later (n : ℕ) (p q : SoFar) (before after : List Shape) : Type 0 where
+  pub source : q.source ≡ p.source
+  pub ordinals : q.ordinals ≡ p.ordinals
+  pub room : length q.declared ≡ length p.declared
+  pub kept : (k : ℕ) → k < n → slice_index_or q.declared k None ≡ slice_index_or p.declared k None
+  pub longer : Longer before after
+  pub table : TableAgrees q.made after
+
+pub later_same : (n : ℕ) (p : SoFar) (shapes : List Shape) → TableAgrees p.made shapes → Later n p p shapes shapes
+later_same n p shapes table = record { source = refl; ordinals = refl; room = refl; kept = λ k less. refl; longer = longer_same shapes; table = table }
+
+pub later_then : (n m : ℕ) (p q r : SoFar) (a b c : List Shape) → n ≤ m → Later n p q a b → Later m q r b c → Later n p r a c
+later_then n m p q r a b c le f g = record {
+  source = g.source ∙ f.source;
+  ordinals = g.ordinals ∙ f.ordinals;
+  room = g.room ∙ f.room;
+  kept = λ k less. g.kept k (le_trans less le) ∙ f.kept k less;
+  longer = longer_then a b c f.longer g.longer;
+  table = g.table;
+}
+
+pub later_of : (n m : ℕ) (p q : SoFar) (a b : List Shape) → n ≤ m → Later m p q a b → Later n p q a b
+later_of n m p q a b le f = record { source = f.source; ordinals = f.ordinals; room = f.room; kept = λ k less. f.kept k (le_trans less le); longer = f.longer; table = f.table }
+
+pub stands_later : (w : Numbering) (n m l : ℕ) (p q : SoFar) (before after : List Shape) (scope : Scope Name) (env : TypeEnvironment Name) → n ≤ m → n ≤ l → Stands w p before n scope env → Later m p q before after → Stands w q after l scope env
+stands_later w n m l p q before after scope env le up h f = record {
+  source = f.source ∙ h.source;
+  ordinals = f.ordinals ∙ h.ordinals;
+  room = f.room ∙ h.room;
+  table = f.table;
+  names = names_later before after p.declared q.declared n l f.longer (λ k less. f.kept k (le_trans less le)) up scope env h.names;
+}
+
+-- one declaration more, at its ordinal
+with_one : (p : SoFar) (m : Meaning TypeId) (token k : ℕ) → ordinal_in p.ordinals token ≡ Some k → define p m token ≡ record { source = p.source; ordinals = p.ordinals; declared = slice_set p.declared k (Some m); made = p.made }
+with_one p m token k e = ap (with_declared p m) e
+
+apart : (k n : ℕ) → k < n → k ≢ n
+apart k n less e = absurd (omega (arith, e, less))
+
+other_kept : (declared : List (Option (Meaning TypeId))) (m : Option (Meaning TypeId)) (n k : ℕ) → k ≢ n → slice_index_or (slice_set declared n m) k None ≡ slice_index_or declared k None
+other_kept declared m n k other = get_or-set_other declared n k m None other
+
+pub record Defined (w : Numbering) (p q : SoFar) (shapes : List Shape) (n : ℕ) (m : Meaning TypeId) : Type 0 where
+  pub later : Later n p q shapes shapes
+  pub here : slice_index_or q.declared n None ≡ Some m
+  pub others : (k : ℕ) → k ≢ n → slice_index_or q.declared k None ≡ slice_index_or p.declared k None
+
+pub defined : (w : Numbering) (p : SoFar) (shapes : List Shape) (n : ℕ) (m : Meaning TypeId) (x : ℕ) → p.ordinals ≡ w.ordinals → length p.declared ≡ w.room → TableAgrees p.made shapes → IsPlaced w n x → Defined w p (define p m x) shapes n m
+defined w p shapes n m x ordinals room table placed =
+    let q : SoFar = record { source = p.source; ordinals = p.ordinals; declared = slice_set p.declared n (Some m); made = p.made } in
+    let at : ordinal_in p.ordinals x ≡ Some n = ap (λ o. ordinal_in o x) ordinals ∙ placed.0 in
+    let within : n < length p.declared = subst (λ j. n < j) (sym room) placed.1 in
+    subst (λ z. Defined w p z shapes n m) (sym (with_one p m x n at)) (record {
+      later = record {
+        source = refl;
+        ordinals = refl;
+        room = length-set p.declared n (Some m);
+        kept = λ k less. other_kept p.declared (Some m) n k (apart k n less);
+        longer = longer_same shapes;
+        table = table;
+      };
+      here = get_or-set_same p.declared n (Some m) None within;
+      others = λ k other. other_kept p.declared (Some m) n k other;
+    })
+
+pub stands_defined : (w : Numbering) (p q : SoFar) (shapes : List Shape) (n : ℕ) (scope : Scope Name) (env : TypeEnvironment Name) (m : Meaning TypeId) (x : Name) (o : meant.Object Shape Signature) → Stands w p shapes n scope env → Defined w p q shapes n m → MeaningAgrees (shape_in shapes) m (Some o)
+    → Stands w q shapes (suc n) ((x, n) ∷ scope) ((x, o) ∷ env)
+stands_defined w p q shapes n scope env m x o h d agrees =
+    let less : n < suc n = le_refl (suc n) in
+    let rest = stands_later w n n (suc n) p q shapes shapes scope env (le_refl n) (le_of_lt less) h d.later in
+    record {
+      source = rest.source;
+      ordinals = rest.ordinals;
+      room = rest.room;
+      table = rest.table;
+      names = (less, refl, subst (λ z. StandsAlike (shape_in shapes) z (Some o)) (sym d.here) agrees, rest.names);
+    }
+
+-- an expression or statements where all names are seen
+module _ (w : Numbering) (p : SoFar) (only_constants : Bool) (shapes : List Shape) (n : ℕ) (scope : Scope Name) (env : TypeEnvironment Name) (h : Stands w p shapes n scope env) where
+  pub seen_stands : (x : ℕ) → IsSeen w scope x → StandsAlike (shape_in shapes) ((facts_at p only_constants).stands_for x) ((meanings as_names env).stands_for (text_at w.source x))
+  seen_stands x (k, at, there) =
+      subst (λ o. StandsAlike (shape_in shapes) (option_and_then (λ j. slice_index_or p.declared j None) o) (newest (from_binding as_names env (text_at w.source x)))) (sym (ap (λ os. ordinal_in os x) h.ordinals ∙ at))
+      (name_found shapes p.declared n scope env h.names (text_at w.source x) k there)
+
+  tokens_agree : (xs : List (Role × ℕ)) → Each (IsSeen w scope) (looked_up_only xs) → TokensAgree (facts_at p only_constants) (shape_in shapes) (text_at w.source) (meanings as_names env) xs
+  tokens_agree [] seen = tt
+  tokens_agree ((role.LookedUp, x) ∷ xs) seen = (seen_stands x seen.0, tokens_agree xs seen.1)
+  tokens_agree ((role.Declaring, x) ∷ xs) seen = (tt, tokens_agree xs seen)
+  tokens_agree ((role.ClosingName, x) ∷ xs) seen = (tt, tokens_agree xs seen)
+  tokens_agree ((role.FieldName, x) ∷ xs) seen = (ap (λ s. text_at s x) (sym h.source), tokens_agree xs seen)
+  tokens_agree ((role.ModuleName, x) ∷ xs) seen = (tt, tokens_agree xs seen)
+
+  pub agrees_where_seen : {s : Sort} → PartsFit → (t : Tree ℕ s) → AreSeen w scope t → Agrees (facts_at p only_constants) (shape_in shapes) (text_at w.source) (meanings as_names env) t
+  agrees_where_seen fit t seen = record {
+    types = fit.tables p.made shapes h.table;
+    tokens = tokens_agree (identifiers role.Declaring t) (subst (Each (IsSeen w scope)) (sym (looked_up-occurrences role.Declaring (λ x xs. refl) t)) seen);
+  }
+
+-- several names of one object
+pub record AllDefined (w : Numbering) (p q : SoFar) (shapes : List Shape) (n m : ℕ) (scope : Scope Name) (env : TypeEnvironment Name) : Type 0 where
+  pub later : Later n p q shapes shapes
+  pub stands : Stands w q shapes m scope env
+
+pub all_defined : (w : Numbering) (p : SoFar) (shapes : List Shape) (n : ℕ) (scope : Scope Name) (env : TypeEnvironment Name) (m : Meaning TypeId) (xs : List ℕ) (o : meant.Object Shape Signature) → Stands w p shapes n scope env → NamesPlaced w n xs → MeaningAgrees (shape_in shapes) m (Some o)
+    → AllDefined w p (define_all p m xs) shapes n (after_names n xs) (scope_behind w n xs scope) (bind_names (map (text_at w.source) xs) o env)
+all_defined w p shapes n scope env m [] o h placed agrees = record { later = later_same n p shapes h.table; stands = h }
+all_defined w p shapes n scope env m (x ∷ xs) o h placed agrees =
+    let one = defined w p shapes n m x h.ordinals h.room h.table placed.0 in
+    let first = stands_defined w p (define p m x) shapes n scope env m (text_at w.source x) o h one agrees in
+    let rest = all_defined w (define p m x) shapes (suc n) ((text_at w.source x, n) ∷ scope) ((text_at w.source x, o) ∷ env) m xs o first placed.1 agrees in
+    record {
+      later = later_then n (suc n) p (define p m x) (define_all (define p m x) m xs) shapes shapes shapes (le_of_lt (le_refl (suc n))) one.later rest.later;
+      stands = rest.stands;
+    }

@@ -1,0 +1,85 @@
+-- Names: what is known of one that stands for something is so.
+use Rattle.std.proofs.Common.{◌≡◌, ℕ, Bool, true, false, true≢false, List, [], ◌∷◌, Option, Some, None, option_map, is_some, if◌then◌else◌, refl, sym, subst, subst₂}
+use Rattle.ob0_tree.specs.declared.tree.Role.{Role}
+use Rattle.ob0_tree.specs.declared.tree.Role.TheVariants as role
+use Rattle.ob0_types_rules.specs.Expressions as meant
+use Rattle.ob0_types_rules.specs.Expressions.{Meanings, Object}
+use Rattle.ob0_types_rules.specs.Typing.{constant_of, constants_only, object_type, value_type}
+use Rattle.ob0_types_rules.specs.WellTyped.{Signature, Typed}
+use Rattle.ob0_values.specs.Values.{Shape, Value, boolean_shape, elements, integer_shape, members, number, truth}
+use Rattle.ob0_types_check.specs.Known.{Facts, Meaning, Operand, a_constant, a_procedure, a_type, a_variable}
+use Rattle.ob0_types_check.specs.Operations.{a_constant_name, a_name, at_token, named_value, right}
+use Rattle.ob0_types_check.specs.Agreement.{StandsAlike, TokenAgrees, TokensAgree, TypesAgree}
+use Rattle.ob0_types_check.proofs.FittingExpressions.{Fits, TokenFits, TokensFit}
+use Rattle.ob0_types_check.proofs.Operands.{none-of, some-of}
+use Rattle.ob0_scan.specs.declared.fault.Code.TheVariants as code
+
+-- a name by itself, and what it stands for
+pub record ObjectFits {T P : Type 0} (shape : T → Option Shape) (k : Operand T) (o : Option (Object Shape P)) : Type 0 where
+  pub fits : Fits shape k (object_type o) (constant_of o)
+  pub placed : k.is_place ≡ true → o ≡ Some (meant.a_variable fits.of)
+
+module _ {T : Type 0} (facts : Facts T) (shape : T → Option Shape) (types : TypesAgree facts.types shape) where
+  constant-fits : {P : Type 0} (x : ℕ) (v : Value) → is_some (value_type v) ≡ true → ObjectFits {P = P} shape (a_constant_name facts.types (Some v) x) (Some (meant.a_constant v))
+  constant-fits x (number n) h = record {
+    fits = record { of = integer_shape; known = types.integer; typed = refl; valued = refl; scalar = some-of integer_shape (number n) refl };
+    placed = λ e. absurd (true≢false (sym e));
+  }
+  constant-fits x (truth b) h = record {
+    fits = record { of = boolean_shape; known = types.boolean; typed = refl; valued = refl; scalar = some-of boolean_shape (truth b) refl };
+    placed = λ e. absurd (true≢false (sym e));
+  }
+  constant-fits x (elements vs) h = absurd (cc)
+  constant-fits x (members k ms) h = absurd (cc)
+
+  variable-fits : {P : Type 0} (x : ℕ) (t : T) (s : Shape) → shape t ≡ Some s → (b : Bool)
+      → (if b then record { known = a_name facts.types.unknown x; faults = at_token facts code.NotConstant x } else right (a_name t x)).faults ≡ []
+      → ObjectFits {P = P} shape (if b then record { known = a_name facts.types.unknown x; faults = at_token facts code.NotConstant x } else right (a_name t x)).known (Some (meant.a_variable s))
+  variable-fits x t s known true h = absurd (cc)
+  variable-fits x t s known false h = record { fits = record { of = s; known = known; typed = refl; valued = refl; scalar = none-of s }; placed = λ e. refl }
+
+  stands-fits : (x : ℕ) (m : Option (Meaning T)) (o : Option (Object Shape Signature)) → StandsAlike shape m o → (named_value facts x m).faults ≡ [] → ObjectFits shape (named_value facts x m).known o
+  stands-fits x None o a h = absurd a
+  stands-fits x (Some (a_type t)) o a h = absurd (cc)
+  stands-fits x (Some (a_procedure fs)) o a h = absurd (cc)
+  stands-fits x (Some (a_constant c)) o (v, told, stands, scalar) h =
+      subst₂ (λ c o. ObjectFits shape (a_constant_name facts.types c x) o) (sym told) (sym stands) (constant-fits x v scalar)
+  stands-fits x (Some (a_variable t)) o (s, known, stands) h =
+      subst (λ o. ObjectFits shape (named_value facts x (Some (a_variable t))).known o) (sym stands) (variable-fits x t s known facts.only_constants h)
+
+  -- where names stand for constants alone
+  no-variable : (x : ℕ) (t : T) (b : Bool) → b ≡ true → (if b then record { known = a_name facts.types.unknown x; faults = at_token facts code.NotConstant x } else right (a_name t x)).faults ≡ [] → ⊥
+  no-variable x t true only h = cc
+  no-variable x t false only h = true≢false (sym only)
+
+  only-fits : {Q : Type 0} (x : ℕ) (m : Option (Meaning T)) (o : Option (Object Shape Signature)) → facts.only_constants ≡ true → StandsAlike shape m o → (named_value facts x m).faults ≡ []
+      → ObjectFits {P = Q} shape (named_value facts x m).known (option_map meant.a_constant (constant_of o))
+  only-fits x None o only a h = absurd a
+  only-fits x (Some (a_type t)) o only a h = absurd (cc)
+  only-fits x (Some (a_procedure fs)) o only a h = absurd (cc)
+  only-fits {Q = Q} x (Some (a_constant c)) o only (v, told, stands, scalar) h =
+      subst₂ (λ c o. ObjectFits {P = Q} shape (a_constant_name facts.types c x) (option_map meant.a_constant (constant_of o))) (sym told) (sym stands) (constant-fits x v scalar)
+  only-fits x (Some (a_variable t)) o only a h = absurd (no-variable x t facts.only_constants only h)
+
+module _ {T N : Type 0} (facts : Facts T) (shape : T → Option Shape) (types : TypesAgree facts.types shape) (label : ℕ → N) (meaning : Typed N) where
+  token-fits : (r : Role) (x : ℕ) → TokenAgrees facts shape label meaning r x → TokenFits facts shape label meaning r x
+  token-fits role.LookedUp x a = λ h. let o = stands-fits facts shape types x (facts.stands_for x) (meaning.stands_for (label x)) a h in record { fits = o.fits; placed = o.placed }
+  token-fits role.FieldName x a = a
+  token-fits role.Declaring x a = tt
+  token-fits role.ClosingName x a = tt
+  token-fits role.ModuleName x a = tt
+
+  pub tokens-fit : (xs : List (Role × ℕ)) → TokensAgree facts shape label meaning xs → TokensFit facts shape label meaning xs
+  tokens-fit [] a = tt
+  tokens-fit (x ∷ xs) a = (token-fits x.0 x.1 a.0, tokens-fit xs a.1)
+
+  only-token : (Q : Type 0) → facts.only_constants ≡ true → (r : Role) (x : ℕ) → TokenAgrees facts shape label meaning r x → TokenFits {P = Q} facts shape label (constants_only meaning) r x
+  only-token Q only role.LookedUp x a = λ h. let o = only-fits facts shape types x (facts.stands_for x) (meaning.stands_for (label x)) only a h in record { fits = o.fits; placed = o.placed }
+  only-token Q only role.FieldName x a = a
+  only-token Q only role.Declaring x a = tt
+  only-token Q only role.ClosingName x a = tt
+  only-token Q only role.ModuleName x a = tt
+
+  pub only-tokens : (Q : Type 0) → facts.only_constants ≡ true → (xs : List (Role × ℕ)) → TokensAgree facts shape label meaning xs → TokensFit {P = Q} facts shape label (constants_only meaning) xs
+  only-tokens Q only [] a = tt
+  only-tokens Q only (x ∷ xs) a = (only-token Q only x.0 x.1 a.0, only-tokens Q only xs a.1)

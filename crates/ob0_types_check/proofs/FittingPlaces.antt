@@ -1,0 +1,92 @@
+-- An expression that may stand for a place is a variable with its selectors.
+use Rattle.std.proofs.Common.{◌≡◌, ℕ, true, false, true≢false, List, [], ◌++◌, Option, Some, None, refl, sym, ap, ◌∙◌}
+use Rattle.ob0_tree.specs.declared.tree.Role.{Role}
+use Rattle.ob0_tree.specs.declared.tree.Role.TheVariants as role
+use Rattle.ob0_tree.specs.Places.{value_at}
+use Rattle.ob0_tree.specs.Tree.{Sort, Tree, adds, compares, designator, end, expression, factor, identifiers, integer, items, mapped, more, multiplies, negation, none, one, parenthesised, product, relates, selector, sum}
+use Rattle.ob0_types_rules.specs.Expressions.{Meanings, a_variable}
+use Rattle.ob0_types_rules.specs.Typing.{designated, type_at}
+use Rattle.ob0_types_rules.specs.WellTyped.{variable_type}
+use Rattle.ob0_values.specs.Values.{Shape}
+use Rattle.ob0_types_check.specs.ExpressionFaults.{told_expression, told_factor, told_selectors, told_term}
+use Rattle.ob0_types_check.specs.Known.{Facts, Operand}
+use Rattle.ob0_types_check.specs.Operations.{added, multiplied, named, signed}
+use Rattle.ob0_types_check.specs.Agreement.{TypesAgree}
+use Rattle.ob0_types_check.specs.ReportLaws.{OperandFits}
+use Rattle.ob0_types_check.proofs.FittingExpressions.{FitsExpression, FitsSelectors, NameFits, TokensFit, addends-apart, expression-fits, multipliers-apart, parts-placed, selectors-fit, split-tokens}
+use Rattle.ob0_types_check.proofs.Untold.{none-told}
+
+module _ {T N P : Type 0} (facts : Facts T) (shape : T → Option Shape) (types : TypesAgree facts.types shape) (label : ℕ → N) (meaning : Meanings N Shape P) where
+  abbrev here : {s : Sort} → Tree ℕ s → Tree N s
+  here t = mapped label (value_at facts.source) t
+
+  abbrev Agreed : {s : Sort} → Tree ℕ s → Type 0
+  Agreed t = TokensFit facts shape label meaning (identifiers role.Declaring t)
+
+  abbrev ids : {s : Sort} → Tree ℕ s → List (Role × ℕ)
+  ids t = identifiers role.Declaring t
+
+  split : (xs ys : List (Role × ℕ)) → TokensFit facts shape label meaning (xs ++ ys) → TokensFit facts shape label meaning xs × TokensFit facts shape label meaning ys
+  split = split-tokens facts shape label meaning
+
+  pub variable-typed : (x : ℕ) (path : Tree ℕ (items selector)) (s : Shape) (u : Option Shape) → meaning.stands_for (label x) ≡ Some (a_variable s)
+      → type_at meaning s (mapped label (value_at facts.source) path) ≡ u → variable_type meaning (Some (label x, mapped label (value_at facts.source) path)) ≡ u
+  unfolding variable_type
+  variable-typed x path s u stands typed = ap (λ o. elim o [ Some (a_variable s) ↦ type_at meaning s (here path) | _ ↦ None ]) stands ∙ typed
+
+  -- an operand, and the type of the variable that it is
+  pub record IsPlaced (o : Operand T) (e : Tree N expression) : Type 0 where
+    pub of : Shape
+    pub known : shape o.of ≡ Some of
+    pub placed : variable_type meaning (designated e) ≡ Some of
+
+  designator-placed : (x : ℕ) (path : Tree ℕ (items selector)) (f : Tree N factor) → NameFits facts shape label meaning x → Agreed path → (told_selectors facts (named facts x).known path).faults ≡ []
+      → (told_selectors facts (named facts x).known path).known.is_place ≡ true
+      → IsPlaced (told_selectors facts (named facts x).known path).known (compares (sum None (product (designator (label x) (here path)) end) end) none)
+  designator-placed x path f name k h e =
+      let fs : FitsSelectors facts shape types label meaning (named facts x).known name.fits.of path = selectors-fit facts shape types label meaning (named facts x).known name.fits.of path name.fits.known k h in
+      record {
+        of = fs.of;
+        known = fs.known;
+        placed = variable-typed x path name.fits.of (Some fs.of) (name.placed (sym (parts-placed facts (named facts x).known path) ∙ e)) fs.typed;
+      }
+
+  no-place : {A : Type 0} (o : Operand T) → o.is_place ≡ false → o.is_place ≡ true → A
+  no-place o f e = absurd (true≢false (sym e ∙ f))
+
+  placed-factor : (f : Tree ℕ factor) → Agreed f → (told_factor facts f).faults ≡ [] → (told_factor facts f).known.is_place ≡ true
+      → IsPlaced (told_factor facts f).known (compares (sum None (product (here f) end) end) none)
+  unfolding told_expression
+  placed-factor (designator x path) k h e =
+      let parts = none-told (named facts x).faults _ h in
+      designator-placed x path (here (designator x path)) (k.0 parts.0) k.1 parts.1 e
+  placed-factor (integer n) k h e = no-place (told_factor facts (integer n)).known refl e
+  placed-factor (parenthesised a) k h e = no-place (told_factor facts (parenthesised a)).known refl e
+  placed-factor (negation a) k h e = no-place (told_factor facts (negation a)).known refl e
+
+  pub expression-placed : (e : Tree ℕ expression) → Agreed e → (told_expression facts e).faults ≡ [] → (told_expression facts e).known.is_place ≡ true → IsPlaced (told_expression facts e).known (here e)
+  unfolding told_expression
+  expression-placed (compares a (one (relates r b))) k h e = no-place (told_expression facts (compares a (one (relates r b)))).known refl e
+  expression-placed (compares (sum g t (more (adds o u) rest)) none) k h e =
+      no-place (told_expression facts (compares (sum g t (more (adds o u) rest)) none)).known
+      (addends-apart facts (added facts o (signed facts g (told_term facts t).known).known (told_term facts u).known).known rest refl) e
+  expression-placed (compares (sum (Some g) t end) none) k h e = no-place (told_expression facts (compares (sum (Some g) t end) none)).known refl e
+  expression-placed (compares (sum None (product f (more (multiplies o u) rest)) end) none) k h e =
+      no-place (told_expression facts (compares (sum None (product f (more (multiplies o u) rest)) end) none)).known
+      (multipliers-apart facts (multiplied facts o (told_factor facts f).known (told_factor facts u).known).known rest refl) e
+  expression-placed (compares (sum None (product f end) end) none) k h e =
+      placed-factor f (split (ids f) [] (split (ids (product f end)) [] (split (ids (sum None (product f end) end)) [] k).0).0).0
+      (none-told (told_factor facts f).faults _ (none-told (told_term facts (product f end)).faults _ h).0).0 e
+
+  -- all that is known of an operand
+  pub operand-fits : (e : Tree ℕ expression) → Agreed e → (told_expression facts e).faults ≡ [] → OperandFits shape meaning (told_expression facts e).known (here e)
+  operand-fits e k h =
+      let fe : FitsExpression facts shape types label meaning e = expression-fits facts shape types label meaning e k h in
+      record {
+        of = fe.of;
+        known = fe.known;
+        typed = fe.typed;
+        valued = fe.valued;
+        scalar = fe.scalar;
+        placed = λ i. let p : IsPlaced (told_expression facts e).known (here e) = expression-placed e k h i in p.placed ∙ (sym p.known ∙ fe.known);
+      }

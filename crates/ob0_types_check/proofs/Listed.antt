@@ -1,0 +1,75 @@
+-- Faults that are told one list behind the other, and by a loop over what stands side by side.
+use Rattle.std.proofs.Common.{◌≡◌, ℕ, ◌+◌, ◌<◌, ◌≤◌, List, [], ◌∷◌, ◌++◌, length, get_or, drop, map, refl, sym, ap, ◌∙◌, append-nil, append_assoc}
+use Rattle.std.proofs.lemmas.List.{drop_all, drop_more}
+use Rattle.ob0_scan.specs.declared.fault.Fault.{Fault}
+use Rattle.ob0_types_check.specs.Known.{Reported}
+use Rattle.ob0_types_check.specs.Operations.{Tells}
+
+pub told_both : (before a b : List Fault) {between after : List Fault} → between ≡ before ++ a → after ≡ between ++ b → after ≡ before ++ (a ++ b)
+told_both before a b p q = q ∙ ap (λ f. f ++ b) p ∙ append_assoc before a b
+
+-- what is told behind something that is known
+pub told_behind : {A : Type 0} {before between after : List Fault} {x : A} {t : Reported A} (next : A → List Fault) → Tells before between x t → after ≡ between ++ next x → after ≡ before ++ (t.faults ++ next t.known)
+told_behind {before = before} {x = x} {t = t} next s q = told_both before t.faults (next x) s.told q ∙ ap (λ z. before ++ (t.faults ++ next z)) s.known
+
+-- all of a list, from its head on
+pub record IsEach {A : Type 0} (all : List A → List Fault) (each : A → List Fault) : Type 0 where
+  pub ended : all [] ≡ []
+  pub stepped : (x : A) (xs : List A) → all (x ∷ xs) ≡ each x ++ all xs
+
+-- what was told of the first, and then of those left, is what is told of all
+pub record EachSoFar {A : Type 0} (all : List A → List Fault) (before : List Fault) (xs : List A) (done : ℕ) (now : List Fault) : Type 0 where
+  pub so_far : now ++ all (drop done xs) ≡ before ++ all xs
+
+pub each_goes_on : {A : Type 0} {all : List A → List Fault} {each : A → List Fault} {before : List Fault} {xs : List A} {done : ℕ} {now next : List Fault} (x : A)
+    → IsEach all each → EachSoFar all before xs done now → done < length xs → x ≡ get_or xs done x → next ≡ now ++ each x → EachSoFar all before xs (done + 1) next
+each_goes_on {all = all} {each = each} {xs = xs} {done = done} {now = now} x h s less here told =
+    let rest = all (drop (done + 1) xs) in
+    let split : drop done xs ≡ x ∷ drop (done + 1) xs = drop_more xs done x less ∙ ap (λ y. y ∷ drop (done + 1) xs) (sym here) in
+    record { so_far = ap (λ f. f ++ rest) told ∙ append_assoc now (each x) rest ∙ sym (ap (λ f. now ++ f) (ap all split ∙ h.stepped x (drop (done + 1) xs))) ∙ s.so_far }
+
+pub each_ends : {A : Type 0} {all : List A → List Fault} {each : A → List Fault} {before : List Fault} {xs : List A} {done : ℕ} {now : List Fault}
+    → IsEach all each → EachSoFar all before xs done now → length xs ≤ done → now ≡ before ++ all xs
+each_ends {all = all} {xs = xs} {done = done} {now = now} h s over =
+    sym (append-nil now) ∙ sym (ap (λ f. now ++ f) (ap all (drop_all done xs over) ∙ h.ended)) ∙ s.so_far
+
+-- two lists side by side, of one length
+pub record IsPairwise {A B : Type 0} (all : List A → List B → List Fault) (each : A → B → List Fault) : Type 0 where
+  pub ended : all [] [] ≡ []
+  pub stepped : (x : A) (y : B) (xs : List A) (ys : List B) → all (x ∷ xs) (y ∷ ys) ≡ each x y ++ all xs ys
+
+pub record PairSoFar {A B : Type 0} (all : List A → List B → List Fault) (before : List Fault) (xs : List A) (ys : List B) (done : ℕ) (now : List Fault) : Type 0 where
+  pub so_far : now ++ all (drop done xs) (drop done ys) ≡ before ++ all xs ys
+
+pub pairs_go_on : {A B : Type 0} {all : List A → List B → List Fault} {each : A → B → List Fault} {before : List Fault} {xs : List A} {ys : List B} {done : ℕ} {now next : List Fault} (x : A) (y : B)
+    → IsPairwise all each → PairSoFar all before xs ys done now → done < length xs → done < length ys → x ≡ get_or xs done x → y ≡ get_or ys done y → next ≡ now ++ each x y → PairSoFar all before xs ys (done + 1) next
+pairs_go_on {all = all} {each = each} {xs = xs} {ys = ys} {done = done} {now = now} x y h s less below here there told =
+    let rest = all (drop (done + 1) xs) (drop (done + 1) ys) in
+    let left : drop done xs ≡ x ∷ drop (done + 1) xs = drop_more xs done x less ∙ ap (λ z. z ∷ drop (done + 1) xs) (sym here) in
+    let right : drop done ys ≡ y ∷ drop (done + 1) ys = drop_more ys done y below ∙ ap (λ z. z ∷ drop (done + 1) ys) (sym there) in
+    let split = ap (λ z. all z (drop done ys)) left ∙ ap (all (x ∷ drop (done + 1) xs)) right ∙ h.stepped x y (drop (done + 1) xs) (drop (done + 1) ys) in
+    record { so_far = ap (λ f. f ++ rest) told ∙ append_assoc now (each x y) rest ∙ sym (ap (λ f. now ++ f) split) ∙ s.so_far }
+
+pub pairs_end : {A B : Type 0} {all : List A → List B → List Fault} {each : A → B → List Fault} {before : List Fault} {xs : List A} {ys : List B} {done : ℕ} {now : List Fault}
+    → IsPairwise all each → PairSoFar all before xs ys done now → length xs ≤ done → length ys ≤ done → now ≡ before ++ all xs ys
+pairs_end {all = all} {xs = xs} {ys = ys} {done = done} {now = now} h s over past =
+    sym (append-nil now) ∙ sym (ap (λ f. now ++ f) (ap (λ z. all z (drop done ys)) (drop_all done xs over) ∙ ap (all []) (drop_all done ys past) ∙ h.ended)) ∙ s.so_far
+
+pub nothing_told : (before : List Fault) {all : List Fault} → all ≡ [] → before ≡ before ++ all
+nothing_told before e = sym (append-nil before) ∙ sym (ap (λ f. before ++ f) e)
+
+-- the same put behind a list once for each element of another
+pub record RepeatedSoFar {A B : Type 0} (y : A) (before : List A) (xs : List B) (done : ℕ) (now : List A) : Type 0 where
+  pub so_far : now ++ map (λ (x : B). y) (drop done xs) ≡ before ++ map (λ (x : B). y) xs
+
+pub repeated_begins : {A B : Type 0} {y : A} {before : List A} {xs : List B} → RepeatedSoFar y before xs 0 before
+repeated_begins = record { so_far = refl }
+
+pub repeated_on : {A B : Type 0} {y : A} {before : List A} {xs : List B} {done : ℕ} {now next : List A} (d : B) → RepeatedSoFar y before xs done now → done < length xs → next ≡ now ++ y ∷ [] → RepeatedSoFar y before xs (done + 1) next
+repeated_on {B = B} {y = y} {xs = xs} {done = done} {now = now} d s less e =
+    let rest = map (λ (x : B). y) (drop (done + 1) xs) in
+    record { so_far = ap (λ zs. zs ++ rest) e ∙ append_assoc now (y ∷ []) rest ∙ sym (ap (λ zs. now ++ map (λ (x : B). y) zs) (drop_more xs done d less)) ∙ s.so_far }
+
+pub repeated_ends : {A B : Type 0} {y : A} {before : List A} {xs : List B} {done : ℕ} {now : List A} → RepeatedSoFar y before xs done now → length xs ≤ done → now ≡ before ++ map (λ (x : B). y) xs
+repeated_ends {B = B} {y = y} {xs = xs} {done = done} {now = now} s over =
+    sym (append-nil now) ∙ sym (ap (λ zs. now ++ map (λ (x : B). y) zs) (drop_all done xs over)) ∙ s.so_far

@@ -1,0 +1,254 @@
+-- Operations of which nothing is told: the types of their operands are those that are asked for, and so is their own.
+use Rattle.std.proofs.Common.{◌≡◌, ℕ, Bool, true, false, ◌||◌, cond, [], if◌then◌else◌, Option, Some, None, option_and_then, option_map, zero, suc, ℤ, pos, negsuc, ◌+ℤ◌, ◌-ℤ◌, ◌*ℤ◌, neg_ℤ, refl, sym, ap, ◌∙◌, subst}
+use Rattle.ob0_scan.specs.declared.fault.Code.TheVariants as code
+use Rattle.ob0_types_table.specs.Operators.{product_value, sum_value}
+use Rattle.ob0_tree.specs.declared.tree.AddOperator.{AddOperator}
+use Rattle.ob0_tree.specs.declared.tree.AddOperator.TheVariants as add_operator
+use Rattle.ob0_tree.specs.declared.tree.MultiplyOperator.{MultiplyOperator}
+use Rattle.ob0_tree.specs.declared.tree.MultiplyOperator.TheVariants as multiply_operator
+use Rattle.ob0_tree.specs.declared.tree.Relation.{Relation}
+use Rattle.ob0_tree.specs.declared.tree.Relation.TheVariants as relation
+use Rattle.ob0_tree.specs.declared.tree.Sign.{Sign}
+use Rattle.ob0_tree.specs.declared.tree.Sign.TheVariants as sign
+use Rattle.ob0_tree.specs.Places.{text_at}
+use Rattle.ob0_types_rules.specs.Selected.{both}
+use Rattle.ob0_types_rules.specs.Typing.{add_type, complement_type, element_type, field_type, given_value, multiply_type, relation_type, shape_of_field, sign_type, value_type}
+use Rattle.ob0_values.specs.Values.{FieldShapes, Outcome, Overflow, Shape, Value, add, add_is_settled, array_shape, boolean_shape, divided_by, ends, gives, in_range, integer_shape, multiply, multiply_is_settled, negated, number, quotient, record_shape, relate, remainder, truth}
+use Rattle.ob0_values.specs.Values as values
+use Rattle.ob0_types_check.specs.Known.{Facts, Form, Operand, Reported, a_record, a_scalar, an_array, unknown_form}
+use Rattle.ob0_types_check.specs.Operations.{added, required, asked_both, at_operand, complemented, element_in, element_selected, field_in, field_selected, fits, found_field, multiplied, related, signed, truth_of, wanted_by_add, wanted_by_equality, wanted_by_multiply, wanted_by_relation}
+use Rattle.ob0_types_check.specs.Agreement.{FormAgrees, TypesAgree}
+use Rattle.ob0_types_check.proofs.Untold.{first-of, first-told, none-if, none-told, not-true, some-none, some-same}
+
+-- a value that is known is of this type
+abbrev pub IsOf : Shape → Option Value → Type 0
+IsOf s c = (v : Value) → c ≡ Some v → value_type v ≡ Some s
+
+pub none-of : (s : Shape) → IsOf s None
+none-of s v e = absurd (cc)
+
+pub some-of : (s : Shape) (w : Value) → value_type w ≡ Some s → IsOf s (Some w)
+some-of s w h v e = subst (λ u. value_type u ≡ Some s) (some-same w v e) h
+
+-- what operators give
+abbrev shape_added : AddOperator → Shape
+shape_added add_operator.Add = integer_shape
+shape_added add_operator.Subtract = integer_shape
+shape_added add_operator.Or = boolean_shape
+
+abbrev shape_multiplied : MultiplyOperator → Shape
+shape_multiplied multiply_operator.Multiply = integer_shape
+shape_multiplied multiply_operator.Divide = integer_shape
+shape_multiplied multiply_operator.Modulo = integer_shape
+shape_multiplied multiply_operator.And = boolean_shape
+
+in_range-of : (n : ℤ) → IsOf integer_shape (given_value (in_range n))
+in_range-of n =
+    elim (values.fits n) as (λ b. IsOf integer_shape (given_value (if b then gives (number n) else ends Overflow)))
+    [ true ↦ some-of integer_shape (number n) refl | false ↦ none-of integer_shape ]
+
+divided_by-of : (result : ℕ → ℤ) (n : ℤ) → IsOf integer_shape (given_value (divided_by (λ d. in_range (result d)) n))
+divided_by-of result (pos zero) = none-of integer_shape
+divided_by-of result (pos (suc d)) = in_range-of (result (suc d))
+divided_by-of result (negsuc d) = none-of integer_shape
+
+add-of : (o : AddOperator) (v w : Value) → IsOf (shape_added o) (given_value (add o v w))
+add-of add_operator.Add (number a) (number b) = in_range-of (a +ℤ b)
+add-of add_operator.Subtract (number a) (number b) = in_range-of (a -ℤ b)
+add-of add_operator.Or (truth a) (truth b) = some-of boolean_shape (truth (a || b)) refl
+add-of _ _ _ = none-of _
+
+multiply-of : (o : MultiplyOperator) (v w : Value) → IsOf (shape_multiplied o) (given_value (multiply o v w))
+multiply-of multiply_operator.Multiply (number a) (number b) = in_range-of (a *ℤ b)
+multiply-of multiply_operator.Divide (number a) (number b) = divided_by-of (quotient a) b
+multiply-of multiply_operator.Modulo (number a) (number b) = divided_by-of (remainder a) b
+multiply-of multiply_operator.And (truth a) (truth b) = some-of boolean_shape (truth _) refl
+multiply-of _ _ _ = none-of _
+
+relate-of : (r : Relation) (v w : Value) → IsOf boolean_shape (given_value (relate r v w))
+relate-of r (number a) (number b) = some-of boolean_shape (truth _) refl
+relate-of relation.Equal (truth a) (truth b) = some-of boolean_shape (truth _) refl
+relate-of relation.NotEqual (truth a) (truth b) = some-of boolean_shape (truth _) refl
+relate-of _ _ _ = none-of boolean_shape
+
+signed-of : (s : Sign) (v : Value) → IsOf integer_shape (given_value (values.signed (Some s) v))
+signed-of sign.Plus (number a) = in_range-of a
+signed-of sign.Minus (number a) = in_range-of (neg_ℤ a)
+signed-of _ _ = none-of integer_shape
+
+negated-of : (v : Value) → IsOf boolean_shape (given_value (negated v))
+negated-of (truth b) = some-of boolean_shape (truth _) refl
+negated-of _ = none-of boolean_shape
+
+then-of : (s : Shape) (f : Value → Option Value) (c : Option Value) → ((v : Value) → c ≡ Some v → IsOf s (f v)) → IsOf s (option_and_then f c)
+then-of s f None each = none-of s
+then-of s f (Some v) each = each v refl
+
+settled-of : (s : Shape) (b : Bool) (x : Value) (o : Option Value) → value_type x ≡ Some s → IsOf s o → IsOf s (cond b (Some x) o)
+settled-of s true x o h k = some-of s x h
+settled-of s false x o h k = k
+
+sum-of : (o : AddOperator) (a b : Option Value) (s : Shape) → s ≡ shape_added o → IsOf s a → IsOf (shape_added o) (option_and_then (sum_value o b) a)
+sum-of o a b s same h =
+    then-of (shape_added o) (sum_value o b) a
+    (λ x e. settled-of (shape_added o) (add_is_settled o x) x (option_and_then (λ y. given_value (add o x y)) b) (h x e ∙ ap (λ u. Some u) same)
+    (then-of (shape_added o) (λ y. given_value (add o x y)) b (λ y f. add-of o x y)))
+
+product-of : (o : MultiplyOperator) (a b : Option Value) (s : Shape) → s ≡ shape_multiplied o → IsOf s a → IsOf (shape_multiplied o) (option_and_then (product_value o b) a)
+product-of o a b s same h =
+    then-of (shape_multiplied o) (product_value o b) a
+    (λ x e. settled-of (shape_multiplied o) (multiply_is_settled o x) x (option_and_then (λ y. given_value (multiply o x y)) b) (h x e ∙ ap (λ u. Some u) same)
+    (then-of (shape_multiplied o) (λ y. given_value (multiply o x y)) b (λ y f. multiply-of o x y)))
+
+pub relation-of : (r : Relation) (a b : Option Value) → IsOf boolean_shape (both (λ x y. given_value (relate r x y)) a b)
+relation-of r a b =
+    then-of boolean_shape (λ x. option_and_then (λ y. given_value (relate r x y)) b) a (λ x e. then-of boolean_shape (λ y. given_value (relate r x y)) b (λ y f. relate-of r x y))
+
+sign-of : (s : Sign) (a : Option Value) → IsOf integer_shape (option_and_then (λ x. given_value (values.signed (Some s) x)) a)
+sign-of s a = then-of integer_shape (λ x. given_value (values.signed (Some s) x)) a (λ x e. signed-of s x)
+
+pub complement-of : (a : Option Value) → IsOf boolean_shape (option_and_then (λ x. given_value (negated x)) a)
+complement-of a = then-of boolean_shape (λ x. given_value (negated x)) a (λ x e. negated-of x)
+
+add-typed : (o : AddOperator) → add_type o (shape_added o) (shape_added o) ≡ Some (shape_added o)
+add-typed add_operator.Add = refl
+add-typed add_operator.Subtract = refl
+add-typed add_operator.Or = refl
+
+multiply-typed : (o : MultiplyOperator) → multiply_type o (shape_multiplied o) (shape_multiplied o) ≡ Some (shape_multiplied o)
+multiply-typed multiply_operator.Multiply = refl
+multiply-typed multiply_operator.Divide = refl
+multiply-typed multiply_operator.Modulo = refl
+multiply-typed multiply_operator.And = refl
+
+sign-typed : (s : Sign) → sign_type (Some s) integer_shape ≡ Some integer_shape
+sign-typed sign.Plus = refl
+sign-typed sign.Minus = refl
+
+module _ {T : Type 0} (facts : Facts T) (shape : T → Option Shape) (types : TypesAgree facts.types shape) where
+  pub is-known : (t : T) (s : Shape) → shape t ≡ Some s → facts.types.same t facts.types.unknown ≡ true → ⊥
+  is-known t s h e = some-none s (sym h ∙ types.same t facts.types.unknown e ∙ types.unknown)
+
+  same-shape : (t u : T) (s w : Shape) → shape t ≡ Some s → shape u ≡ Some w → facts.types.same t u ≡ true → s ≡ w
+  same-shape t u s w ht hu e = some-same s w (sym ht ∙ types.same t u e ∙ hu)
+
+  same-where-fits : (t u : T) (s w : Shape) → shape t ≡ Some s → shape u ≡ Some w → fits facts.types t u ≡ true → facts.types.same t u ≡ true
+  same-where-fits t u s w ht hu e =
+      first-of (facts.types.same t u) (facts.types.same t facts.types.unknown) (facts.types.same u facts.types.unknown) e (is-known t s ht) (is-known u w hu)
+
+  pub asked-fits : (wanted : T) (o : Operand T) (s w : Shape) → shape o.of ≡ Some s → shape wanted ≡ Some w → (required facts wanted o).faults ≡ [] → ((required facts wanted o).known ≡ wanted) × (s ≡ w)
+  asked-fits wanted o s w hs hw h =
+      let same : facts.types.same o.of wanted ≡ true = same-where-fits o.of wanted s w hs hw (none-if (fits facts.types o.of wanted) _ h) in
+      (ap (λ b. if b then wanted else facts.types.unknown) same, same-shape o.of wanted s w hs hw same)
+
+  both-asked : (wanted : T) (a b : Operand T) (s t w : Shape) → shape a.of ≡ Some s → shape b.of ≡ Some t → shape wanted ≡ Some w → (asked_both facts wanted a b).faults ≡ []
+      → ((asked_both facts wanted a b).known ≡ wanted) × (s ≡ w) × (t ≡ w)
+  both-asked wanted a b s t w hs ht hw h =
+      let left : Reported T = record { known = if facts.types.same a.of wanted then (required facts wanted b).known else facts.types.unknown; faults = (required facts wanted b).faults } in
+      let wrong : Reported T = record { known = facts.types.unknown; faults = at_operand facts code.TypeMismatch a } in
+      let (fit, none) = first-told (fits facts.types a.of wanted) left wrong _ refl h in
+      let same : facts.types.same a.of wanted ≡ true = same-where-fits a.of wanted s w hs hw fit in
+      let (known, right) = asked-fits wanted b t w ht hw none in
+      (ap (λ c. (if c then left else wrong).known) fit ∙ (ap (λ c. if c then (required facts wanted b).known else facts.types.unknown) same ∙ known), same-shape a.of wanted s w hs hw same, right)
+
+  -- what operators ask for has a shape
+
+  add-wanted : (o : AddOperator) → shape (wanted_by_add facts.types o) ≡ Some (shape_added o)
+  add-wanted add_operator.Add = types.integer
+  add-wanted add_operator.Subtract = types.integer
+  add-wanted add_operator.Or = types.boolean
+
+  multiply-wanted : (o : MultiplyOperator) → shape (wanted_by_multiply facts.types o) ≡ Some (shape_multiplied o)
+  multiply-wanted multiply_operator.Multiply = types.integer
+  multiply-wanted multiply_operator.Divide = types.integer
+  multiply-wanted multiply_operator.Modulo = types.integer
+  multiply-wanted multiply_operator.And = types.boolean
+
+  equality-wanted : (r : Relation) → relation_type r boolean_shape boolean_shape ≡ Some boolean_shape → (t : T) (s : Shape) → shape t ≡ Some s
+      → (w : Shape) × (shape (wanted_by_equality facts.types t) ≡ Some w) × (relation_type r w w ≡ Some boolean_shape)
+  equality-wanted r both t s h =
+      elim (facts.types.same t facts.types.integer)
+      as (λ b. (w : Shape) × (shape (if b then facts.types.integer else if facts.types.same t facts.types.unknown then facts.types.unknown else facts.types.boolean) ≡ Some w) × (relation_type r w w ≡ Some boolean_shape)) [
+        | true ↦ (integer_shape, types.integer, refl)
+        | false ↦ (boolean_shape, ap (λ b. shape (if b then facts.types.unknown else facts.types.boolean)) (not-true (facts.types.same t facts.types.unknown) (is-known t s h)) ∙ types.boolean, both)
+      ]
+
+  relation-wanted : (r : Relation) (t : T) (s : Shape) → shape t ≡ Some s → (w : Shape) × (shape (wanted_by_relation facts.types r t) ≡ Some w) × (relation_type r w w ≡ Some boolean_shape)
+  relation-wanted relation.Equal t s h = equality-wanted relation.Equal refl t s h
+  relation-wanted relation.NotEqual t s h = equality-wanted relation.NotEqual refl t s h
+  relation-wanted relation.Less t s h = (integer_shape, types.integer, refl)
+  relation-wanted relation.LessEqual t s h = (integer_shape, types.integer, refl)
+  relation-wanted relation.Greater t s h = (integer_shape, types.integer, refl)
+  relation-wanted relation.GreaterEqual t s h = (integer_shape, types.integer, refl)
+
+  truth-known : (t : T) (s : Shape) → shape t ≡ Some s → shape (truth_of facts.types t) ≡ Some boolean_shape
+  truth-known t s h = ap (λ b. shape (if b then facts.types.unknown else facts.types.boolean)) (not-true (facts.types.same t facts.types.unknown) (is-known t s h)) ∙ types.boolean
+
+  -- operations
+
+  pub added-fits : (o : AddOperator) (a b : Operand T) (s t : Shape) → shape a.of ≡ Some s → shape b.of ≡ Some t → (added facts o a b).faults ≡ []
+      → (w : Shape) × (shape (added facts o a b).known.of ≡ Some w) × (add_type o s t ≡ Some w) × (IsOf s a.value → IsOf w (added facts o a b).known.value)
+  added-fits o a b s t hs ht h =
+      let (known, left, right) = both-asked (wanted_by_add facts.types o) a b s t (shape_added o) hs ht (add-wanted o) (none-told _ _ h).0 in
+      (shape_added o, ap shape known ∙ add-wanted o, (λ i. add_type o (left i) (right i)) ∙ add-typed o, sum-of o a.value b.value s left)
+
+  pub multiplied-fits : (o : MultiplyOperator) (a b : Operand T) (s t : Shape) → shape a.of ≡ Some s → shape b.of ≡ Some t → (multiplied facts o a b).faults ≡ []
+      → (w : Shape) × (shape (multiplied facts o a b).known.of ≡ Some w) × (multiply_type o s t ≡ Some w) × (IsOf s a.value → IsOf w (multiplied facts o a b).known.value)
+  multiplied-fits o a b s t hs ht h =
+      let (known, left, right) = both-asked (wanted_by_multiply facts.types o) a b s t (shape_multiplied o) hs ht (multiply-wanted o) (none-told _ _ h).0 in
+      (shape_multiplied o, ap shape known ∙ multiply-wanted o, (λ i. multiply_type o (left i) (right i)) ∙ multiply-typed o, product-of o a.value b.value s left)
+
+  pub related-fits : (r : Relation) (a b : Operand T) (s t : Shape) → shape a.of ≡ Some s → shape b.of ≡ Some t → (related facts r a b).faults ≡ []
+      → (shape (related facts r a b).known.of ≡ Some boolean_shape) × (relation_type r s t ≡ Some boolean_shape)
+  related-fits r a b s t hs ht h =
+      let (w, hw, typed) = relation-wanted r a.of s hs in
+      let (known, left, right) = both-asked (wanted_by_relation facts.types r a.of) a b s t w hs ht hw (none-told _ _ h).0 in
+      (ap (λ u. shape (truth_of facts.types u)) known ∙ truth-known (wanted_by_relation facts.types r a.of) w hw, (λ i. relation_type r (left i) (right i)) ∙ typed)
+
+  pub signed-fits : (g : Option Sign) (o : Operand T) (s : Shape) → shape o.of ≡ Some s → (signed facts g o).faults ≡ []
+      → (w : Shape) × (shape (signed facts g o).known.of ≡ Some w) × (sign_type g s ≡ Some w) × (IsOf s o.value → IsOf w (signed facts g o).known.value)
+  signed-fits None o s hs h = (s, hs, refl, λ worth. worth)
+  signed-fits (Some g) o s hs h =
+      let (known, right) = asked-fits facts.types.integer o s integer_shape hs types.integer (none-told _ _ h).0 in
+      (integer_shape, ap shape known ∙ types.integer, ap (sign_type (Some g)) right ∙ sign-typed g, λ worth. sign-of g o.value)
+
+  pub complemented-fits : (o : Operand T) (s : Shape) → shape o.of ≡ Some s → (complemented facts o).faults ≡ []
+      → (shape (complemented facts o).known.of ≡ Some boolean_shape) × (complement_type s ≡ Some boolean_shape)
+  complemented-fits o s hs h =
+      let (known, right) = asked-fits facts.types.boolean o s boolean_shape hs types.boolean (none-told _ _ h).0 in
+      (ap shape known ∙ types.boolean, ap complement_type right)
+
+  -- selectors
+
+  found-fits : (x : ℕ) (o : Option T) (t : Option Shape) → option_map shape o ≡ option_map Some t → (found_field facts x o).faults ≡ [] → (u : Shape) × (shape (found_field facts x o).known ≡ Some u) × (t ≡ Some u)
+  found-fits x None t e h = absurd (cc)
+  found-fits x (Some u) None e h = absurd (cc)
+  found-fits x (Some u) (Some v) e h = (v, some-same (shape u) (Some v) e, refl)
+
+  field-found : (f : Form T) (s : Shape) → FormAgrees shape f s → (x : ℕ) → (field_in facts x f).faults ≡ [] → (u : Shape) × (shape (field_in facts x f).known ≡ Some u) × (field_type s (text_at facts.source x) ≡ Some u)
+  field-found a_scalar s a x h = absurd (cc)
+  field-found (an_array t) s a x h = absurd (cc)
+  field-found (a_record fields) s (k, fs, e, each) x h =
+      let (u, known, found) = found-fits x (fields (text_at facts.source x)) (shape_of_field fs (text_at facts.source x)) (each (text_at facts.source x)) h in
+      (u, known, ap (λ s. field_type s (text_at facts.source x)) e ∙ found)
+  field-found unknown_form s a x h = absurd a
+
+  pub field-fits : (o : Operand T) (s : Shape) → shape o.of ≡ Some s → (x : ℕ) → (field_selected facts o x).faults ≡ []
+      → (u : Shape) × (shape (field_selected facts o x).known.of ≡ Some u) × (field_type s (text_at facts.source x) ≡ Some u)
+  field-fits o s hs x h = field-found (facts.types.form o.of) s (types.formed o.of s hs) x (none-told _ _ h).0
+
+  element-found : (f : Form T) (s : Shape) → FormAgrees shape f s → (o : Operand T) (n : T) → n ≡ facts.types.integer → (element_in facts o n f).faults ≡ []
+      → (u : Shape) × (shape (element_in facts o n f).known ≡ Some u) × (element_type s integer_shape ≡ Some u)
+  element-found a_scalar s a o n e h = absurd (cc)
+  element-found (an_array t) s (k, count, u, same, known) o n e h =
+      (u, ap (λ n. shape (if facts.types.same n facts.types.integer then t else facts.types.unknown)) e ∙ (ap (λ b. shape (if b then t else facts.types.unknown)) types.alone ∙ known), ap (λ s. element_type s integer_shape) same)
+  element-found (a_record fields) s a o n e h = absurd (cc)
+  element-found unknown_form s a o n e h = absurd a
+
+  pub element-fits : (o i : Operand T) (s t : Shape) → shape o.of ≡ Some s → shape i.of ≡ Some t → (element_selected facts o i).faults ≡ []
+      → (u : Shape) × (shape (element_selected facts o i).known.of ≡ Some u) × (element_type s t ≡ Some u)
+  element-fits o i s t hs ht h =
+      let parts = none-told (required facts facts.types.integer i).faults _ h in
+      let (known, index) = asked-fits facts.types.integer i t integer_shape ht types.integer parts.0 in
+      let (u, found, typed) = element-found (facts.types.form o.of) s (types.formed o.of s hs) i (required facts facts.types.integer i).known known (none-told _ _ parts.1).0 in
+      (u, found, ap (element_type s) index ∙ typed)

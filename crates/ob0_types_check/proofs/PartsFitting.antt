@@ -1,0 +1,15 @@
+-- What declarations use of expressions and statements: where nothing is told of them, they fit.
+use Rattle.ob0_scope_rules.specs.Names.{Name}
+use Rattle.ob0_types_check.specs.ReportLaws.{ConstantsFit, LengthsFit, StatementsFit, TypesOfTables}
+use Rattle.ob0_types_check.proofs.FittingStatements.{statements_fit-holds}
+use Rattle.ob0_types_check.proofs.Proved.{constants_fit-holds, lengths_fit-holds}
+use Rattle.ob0_types_check.proofs.Tables.{types_of_tables-holds}
+
+pub record PartsFit : Type 0 where
+  pub tables : TypesOfTables
+  pub constants : ConstantsFit Name
+  pub lengths : LengthsFit Name
+  pub statements : StatementsFit Name
+
+pub parts_fit : PartsFit
+parts_fit = record { tables = types_of_tables-holds; constants = constants_fit-holds; lengths = lengths_fit-holds; statements = statements_fit-holds }

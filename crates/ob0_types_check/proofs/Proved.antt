@@ -1,0 +1,117 @@
+-- The laws of what is told of expressions.
+use Rattle.std.proofs.Common.{◌≡◌, ℕ, Bool, true, false, [], Option, Some, None, option_map, is_some, if◌then◌else◌, refl, sym, ap, ◌∙◌}
+use Rattle.ob0_tree.specs.declared.tree.Role.TheVariants as role
+use Rattle.ob0_tree.specs.Places.{value_at}
+use Rattle.ob0_tree.specs.Tree.{Tree, expression, identifiers, mapped}
+use Rattle.ob0_types_rules.specs.Expressions.{Meanings, Object, a_constant, evaluate}
+use Rattle.ob0_types_rules.specs.Typing.{array_length, constant_of, constant_value, constants_only, given_value, type_of}
+use Rattle.ob0_types_rules.specs.WellTyped.{Typed}
+use Rattle.ob0_values.specs.Values.{Place, Shape, Value, integer_shape}
+use Rattle.ob0_types_check.specs.ExpressionFaults.{told_expression}
+use Rattle.ob0_types_check.specs.Known.{Facts, Operand}
+use Rattle.ob0_types_check.specs.Operations.{required, right}
+use Rattle.ob0_types_check.specs.SoFar.{facts_at}
+use Rattle.ob0_types_check.specs.TypeFaults.{evaluated, in_bounds, length_given, length_of, told_constant, valued}
+use Rattle.ob0_types_check.specs.Agreement.{Agrees, TypesAgree, shape_in}
+use Rattle.ob0_types_check.specs.ReportLaws.{ConstantsFit, ExpressionsFit, LengthsFit, OperandFits, meaning_here}
+use Rattle.ob0_types_check.proofs.FittingExpressions.{FitsExpression, expression-fits}
+use Rattle.ob0_types_check.proofs.FittingNames.{only-tokens, tokens-fit}
+use Rattle.ob0_types_check.proofs.FittingPlaces.{operand-fits}
+use Rattle.ob0_types_check.proofs.Operands.{IsOf, asked-fits, is-known}
+use Rattle.ob0_types_check.proofs.Untold.{goes-on, none-told, not-true}
+
+only-once : {V P : Type 0} (o : Option (Object V P)) → option_map {U = Object Place (Unit {0})} a_constant (constant_of {V = Shape} {P = Unit {0}} (option_map a_constant (constant_of o))) ≡ option_map a_constant (constant_of o)
+only-once o = elim (constant_of o) as (λ c. option_map {U = Object Place (Unit {0})} a_constant (constant_of {V = Shape} {P = Unit {0}} (option_map a_constant c)) ≡ option_map a_constant c) [ None ↦ refl | Some v ↦ refl ]
+
+pub constants-again : {N V P : Type 0} (meaning : Meanings N V P) → constants_only {W = Place} {Q = Unit {0}} (constants_only {W = Shape} {Q = Unit {0}} meaning) ≡ constants_only meaning
+constants-again meaning = λ i. record { stands_for = λ x. only-once (meaning.stands_for x) i; written = meaning.written }
+
+module _ {T N : Type 0} (facts : Facts T) (shape : T → Option Shape) (label : ℕ → N) (meaning : Typed N) (e : Tree ℕ expression) (agrees : Agrees facts shape label meaning e) where
+  pub here-fits : (b : Bool) → facts.only_constants ≡ b → (told_expression facts e).faults ≡ [] → OperandFits shape (meaning_here b meaning) (told_expression facts e).known (mapped label (value_at facts.source) e)
+  here-fits true only h = operand-fits facts shape agrees.types label (constants_only meaning) e (only-tokens facts shape agrees.types label meaning _ only (identifiers role.Declaring e) agrees.tokens) h
+  here-fits false only h = operand-fits facts shape agrees.types label meaning e (tokens-fit facts shape agrees.types label meaning (identifiers role.Declaring e) agrees.tokens) h
+
+  -- a constant expression
+  pub record IsConstant : Type 0 where
+    pub of : Shape
+    pub known : shape (told_expression facts e).known.of ≡ Some of
+    pub given : (v : Value) → (told_expression facts e).known.value ≡ Some v → constant_value meaning (mapped label (value_at facts.source) e) ≡ Some v
+    pub scalar : IsOf of (told_expression facts e).known.value
+
+  pub constant-known : facts.only_constants ≡ true → (told_expression facts e).faults ≡ [] → IsConstant
+  unfolding constant_value
+  constant-known only h =
+      let fe : FitsExpression facts shape agrees.types label (constants_only {W = Shape} {Q = Unit {0}} meaning) e
+      = expression-fits facts shape agrees.types label (constants_only {W = Shape} {Q = Unit {0}} meaning) e (only-tokens facts shape agrees.types label meaning _ only (identifiers role.Declaring e) agrees.tokens) h in
+      record {
+        of = fe.of;
+        known = fe.known;
+        given = λ v is. goes-on (λ s. given_value (evaluate {P = Unit {0}} (constants_only meaning) [] (mapped label (value_at facts.source) e))) (type_of {P = Unit {0}} (constants_only meaning) (mapped label (value_at facts.source) e)) fe.of (Some v) fe.typed
+            (ap (λ m. given_value (evaluate {P = Unit {0}} m [] (mapped label (value_at facts.source) e))) (sym (constants-again meaning)) ∙ (sym fe.valued ∙ is));
+        scalar = fe.scalar;
+      }
+
+-- a value that is told of nothing is there
+pub record IsWorth {T : Type 0} (o : Operand T) (told : Option Value) : Type 0 where
+  pub value : Value
+  pub known : told ≡ Some value
+  pub there : o.value ≡ Some value
+
+value-there : {T : Type 0} (facts : Facts T) (o : Operand T) (c : Option Value) → o.value ≡ c → (valued facts o c).faults ≡ [] → IsWorth o (valued facts o c).known
+value-there facts o None e h = absurd (cc)
+value-there facts o (Some v) e h = record { value = v; known = refl; there = e }
+
+pub evaluated-there : {T : Type 0} (facts : Facts T) (o : Operand T) → facts.types.same o.of facts.types.unknown ≡ false → (evaluated facts o).faults ≡ [] → IsWorth o (evaluated facts o).known
+evaluated-there facts o known h =
+    let w = value-there facts o o.value refl (sym (ap (λ b. (if b then right None else valued facts o o.value).faults) known) ∙ h) in
+    record { value = w.value; known = ap (λ b. (if b then right None else valued facts o o.value).known) known ∙ w.known; there = w.there }
+
+pub constants_fit-holds : {N : Type 0} → ConstantsFit N
+unfolding told_constant
+constants_fit-holds p shapes label meaning e agrees h =
+    let facts = facts_at p true in
+    let parts = none-told (told_expression facts e).faults _ h in
+    let c = constant-known facts (shape_in shapes) label meaning e agrees refl parts.0 in
+    let o : Operand _ = (told_expression facts e).known in
+    let w = evaluated-there facts o (not-true (facts.types.same o.of facts.types.unknown) (is-known facts (shape_in shapes) agrees.types o.of c.of c.known)) parts.1 in
+    record { value = w.value; known = w.known; given = c.given w.value w.there; scalar = ap is_some (c.scalar w.value w.there) }
+
+pub expressions_fit-holds : {N : Type 0} → ExpressionsFit N
+expressions_fit-holds p only shapes label meaning e agrees h = here-fits (facts_at p only) (shape_in shapes) label meaning e agrees only refl h
+
+-- a length that is told of nothing is there
+pub record IsLong {T : Type 0} (o : Operand T) (told : Option ℕ) : Type 0 where
+  pub value : Value
+  pub length : ℕ
+  pub known : told ≡ Some length
+  pub there : o.value ≡ Some value
+  pub counted : array_length value ≡ Some length
+
+bounded : {T : Type 0} (facts : Facts T) (o : Operand T) (v : Value) (n : Option ℕ) → o.value ≡ Some v → array_length v ≡ n → (in_bounds facts o n).faults ≡ [] → IsLong o (in_bounds facts o n).known
+bounded facts o v None there e h = absurd (cc)
+bounded facts o v (Some n) there e h = record { value = v; length = n; known = refl; there = there; counted = e }
+
+length-given : {T : Type 0} (facts : Facts T) (o : Operand T) (c : Option Value) → o.value ≡ c → (length_given facts o c).faults ≡ [] → IsLong o (length_given facts o c).known
+length-given facts o None e h = absurd (cc)
+length-given facts o (Some v) e h = bounded facts o v (array_length v) e refl h
+
+pub length-there : {T : Type 0} (facts : Facts T) (shape : T → Option Shape) (types : TypesAgree facts.types shape) (o : Operand T) (s : Shape) → shape o.of ≡ Some s → (length_of facts o).faults ≡ [] → IsLong o (length_of facts o).known
+length-there facts shape types o s hs h =
+    let parts = none-told (required facts facts.types.integer o).faults _ h in
+    let (given, same) = asked-fits facts shape types facts.types.integer o s integer_shape hs types.integer parts.0 in
+    let alone : facts.types.same (required facts facts.types.integer o).known facts.types.integer ≡ true = ap (λ t. facts.types.same t facts.types.integer) given ∙ types.alone in
+    let long : IsLong o (length_given facts o o.value).known = length-given facts o o.value refl (sym (ap (λ b. (if b then length_given facts o o.value else right None).faults) alone) ∙ parts.1) in
+    record {
+      value = long.value;
+      length = long.length;
+      known = ap (λ b. (if b then length_given facts o o.value else right None).known) alone ∙ long.known;
+      there = long.there;
+      counted = long.counted;
+    }
+
+pub lengths_fit-holds : {N : Type 0} → LengthsFit N
+lengths_fit-holds p shapes label meaning e agrees h =
+    let parts = none-told (told_expression (facts_at p true) e).faults _ h in
+    let c = constant-known (facts_at p true) (shape_in shapes) label meaning e agrees refl parts.0 in
+    let long = length-there (facts_at p false) (shape_in shapes) agrees.types (told_expression (facts_at p true) e).known c.of c.known parts.1 in
+    record { value = long.value; length = long.length; known = long.known; given = c.given long.value long.there; counted = long.counted }

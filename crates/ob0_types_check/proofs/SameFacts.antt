@@ -1,0 +1,60 @@
+-- What is supposed is what is known so far.
+use Rattle.std.proofs.Common.{◌≡◌, ℕ, ◌≤◌, Bool, List, Option, Some, None, map, length, option_map, option_and_then, slice_get, slice_index_or, set, refl, sym, ap, ◌∙◌, arith}
+use Rattle.std.proofs.lemmas.List.{length-map, map-set, set_past}
+use Rattle.std.proofs.lemmas.Option.{slice_get-map}
+use Rattle.std.proofs.Math.ListN.{get_or-map}
+use Rattle.ob0_scope_rules.specs.Names.{Name}
+use Rattle.ob0_scope_rules.specs.Resolution.{ordinal_in}
+use Rattle.ob0_types_table.specs.declared.types.TypeId.{TypeId}
+use Rattle.ob0_types_table.specs.declared.types.TypeId.TheVariants as type
+use Rattle.ob0_types_check.specs.declared.telling.supposed.Composite.{Composite}
+use Rattle.ob0_types_check.specs.declared.telling.supposed.Meaning.{Meaning}
+use Rattle.ob0_types_check.specs.declared.telling.supposed.Parts.{Parts}
+use Rattle.ob0_types_check.specs.declared.telling.supposed.Parts.TheVariants as parts
+use Rattle.ob0_types_check.specs.declared.telling.supposed.Supposed.{Supposed}
+use Rattle.ob0_types_check.specs.Known.{a_record, an_array}
+use Rattle.ob0_types_check.specs.SoFar.{elements_at, elements_in, facts_at, field_at, field_in, form_at, same_type}
+use Rattle.ob0_types_check.specs.SupposedFacts.{elements_among, elements_of, facts_in, field_among, field_of, form_in, made_of, meaning_of, parts_of, so_far_in}
+
+elements_alike : (p : Parts) → elements_among p ≡ elements_in (parts_of p)
+elements_alike (parts.Elements t) = refl
+elements_alike (parts.Fields fields) = refl
+
+elements_same : (o : Option Composite) → elements_of o ≡ elements_at (option_map made_of o)
+elements_same None = refl
+elements_same (Some c) = elements_alike c.parts
+
+field_alike : (p : Parts) (x : Name) → field_among p x ≡ field_in (parts_of p) x
+field_alike (parts.Elements t) x = refl
+field_alike (parts.Fields fields) x = refl
+
+field_same : (o : Option Composite) (x : Name) → field_of o x ≡ field_at (option_map made_of o) x
+field_same None x = refl
+field_same (Some c) x = field_alike c.parts x
+
+form_same : (cs : List Composite) (t : TypeId) → form_in cs t ≡ form_at (map made_of cs) t
+form_same cs type.Integer = refl
+form_same cs type.Boolean = refl
+form_same cs (type.Array i) = ap an_array (elements_same (slice_get cs i) ∙ sym (ap elements_at (slice_get-map made_of cs i)))
+form_same cs (type.Record i) = ap a_record ((λ j x. field_same (slice_get cs i) x j) ∙ sym (ap field_at (slice_get-map made_of cs i)))
+form_same cs type.Unknown = refl
+
+meant_at : (ms : List (Option Meaning)) (o : Option ℕ) → option_map meaning_of (option_and_then (λ k. slice_index_or ms k None) o) ≡ option_and_then (λ k. slice_index_or (map (option_map meaning_of) ms) k None) o
+meant_at ms None = refl
+meant_at ms (Some k) = sym (get_or-map (option_map meaning_of) ms k None)
+
+-- what is supposed gives the same facts
+pub facts_same : (s : Supposed) (only_constants : Bool) → facts_in s only_constants ≡ facts_at (so_far_in s) only_constants
+facts_same s only_constants = λ j. record {
+  source = s.resolved.now.module_read.source;
+  types = record { integer = type.Integer; boolean = type.Boolean; unknown = type.Unknown; same = same_type; form = λ t. form_same s.composites.items t j };
+  stands_for = λ token. meant_at s.meanings.items (ordinal_in s.resolved.now.ordinals token) j;
+  only_constants = only_constants;
+}
+
+-- the list of what declarations are, with one more, or past its end
+pub declared_within : (ms : List (Option Meaning)) (k : ℕ) (m : Meaning) → map (option_map meaning_of) (set ms k (Some m)) ≡ set (map (option_map meaning_of) ms) k (Some (meaning_of m))
+declared_within ms k m = map-set (option_map meaning_of) ms k (Some m)
+
+pub declared_past : (ms : List (Option Meaning)) (k : ℕ) (m : Meaning) → length ms ≤ k → map (option_map meaning_of) ms ≡ set (map (option_map meaning_of) ms) k (Some (meaning_of m))
+declared_past ms k m past = sym (set_past (map (option_map meaning_of) ms) k (Some (meaning_of m)) (omega (arith, length-map ms (option_map meaning_of), past)))

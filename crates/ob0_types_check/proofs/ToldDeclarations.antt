@@ -1,0 +1,151 @@
+-- What is told of declarations and bodies, part by part.
+use Rattle.std.proofs.Common.{◌≡◌, ℕ, Bool, true, false, if◌then◌else◌, List, [], ◌∷◌, ◌++◌, map, drop, refl, sym, ap, ◌∙◌}
+use Rattle.std.proofs.lemmas.List.{map-append}
+use Rattle.std.specs.List.{filter}
+use Rattle.ob0_scope_rules.specs.Resolution.{Resolution, is_of_occurrences}
+use Rattle.ob0_tree.specs.Parsed.{tree_of}
+use Rattle.ob0_scope_rules.specs.Parts.{formal_sections, further_names, module_block, names_listed, section_constants, section_types, section_variables}
+use Rattle.ob0_types_table.specs.declared.known.Formal as formal
+use Rattle.ob0_types_table.specs.declared.types.TypeId.{TypeId}
+use Rattle.ob0_tree.specs.Tree.{Tree, begins, block, body, constant, constants, declares, declares_constant, declares_procedure, declares_type, declares_variable, end, expression, formals, further_section, has_body, item, items, maybe, more, names, none, one, procedure, sequence, then_name, then_section, type_name, type_names, value_section, variable, variable_section, variables, written_type}
+use Rattle.ob0_tree.specs.View.{block_of, formals_listed, formals_of, further_section_of, items_of, names_of, procedure_of}
+use Rattle.ob0_tree.specs.declared.tree.Names.{Names}
+use Rattle.ob0_tree.specs.declared.tree.Procedure.{Procedure, out-Procedure, roll-out-Procedure}
+use Rattle.ob0_tree.specs.declared.tree.Section.{Section}
+use Rattle.ob0_tree.proofs.Viewed.{procedure_made}
+use Rattle.ob0_types_check.specs.DeclarationFaults.{Heading, behind_heading, constant_declared, told_block, told_body, reported_constants, reported_module, told_parameters, told_procedure, told_procedures, told_section, told_sections, told_types, told_variables, type_declared, variables_declared, with_parameters}
+use Rattle.ob0_types_check.specs.Known.{Meaning, a_constant, a_type, a_variable}
+use Rattle.ob0_types_check.specs.Operations.{right, ◌>>=◌}
+use Rattle.ob0_types_check.specs.SoFar.{SoFar, at_first, define, define_all, facts_at}
+use Rattle.ob0_types_check.specs.StatementFaults.{told_sequence}
+use Rattle.ob0_types_check.specs.SupposedFacts.{formal_of}
+use Rattle.ob0_types_check.specs.TypeFaults.{told_constant}
+use Rattle.ob0_types_check.specs.WrittenTypeFaults.{told_type}
+use Rattle.ob0_types_check.proofs.Chains.{IsChain}
+
+further_are : (xs : List ℕ) → further_names (items_of then_name xs) ≡ xs
+further_are [] = refl
+further_are (x ∷ xs) = ap (λ ys. x ∷ ys) (further_are xs)
+
+pub names_are : (ns : Names) → names_listed (names_of ns) ≡ ns.first ∷ ns.more.items
+names_are ns = ap (λ ys. ns.first ∷ ys) (further_are ns.more.items)
+
+-- the names that are declared so far, with those left, are all
+pub record DefinedSoFar (m : Meaning TypeId) (start : SoFar) (xs : List ℕ) (done : ℕ) (now : SoFar) : Type 0 where
+  pub left : define_all now m (drop done xs) ≡ define_all start m xs
+
+alike : (f : formal.Formal) (xs : List ℕ) → map formal_of (map (λ x. f) xs) ≡ map (λ x. formal_of f) xs
+alike f [] = refl
+alike f (x ∷ xs) = ap (λ fs. formal_of f ∷ fs) (alike f xs)
+
+pub parameters_added : (old : List formal.Formal) (f : formal.Formal) (xs : List ℕ) → map formal_of (old ++ map (λ x. f) xs) ≡ map formal_of old ++ map (λ x. formal_of f) xs
+parameters_added old f xs = map-append formal_of old (map (λ x. f) xs) ∙ ap (λ fs. map formal_of old ++ fs) (alike f xs)
+
+pub constant_told : (p : SoFar) (x : ℕ) (e : Tree ℕ expression) → constant_declared p (declares_constant x e) ≡ (told_constant (facts_at p true) e >>= (λ v. right (define p (a_constant v) x)))
+unfolding constant_declared
+constant_told p x e = refl
+
+pub constants_ended : (p : SoFar) → reported_constants p end ≡ right p
+unfolding reported_constants
+constants_ended p = refl
+
+constants_stepped : (p : SoFar) (t : Tree ℕ (item constant)) (ts : Tree ℕ (items constant)) → reported_constants p (more t ts) ≡ (constant_declared p t >>= (λ q. reported_constants q ts))
+unfolding reported_constants
+constants_stepped p t ts = refl
+
+pub constants_chain : IsChain reported_constants constant_declared
+constants_chain = record { ended = constants_ended; stepped = constants_stepped }
+
+pub type_told : (p : SoFar) (x : ℕ) (t : Tree ℕ written_type) → type_declared p (declares_type x t) ≡ (told_type p t >>= (λ u. right (define u.behind (a_type u.of) x)))
+unfolding type_declared
+type_told p x t = refl
+
+pub types_ended : (p : SoFar) → told_types p end ≡ right p
+unfolding told_types
+types_ended p = refl
+
+types_stepped : (p : SoFar) (t : Tree ℕ (item type_name)) (ts : Tree ℕ (items type_name)) → told_types p (more t ts) ≡ (type_declared p t >>= (λ q. told_types q ts))
+unfolding told_types
+types_stepped p t ts = refl
+
+pub types_chain : IsChain told_types type_declared
+types_chain = record { ended = types_ended; stepped = types_stepped }
+
+pub variables_told : (p : SoFar) (ns : Names) (t : Tree ℕ written_type) → variables_declared p (declares_variable (names_of ns) t) ≡ (told_type p t >>= (λ u. right (define_all u.behind (a_variable u.of) (ns.first ∷ ns.more.items))))
+unfolding variables_declared
+variables_told p ns t = ap (λ xs. told_type p t >>= (λ u. right (define_all u.behind (a_variable u.of) xs))) (names_are ns)
+
+pub variables_ended : (p : SoFar) → told_variables p end ≡ right p
+unfolding told_variables
+variables_ended p = refl
+
+variables_stepped : (p : SoFar) (t : Tree ℕ (item variable)) (ts : Tree ℕ (items variable)) → told_variables p (more t ts) ≡ (variables_declared p t >>= (λ q. told_variables q ts))
+unfolding told_variables
+variables_stepped p t ts = refl
+
+pub variables_chain : IsChain told_variables variables_declared
+variables_chain = record { ended = variables_ended; stepped = variables_stepped }
+
+parameters_told : (h : Heading) (b : Bool) (ns : Tree ℕ names) (t : Tree ℕ written_type) → told_section h (then_section (if b then variable_section ns t else value_section ns t)) ≡ (told_type h.behind t >>= (λ u. right (with_parameters h b (names_listed ns) u)))
+unfolding told_section told_parameters
+parameters_told h true ns t = refl
+parameters_told h false ns t = refl
+
+pub section_told : (h : Heading) (b : Bool) (ns : Names) (t : Tree ℕ written_type)
+    → told_section h (then_section (if b then variable_section (names_of ns) t else value_section (names_of ns) t)) ≡ (told_type h.behind t >>= (λ u. right (with_parameters h b (ns.first ∷ ns.more.items) u)))
+section_told h b ns t = parameters_told h b (names_of ns) t ∙ ap (λ xs. told_type h.behind t >>= (λ u. right (with_parameters h b xs u))) (names_are ns)
+
+pub sections_listed : (ss : List Section) → formal_sections (one (formals_listed ss)) ≡ items_of further_section_of ss
+sections_listed [] = refl
+sections_listed (s ∷ ss) = refl
+
+pub sections_ended : (h : Heading) → told_sections h end ≡ right h
+unfolding told_sections
+sections_ended h = refl
+
+sections_stepped : (h : Heading) (t : Tree ℕ (item further_section)) (ts : Tree ℕ (items further_section)) → told_sections h (more t ts) ≡ (told_section h t >>= (λ g. told_sections g ts))
+unfolding told_sections
+sections_stepped h t ts = refl
+
+pub sections_chain : IsChain told_sections told_section
+sections_chain = record { ended = sections_ended; stepped = sections_stepped }
+
+pub no_body_told : (p : SoFar) → told_body p none ≡ right p
+unfolding told_body
+no_body_told p = refl
+
+pub body_told : (p : SoFar) (a : Tree ℕ sequence) → told_body p (one (begins a)) ≡ record { known = p; faults = told_sequence (facts_at p false) a }
+unfolding told_body
+body_told p a = refl
+
+pub block_told : (p : SoFar) (cs : Tree ℕ (maybe constants)) (ts : Tree ℕ (maybe type_names)) (vs : Tree ℕ (maybe variables)) (ps : Tree ℕ (items procedure)) (a : Tree ℕ (maybe body))
+    → told_block p (has_body (declares cs ts vs ps) a)
+    ≡ (reported_constants p (section_constants cs) >>= (λ q. told_types q (section_types ts) >>= (λ r. told_variables r (section_variables vs) >>= (λ s. told_procedures s ps >>= (λ t. told_body t a)))))
+unfolding told_block
+block_told p cs ts vs ps a = refl
+
+procedures_ended : (p : SoFar) → told_procedures p end ≡ right p
+unfolding told_block
+procedures_ended p = refl
+
+procedures_stepped : (p : SoFar) (t : Tree ℕ (item procedure)) (ts : Tree ℕ (items procedure)) → told_procedures p (more t ts) ≡ (told_procedure p t >>= (λ q. told_procedures q ts))
+unfolding told_block
+procedures_stepped p t ts = refl
+
+pub procedures_chain : IsChain told_procedures told_procedure
+procedures_chain = record { ended = procedures_ended; stepped = procedures_stepped }
+
+with_parts : (p : SoFar) (x : ℕ) (fs : Tree ℕ (maybe formals)) (b : Tree ℕ block) (closing : ℕ)
+    → told_procedure p (declares_procedure x fs b closing) ≡ (told_sections (record { formals = []; behind = p }) (formal_sections fs) >>= (λ h. told_block (behind_heading x h) b))
+unfolding told_block
+with_parts p x fs b closing = refl
+
+pub procedure_told : (p : SoFar) (d : Procedure)
+    → told_procedure p (procedure_of d) ≡ (told_sections (record { formals = []; behind = p }) (formal_sections (formals_of (out-Procedure d).formals)) >>= (λ h. told_block (behind_heading (out-Procedure d).name h) (block_of (out-Procedure d).block)))
+procedure_told p d =
+    let x = out-Procedure d in
+    ap (told_procedure p) (sym (ap procedure_of (roll-out-Procedure d)) ∙ procedure_made x) ∙ with_parts p x.name (formals_of x.formals) (block_of x.block) x.closing
+
+pub module_told : (r : Resolution) → reported_module r ≡ filter is_of_occurrences r.faults ++ (told_block (at_first r) (module_block (tree_of r.module_read))).faults
+unfolding reported_module
+module_told r = refl

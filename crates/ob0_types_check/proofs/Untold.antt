@@ -1,0 +1,52 @@
+-- Where nothing is told of a whole, nothing is told of its parts.
+use Rattle.std.proofs.Common.{◌≡◌, Bool, true, false, ◌||◌, ◌&&◌, List, [], ◌∷◌, ◌++◌, if◌then◌else◌, Option, Some, None, option_and_then, refl, ap, ◌∙◌}
+use Rattle.ob0_scan.specs.declared.fault.Fault.{Fault}
+use Rattle.ob0_types_check.specs.Known.{Reported}
+
+pub none-told : {A : Type 0} (xs ys : List A) → xs ++ ys ≡ [] → (xs ≡ []) × (ys ≡ [])
+none-told [] ys h = (refl, h)
+none-told (x ∷ xs) ys h = absurd (cc)
+
+pub none-if : {A : Type 0} (b : Bool) (x : A) → (if b then [] else x ∷ []) ≡ [] → b ≡ true
+none-if true x h = refl
+none-if false x h = absurd (cc)
+
+-- the first of two, where of the second something is told
+pub first-told : {A : Type 0} (b : Bool) (one other : Reported A) (x : Fault) → other.faults ≡ x ∷ [] → (if b then one else other).faults ≡ [] → (b ≡ true) × (one.faults ≡ [])
+first-told true one other x e h = (refl, h)
+first-told false one other x e h = absurd (cc)
+
+-- and the second, where of the first something is told
+pub second-told : {A : Type 0} (b : Bool) (one other : Reported A) (x : Fault) → one.faults ≡ x ∷ [] → (if b then one else other).faults ≡ [] → (b ≡ false) × (other.faults ≡ [])
+second-told true one other x e h = absurd (cc)
+second-told false one other x e h = (refl, h)
+
+pub first-of : (a b c : Bool) → (a || (b || c)) ≡ true → (b ≡ true → ⊥) → (c ≡ true → ⊥) → a ≡ true
+first-of true b c h nb nc = refl
+first-of false true c h nb nc = absurd (nb refl)
+first-of false false c h nb nc = absurd (nc h)
+
+pub not-true : (b : Bool) → (b ≡ true → ⊥) → b ≡ false
+not-true true n = absurd (n refl)
+not-true false n = refl
+
+pub some-none : {A : Type 0} (a : A) → Some a ≡ None → ⊥
+some-none a h = cc
+
+pub some-same : {A : Type 0} (a b : A) → Some a ≡ Some b → a ≡ b
+some-same a b h = ap (λ o. elim o [ Some x ↦ x | None ↦ a ]) h
+
+-- one behind the other
+pub goes-on : {A B : Type 0} (next : A → Option B) (o : Option A) (a : A) (r : Option B) → o ≡ Some a → next a ≡ r → option_and_then next o ≡ r
+goes-on next o a r e h = ap (option_and_then next) e ∙ h
+
+pub then-assoc : {A B C : Type 0} (f : A → Option B) (g : B → Option C) (o : Option A) → option_and_then g (option_and_then f o) ≡ option_and_then (λ x. option_and_then g (f x)) o
+then-assoc f g None = refl
+then-assoc f g (Some x) = refl
+
+pub then-itself : {A : Type 0} (o : Option A) → o ≡ option_and_then (λ x. Some x) o
+then-itself None = refl
+then-itself (Some x) = refl
+
+pub both-true : (a b : Bool) → a ≡ true → b ≡ true → (a && b) ≡ true
+both-true a b p q = ap (λ x. x && b) p ∙ q

@@ -1,0 +1,112 @@
+-- What is known while faults are told, and what names and types are by the definitions of types: where they agree.
+use Rattle.std.specs.Prelude.{◌≡◌, ℕ, true, List, [], ◌∷◌, Option, Some, None, option_map, option_and_then, is_some, slice_get}
+use Rattle.ob0_scope_rules.specs.Names.{Name}
+use Rattle.ob0_types_table.specs.declared.types.TypeId.{TypeId}
+use Rattle.ob0_types_table.specs.declared.types.TypeId.TheVariants as type
+use Rattle.ob0_types_table.specs.Tables.{mode_of}
+use Rattle.ob0_tree.specs.declared.tree.Role.{Role}
+use Rattle.ob0_tree.specs.declared.tree.Role.TheVariants as role
+use Rattle.ob0_tree.specs.Places.{text_at}
+use Rattle.ob0_tree.specs.Tree.{Sort, Tree, identifiers}
+use Rattle.ob0_types_rules.specs.Expressions as meant
+use Rattle.ob0_types_rules.specs.Typing as typing
+use Rattle.ob0_types_rules.specs.Typing.{shape_of_field, value_type}
+use Rattle.ob0_types_rules.specs.WellTyped.{Signature, Typed, signature_of}
+use Rattle.ob0_values.specs.Values.{FieldShapes, Shape, Value, array_shape, boolean_shape, integer_shape, record_shape}
+use Rattle.ob0_types_check.specs.Known.{Facts, Form, Formal, Meaning, Types, a_constant, a_procedure, a_record, a_scalar, a_type, a_variable, an_array, unknown_form}
+use Rattle.ob0_types_check.specs.SoFar.{Made, Parts, of_elements, of_fields}
+
+-- What is known of a type's parts is so of the parts of a shape. `shape` gives the shapes of types: None where a type is unknown.
+abbrev pub FormAgrees : {T : Type 0} → (T → Option Shape) → Form T → Shape → Type 0
+FormAgrees shape a_scalar s = Unit {0}
+FormAgrees shape (an_array t) s = (k : ℕ) × (n : ℕ) × (u : Shape) × (s ≡ array_shape k n u) × (shape t ≡ Some u)
+FormAgrees shape (a_record fields) s = (k : ℕ) × (fs : FieldShapes) × (s ≡ record_shape k fs) × ((x : Name) → option_map shape (fields x) ≡ option_map Some (shape_of_field fs x))
+FormAgrees shape unknown_form s = ⊥
+
+-- types and their shapes: the same type has the same shape, and a shape's parts are those that are known
+pub record TypesAgree {T : Type 0} (types : Types T) (shape : T → Option Shape) : Type 0 where
+  pub integer : shape types.integer ≡ Some integer_shape
+  pub boolean : shape types.boolean ≡ Some boolean_shape
+  pub unknown : shape types.unknown ≡ None
+  pub alone : types.same types.integer types.integer ≡ true
+  pub same : (s t : T) → types.same s t ≡ true → shape s ≡ shape t
+  pub formed : (t : T) (s : Shape) → shape t ≡ Some s → FormAgrees shape (types.form t) s
+
+-- parameters are those of a signature, one by one
+abbrev pub FormalsAgree : {T : Type 0} → (T → Option Shape) → List (Formal T) → Signature → Type 0
+FormalsAgree shape [] [] = Unit {0}
+FormalsAgree shape [] (g ∷ gs) = ⊥
+FormalsAgree shape (f ∷ fs) [] = ⊥
+FormalsAgree shape (f ∷ fs) (g ∷ gs) = (g.mode ≡ mode_of f.by_place) × (shape f.of ≡ Some g.shape) × FormalsAgree shape fs gs
+
+-- what a name stands for is known: a type and a variable by their shape, a constant by its value, which is a scalar, and a
+-- procedure by its parameters
+abbrev pub MeaningAgrees : {T : Type 0} → (T → Option Shape) → Meaning T → Option (meant.Object Shape Signature) → Type 0
+MeaningAgrees shape (a_type t) o = (s : Shape) × (shape t ≡ Some s) × (o ≡ Some (meant.a_type s))
+MeaningAgrees shape (a_constant c) o = (v : Value) × (c ≡ Some v) × (o ≡ Some (meant.a_constant v)) × (is_some (value_type v) ≡ true)
+MeaningAgrees shape (a_variable t) o = (s : Shape) × (shape t ≡ Some s) × (o ≡ Some (meant.a_variable s))
+MeaningAgrees shape (a_procedure fs) o = (signature : Signature) × (signature_of o ≡ Some signature) × FormalsAgree shape fs signature
+
+-- a name stands for something, and that is known
+abbrev pub StandsAlike : {T : Type 0} → (T → Option Shape) → Option (Meaning T) → Option (meant.Object Shape Signature) → Type 0
+StandsAlike shape None o = ⊥
+StandsAlike shape (Some m) o = MeaningAgrees shape m o
+
+-- The identifier at a token, which stands for a name of a tree by its label: one that is looked up is known, and a field is
+-- written as it is in the text.
+abbrev pub TokenAgrees : {T N : Type 0} → Facts T → (T → Option Shape) → (ℕ → N) → Typed N → Role → ℕ → Type 0
+TokenAgrees facts shape label meaning role.LookedUp x = StandsAlike shape (facts.stands_for x) (meaning.stands_for (label x))
+TokenAgrees facts shape label meaning role.FieldName x = meaning.written (label x) ≡ text_at facts.source x
+TokenAgrees facts shape label meaning role.Declaring x = Unit {0}
+TokenAgrees facts shape label meaning role.ClosingName x = Unit {0}
+TokenAgrees facts shape label meaning role.ModuleName x = Unit {0}
+
+abbrev pub TokensAgree : {T N : Type 0} → Facts T → (T → Option Shape) → (ℕ → N) → Typed N → List (Role × ℕ) → Type 0
+TokensAgree facts shape label meaning [] = Unit {0}
+TokensAgree facts shape label meaning (x ∷ xs) = TokenAgrees facts shape label meaning x.0 x.1 × TokensAgree facts shape label meaning xs
+
+-- what is known at a place, for all that occurs in an expression or in statements there
+pub record Agrees {T N : Type 0} (facts : Facts T) (shape : T → Option Shape) (label : ℕ → N) (meaning : Typed N) {s : Sort} (t : Tree ℕ s) : Type 0 where
+  pub types : TypesAgree facts.types shape
+  pub tokens : TokensAgree facts shape label meaning (identifiers role.Declaring t)
+
+-- what an array's type may stand for, and a record's
+abbrev pub as_array : Shape → Option Shape
+as_array integer_shape = None
+as_array boolean_shape = None
+as_array (array_shape k n s) = Some (array_shape k n s)
+as_array (record_shape k fs) = None
+
+abbrev pub as_record : Shape → Option Shape
+as_record integer_shape = None
+as_record boolean_shape = None
+as_record (array_shape k n s) = None
+as_record (record_shape k fs) = Some (record_shape k fs)
+
+-- the shape that a type stands for, by the shapes that were made, in order
+abbrev pub shape_in : List Shape → TypeId → Option Shape
+shape_in shapes type.Integer = Some integer_shape
+shape_in shapes type.Boolean = Some boolean_shape
+shape_in shapes (type.Array i) = option_and_then as_array (slice_get shapes i)
+shape_in shapes (type.Record i) = option_and_then as_record (slice_get shapes i)
+shape_in shapes type.Unknown = None
+
+-- the parts of an array or record that was made are those of its shape
+abbrev pub PartsAgree : (TypeId → Option Shape) → Parts → Shape → Type 0
+PartsAgree shape (of_elements t) s = FormAgrees shape (an_array t) s
+PartsAgree shape (of_fields fields) s = FormAgrees shape (a_record fields) s
+
+pub record MadeAgrees (shape : TypeId → Option Shape) (m : Made) (s : Shape) : Type 0 where
+  pub parts : PartsAgree shape m.parts s
+  pub scalars : m.size.scalars ≡ typing.scalars s
+  pub depth : m.size.depth ≡ typing.depth s
+
+abbrev pub EachMade : (TypeId → Option Shape) → List Made → List Shape → Type 0
+EachMade shape [] [] = Unit {0}
+EachMade shape [] (s ∷ ss) = ⊥
+EachMade shape (m ∷ ms) [] = ⊥
+EachMade shape (m ∷ ms) (s ∷ ss) = MadeAgrees shape m s × EachMade shape ms ss
+
+-- the arrays and records that were made, and their shapes, one by one
+abbrev pub TableAgrees : List Made → List Shape → Type 0
+TableAgrees made shapes = EachMade (shape_in shapes) made shapes

@@ -1,0 +1,145 @@
+-- What is known at a place of a module while its faults are told: of the declarations before it, and of the arrays and records
+-- before it.
+use Rattle.std.specs.Prelude.{ℕ, nat_le, Bool, true, false, ◌==◌, ◌&&◌, List, [], ◌∷◌, ◌++◌, length, map, slice_get, slice_index_or, slice_set, if◌then◌else◌, Option, Some, None, option_and_then}
+use Rattle.ob0_scan.specs.declared.fault.Code.TheVariants as code
+use Rattle.ob0_scan.specs.Scanned.{Scanned}
+use Rattle.ob0_scope_rules.specs.Names.{Name}
+use Rattle.ob0_scope_rules.specs.Resolution.{Resolution, ordinal_in}
+use Rattle.ob0_types_table.specs.declared.types.TypeId.{TypeId}
+use Rattle.ob0_types_table.specs.declared.types.TypeId.TheVariants as type
+use Rattle.ob0_values.specs.Values.{truth}
+use Rattle.ob0_types_check.specs.Known.{Facts, Form, Meaning, Reported, Types, a_constant, a_procedure, a_record, a_scalar, a_type, an_array, unknown_form}
+use Rattle.ob0_types_check.specs.Operations.{at_token, right}
+
+-- how many scalars a type has, and how many arrays and records stand inside one another
+pub record Size : Type 0 where
+  pub scalars : ℕ
+  pub depth : ℕ
+
+-- what an array or a record is made of: the type of its elements, or its fields by their names
+pub data Parts : Type 0 where
+  of_elements : TypeId → Parts
+  of_fields : (Name → Option TypeId) → Parts
+
+pub record Made : Type 0 where
+  pub parts : Parts
+  pub size : Size
+
+-- Declarations go by their ordinals, to which names are bound, and arrays and records by their places in a type. Of a
+-- declaration that is still to come, nothing is known.
+pub record SoFar : Type 0 where
+  pub source : Scanned
+  pub ordinals : List (Option ℕ)
+  pub declared : List (Option (Meaning TypeId))
+  pub made : List Made
+
+-- an array or record is the same as itself alone
+abbrev pub same_type : TypeId → TypeId → Bool
+same_type type.Integer type.Integer = true
+same_type type.Boolean type.Boolean = true
+same_type type.Unknown type.Unknown = true
+same_type (type.Array i) (type.Array j) = i == j
+same_type (type.Record i) (type.Record j) = i == j
+same_type _ _ = false
+
+abbrev pub elements_in : Parts → TypeId
+elements_in (of_elements t) = t
+elements_in (of_fields fields) = type.Unknown
+
+abbrev pub elements_at : Option Made → TypeId
+elements_at None = type.Unknown
+elements_at (Some m) = elements_in m.parts
+
+abbrev pub field_in : Parts → Name → Option TypeId
+field_in (of_elements t) x = None
+field_in (of_fields fields) x = fields x
+
+abbrev pub field_at : Option Made → Name → Option TypeId
+field_at None x = None
+field_at (Some m) x = field_in m.parts x
+
+abbrev pub form_at : List Made → TypeId → Form TypeId
+form_at made type.Integer = a_scalar
+form_at made type.Boolean = a_scalar
+form_at made (type.Array i) = an_array (elements_at (slice_get made i))
+form_at made (type.Record i) = a_record (field_at (slice_get made i))
+form_at made type.Unknown = unknown_form
+
+abbrev pub types_at : List Made → Types TypeId
+types_at made = record { integer = type.Integer; boolean = type.Boolean; unknown = type.Unknown; same = same_type; form = form_at made }
+
+-- what the name at a token stands for: its declaration
+abbrev pub stands_at : SoFar → ℕ → Option (Meaning TypeId)
+stands_at p token = option_and_then (λ k. slice_index_or p.declared k None) (ordinal_in p.ordinals token)
+
+abbrev pub facts_at : SoFar → Bool → Facts TypeId
+facts_at p only_constants = record { source = p.source; types = types_at p.made; stands_for = stands_at p; only_constants = only_constants }
+
+-- the same where a declaration is known, and where all of some are
+abbrev pub with_declared : SoFar → Meaning TypeId → Option ℕ → SoFar
+with_declared p m None = p
+with_declared p m (Some k) = record { source = p.source; ordinals = p.ordinals; declared = slice_set p.declared k (Some m); made = p.made }
+
+abbrev pub define : SoFar → Meaning TypeId → ℕ → SoFar
+define p m token = with_declared p m (ordinal_in p.ordinals token)
+
+abbrev pub define_all : SoFar → Meaning TypeId → List ℕ → SoFar
+define_all p m [] = p
+define_all p m (x ∷ xs) = define_all (define p m x) m xs
+
+-- what a type counts: INTEGER and BOOLEAN are one scalar, and what is unknown is nothing
+abbrev pub one_scalar : Size
+one_scalar = record { scalars = 1; depth = 0 }
+
+abbrev pub no_scalar : Size
+no_scalar = record { scalars = 0; depth = 0 }
+
+abbrev pub size_made : Option Made → Size
+size_made None = one_scalar
+size_made (Some m) = m.size
+
+abbrev pub size_at : List Made → TypeId → Size
+size_at made type.Integer = one_scalar
+size_at made type.Boolean = one_scalar
+size_at made (type.Array i) = size_made (slice_get made i)
+size_at made (type.Record i) = size_made (slice_get made i)
+size_at made type.Unknown = no_scalar
+
+-- a type has at most 65,536 scalars, and at most 100 arrays and records inside one another
+abbrev pub is_within : Size → Bool
+is_within z = nat_le z.scalars 65536 && nat_le z.depth 100
+
+-- a type, and what is known behind its text
+pub record Typed : Type 0 where
+  pub of : TypeId
+  pub behind : SoFar
+
+abbrev pub type_with : Parts → ℕ → TypeId
+type_with (of_elements t) k = type.Array k
+type_with (of_fields fields) k = type.Record k
+
+-- An array or record of its own, behind the others. One that is too large is told at its word, and unknown.
+abbrev pub made : SoFar → Parts → Size → Typed
+made p parts size = record {
+  of = type_with parts (length p.made);
+  behind = record { source = p.source; ordinals = p.ordinals; declared = p.declared; made = p.made ++ record { parts = parts; size = size } ∷ [] };
+}
+
+abbrev pub too_large : SoFar → ℕ → Reported Typed
+too_large p word = record { known = record { of = type.Unknown; behind = p }; faults = at_token (facts_at p false) code.TypeTooLarge word }
+
+abbrev pub make : SoFar → ℕ → Parts → Size → Reported Typed
+make p word parts size = if is_within size then right (made p parts size) else too_large p word
+
+-- the predeclared names: INTEGER, BOOLEAN, TRUE, FALSE, Read, Write, WriteLn
+abbrev pub predeclared_meanings : List (Option (Meaning TypeId))
+predeclared_meanings =
+    Some (a_type type.Integer) ∷ Some (a_type type.Boolean)
+    ∷ Some (a_constant (Some (truth true))) ∷ Some (a_constant (Some (truth false)))
+    ∷ Some (a_procedure (record { by_place = true; of = type.Integer } ∷ []))
+    ∷ Some (a_procedure (record { by_place = false; of = type.Integer } ∷ []))
+    ∷ Some (a_procedure []) ∷ []
+
+-- what is known where a module begins
+abbrev pub at_first : Resolution → SoFar
+at_first r = record { source = r.module_read.source; ordinals = r.ordinals; declared = predeclared_meanings ++ map (λ token. None) r.declarations; made = [] }

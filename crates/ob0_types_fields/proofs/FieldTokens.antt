@@ -1,0 +1,161 @@
+-- The tokens of one field: they are identifiers in text order, and the module with the field renamed has the new name there.
+use Rattle.std.proofs.Common.{◌≡◌, ◌≢◌, ℕ, zero, suc, ◌+◌, ◌<◌, ◌≤◌, Bool, true, false, ◌&&◌, ◌||◌, ◌==◌, if◌then◌else◌, List, [], ◌∷◌, length, replicate, set, Some, None, Option, refl, ap, ◌∙◌, sym, subst, arith, get_or-set_other, get_or-set_same, eq-eqb, eqb-true}
+use Rattle.std.specs.List.{list_any}
+use Rattle.std.specs.Prelude.{IfSome}
+use Rattle.std.proofs.Math.ListN.{length-set}
+use Rattle.std.proofs.lemmas.List.{length-replicate}
+use Rattle.ob0_scan.specs.Scanned.{Scanned}
+use Rattle.ob0_scan.specs.declared.lexeme.Token.{Token}
+use Rattle.ob0_tree.specs.Order.{AreIdentifiers, Ascending, IsIdentifier}
+use Rattle.ob0_tree.specs.Parsed.{IsParsed, tree_of}
+use Rattle.ob0_tree.specs.Places.{text_at, value_at}
+use Rattle.ob0_tree.specs.Tree.{mapped}
+use Rattle.ob0_tree.proofs.Leaves.{ascending_lower, leaves_are_identifiers, leaves_ascend}
+use Rattle.ob0_scope_rules.specs.Names.{Name, same_name}
+use Rattle.ob0_scope_rules.specs.Resolution.{Resolution, ordinal_in, span_at}
+use Rattle.ob0_scope_rules.specs.Spans.{is_on}
+use Rattle.ob0_scope_rules.specs.Scopes.{same_ordinal}
+use Rattle.ob0_types_fields.specs.Identifiers.{AreInTextOrder, RenamedAtTokens, field_identifiers, field_on, field_tokens, firsts, is_field, tokens_among}
+use Rattle.ob0_types_fields.specs.Owned.{fields_among, owned_tokens, with_fields_at}
+use Rattle.ob0_rename_laws.specs.Owners.{is_of_field}
+use Rattle.ob0_rename_laws.proofs.ByToken.{renamed_by_token-holds}
+use Rattle.ob0_types_fields.proofs.OwnedTokens.{module-tokens, owners_of_fields-holds, tokens}
+
+-- ---- fields among identifiers
+
+among_ascend : (xs : List (ℕ × Option ℕ)) (low high : ℕ) → Ascending low (tokens xs) high → Ascending low (firsts (fields_among xs)) high
+among_ascend [] low high h = h
+among_ascend ((x, None) ∷ xs) low high h = ascending_lower low (x + 1) (firsts (fields_among xs)) high (omega (arith, h.0)) (among_ascend xs (x + 1) high h.1)
+among_ascend ((x, Some k) ∷ xs) low high h = (h.0, among_ascend xs (x + 1) high h.1)
+
+among_stand : (ts : List Token) (xs : List (ℕ × Option ℕ)) → AreIdentifiers ts (tokens xs) → AreIdentifiers ts (firsts (fields_among xs))
+among_stand ts [] h = tt
+among_stand ts ((x, None) ∷ xs) h = among_stand ts xs h.1
+among_stand ts ((x, Some k) ∷ xs) h = (h.0, among_stand ts xs h.1)
+
+pub fields_ascend : (r : Resolution) → IsParsed r.module_read → AreInTextOrder r.module_read.source (field_identifiers r)
+fields_ascend r parsed =
+    let n : ℕ = length r.module_read.source.tokens in
+    among_ascend (owned_tokens r) 0 n (subst (λ ts. Ascending 0 ts n) (sym (module-tokens _ (tree_of r.module_read))) (leaves_ascend r.module_read parsed))
+
+pub fields_stand : (r : Resolution) → IsParsed r.module_read → AreIdentifiers r.module_read.source.tokens (firsts (field_identifiers r))
+fields_stand r parsed =
+    among_stand r.module_read.source.tokens (owned_tokens r)
+    (subst (AreIdentifiers r.module_read.source.tokens) (sym (module-tokens _ (tree_of r.module_read))) (leaves_are_identifiers r.module_read parsed))
+
+-- ---- one field among fields
+
+pub kept_ascend : (source : Scanned) (k : ℕ) (x : Name) (xs : List (ℕ × ℕ)) (low high : ℕ) → Ascending low (firsts xs) high → Ascending low (tokens_among source k x xs) high
+kept_ascend source k x [] low high h = h
+kept_ascend source k x (y ∷ ys) low high h = one (is_field source k x y) (kept_ascend source k x ys (y.0 + 1) high h.1)
+  where
+    one : (b : Bool) → Ascending (y.0 + 1) (tokens_among source k x ys) high → Ascending low (if b then y.0 ∷ tokens_among source k x ys else tokens_among source k x ys) high
+    one true e = (h.0, e)
+    one false e = ascending_lower low (y.0 + 1) (tokens_among source k x ys) high (omega (arith, h.0)) e
+
+pub kept_stand : (source : Scanned) (k : ℕ) (x : Name) (ts : List Token) (xs : List (ℕ × ℕ)) → AreIdentifiers ts (firsts xs) → AreIdentifiers ts (tokens_among source k x xs)
+kept_stand source k x ts [] h = tt
+kept_stand source k x ts (y ∷ ys) h = one (is_field source k x y) (kept_stand source k x ts ys h.1)
+  where
+    one : (b : Bool) → AreIdentifiers ts (tokens_among source k x ys) → AreIdentifiers ts (if b then y.0 ∷ tokens_among source k x ys else tokens_among source k x ys)
+    one true e = (h.0, e)
+    one false e = e
+
+-- ---- what a table with fields written into it has at a token
+
+abbrev owner_in : ℕ → List (ℕ × ℕ) → Option ℕ → Option ℕ
+owner_in i [] o = o
+owner_in i (x ∷ xs) o = owner_in i xs (if i == x.0 then Some x.1 else o)
+
+abbrev AllBelow : List (ℕ × ℕ) → ℕ → Type 0
+AllBelow [] n = Unit {0}
+AllBelow (x ∷ xs) n = (x.0 < n) × AllBelow xs n
+
+set_at : (table : List (Option ℕ)) (x k i : ℕ) → x < length table → ordinal_in (set table x (Some k)) i ≡ (if i == x then Some k else ordinal_in table i)
+set_at table x k i inside = one (i == x) refl
+  where
+    one : (b : Bool) → (i == x) ≡ b → ordinal_in (set table x (Some k)) i ≡ (if b then Some k else ordinal_in table i)
+    one true e = ap (λ j. ordinal_in (set table x (Some k)) j) (eqb-true i x e) ∙ get_or-set_same table x (Some k) None inside
+    one false e =
+        let other : i ≢ x = λ same. let yes = eq-eqb i x same in absurd (cc) in
+        get_or-set_other table x i (Some k) None other
+
+looked : (xs : List (ℕ × ℕ)) (table : List (Option ℕ)) (i : ℕ) → AllBelow xs (length table) → ordinal_in (with_fields_at table xs) i ≡ owner_in i xs (ordinal_in table i)
+looked [] table i h = refl
+looked (x ∷ xs) table i h =
+    let next : List (Option ℕ) = set table x.0 (Some x.1) in
+    looked xs next i (subst (AllBelow xs) (sym (length-set table x.0 (Some x.1))) h.1) ∙ ap (owner_in i xs) (set_at table x.0 x.1 i h.0)
+
+below : (xs : List (ℕ × ℕ)) (low high : ℕ) → Ascending low (firsts xs) high → AllBelow xs high
+below [] low high h = tt
+below (x ∷ xs) low high h = (omega (arith, high_enough (firsts xs) (x.0 + 1) high h.1), below xs (x.0 + 1) high h.1)
+  where
+    high_enough : (ys : List ℕ) (at high : ℕ) → Ascending at ys high → at ≤ high
+    high_enough [] at high h = h
+    high_enough (y ∷ ys) at high h = let later = high_enough ys (y + 1) high h.1 in omega (arith, h.0, later)
+
+vacant : (n i : ℕ) → ordinal_in (replicate n None) i ≡ None
+vacant zero i = refl
+vacant (suc n) zero = refl
+vacant (suc n) (suc i) = vacant n i
+
+owner_kept : (xs : List (ℕ × ℕ)) (low high i : ℕ) (o : Option ℕ) → Ascending low (firsts xs) high → i < low → owner_in i xs o ≡ o
+owner_kept [] low high i o h less = refl
+owner_kept (x ∷ xs) low high i o h less =
+    let other : (i == x.0) ≡ false = differs (i == x.0) refl in
+    ap (λ b. owner_in i xs (if b then Some x.1 else o)) other ∙ owner_kept xs (x.0 + 1) high i o h.1 (omega (arith, h.0, less))
+  where
+    differs : (b : Bool) → (i == x.0) ≡ b → (i == x.0) ≡ false
+    differs true e = absurd (omega (arith, eqb-true i x.0 e, h.0, less))
+    differs false e = e
+
+module _ (source : Scanned) (k : ℕ) (f : Name) (i : ℕ) where
+  abbrev owned_here : Option ℕ → Bool
+  owned_here o = same_ordinal o k && same_name (text_at source i) f
+
+  abbrev among_here : List (ℕ × ℕ) → Bool
+  among_here xs = list_any (λ token. i == token) (tokens_among source k f xs)
+
+  here_among : (xs : List (ℕ × ℕ)) (low high : ℕ) → Ascending low (firsts xs) high → owned_here (owner_in i xs None) ≡ among_here xs
+  here_among [] low high h = refl
+  here_among (x ∷ xs) low high h = one (i == x.0) refl (is_field source k f x) refl (here_among xs (x.0 + 1) high h.1)
+    where
+      one : (b : Bool) → (i == x.0) ≡ b → (c : Bool) → is_field source k f x ≡ c → owned_here (owner_in i xs None) ≡ among_here xs
+          → owned_here (owner_in i xs (if b then Some x.1 else None)) ≡ list_any (λ token. i == token) (if c then x.0 ∷ tokens_among source k f xs else tokens_among source k f xs)
+      one true at c is later =
+          let same : i ≡ x.0 = eqb-true i x.0 at in
+          let low_enough : i < x.0 + 1 = omega (arith, same) in
+          let kept = owner_kept xs (x.0 + 1) high i (Some x.1) h.1 low_enough in
+          let none = owner_kept xs (x.0 + 1) high i None h.1 low_enough in
+          let rest : false ≡ among_here xs = sym (ap owned_here none) ∙ later in
+          ap owned_here kept ∙ (ap (λ j. (x.1 == k) && same_name (text_at source j) f) same ∙ (is ∙ shown c at rest))
+        where
+          shown : (c : Bool) → (i == x.0) ≡ true → false ≡ among_here xs → c ≡ list_any (λ token. i == token) (if c then x.0 ∷ tokens_among source k f xs else tokens_among source k f xs)
+          shown true at rest = sym (ap (λ b. b || among_here xs) at)
+          shown false at rest = rest
+      one false at true is later = later ∙ sym (ap (λ b. b || among_here xs) at)
+      one false at false is later = later
+
+pub renamed_at_tokens-holds : RenamedAtTokens
+renamed_at_tokens-holds r k f new named fits =
+    let m = r.module_read in
+    let n : ℕ = length m.source.tokens in
+    let nothing : Option ℕ = None in
+    let empty_table : List (Option ℕ) = replicate n nothing in
+    let ascend = fields_ascend r named.parsed in
+    let within = subst (AllBelow (field_identifiers r)) (sym (length-replicate n nothing)) (below (field_identifiers r) 0 n ascend) in
+    let table : List (Option ℕ) = with_fields_at empty_table (field_identifiers r) in
+    let at = λ (i : ℕ). looked (field_identifiers r) empty_table i within ∙ ap (owner_in i (field_identifiers r)) (vacant n i) in
+    let among : (i : ℕ) → is_of_field m.source table k f i ≡ list_any (λ token. i == token) (field_tokens r k f) = λ i. ap (owned_here m.source k f i) (at i) ∙ here_among m.source k f i (field_identifiers r) 0 n ascend in
+    renamed_by_token-holds m table k f new (owners_of_fields-holds r named fits)
+    ∙ (λ j. mapped (λ i. if among i j then new else text_at m.source i) (value_at m.source) (tree_of m))
+
+-- so is the one that a place is on
+pub field_stands : (source : Scanned) (ts : List Token) (offset : ℕ) (xs : List (ℕ × ℕ)) → AreIdentifiers ts (firsts xs) → IfSome (field_on source offset xs) (λ x. IsIdentifier ts x.0)
+field_stands source ts offset [] stand = tt
+field_stands source ts offset (x ∷ xs) stand = one (is_on offset (span_at source x.0)) stand.0 (field_stands source ts offset xs stand.1)
+  where
+    one : (b : Bool) → IsIdentifier ts x.0 → IfSome (field_on source offset xs) (λ y. IsIdentifier ts y.0)
+        → IfSome (if b then Some x else field_on source offset xs) (λ y. IsIdentifier ts y.0)
+    one true h later = h
+    one false h later = later

@@ -1,0 +1,200 @@
+-- In a well-typed module each identifier of a field is of a field that its record declares. Were it not, the field could have
+-- another name where it is selected, and the module would be the same.
+use Rattle.std.proofs.Common.{◌≡◌, ℕ, suc, ◌==◌, Bool, true, false, ◌&&◌, ◌||◌, not, if◌then◌else◌, List, [], ◌∷◌, map, length, is_some, Some, None, Option, refl, sym, ap, ◌∙◌, arith, true≢false, eq-eqb, eqb-true, All}
+use Rattle.std.proofs.lemmas.List.Elements.{All-cons, All-nil}
+use Rattle.std.proofs.lemmas.Slice.Eq.{bytes_eq-Decides}
+use Rattle.std.specs.List.{list_any}
+use Rattle.ob0_scan.specs.Scanned.{Scanned}
+use Rattle.ob0_tree.specs.declared.tree.Role.TheVariants as role
+use Rattle.ob0_tree.specs.Lexeme.{EndOfText, Lexeme, Mark, Name, Number, relabelled}
+use Rattle.ob0_tree.specs.Order.{leaves}
+use Rattle.ob0_tree.specs.Parsed.{Parsed, named_tree_of, tree_of}
+use Rattle.ob0_tree.specs.Places.{text_at, value_at}
+use Rattle.ob0_tree.specs.Tree.{Sort, Tree, mapped, spell}
+use Rattle.ob0_tree.proofs.Leaves.{leaves_spelled, lexeme_names}
+use Rattle.ob0_tree.proofs.Mapped.{spell_mapped}
+use Rattle.ob0_scope_rules.specs.Names as written
+use Rattle.ob0_scope_rules.specs.Names.{same_name}
+use Rattle.ob0_scope_rules.specs.Resolution.{IsResolution, Resolution}
+use Rattle.ob0_types_rules.specs.Bindings.{declared_object}
+use Rattle.ob0_types_rules.specs.WellTyped.{WellTyped}
+use Rattle.ob0_rename_laws.specs.Renaming.{RecordFields, is_duplicate_field, names_another_field, one_renamed, records}
+use Rattle.ob0_rename_laws.proofs.AgreeingFields.{NamesAgree, RecordsAgree}
+use Rattle.ob0_rename_laws.proofs.AgreeingModules.{module-alike}
+use Rattle.ob0_rename_laws.proofs.RefieldedOnce.{refielded-bare}
+use Rattle.ob0_rename_laws.proofs.Values.{bare}
+use Rattle.ob0_types_fields.specs.Identifiers.{FieldsDeclared, declaring_field, field_identifiers, field_tokens, is_field, tokens_among}
+use Rattle.ob0_types_fields.specs.Owned.{fields_among, owned_tokens, token_objects}
+use Rattle.ob0_types_fields.proofs.DuplicateFields.{duplicate_by_token-holds}
+use Rattle.ob0_types_fields.proofs.FieldTokens.{renamed_at_tokens-holds}
+use Rattle.ob0_types_fields.proofs.OwnedTokens.{module-tokens, tokens}
+
+or_parts : (a b : Bool) → (a || b) ≡ false → (a ≡ false) × (b ≡ false)
+or_parts true b h = absurd (true≢false h)
+or_parts false b h = (refl, h)
+
+or_right : (a b : Bool) → b ≡ true → (a || b) ≡ true
+or_right true b h = refl
+or_right false b h = h
+
+-- ---- a name that isn't the field's
+
+abbrev another : written.Name → written.Name
+another f = 0 ∷ f
+
+longer : (f : List ℕ) → f ≡ 0 ∷ f → ⊥
+longer f h = let long : length f ≡ suc (length f) = ap length h in omega (arith, long)
+
+differs : (f : written.Name) → same_name f (another f) ≡ false
+differs f = one (same_name f (another f)) refl
+  where
+    one : (b : Bool) → same_name f (another f) ≡ b → b ≡ false
+    one true e = absurd (longer f ((bytes_eq-Decides f (another f)).0 e))
+    one false e = refl
+
+-- ---- a field that no record declares may have another name
+
+module _ (k : ℕ) (f : written.Name) where
+  as_it_was : (o : ℕ) (x : written.Name) (a b c rest : Bool) → (a && ((b && not c) || rest)) ≡ false → (b ≡ true → c ≡ false) → (if a && b then another f else x) ≡ x
+  as_it_was o x true true true rest h other = absurd (true≢false (other refl))
+  as_it_was o x true true false rest h other = absurd (true≢false h)
+  as_it_was o x true false c rest h other = refl
+  as_it_was o x false b c rest h other = refl
+
+  others_left : (a b rest : Bool) → (a && (b || rest)) ≡ false → (a && rest) ≡ false
+  others_left true true rest h = absurd (true≢false h)
+  others_left true false rest h = h
+  others_left false b rest h = refl
+
+  names_kept : (o : ℕ) (xs : List written.Name) → ((o == k) && names_another_field xs (another f) f) ≡ false → NamesAgree (one_renamed k f (another f)) bare o xs
+  names_kept o [] h = tt
+  names_kept o (x ∷ xs) h = (
+    as_it_was o x (o == k) (same_name x f) (same_name x (another f)) (names_another_field xs (another f) f) h (λ e. ap (λ y. same_name y (another f)) ((bytes_eq-Decides x f).0 e) ∙ differs f),
+    names_kept o xs (others_left (o == k) (same_name x f && not (same_name x (another f))) (names_another_field xs (another f) f) h),
+  )
+
+  records_kept : (ts : List RecordFields) → list_any (λ t. (t.ordinal == k) && names_another_field t.declared (another f) f) ts ≡ false → RecordsAgree (one_renamed k f (another f)) bare ts
+  records_kept [] h = tt
+  records_kept (t ∷ ts) h =
+      let parts = or_parts ((t.ordinal == k) && names_another_field t.declared (another f) f) (list_any (λ u. (u.ordinal == k) && names_another_field u.declared (another f) f) ts) h in
+      (names_kept t.ordinal t.declared parts.0, records_kept ts parts.1)
+
+-- ---- the identifiers of a tree whose names are written anew
+
+names_mapped : {N M : Type 0} (f : N → M) (g : ℕ → ℕ) (xs : List (Lexeme N)) → lexeme_names (map (relabelled f g) xs) ≡ map f (lexeme_names xs)
+names_mapped f g [] = refl
+names_mapped f g (Name n ∷ xs) = ap (λ z. f n ∷ z) (names_mapped f g xs)
+names_mapped f g (Number n ∷ xs) = names_mapped f g xs
+names_mapped f g (Mark k ∷ xs) = names_mapped f g xs
+names_mapped f g (EndOfText ∷ xs) = names_mapped f g xs
+
+leaves_mapped : {N M : Type 0} {s : Sort} (f : N → M) (g : ℕ → ℕ) (t : Tree N s) → leaves (mapped f g t) ≡ map f (leaves t)
+leaves_mapped f g t =
+    leaves_spelled role.Declaring (mapped f g t)
+    ∙ (ap lexeme_names (spell_mapped f g t) ∙ (names_mapped f g (spell t) ∙ ap (map f) (sym (leaves_spelled role.Declaring t))))
+
+first_is : {A : Type 0} {x y : A} {xs ys : List A} → x ∷ xs ≡ y ∷ ys → x ≡ y
+first_is h = cc
+
+others_are : {A : Type 0} {x y : A} {xs ys : List A} → x ∷ xs ≡ y ∷ ys → xs ≡ ys
+others_are h = cc
+
+-- two ways to write identifiers, the same at all of them, are the same at each
+same_at : (g h : ℕ → written.Name) (i : ℕ) (xs : List ℕ) → map g xs ≡ map h xs → list_any (λ x. i == x) xs ≡ true → g i ≡ h i
+same_at g h i [] e among = absurd (true≢false (sym among))
+same_at g h i (x ∷ xs) e among = one (i == x) refl among (same_at g h i xs (others_are e))
+  where
+    one : (b : Bool) → (i == x) ≡ b → (b || list_any (λ y. i == y) xs) ≡ true → (list_any (λ y. i == y) xs ≡ true → g i ≡ h i) → g i ≡ h i
+    one true at any later = let same : i ≡ x = eqb-true i x at in ap g same ∙ (first_is e ∙ ap h (sym same))
+    one false at any later = later any
+
+-- ---- the identifiers of fields among all
+
+abbrev same : ℕ × ℕ → ℕ × ℕ → Bool
+same x y = (x.0 == y.0) && (x.1 == y.1)
+
+among_tokens : (x : ℕ × ℕ) (xs : List (ℕ × Option ℕ)) → list_any (same x) (fields_among xs) ≡ true → list_any (λ token. x.0 == token) (tokens xs) ≡ true
+among_tokens x [] h = absurd (true≢false (sym h))
+among_tokens x ((y, None) ∷ xs) h = or_right (x.0 == y) (list_any (λ token. x.0 == token) (tokens xs)) (among_tokens x xs h)
+among_tokens x ((y, Some k) ∷ xs) h = one (x.0 == y) (x.1 == k) h (among_tokens x xs)
+  where
+    one : (a b : Bool) → ((a && b) || list_any (same x) (fields_among xs)) ≡ true → (list_any (same x) (fields_among xs) ≡ true → list_any (λ token. x.0 == token) (tokens xs) ≡ true) → (a || list_any (λ token. x.0 == token) (tokens xs)) ≡ true
+    one true b e later = refl
+    one false b e later = later e
+
+module _ (source : Scanned) (x : ℕ × ℕ) where
+  abbrev its_tokens : List (ℕ × ℕ) → List ℕ
+  its_tokens xs = tokens_among source x.1 (text_at source x.0) xs
+
+  abbrev among : List ℕ → Bool
+  among xs = list_any (λ token. x.0 == token) xs
+
+  kept : (b : Bool) (y : ℕ) (ys : List ℕ) → among ys ≡ true → among (if b then y ∷ ys else ys) ≡ true
+  kept true y ys e = or_right (x.0 == y) (among ys) e
+  kept false y ys e = e
+
+  itself : (y : ℕ × ℕ) → (x.0 == y.0) ≡ true → (x.1 == y.1) ≡ true → is_field source x.1 (text_at source x.0) y ≡ true
+  itself y a b =
+      let token : x.0 ≡ y.0 = eqb-true x.0 y.0 a in
+      let owner : y.1 ≡ x.1 = sym (eqb-true x.1 y.1 b) in
+      let name : same_name (text_at source y.0) (text_at source x.0) ≡ true = (bytes_eq-Decides (text_at source y.0) (text_at source x.0)).1 (ap (text_at source) (sym token)) in
+      λ i. eq-eqb y.1 x.1 owner i && name i
+
+  among_its_tokens : (xs : List (ℕ × ℕ)) → list_any (same x) xs ≡ true → among (its_tokens xs) ≡ true
+  among_its_tokens [] h = absurd (true≢false (sym h))
+  among_its_tokens (y ∷ ys) h = one (x.0 == y.0) refl (x.1 == y.1) refl h (among_its_tokens ys)
+    where
+      one : (a : Bool) → (x.0 == y.0) ≡ a → (b : Bool) → (x.1 == y.1) ≡ b → ((a && b) || list_any (same x) ys) ≡ true → (list_any (same x) ys ≡ true → among (its_tokens ys) ≡ true)
+          → among (if is_field source x.1 (text_at source x.0) y then y.0 ∷ its_tokens ys else its_tokens ys) ≡ true
+      one true at true of e later = ap (λ b. among (if b then y.0 ∷ its_tokens ys else its_tokens ys)) (itself y at of) ∙ ap (λ b. b || among (its_tokens ys)) at
+      one true at false of e later = kept (is_field source x.1 (text_at source x.0) y) y.0 (its_tokens ys) (later e)
+      one false at b of e later = kept (is_field source x.1 (text_at source x.0) y) y.0 (its_tokens ys) (later e)
+
+-- what holds of each element of a list
+each : (P : ℕ × ℕ → Type 0) (xs : List (ℕ × ℕ)) → ((x : ℕ × ℕ) → list_any (same x) xs ≡ true → P x) → All P xs
+each P [] h = All-nil P
+each P (x ∷ xs) h = All-cons P x xs
+    (h x (ap (λ b. b || list_any (same x) xs) (λ i. eq-eqb x.0 x.0 refl i && eq-eqb x.1 x.1 refl i)))
+    (each P xs (λ y e. h y (or_right (same y x) (list_any (same y) xs) e)))
+
+and_false : (b : Bool) → (b && false) ≡ false
+and_false true = refl
+and_false false = refl
+
+module _ (r : Resolution) (named : IsResolution r) (fits : WellTyped (named_tree_of r.module_read)) (x : ℕ × ℕ) (listed : list_any (same x) (field_identifiers r) ≡ true) where
+  abbrev m : Parsed
+  m = r.module_read
+
+  abbrev f : written.Name
+  f = text_at m.source x.0
+
+  -- the text with another name at the tokens of the field
+  abbrev writes : ℕ → written.Name
+  writes i = if list_any (λ token. i == token) (field_tokens r x.1 f) then another f else text_at m.source i
+
+  among_leaves : list_any (λ token. x.0 == token) (leaves (tree_of m)) ≡ true
+  among_leaves = ap (list_any (λ token. x.0 == token)) (sym (module-tokens (token_objects (declared_object (named_tree_of m)) r) (tree_of m))) ∙ among_tokens x (owned_tokens r) listed
+
+  unchanged : is_some (declaring_field m x.1 f) ≡ false → named_tree_of m ≡ mapped writes (value_at m.source) (tree_of m)
+  unfolding WellTyped
+  unchanged none =
+      let free : is_duplicate_field (named_tree_of m) x.1 (another f) f ≡ false =
+      duplicate_by_token-holds m x.1 (another f) f ∙ (ap (λ b. not (same_name f (another f)) && b) none ∙ and_false (not (same_name f (another f)))) in
+      sym (refielded-bare (named_tree_of m))
+      ∙ (sym (module-alike (one_renamed x.1 f (another f)) bare (named_tree_of m) (records_kept x.1 f (records (named_tree_of m)) free) fits.1)
+      ∙ renamed_at_tokens-holds r x.1 f (another f) named fits)
+
+  is_declared : is_some (declaring_field m x.1 f) ≡ true
+  is_declared = one (is_some (declaring_field m x.1 f)) refl
+    where
+      one : (b : Bool) → is_some (declaring_field m x.1 f) ≡ b → b ≡ true
+      one true e = refl
+      one false e =
+          let written_so : map (text_at m.source) (leaves (tree_of m)) ≡ map writes (leaves (tree_of m)) =
+          sym (leaves_mapped (text_at m.source) (value_at m.source) (tree_of m)) ∙ (ap leaves (unchanged e) ∙ leaves_mapped writes (value_at m.source) (tree_of m)) in
+          let here : f ≡ writes x.0 = same_at (text_at m.source) writes x.0 (leaves (tree_of m)) written_so among_leaves in
+          let there : writes x.0 ≡ another f = ap (λ b. if b then another f else f) (among_its_tokens m.source x (field_identifiers r) listed) in
+          absurd (longer f (here ∙ there))
+
+pub fields_declared-holds : FieldsDeclared
+fields_declared-holds r named fits = each (λ x. is_some (declaring_field r.module_read x.1 (text_at r.module_read.source x.0)) ≡ true) (field_identifiers r) (is_declared r named fits)

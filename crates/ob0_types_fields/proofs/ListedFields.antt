@@ -1,0 +1,38 @@
+-- The lists that are kept of a well-typed module are its fields: where none is declared, none is selected.
+use Rattle.std.proofs.Common.{◌≡◌, ◌==◌, ℕ, Bool, true, false, List, [], ◌∷◌, length, is_some, if◌then◌else◌, refl, sym, ap, ◌∙◌, true≢false, eqb-true, All}
+use Rattle.std.proofs.lemmas.List.{nil_from_length}
+use Rattle.std.proofs.lemmas.List.Elements.{All-head}
+use Rattle.ob0_tree.specs.Parsed.{Parsed, named_tree_of, tree_of}
+use Rattle.ob0_tree.specs.Places.{text_at}
+use Rattle.ob0_scope_rules.specs.Resolution.{IsResolution, Resolution}
+use Rattle.ob0_types_rules.specs.Bindings.{declared_object}
+use Rattle.ob0_types_table.specs.KnownTables.{Tables, declared_in}
+use Rattle.ob0_types_rules.specs.WellTyped.{WellTyped}
+use Rattle.ob0_types_fields.specs.Identifiers.{declared_fields, declaring_field, field_identifiers, first, tokens_among}
+use Rattle.ob0_types_fields.specs.Listed.{AreFields, listed_by}
+use Rattle.ob0_types_fields.specs.Owned.{marked_module, token_objects}
+use Rattle.ob0_types_fields.proofs.FieldsDeclared.{fields_declared-holds}
+use Rattle.ob0_types_fields.proofs.MarkedFields.{module-fields}
+
+none_selected : (m : Parsed) (xs : List (ℕ × ℕ)) → declared_fields m ≡ [] → All (λ x. is_some (declaring_field m x.1 (text_at m.source x.0)) ≡ true) xs → xs ≡ []
+none_selected m [] none all = refl
+none_selected m (x ∷ xs) none all =
+    absurd (true≢false (sym (All-head (λ y. is_some (declaring_field m y.1 (text_at m.source y.0)) ≡ true) x xs all)
+    ∙ ap (λ (declared : List (ℕ × ℕ)). is_some (first (tokens_among m.source x.1 (text_at m.source x.0) declared))) none))
+
+pub listed_fields : (r : Resolution) → IsResolution r → WellTyped (named_tree_of r.module_read)
+    → (t : Tables) → ((k : ℕ) → declared_in t k ≡ declared_object (named_tree_of r.module_read) k) → AreFields r (listed_by t r)
+listed_fields r named fits t holds = (refl, one (length (declared_fields r.module_read) == 0) refl)
+  where
+    m : Parsed
+    m = r.module_read
+
+    found : marked_module (token_objects (declared_in t) r) (tree_of m) ≡ field_identifiers r
+    found =
+        (λ i. marked_module (token_objects (λ k. holds k i) r) (tree_of m))
+        ∙ sym (module-fields (token_objects (declared_object (named_tree_of m)) r) (tree_of m))
+
+    one : (b : Bool) → (length (declared_fields m) == 0) ≡ b
+        → (if b then [] else marked_module (token_objects (declared_in t) r) (tree_of m)) ≡ field_identifiers r
+    one true e = sym (none_selected m (field_identifiers r) (nil_from_length (declared_fields m) (eqb-true (length (declared_fields m)) 0 e)) (fields_declared-holds r named fits))
+    one false e = found

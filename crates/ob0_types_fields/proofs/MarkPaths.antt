@@ -1,0 +1,41 @@
+-- A designator's selectors one by one, each from the type behind the one before.
+use Rattle.std.proofs.Common.{◌≡◌, ℕ, ◌+◌, ◌<◌, ◌≤◌, List, ◌∷◌, ◌++◌, length, get_or, drop, Option, refl, sym, ap, ◌∙◌, append_assoc, append-nil}
+use Rattle.std.proofs.lemmas.List.{drop_all, drop_more}
+use Rattle.ob0_tree.specs.declared.tree.Selector.{Selector}
+use Rattle.ob0_tree.specs.Tree.{Tree, field, index, item, items, more, selector}
+use Rattle.ob0_tree.specs.View.{items_of, selector_of}
+use Rattle.ob0_types_rules.specs.Expressions.{Meanings}
+use Rattle.ob0_types_rules.specs.WellTyped.{Signature}
+use Rattle.ob0_types_fields.specs.Owned.{marked_path, passed}
+use Rattle.ob0_types_fields.specs.Walk.{marked_at}
+use Rattle.ob0_values.specs.Values.{Shape}
+
+path_more : {P : Type 0} (m : Meanings ℕ Shape P) (base : Option Shape) (a : Tree ℕ (item selector)) (rest : Tree ℕ (items selector))
+    → marked_path m base (more a rest) ≡ marked_at m base a ++ marked_path m (passed m base a) rest
+path_more m base (field x) rest = refl
+path_more m base (index e) rest = refl
+
+-- what was found, with what is still selected from the type behind, is what was there at first with all that the path selects
+pub record OnPath (m : Meanings ℕ Shape Signature) (start : List (ℕ × ℕ)) (base : Option Shape) (xs : List Selector) (done : ℕ) (out : List (ℕ × ℕ)) (at : Option Shape) : Type 0 where
+  pub so_far : out ++ marked_path m at (items_of selector_of (drop done xs)) ≡ start ++ marked_path m base (items_of selector_of xs)
+
+pub path_begins : (m : Meanings ℕ Shape Signature) (start : List (ℕ × ℕ)) (base : Option Shape) (xs : List Selector) → OnPath m start base xs 0 start base
+path_begins m start base xs = record { so_far = refl }
+
+pub path_goes_on : {m : Meanings ℕ Shape Signature} {start : List (ℕ × ℕ)} {base : Option Shape} {xs : List Selector} {done : ℕ} {out : List (ℕ × ℕ)} {at : Option Shape} (x : Selector) (next : List (ℕ × ℕ)) (behind : Option Shape)
+    → OnPath m start base xs done out at → done < length xs → x ≡ get_or xs done x → next ≡ out ++ marked_at m at (selector_of x) → behind ≡ passed m at (selector_of x) → OnPath m start base xs (done + 1) next behind
+path_goes_on {m = m} {xs = xs} {done = done} {out = out} {at = at} x next behind w less here found typed =
+    let rest : Tree ℕ (items selector) = items_of selector_of (drop (done + 1) xs) in
+    let cut : items_of selector_of (drop done xs) ≡ more (selector_of x) rest = ap (items_of selector_of) (drop_more xs done x less ∙ ap (λ y. y ∷ drop (done + 1) xs) (sym here)) in
+    record {
+      so_far =
+          (λ i. found i ++ marked_path m (typed i) rest)
+          ∙ append_assoc out (marked_at m at (selector_of x)) (marked_path m (passed m at (selector_of x)) rest)
+          ∙ ap (λ z. out ++ z) (sym (path_more m at (selector_of x) rest) ∙ ap (marked_path m at) (sym cut))
+          ∙ w.so_far;
+    }
+
+pub path_ends : {m : Meanings ℕ Shape Signature} {start : List (ℕ × ℕ)} {base : Option Shape} {xs : List Selector} {done : ℕ} {out : List (ℕ × ℕ)} {at : Option Shape}
+    → OnPath m start base xs done out at → length xs ≤ done → out ≡ start ++ marked_path m base (items_of selector_of xs)
+path_ends {m = m} {xs = xs} {done = done} {out = out} {at = at} w all =
+    sym (append-nil out) ∙ sym (ap (λ ys. out ++ marked_path m at (items_of selector_of ys)) (drop_all done xs all)) ∙ w.so_far

@@ -1,0 +1,29 @@
+-- A walk over the items of a list, which puts what is selected in each behind what was found before.
+use Rattle.std.proofs.Common.{◌≡◌, ℕ, ◌≤◌, List, ◌++◌, length, drop, sym, ap, ◌∙◌, append_assoc, append-nil}
+use Rattle.std.proofs.lemmas.List.{drop_all}
+use Rattle.ob0_tree.specs.Tree.{Tree, Item, item}
+use Rattle.ob0_tree.specs.View.{items_of}
+use Rattle.ob0_types_rules.specs.Expressions.{Meanings}
+use Rattle.ob0_types_rules.specs.WellTyped.{Signature}
+use Rattle.ob0_types_fields.specs.Owned.{marked}
+use Rattle.ob0_values.specs.Values.{Shape}
+
+-- what was found, with the identifiers of the items that are left, is what was there at first with those of all
+pub record Walking {A : Type 0} {i : Item} (f : A → Tree ℕ (item i)) (m : Meanings ℕ Shape Signature) (start : List (ℕ × ℕ)) (xs : List A) (done : ℕ) (out : List (ℕ × ℕ)) : Type 0 where
+  pub so_far : out ++ marked m (items_of f (drop done xs)) ≡ start ++ marked m (items_of f xs)
+
+pub walk_ends : {A : Type 0} {i : Item} {f : A → Tree ℕ (item i)} {m : Meanings ℕ Shape Signature} {start : List (ℕ × ℕ)} {xs : List A} {done : ℕ} {out : List (ℕ × ℕ)}
+    → Walking f m start xs done out → length xs ≤ done → out ≡ start ++ marked m (items_of f xs)
+walk_ends {f = f} {m = m} {xs = xs} {done = done} {out = out} w all =
+    sym (append-nil out) ∙ sym (ap (λ ys. out ++ marked m (items_of f ys)) (drop_all done xs all)) ∙ w.so_far
+
+-- parts that are found one after another
+pub after_two : {X : Type 0} (start a b : List X) {out more c : List X} → out ≡ start ++ a → more ≡ out ++ b → b ≡ c → more ≡ start ++ (a ++ c)
+after_two start a b e f g = f ∙ ap (λ o. o ++ b) e ∙ append_assoc start a b ∙ ap (λ z. start ++ (a ++ z)) g
+
+pub joined : {X : Type 0} (start a b : List X) {out : List X} → out ≡ start ++ a → out ++ b ≡ start ++ (a ++ b)
+joined start a b e = ap (λ o. o ++ b) e ∙ append_assoc start a b
+
+pub joined_four : {X : Type 0} (start a b c d : List X) {first second third : List X} → first ≡ start ++ a → second ≡ first ++ b → third ≡ second ++ c → third ++ d ≡ start ++ (a ++ (b ++ (c ++ d)))
+joined_four start a b c d {first = first} {second = second} e f g =
+    joined second c d g ∙ (joined first b (c ++ d) f ∙ joined start a (b ++ (c ++ d)) e)

@@ -1,0 +1,126 @@
+-- The identifiers of one field: the one that declares it, and those that select it. The names of these trees are tokens.
+use Rattle.std.specs.Prelude.{◌≡◌, ℕ, ◌+◌, ◌==◌, ◌&&◌, Bool, true, not, is_some, List, [], ◌∷◌, ◌++◌, length, map, Option, Some, None, if◌then◌else◌}
+use Rattle.std.specs.List.{All, list_any, position_from}
+use Rattle.ob0_scan.specs.Scanned.{Scanned}
+use Rattle.ob0_tree.specs.declared.tree.Role.{Role}
+use Rattle.ob0_tree.specs.declared.tree.Role.TheVariants as role
+use Rattle.ob0_tree.specs.Order.{Ascending}
+use Rattle.ob0_tree.specs.Tree.{Tree, block, declares, declares_procedure, end, has_body, identifiers, item, items, mapped, more, procedure}
+use Rattle.ob0_tree.specs.Parsed.{Parsed, named_tree_of, tree_of}
+use Rattle.ob0_tree.specs.Places.{text_at, value_at}
+use Rattle.ob0_scope_rules.specs.Names.{Name, same_name}
+use Rattle.ob0_scope_rules.specs.Parts.{formal_sections, module_block, section_types, section_variables}
+use Rattle.ob0_scope_rules.specs.Resolution.{IsResolution, Resolution, span_at}
+use Rattle.ob0_scope_rules.specs.Spans.{is_on}
+use Rattle.ob0_types_rules.specs.Declarations.{after_formals, after_types, after_variables, procedure_constructors}
+use Rattle.ob0_types_rules.specs.WellTyped.{WellTyped}
+use Rattle.ob0_types_fields.specs.Owned.{fields_among, marked_sections, marked_types, marked_variables, owned_tokens}
+use Rattle.ob0_rename_laws.specs.Renaming.{field_renamed, is_duplicate_field}
+
+-- the identifiers of a module that are fields, in text order, each with the ordinal of its record
+abbrev pub field_identifiers : Resolution → List (ℕ × ℕ)
+field_identifiers r = fields_among (owned_tokens r)
+
+-- it is the field x of the record k
+abbrev pub is_field : Scanned → ℕ → Name → ℕ × ℕ → Bool
+is_field source k x found = (found.1 == k) && same_name (text_at source found.0) x
+
+-- the tokens of that field among some identifiers of fields
+abbrev pub tokens_among : Scanned → ℕ → Name → List (ℕ × ℕ) → List ℕ
+tokens_among source k x [] = []
+tokens_among source k x (found ∷ rest) = if is_field source k x found then found.0 ∷ tokens_among source k x rest else tokens_among source k x rest
+
+-- all tokens of the field x of the record k
+abbrev pub field_tokens : Resolution → ℕ → Name → List ℕ
+field_tokens r k x = tokens_among r.module_read.source k x (field_identifiers r)
+
+-- the first identifier of a field that a place is on, in it or at its end
+abbrev pub field_on : Scanned → ℕ → List (ℕ × ℕ) → Option (ℕ × ℕ)
+field_on source offset [] = None
+field_on source offset (x ∷ xs) = if is_on offset (span_at source x.0) then Some x else field_on source offset xs
+
+-- the tokens of identifiers
+abbrev pub firsts : List (ℕ × ℕ) → List ℕ
+firsts xs = map (λ x. x.0) xs
+
+-- Their tokens ascend, and are all among those of the text.
+abbrev pub AreInTextOrder : Scanned → List (ℕ × ℕ) → Type 0
+AreInTextOrder source xs = Ascending 0 (firsts xs) (length source.tokens)
+
+-- the field at a place: its identifier there, and the ordinal of its record
+abbrev pub field_at : Resolution → ℕ → Option (ℕ × ℕ)
+field_at r offset = field_on r.module_read.source offset (field_identifiers r)
+
+-- ---- those that declare
+
+abbrev mutual
+  -- the fields that the declarations of a block declare, each with its record; k is the ordinal of the first ARRAY or RECORD
+  pub declared_in : ℕ → Tree ℕ block → List (ℕ × ℕ)
+  declared_in k (has_body (declares cs ts vs ps) statements) =
+      marked_types k (section_types ts)
+      ++ (marked_variables (after_types k (has_body (declares cs ts vs ps) statements)) (section_variables vs)
+      ++ declared_in_procedures (after_variables k (has_body (declares cs ts vs ps) statements)) ps)
+
+  pub declared_in_procedures : ℕ → Tree ℕ (items procedure) → List (ℕ × ℕ)
+  declared_in_procedures k end = []
+  declared_in_procedures k (more p rest) = declared_in_procedure k p ++ declared_in_procedures (k + procedure_constructors p) rest
+
+  pub declared_in_procedure : ℕ → Tree ℕ (item procedure) → List (ℕ × ℕ)
+  declared_in_procedure k (declares_procedure x fs b closing) =
+      marked_sections k (formal_sections fs) ++ declared_in (after_formals k (declares_procedure x fs b closing)) b
+
+-- all fields that a module declares
+abbrev pub declared_fields : Parsed → List (ℕ × ℕ)
+declared_fields m = declared_in 0 (module_block (tree_of m))
+
+abbrev pub first : List ℕ → Option ℕ
+first [] = None
+first (token ∷ tokens) = Some token
+
+-- the token that declares the field x of the record k
+abbrev pub declaring_field : Parsed → ℕ → Name → Option ℕ
+declaring_field m k x = first (tokens_among m.source k x (declared_fields m))
+
+-- the tokens that declare the fields of the record k among some
+abbrev pub record_tokens : ℕ → List (ℕ × ℕ) → List ℕ
+record_tokens k [] = []
+record_tokens k (found ∷ rest) = if found.1 == k then found.0 ∷ record_tokens k rest else record_tokens k rest
+
+-- the place of the field x among the fields of the record k, counted from 0
+abbrev pub field_place : Parsed → ℕ → Name → Option ℕ
+field_place m k x = position_from (λ token. same_name (text_at m.source token) x) 0 (record_tokens k (declared_fields m))
+
+-- ---- laws
+
+-- In a well-typed module the field f of the record k is called `new` where the new name stands at the tokens of that field.
+abbrev pub RenamedAtTokens : Type 0
+RenamedAtTokens =
+    (r : Resolution) (k : ℕ) (f new : Name) → IsResolution r → WellTyped (named_tree_of r.module_read)
+    → field_renamed (named_tree_of r.module_read) k f new
+    ≡ mapped (λ i. if list_any (λ token. i == token) (field_tokens r k f) then new else text_at r.module_read.source i) (value_at r.module_read.source) (tree_of r.module_read)
+
+-- Another field of a record has the name where that is another name, and a token declares a field of it.
+abbrev pub DuplicateByToken : Type 0
+DuplicateByToken =
+    (m : Parsed) (k : ℕ) (f new : Name) → is_duplicate_field (named_tree_of m) k f new ≡ (not (same_name new f) && is_some (declaring_field m k new))
+
+-- In a well-typed module each identifier that declares or selects a field is of a field that its record declares.
+abbrev pub FieldsDeclared : Type 0
+FieldsDeclared =
+    (r : Resolution) → IsResolution r → WellTyped (named_tree_of r.module_read)
+    → All (λ x. is_some (declaring_field r.module_read x.1 (text_at r.module_read.source x.0)) ≡ true) (field_identifiers r)
+
+-- the tokens of the identifiers that are written as fields, where a record is declared or a field is selected
+abbrev pub written_fields : List (Role × ℕ) → List ℕ
+written_fields [] = []
+written_fields ((role.FieldName, token) ∷ rest) = token ∷ written_fields rest
+written_fields ((role.Declaring, token) ∷ rest) = written_fields rest
+written_fields ((role.LookedUp, token) ∷ rest) = written_fields rest
+written_fields ((role.ClosingName, token) ∷ rest) = written_fields rest
+written_fields ((role.ModuleName, token) ∷ rest) = written_fields rest
+
+-- In a well-typed module the fields are all identifiers that are written as fields, in text order, and no others.
+abbrev pub FieldsListed : Type 0
+FieldsListed =
+    (r : Resolution) → IsResolution r → WellTyped (named_tree_of r.module_read)
+    → map (λ x. x.0) (field_identifiers r) ≡ written_fields (identifiers role.Declaring (tree_of r.module_read))

@@ -1,0 +1,27 @@
+-- The fields of a module in lists, as they are kept with it.
+use Rattle.std.specs.Prelude.{◌≡◌, ◌==◌, ℕ, List, [], length, if◌then◌else◌}
+use Rattle.ob0_tree.specs.Parsed.{tree_of}
+use Rattle.ob0_scope_rules.specs.Resolution.{Resolution}
+use Rattle.ob0_types_table.specs.KnownTables.{Tables, declared_in}
+use Rattle.ob0_types_fields.specs.Identifiers.{declared_fields, field_identifiers}
+use Rattle.ob0_types_fields.specs.Owned.{marked_module, token_objects}
+
+-- tokens of fields, each with the ordinal of its record: those that declare, and all
+pub record Listed : Type 0 where
+  pub declared : List (ℕ × ℕ)
+  pub all : List (ℕ × ℕ)
+
+-- where no field is declared, none is looked for
+abbrev pub beside : List (ℕ × ℕ) → List (ℕ × ℕ) → List (ℕ × ℕ)
+beside declared all = if length declared == 0 then [] else all
+
+-- as the walks find them, where a table has what each declaration is
+abbrev pub listed_by : Tables → Resolution → Listed
+listed_by t r = record {
+  declared = declared_fields r.module_read;
+  all = beside (declared_fields r.module_read) (marked_module (token_objects (declared_in t) r) (tree_of r.module_read));
+}
+
+-- they are the fields of a module
+abbrev pub AreFields : Resolution → Listed → Type 0
+AreFields r f = (f.declared ≡ declared_fields r.module_read) × (f.all ≡ field_identifiers r)

@@ -1,0 +1,263 @@
+-- Each identifier of a text with the ordinal of the record whose field it is, in text order. The names of these trees are tokens.
+use Rattle.std.specs.Prelude.{◌≡◌, ℕ, suc, ◌+◌, List, [], ◌∷◌, ◌++◌, map, Some, None, Option, option_and_then, option_map, length, replicate, set}
+use Rattle.ob0_tree.specs.declared.tree.Role.{Role}
+use Rattle.ob0_tree.specs.declared.tree.Role.TheVariants as role
+use Rattle.ob0_tree.specs.Tree.{Sort, Tree, Item, item, items, selector, maybe, adds, array_type, assigns, begins, block, branches, calls, compares, declares, declares_procedure, declares_type, declares_types, declares_variable, declares_variables, designator, else_branch, elsif_branch, empty, end, field, fields, formals, further_fields, further_section, has_body, identifiers, index, integer, is_module, module_text, more, multiplies, named_type, negation, no_arguments, no_fields, no_formals, none, one, parenthesised, procedure, product, record_type, relates, repeat_loop, runs, section, some_arguments, some_fields, some_formals, sum, then_argument, then_fields, then_section, then_statement, type_name, type_names, value_section, variable, variable_section, variables, while_loop, written_type}
+use Rattle.ob0_tree.specs.Parsed.{named_tree_of, tree_of}
+use Rattle.ob0_tree.specs.Places.{text_at}
+use Rattle.ob0_scope_rules.specs.Names.{Name}
+use Rattle.ob0_scope_rules.specs.Parts.{formal_sections, names_listed, section_type, section_types, section_variables}
+use Rattle.ob0_scope_rules.specs.Resolution.{IsResolution, Resolution, ordinal_in}
+use Rattle.ob0_types_rules.specs.Bindings.{declared_object}
+use Rattle.ob0_types_rules.specs.Declarations.{after_formals, after_types, after_variables, procedure_constructors}
+use Rattle.ob0_types_rules.specs.Expressions.{Meanings, Object}
+use Rattle.ob0_types_table.specs.FieldPlaces.{field_selected}
+use Rattle.ob0_types_rules.specs.Typing.{constructors, element_type, field_type, group_constructors, object_type}
+use Rattle.ob0_types_rules.specs.WellTyped.{Signature, WellTyped}
+use Rattle.ob0_values.specs.Values.{Shape, integer_shape}
+use Rattle.ob0_rename_laws.specs.Owners.{AreOwners}
+
+-- identifiers none of which is a field
+abbrev pub unowned_among : List (Role × ℕ) → List (ℕ × Option ℕ)
+unowned_among xs = map (λ x. (x.1, None)) xs
+
+abbrev pub unowned : {s : Sort} → Tree ℕ s → List (ℕ × Option ℕ)
+unowned t = unowned_among (identifiers role.Declaring t)
+
+-- the type behind one more selector
+abbrev pub passed : {P : Type 0} {i : Item} → Meanings ℕ Shape P → Option Shape → Tree ℕ (item i) → Option Shape
+passed m s (field x) = option_and_then (λ t. field_type t (m.written x)) s
+passed m s (index e) = option_and_then (λ t. element_type t integer_shape) s
+passed m s _ = s
+
+-- the ordinal of the record whose field a name selects
+abbrev pub owner : Option Shape → Name → Option ℕ
+owner None x = None
+owner (Some s) x = option_map (λ f. f.ordinal) (field_selected s x)
+
+-- the identifiers of a part of a statement; s is the type before the selectors
+abbrev pub owned : {P : Type 0} {s : Sort} → Meanings ℕ Shape P → Option Shape → Tree ℕ s → List (ℕ × Option ℕ)
+owned m s none = []
+owned m s (one a) = owned m None a
+owned m s end = []
+owned m s (more a b) = owned m s a ++ owned m (passed m s a) b
+owned m s (compares a b) = owned m None a ++ (owned m None b)
+owned m s (relates a b) = owned m None b
+owned m s (sum a b c) = owned m None b ++ (owned m None c)
+owned m s (adds a b) = owned m None b
+owned m s (product a b) = owned m None a ++ (owned m None b)
+owned m s (multiplies a b) = owned m None b
+owned m s (designator a b) = (a, None) ∷ (owned m (object_type (m.stands_for a)) b)
+owned m s (integer a) = []
+owned m s (parenthesised a) = owned m None a
+owned m s (negation a) = owned m None a
+owned m s (field a) = (a, owner s (m.written a)) ∷ []
+owned m s (index a) = owned m None a
+owned m s empty = []
+owned m s (assigns a b c) = (a, None) ∷ (owned m (object_type (m.stands_for a)) b ++ (owned m None c))
+owned m s (calls a b) = (a, None) ∷ (owned m None b)
+owned m s (branches a b c d) = owned m None a ++ (owned m None b ++ (owned m None c ++ (owned m None d)))
+owned m s (while_loop a b) = owned m None a ++ (owned m None b)
+owned m s (repeat_loop a b) = owned m None a ++ (owned m None b)
+owned m s no_arguments = []
+owned m s (some_arguments a b) = owned m None a ++ (owned m None b)
+owned m s (then_argument a) = owned m None a
+owned m s (runs a b) = owned m None a ++ (owned m None b)
+owned m s (then_statement a) = owned m None a
+owned m s (elsif_branch a b) = owned m None a ++ (owned m None b)
+owned m s (else_branch a) = owned m None a
+owned m s (begins a) = owned m None a
+owned m s t = unowned t
+
+-- the identifiers of a type; k is the ordinal of its first ARRAY or RECORD, and r that of the group's record
+abbrev mutual
+  pub owned_type : ℕ → Tree ℕ written_type → List (ℕ × Option ℕ)
+  owned_type k (named_type x) = (x, None) ∷ []
+  owned_type k (array_type e t) = unowned e ++ owned_type (suc k) t
+  owned_type k (record_type g rest) = owned_group k (suc k) g ++ owned_groups k (suc k + group_constructors g) rest
+
+  pub owned_group : ℕ → ℕ → Tree ℕ fields → List (ℕ × Option ℕ)
+  owned_group r k no_fields = []
+  owned_group r k (some_fields ns t) = map (λ x. (x, Some r)) (names_listed ns) ++ owned_type k t
+
+  pub owned_groups : ℕ → ℕ → Tree ℕ (items further_fields) → List (ℕ × Option ℕ)
+  owned_groups r k end = []
+  owned_groups r k (more (then_fields g) rest) = owned_group r k g ++ owned_groups r (k + group_constructors g) rest
+
+-- the identifiers of declarations
+abbrev pub owned_types : ℕ → Tree ℕ (items type_name) → List (ℕ × Option ℕ)
+owned_types k end = []
+owned_types k (more (declares_type x u) ds) = (x, None) ∷ (owned_type k u ++ owned_types (k + constructors u) ds)
+
+abbrev pub owned_type_section : ℕ → Tree ℕ (maybe type_names) → List (ℕ × Option ℕ)
+owned_type_section k none = []
+owned_type_section k (one (declares_types ts)) = owned_types k ts
+
+abbrev pub owned_variables : ℕ → Tree ℕ (items variable) → List (ℕ × Option ℕ)
+owned_variables k end = []
+owned_variables k (more (declares_variable ns u) gs) = (unowned ns ++ owned_type k u) ++ owned_variables (k + constructors u) gs
+
+abbrev pub owned_variable_section : ℕ → Tree ℕ (maybe variables) → List (ℕ × Option ℕ)
+owned_variable_section k none = []
+owned_variable_section k (one (declares_variables vs)) = owned_variables k vs
+
+abbrev pub owned_section : ℕ → Tree ℕ section → List (ℕ × Option ℕ)
+owned_section k (value_section ns u) = unowned ns ++ owned_type k u
+owned_section k (variable_section ns u) = unowned ns ++ owned_type k u
+
+abbrev pub owned_sections : ℕ → Tree ℕ (items further_section) → List (ℕ × Option ℕ)
+owned_sections k end = []
+owned_sections k (more (then_section f) fs) = owned_section k f ++ owned_sections (k + constructors (section_type f)) fs
+
+abbrev pub owned_formals : ℕ → Tree ℕ (maybe formals) → List (ℕ × Option ℕ)
+owned_formals k none = []
+owned_formals k (one no_formals) = []
+owned_formals k (one (some_formals f fs)) = owned_section k f ++ owned_sections (k + constructors (section_type f)) fs
+
+abbrev mutual
+  pub owned_block : {P : Type 0} → Meanings ℕ Shape P → ℕ → Tree ℕ block → List (ℕ × Option ℕ)
+  owned_block m k (has_body (declares cs ts vs ps) statements) =
+      (unowned cs ++ (owned_type_section k ts ++ (owned_variable_section (after_types k (has_body (declares cs ts vs ps) statements)) vs
+      ++ owned_procedures m (after_variables k (has_body (declares cs ts vs ps) statements)) ps)))
+      ++ owned m None statements
+
+  pub owned_procedures : {P : Type 0} → Meanings ℕ Shape P → ℕ → Tree ℕ (items procedure) → List (ℕ × Option ℕ)
+  owned_procedures m k end = []
+  owned_procedures m k (more p rest) = owned_procedure m k p ++ owned_procedures m (k + procedure_constructors p) rest
+
+  pub owned_procedure : {P : Type 0} → Meanings ℕ Shape P → ℕ → Tree ℕ (item procedure) → List (ℕ × Option ℕ)
+  owned_procedure m k (declares_procedure x fs b closing) =
+      (x, None) ∷ (owned_formals k fs ++ (owned_block m (after_formals k (declares_procedure x fs b closing)) b ++ ((closing, None) ∷ [])))
+
+abbrev pub owned_module : {P : Type 0} → Meanings ℕ Shape P → Tree ℕ module_text → List (ℕ × Option ℕ)
+owned_module m (is_module x b closing) = (x, None) ∷ (owned_block m 0 b ++ ((closing, None) ∷ []))
+
+-- What the names at tokens stand for: each is bound to one declaration, and stands for what that declares.
+abbrev pub token_objects : (ℕ → Option (Object Shape Signature)) → Resolution → Meanings ℕ Shape Signature
+token_objects objects r = record { stands_for = λ token. option_and_then objects (ordinal_in r.ordinals token); written = λ token. text_at r.module_read.source token }
+
+-- each identifier of a module with the ordinal of the record whose field it is
+abbrev pub owned_tokens : Resolution → List (ℕ × Option ℕ)
+owned_tokens r = owned_module (token_objects (declared_object (named_tree_of r.module_read)) r) (tree_of r.module_read)
+
+-- a table has at each token what is listed
+abbrev pub HasOwners : (ℕ → Option ℕ) → List (ℕ × Option ℕ) → Type 0
+HasOwners table [] = Unit {0}
+HasOwners table (x ∷ xs) = (table x.0 ≡ x.1) × HasOwners table xs
+
+-- In a well-typed module a table that has the listed owners at its tokens is a table of owners: what names stand for in the
+-- environment at each place is what their declarations are.
+abbrev pub OwnersByDeclaration : Type 0
+OwnersByDeclaration = (r : Resolution) (owners : List (Option ℕ)) → IsResolution r → WellTyped (named_tree_of r.module_read) → HasOwners (ordinal_in owners) (owned_tokens r) → AreOwners r.module_read owners
+
+-- those that are fields, each with the ordinal of its record
+abbrev pub fields_among : List (ℕ × Option ℕ) → List (ℕ × ℕ)
+fields_among [] = []
+fields_among ((x, None) ∷ xs) = fields_among xs
+fields_among ((x, Some k) ∷ xs) = (x, k) ∷ fields_among xs
+
+-- a table with these written into it
+abbrev pub with_fields_at : List (Option ℕ) → List (ℕ × ℕ) → List (Option ℕ)
+with_fields_at table [] = table
+with_fields_at table (f ∷ fs) = with_fields_at (set table f.0 (Some f.1)) fs
+
+-- In a well-typed module the empty table, one entry a token, with its fields written into it is a table of owners.
+abbrev pub OwnersOfFields : Type 0
+OwnersOfFields = (r : Resolution) → IsResolution r → WellTyped (named_tree_of r.module_read) → AreOwners r.module_read (with_fields_at (replicate (length r.module_read.source.tokens) None) (fields_among (owned_tokens r)))
+
+-- ---- the fields alone, as a walk finds them
+
+-- an identifier with the record whose field it is
+abbrev pub mark : ℕ → Option ℕ → List (ℕ × ℕ)
+mark x None = []
+mark x (Some k) = (x, k) ∷ []
+
+-- the fields that statements select
+abbrev mutual
+  pub marked : {P : Type 0} {s : Sort} → Meanings ℕ Shape P → Tree ℕ s → List (ℕ × ℕ)
+  marked m none = []
+  marked m (one a) = marked m a
+  marked m end = []
+  marked m (more a b) = marked m a ++ (marked m b)
+  marked m (compares a b) = marked m a ++ (marked m b)
+  marked m (relates a b) = marked m b
+  marked m (sum a b c) = marked m b ++ (marked m c)
+  marked m (adds a b) = marked m b
+  marked m (product a b) = marked m a ++ (marked m b)
+  marked m (multiplies a b) = marked m b
+  marked m (designator a b) = marked_path m (object_type (m.stands_for a)) b
+  marked m (integer a) = []
+  marked m (parenthesised a) = marked m a
+  marked m (negation a) = marked m a
+  marked m (field a) = []
+  marked m (index a) = marked m a
+  marked m empty = []
+  marked m (assigns a b c) = marked_path m (object_type (m.stands_for a)) b ++ (marked m c)
+  marked m (calls a b) = marked m b
+  marked m (branches a b c d) = marked m a ++ (marked m b ++ (marked m c ++ (marked m d)))
+  marked m (while_loop a b) = marked m a ++ (marked m b)
+  marked m (repeat_loop a b) = marked m a ++ (marked m b)
+  marked m no_arguments = []
+  marked m (some_arguments a b) = marked m a ++ (marked m b)
+  marked m (then_argument a) = marked m a
+  marked m (runs a b) = marked m a ++ (marked m b)
+  marked m (then_statement a) = marked m a
+  marked m (elsif_branch a b) = marked m a ++ (marked m b)
+  marked m (else_branch a) = marked m a
+  marked m (begins a) = marked m a
+  marked m t = []
+
+  -- those of a designator's selectors, of a value of a type and its parts in turn
+  pub marked_path : {P : Type 0} → Meanings ℕ Shape P → Option Shape → Tree ℕ (items selector) → List (ℕ × ℕ)
+  marked_path m s end = []
+  marked_path m s (more (field x) rest) = mark x (owner s (m.written x)) ++ marked_path m (option_and_then (λ t. field_type t (m.written x)) s) rest
+  marked_path m s (more (index e) rest) = marked m e ++ marked_path m (option_and_then (λ t. element_type t integer_shape) s) rest
+
+-- the fields that a type's text declares; k is the ordinal of its first ARRAY or RECORD, and r that of the group's record
+abbrev mutual
+  pub marked_type : ℕ → Tree ℕ written_type → List (ℕ × ℕ)
+  marked_type k (named_type x) = []
+  marked_type k (array_type e t) = marked_type (suc k) t
+  marked_type k (record_type g rest) = marked_group k (suc k) g ++ marked_groups k (suc k + group_constructors g) rest
+
+  pub marked_group : ℕ → ℕ → Tree ℕ fields → List (ℕ × ℕ)
+  marked_group r k no_fields = []
+  marked_group r k (some_fields ns t) = map (λ x. (x, r)) (names_listed ns) ++ marked_type k t
+
+  pub marked_groups : ℕ → ℕ → Tree ℕ (items further_fields) → List (ℕ × ℕ)
+  marked_groups r k end = []
+  marked_groups r k (more (then_fields g) rest) = marked_group r k g ++ marked_groups r (k + group_constructors g) rest
+
+-- those of declarations
+abbrev pub marked_types : ℕ → Tree ℕ (items type_name) → List (ℕ × ℕ)
+marked_types k end = []
+marked_types k (more (declares_type x u) ds) = marked_type k u ++ marked_types (k + constructors u) ds
+
+abbrev pub marked_variables : ℕ → Tree ℕ (items variable) → List (ℕ × ℕ)
+marked_variables k end = []
+marked_variables k (more (declares_variable ns u) gs) = marked_type k u ++ marked_variables (k + constructors u) gs
+
+abbrev pub marked_sections : ℕ → Tree ℕ (items further_section) → List (ℕ × ℕ)
+marked_sections k end = []
+marked_sections k (more (then_section f) fs) = marked_type k (section_type f) ++ marked_sections (k + constructors (section_type f)) fs
+
+abbrev mutual
+  pub marked_block : {P : Type 0} → Meanings ℕ Shape P → ℕ → Tree ℕ block → List (ℕ × ℕ)
+  marked_block m k (has_body (declares cs ts vs ps) statements) =
+      (marked_types k (section_types ts) ++ (marked_variables (after_types k (has_body (declares cs ts vs ps) statements)) (section_variables vs)
+      ++ marked_procedures m (after_variables k (has_body (declares cs ts vs ps) statements)) ps))
+      ++ marked m statements
+
+  pub marked_procedures : {P : Type 0} → Meanings ℕ Shape P → ℕ → Tree ℕ (items procedure) → List (ℕ × ℕ)
+  marked_procedures m k end = []
+  marked_procedures m k (more p rest) = marked_procedure m k p ++ marked_procedures m (k + procedure_constructors p) rest
+
+  pub marked_procedure : {P : Type 0} → Meanings ℕ Shape P → ℕ → Tree ℕ (item procedure) → List (ℕ × ℕ)
+  marked_procedure m k (declares_procedure x fs b closing) = marked_sections k (formal_sections fs) ++ marked_block m (after_formals k (declares_procedure x fs b closing)) b
+
+abbrev pub marked_module : {P : Type 0} → Meanings ℕ Shape P → Tree ℕ module_text → List (ℕ × ℕ)
+marked_module m (is_module x b closing) = marked_block m 0 b
+
+-- The walk finds just the fields among a module's identifiers.
+abbrev pub MarkedFields : Type 0
+MarkedFields = (r : Resolution) → fields_among (owned_tokens r) ≡ marked_module (token_objects (declared_object (named_tree_of r.module_read)) r) (tree_of r.module_read)

@@ -1,0 +1,17 @@
+-- What the walk over a module keeps.
+use Rattle.std.specs.Prelude.{ℕ, List, Option}
+use Rattle.ob0_tree.specs.Tree.{Tree, field, index, item, selector}
+use Rattle.ob0_types_rules.specs.Expressions.{Meanings}
+use Rattle.ob0_types_table.specs.KnownTables.{declared_in}
+use Rattle.ob0_types_rules.specs.WellTyped.{Signature}
+use Rattle.ob0_values.specs.Values.{Shape}
+use Rattle.ob0_types_fields.specs.declared.owning.Owning.{Owning}
+use Rattle.ob0_types_fields.specs.Owned.{mark, marked, owner, token_objects}
+
+abbrev pub meaning_in : Owning → Meanings ℕ Shape Signature
+meaning_in w = token_objects (declared_in w.known.now) w.resolved.now
+
+-- the fields that one selector selects
+abbrev pub marked_at : {P : Type 0} → Meanings ℕ Shape P → Option Shape → Tree ℕ (item selector) → List (ℕ × ℕ)
+marked_at m s (field x) = mark x (owner s (m.written x))
+marked_at m s (index e) = marked m e

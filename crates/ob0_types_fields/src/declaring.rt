@@ -1,0 +1,41 @@
+//! The walk over a module's declarations that finds the fields that records declare.
+
+ghost use Rattle.std.specs.Prelude.{◌≡◌, ◌++◌, ◌+◌, IfOk, length};
+ghost use Rattle.ob0_tree.specs.View.{block_of, procedure_of};
+ghost use Rattle.ob0_types_rules.specs.Declarations.{block_constructors, procedure_constructors};
+ghost use Rattle.ob0_types_fields.specs.Identifiers.{declared_in, declared_in_procedure};
+
+use crate::declared::{formals, types, variables};
+use ob0_tree::{Block, Procedure};
+use std::alloc::AllocError;
+
+/// The fields that a block declares, and its procedures. `made` has the tokens of the ARRAY and RECORD before it.
+#[cycle(blocks)]
+pub(crate) fn block(
+    found: &mut Vec<(usize, usize)>,
+    made: &mut Vec<usize>,
+    b: &Block,
+) -> Result<(), AllocError>
+    ensures found { IfOk result (λ _. found.new.items ≡ found.old.items ++ declared_in (length made.old.items) (block_of b.now)) }
+    ensures made { IfOk result (λ _. length made.new.items ≡ length made.old.items + block_constructors (block_of b.now)) }
+{
+    types(found, made, &b.types)?;
+    variables(found, made, &b.variables)?;
+    for p in &b.procedures {
+        procedure(found, made, p)?;
+    }
+    Ok(())
+}
+
+#[cycle(blocks)]
+fn procedure(
+    found: &mut Vec<(usize, usize)>,
+    made: &mut Vec<usize>,
+    p: &Procedure,
+) -> Result<(), AllocError>
+    ensures found { IfOk result (λ _. found.new.items ≡ found.old.items ++ declared_in_procedure (length made.old.items) (procedure_of p.now)) }
+    ensures made { IfOk result (λ _. length made.new.items ≡ length made.old.items + procedure_constructors (procedure_of p.now)) }
+{
+    formals(found, made, &p.formals)?;
+    block(found, made, &p.block)
+}

@@ -1,0 +1,282 @@
+//! The walk over a module that finds its fields: where records declare them, and where selectors select them.
+
+ghost use Rattle.std.specs.Prelude.{◌≡◌, ◌++◌, ◌+◌, IfOk, length, option_and_then, option_map};
+ghost use Rattle.ob0_tree.specs.View.{expression_of, simple_of, term_of, factor_of, designator_of, selector_of, assignment_of, call_of, arguments_in, statement_of, if_of, elsifs_in, sequence_in, body_of, block_of, procedure_of};
+ghost use Rattle.ob0_types_rules.specs.Declarations.{block_constructors, procedure_constructors};
+ghost use Rattle.ob0_scope_rules.specs.Resolution.{ordinal_in};
+ghost use Rattle.ob0_types_table.specs.FieldPlaces.{field_selected};
+ghost use Rattle.ob0_types_table.specs.KnownTables.{declared_in, shapes_of};
+ghost use Rattle.ob0_types_table.specs.Tables.{type_shape};
+ghost use Rattle.ob0_types_rules.specs.Typing.{element_type, field_type, object_type};
+ghost use Rattle.ob0_values.specs.Values.{integer_shape};
+ghost use Rattle.ob0_types_fields.specs.Owned.{mark, marked, marked_block, marked_procedure, owner, passed};
+ghost use Rattle.ob0_types_fields.specs.Walk.{marked_at, meaning_in};
+
+use crate::declared::{formals, types, variables};
+use ob0_scope_rules::Resolved;
+use ob0_types_table::{Known, Object, TypeId, scalar_type, text_at};
+use ob0_tree::{
+    Assignment, Block, Call, Designator, Elsif, Expression, Factor, If, Procedure, Selector,
+    Simple, Statement, Term,
+};
+use std::alloc::AllocError;
+
+/// Tokens of fields, each with the ordinal of its record.
+pub(crate) type Fields = Vec<(usize, usize)>;
+
+/// A module with the table of its declarations.
+#[derive(Clone, Copy)]
+pub(crate) struct Owning<'a, 't> {
+    pub(crate) known: &'a Known<'t>,
+    pub(crate) resolved: &'a Resolved<'t>,
+}
+
+impl<'a, 't> Owning<'a, 't> {
+    /// The type of the variable, parameter or constant that the name at a token is bound to.
+    fn value_type(&self, token: usize) -> Option<TypeId>
+        ensures { option_map (type_shape (shapes_of self.now.known.now)) result ≡ object_type ((meaning_in self.now).stands_for token) }
+    {
+        let ordinal = self.resolved.ordinal_at(token)?;
+        match self.known.object(ordinal)? {
+            Object::Variable(of) => Some(*of),
+            Object::Constant(value) => Some(scalar_type(*value)),
+            Object::Named(_) => None,
+            Object::FaultyConstant => None,
+            Object::Procedure(_) => None,
+            Object::Standard(_) => None,
+        }
+    }
+
+    /// Notes the record whose field a name selects, and gives the field's type.
+    fn select(
+        &self,
+        found: &mut Fields,
+        base: Option<TypeId>,
+        name: usize,
+    ) -> Result<Option<TypeId>, AllocError>
+        ensures found { IfOk result (λ _. found.new.items ≡ found.old.items ++ mark name (owner (option_map (type_shape (shapes_of self.now.known.now)) base) ((meaning_in self.now).written name))) }
+        ensures behind { IfOk result (λ t. option_map (type_shape (shapes_of self.now.known.now)) t ≡ option_and_then (λ z. field_type z ((meaning_in self.now).written name)) (option_map (type_shape (shapes_of self.now.known.now)) base)) }
+    {
+        let Some(base) = base else {
+            return Ok(None);
+        };
+        let text = text_at(self.resolved.tokens(), name);
+        if let Some(selected) = self.known.field_of(base, text) {
+            found.push((name, selected.ordinal))?;
+        }
+        Ok(self.known.field(base, text))
+    }
+
+    /// The type of an array's elements.
+    fn element(&self, base: Option<TypeId>) -> Option<TypeId>
+        ensures { option_map (type_shape (shapes_of self.now.known.now)) result ≡ option_and_then (λ z. element_type z integer_shape) (option_map (type_shape (shapes_of self.now.known.now)) base) }
+    {
+        match base {
+            None => None,
+            Some(base) => self.known.element(base),
+        }
+    }
+
+    /// What is selected in an expression.
+    #[cycle(expressions)]
+    fn expression(&self, found: &mut Fields, e: &Expression) -> Result<(), AllocError>
+        ensures { IfOk result (λ _. found.new.items ≡ found.old.items ++ marked (meaning_in self.now) (expression_of e.now)) }
+    {
+        self.simple(found, &e.left)?;
+        if let Some(compared) = &e.compared {
+            self.simple(found, &compared.right)?;
+        }
+        Ok(())
+    }
+
+    #[cycle(expressions)]
+    fn simple(&self, found: &mut Fields, s: &Simple) -> Result<(), AllocError>
+        ensures { IfOk result (λ _. found.new.items ≡ found.old.items ++ marked (meaning_in self.now) (simple_of s.now)) }
+    {
+        self.term(found, &s.first)?;
+        for addend in &s.more {
+            self.term(found, &addend.term)?;
+        }
+        Ok(())
+    }
+
+    #[cycle(expressions)]
+    fn term(&self, found: &mut Fields, t: &Term) -> Result<(), AllocError>
+        ensures { IfOk result (λ _. found.new.items ≡ found.old.items ++ marked (meaning_in self.now) (term_of t.now)) }
+    {
+        self.factor(found, &t.first)?;
+        for multiplier in &t.more {
+            self.factor(found, &multiplier.factor)?;
+        }
+        Ok(())
+    }
+
+    #[cycle(expressions)]
+    fn factor(&self, found: &mut Fields, f: &Factor) -> Result<(), AllocError>
+        ensures { IfOk result (λ _. found.new.items ≡ found.old.items ++ marked (meaning_in self.now) (factor_of f.now)) }
+    {
+        match f {
+            Factor::Designator(d) => self.designator(found, d),
+            Factor::Integer(_) => Ok(()),
+            Factor::Parenthesised(e) => self.expression(found, e),
+            Factor::Not(f) => self.factor(found, f),
+        }
+    }
+
+    #[cycle(expressions)]
+    fn designator(&self, found: &mut Fields, d: &Designator) -> Result<(), AllocError>
+        ensures { IfOk result (λ _. found.new.items ≡ found.old.items ++ marked (meaning_in self.now) (designator_of d.now)) }
+    {
+        let mut at = self.value_type(d.name);
+        for s in &d.selectors {
+            at = self.selector(found, at, s)?;
+        }
+        Ok(())
+    }
+
+    /// The type behind a selector; what is selected on the way is noted.
+    #[cycle(expressions)]
+    fn selector(
+        &self,
+        found: &mut Fields,
+        base: Option<TypeId>,
+        s: &Selector,
+    ) -> Result<Option<TypeId>, AllocError>
+        ensures found { IfOk result (λ _. found.new.items ≡ found.old.items ++ marked_at (meaning_in self.now) (option_map (type_shape (shapes_of self.now.known.now)) base) (selector_of s.now)) }
+        ensures behind { IfOk result (λ t. option_map (type_shape (shapes_of self.now.known.now)) t ≡ passed (meaning_in self.now) (option_map (type_shape (shapes_of self.now.known.now)) base) (selector_of s.now)) }
+    {
+        match s {
+            Selector::Field(name) => self.select(found, base, *name),
+            Selector::Index(e) => {
+                self.expression(found, e)?;
+                Ok(self.element(base))
+            }
+        }
+    }
+
+    fn assignment(&self, found: &mut Fields, a: &Assignment) -> Result<(), AllocError>
+        ensures { IfOk result (λ _. found.new.items ≡ found.old.items ++ marked (meaning_in self.now) (assignment_of a.now)) }
+    {
+        self.designator(found, &a.target)?;
+        self.expression(found, &a.value)
+    }
+
+    fn call(&self, found: &mut Fields, c: &Call) -> Result<(), AllocError>
+        ensures { IfOk result (λ _. found.new.items ≡ found.old.items ++ marked (meaning_in self.now) (call_of c.now)) }
+    {
+        if let Some(given) = &c.arguments {
+            self.arguments(found, given)?;
+        }
+        Ok(())
+    }
+
+    fn arguments(&self, found: &mut Fields, given: &Vec<Expression>) -> Result<(), AllocError>
+        ensures { IfOk result (λ _. found.new.items ≡ found.old.items ++ marked (meaning_in self.now) (arguments_in given.now)) }
+    {
+        for e in given {
+            self.expression(found, e)?;
+        }
+        Ok(())
+    }
+
+    #[cycle(statements)]
+    fn sequence(&self, found: &mut Fields, statements: &Vec<Statement>) -> Result<(), AllocError>
+        ensures { IfOk result (λ _. found.new.items ≡ found.old.items ++ marked (meaning_in self.now) (sequence_in statements.now)) }
+    {
+        for s in statements {
+            self.statement(found, s)?;
+        }
+        Ok(())
+    }
+
+    #[cycle(statements)]
+    fn statement(&self, found: &mut Fields, s: &Statement) -> Result<(), AllocError>
+        ensures { IfOk result (λ _. found.new.items ≡ found.old.items ++ marked (meaning_in self.now) (statement_of s.now)) }
+    {
+        match s {
+            Statement::Empty => Ok(()),
+            Statement::Assign(a) => self.assignment(found, a),
+            Statement::Call(c) => self.call(found, c),
+            Statement::If(i) => self.branches(found, i),
+            Statement::While(w) => {
+                self.expression(found, &w.condition)?;
+                self.sequence(found, &w.body)
+            }
+            Statement::Repeat(r) => {
+                self.sequence(found, &r.body)?;
+                self.expression(found, &r.condition)
+            }
+        }
+    }
+
+    #[cycle(statements)]
+    fn branches(&self, found: &mut Fields, i: &If) -> Result<(), AllocError>
+        ensures { IfOk result (λ _. found.new.items ≡ found.old.items ++ marked (meaning_in self.now) (if_of i.now)) }
+    {
+        self.expression(found, &i.condition)?;
+        self.sequence(found, &i.then)?;
+        self.elsifs(found, &i.elsifs)?;
+        match &i.otherwise {
+            Some(statements) => self.sequence(found, statements),
+            None => Ok(()),
+        }
+    }
+
+    #[cycle(statements)]
+    fn elsifs(&self, found: &mut Fields, parts: &Vec<Elsif>) -> Result<(), AllocError>
+        ensures { IfOk result (λ _. found.new.items ≡ found.old.items ++ marked (meaning_in self.now) (elsifs_in parts.now)) }
+    {
+        for e in parts {
+            self.expression(found, &e.condition)?;
+            self.sequence(found, &e.then)?;
+        }
+        Ok(())
+    }
+
+    fn body(
+        &self,
+        found: &mut Fields,
+        statements: &Option<Vec<Statement>>,
+    ) -> Result<(), AllocError>
+        ensures { IfOk result (λ _. found.new.items ≡ found.old.items ++ marked (meaning_in self.now) (body_of statements.now)) }
+    {
+        match statements {
+            Some(statements) => self.sequence(found, statements),
+            None => Ok(()),
+        }
+    }
+
+    /// The fields of a block: those that its declarations and its procedures declare and select, and those of its
+    /// statements. `made` has the tokens of the ARRAY and RECORD before it.
+    #[cycle(blocks)]
+    pub(crate) fn block(
+        &self,
+        found: &mut Fields,
+        made: &mut Vec<usize>,
+        b: &Block,
+    ) -> Result<(), AllocError>
+        ensures found { IfOk result (λ _. found.new.items ≡ found.old.items ++ marked_block (meaning_in self.now) (length made.old.items) (block_of b.now)) }
+        ensures made { IfOk result (λ _. length made.new.items ≡ length made.old.items + block_constructors (block_of b.now)) }
+    {
+        types(found, made, &b.types)?;
+        variables(found, made, &b.variables)?;
+        for p in &b.procedures {
+            self.procedure(found, made, p)?;
+        }
+        self.body(found, &b.body)
+    }
+
+    #[cycle(blocks)]
+    fn procedure(
+        &self,
+        found: &mut Fields,
+        made: &mut Vec<usize>,
+        p: &Procedure,
+    ) -> Result<(), AllocError>
+        ensures found { IfOk result (λ _. found.new.items ≡ found.old.items ++ marked_procedure (meaning_in self.now) (length made.old.items) (procedure_of p.now)) }
+        ensures made { IfOk result (λ _. length made.new.items ≡ length made.old.items + procedure_constructors (procedure_of p.now)) }
+    {
+        formals(found, made, &p.formals)?;
+        self.block(found, made, &p.block)
+    }
+}

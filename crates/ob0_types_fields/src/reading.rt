@@ -1,0 +1,125 @@
+//! What is found in a list of fields.
+
+ghost use Rattle.std.specs.Prelude.{◌≡◌, ◌≤◌, IfOk, None, Some, false, if◌then◌else◌, length, nat_lt, true};
+ghost use Rattle.std.specs.List.{position_from};
+ghost use Rattle.std.specs.List.Sorted.{IsNonDecreasingBy, IsPartitionPoint};
+ghost use Rattle.ob0_tree.specs.Places.{text_at};
+ghost use Rattle.ob0_scope_rules.specs.Names.{same_name};
+ghost use Rattle.ob0_scope_rules.specs.Resolution.{span_at};
+ghost use Rattle.ob0_scope_rules.specs.Spans.{is_on};
+ghost use Rattle.ob0_types_fields.specs.Identifiers.{AreInTextOrder, field_on, first, is_field, record_tokens, tokens_among};
+
+use ob0_scope_rules::token_span;
+use ob0_scan::{Span, Tokens};
+use ob0_types_table::text_at;
+use std::alloc::{AllocError, Global};
+
+/// The first identifier that a place is on. It is found by halving: of identifiers in text order it is the first that doesn't
+/// end before the place, if any.
+pub(crate) fn field_on(
+    tokens: &Tokens,
+    offset: usize,
+    found: &[(usize, usize)],
+) -> Option<(usize, usize)>
+    ensures { AreInTextOrder tokens.now found.now → result ≡ field_on tokens.now offset found.now }
+{
+    let _scanned = tokens.text();
+    match found.get(ended_before(tokens, offset, found)) {
+        Some(field) => if_on(tokens, offset, *field),
+        None => None,
+    }
+}
+
+/// How many identifiers end before a place.
+fn ended_before(tokens: &Tokens, offset: usize, found: &[(usize, usize)]) -> usize
+    ensures bound { result ≤ length found.now }
+    ensures point { IsNonDecreasingBy (λ x. (span_at tokens.now x.0).end) found.now → IsPartitionPoint (λ x. nat_lt (span_at tokens.now x.0).end offset ≡ true) (λ x. nat_lt (span_at tokens.now x.0).end offset ≡ false) found.now result }
+{
+    found.partition_point(|field| token_span(tokens, field.0).end < offset)
+}
+
+/// An identifier, where a place is on it.
+fn if_on(tokens: &Tokens, offset: usize, field: (usize, usize)) -> Option<(usize, usize)>
+    ensures { result ≡ (if is_on offset (span_at tokens.now field.0) then Some field else None) }
+{
+    if is_on(offset, token_span(tokens, field.0)) {
+        Some(field)
+    } else {
+        None
+    }
+}
+
+fn is_on(offset: usize, span: Span) -> bool
+    ensures { result ≡ is_on offset span }
+{
+    span.start <= offset && offset <= span.end
+}
+
+/// The place of the field of this name among those of a record.
+pub(crate) fn place_among(
+    tokens: &Tokens,
+    fields: &[(usize, usize)],
+    owner: usize,
+    name: &str,
+) -> Option<usize>
+    ensures { result ≡ position_from (λ token. same_name (text_at tokens.now token) name.now) 0 (record_tokens owner fields.now) }
+{
+    let mut place = 0;
+    for field in fields {
+        if field.1 == owner {
+            if is_written(tokens, field.0, name) {
+                return Some(place);
+            }
+            place += 1;
+        }
+    }
+    None
+}
+
+fn is_written(tokens: &Tokens, token: usize, name: &str) -> bool
+    ensures { result ≡ same_name (text_at tokens.now token) name.now }
+{
+    text_at(tokens, token) == name
+}
+
+/// The tokens of one field among some.
+pub(crate) fn tokens_among(
+    alloc: Global,
+    tokens: &Tokens,
+    fields: &[(usize, usize)],
+    owner: usize,
+    name: &str,
+) -> Result<Vec<usize>, AllocError>
+    ensures { IfOk result (λ found. found.items ≡ tokens_among tokens.now owner name.now fields.now) }
+{
+    let mut found = Vec::new(alloc);
+    for field in fields {
+        if is_field(tokens, *field, owner, name) {
+            found.push(field.0)?;
+        }
+    }
+    Ok(found)
+}
+
+/// The first of them.
+pub(crate) fn first_among(
+    tokens: &Tokens,
+    fields: &[(usize, usize)],
+    owner: usize,
+    name: &str,
+) -> Option<usize>
+    ensures { result ≡ first (tokens_among tokens.now owner name.now fields.now) }
+{
+    for field in fields {
+        if is_field(tokens, *field, owner, name) {
+            return Some(field.0);
+        }
+    }
+    None
+}
+
+fn is_field(tokens: &Tokens, field: (usize, usize), owner: usize, name: &str) -> bool
+    ensures { result ≡ is_field tokens.now owner name.now field }
+{
+    field.1 == owner && text_at(tokens, field.0) == name
+}

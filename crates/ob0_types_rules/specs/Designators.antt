@@ -1,0 +1,34 @@
+-- Designators and lists of expressions in labels, and which expressions are a designator alone.
+use Rattle.std.specs.Prelude.{ℕ, List, map, Some, None, Option}
+use Rattle.ob0_tree.specs.Tree.{Tree, designator, end, expression, factor, items, product, selector, simple, sum, term}
+use Rattle.ob0_tree.specs.View.{expression_of}
+use Rattle.ob0_tree.specs.declared.tree.Designator.{Designator, out-Designator}
+use Rattle.ob0_tree.specs.declared.tree.Expression.{Expression}
+use Rattle.ob0_scope_rules.specs.Names.{Label}
+use Rattle.ob0_scope_rules.specs.Resolution.{Resolution}
+use Rattle.ob0_types_rules.specs.InLabels.{in_labels, label_in}
+use Rattle.ob0_types_rules.specs.Selected.{selectors_in}
+
+-- a designator's name and its selectors
+abbrev pub designator_parts : Designator → ℕ × Tree ℕ (items selector)
+designator_parts d = ((out-Designator d).name, selectors_in d)
+
+abbrev pub designator_in : Resolution → Designator → Label × Tree Label (items selector)
+designator_in r d = (label_in r (out-Designator d).name, in_labels r (selectors_in d))
+
+-- a designator alone, where no sign and no operator stands beside it
+abbrev pub designated_factor : {N : Type 0} → Tree N factor → Option (N × Tree N (items selector))
+designated_factor (designator x path) = Some (x, path)
+designated_factor _ = None
+
+abbrev pub designated_term : {N : Type 0} → Tree N term → Option (N × Tree N (items selector))
+designated_term (product f end) = designated_factor f
+designated_term _ = None
+
+abbrev pub designated_simple : {N : Type 0} → Tree N simple → Option (N × Tree N (items selector))
+designated_simple (sum None t end) = designated_term t
+designated_simple _ = None
+
+-- several expressions, in order
+abbrev pub all_in_labels : Resolution → List Expression → List (Tree Label expression)
+all_in_labels r es = map (λ e. in_labels r (expression_of e)) es

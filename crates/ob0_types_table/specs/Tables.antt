@@ -1,0 +1,105 @@
+-- What the checker's tables stand for: types, shapes and declarations.
+use Rattle.std.specs.Prelude.{◌≡◌, ℕ, ◌<◌, Bool, true, false, List, [], ◌∷◌, ◌++◌, map, length, slice_index_or, All, Some, None, Option}
+use Rattle.ob0_values.specs.Scalars.{scalar_value}
+use Rattle.ob0_values.specs.Values.{FieldShapes, Shape, array_shape, boolean_shape, integer_shape, next_field_shape, no_field_shape, record_shape}
+use Rattle.ob0_types_table.specs.declared.types.TypeId.{TypeId}
+use Rattle.ob0_types_table.specs.declared.types.TypeId.TheVariants as type
+use Rattle.ob0_types_table.specs.declared.known.Shape as code
+use Rattle.ob0_types_table.specs.declared.known.Shape.TheVariants as made
+use Rattle.ob0_types_table.specs.declared.known.Field.{Field}
+use Rattle.ob0_types_table.specs.declared.known.Formal as formal
+use Rattle.ob0_types_table.specs.declared.known.Standard as standard
+use Rattle.ob0_types_table.specs.declared.known.Standard.TheVariants as standards
+use Rattle.ob0_types_table.specs.declared.known.Object as declaration
+use Rattle.ob0_types_table.specs.declared.known.Object.TheVariants as kind
+use Rattle.ob0_types_rules.specs.Expressions.{Object, Standard, a_constant, a_procedure, a_standard, a_type, a_variable, reads, writes, writes_line}
+use Rattle.ob0_types_rules.specs.Typing.{depth, scalars}
+use Rattle.ob0_types_rules.specs.WellTyped.{Formal, Mode, Signature, by_place, by_value}
+
+-- the shape of what has a fault
+abbrev pub no_shape : Shape
+no_shape = record_shape 0 no_field_shape
+
+abbrev pub only_array : Shape → Shape
+only_array (array_shape k n s) = array_shape k n s
+only_array _ = no_shape
+
+abbrev pub only_record : Shape → Shape
+only_record (record_shape k fs) = record_shape k fs
+only_record _ = no_shape
+
+-- the shape that a type stands for, by the shapes that were made, in order
+abbrev pub type_shape : List Shape → TypeId → Shape
+type_shape shapes type.Integer = integer_shape
+type_shape shapes type.Boolean = boolean_shape
+type_shape shapes (type.Array i) = only_array (slice_index_or shapes i no_shape)
+type_shape shapes (type.Record i) = only_record (slice_index_or shapes i no_shape)
+type_shape shapes type.Unknown = no_shape
+
+-- the fields of a record, in order
+abbrev pub fields_shape : List Shape → List Field → FieldShapes
+fields_shape shapes [] = no_field_shape
+fields_shape shapes (f ∷ fs) = next_field_shape f.name.now (type_shape shapes f.of) (fields_shape shapes fs)
+
+-- an entry of the table of shapes, over the shapes made before it
+abbrev pub made_shape : List Shape → code.Shape → Shape
+made_shape shapes (made.Array a) = array_shape a.ordinal a.length (type_shape shapes a.element)
+made_shape shapes (made.Record r) = record_shape r.ordinal (fields_shape shapes r.fields)
+
+-- the shapes of a table, each made over those before it
+abbrev pub shapes_from : List Shape → List code.Shape → List Shape
+shapes_from known [] = known
+shapes_from known (m ∷ ms) = shapes_from (known ++ made_shape known m ∷ []) ms
+
+-- a type has been made where there are n shapes
+abbrev pub IsMade : ℕ → TypeId → Type 0
+IsMade n (type.Array i) = i < n
+IsMade n (type.Record i) = i < n
+IsMade n _ = Unit {0}
+
+-- the parts of a shape were made before it
+abbrev pub PartsAreMade : ℕ → code.Shape → Type 0
+PartsAreMade n (made.Array a) = IsMade n a.element
+PartsAreMade n (made.Record r) = All (λ f. IsMade n f.of) r.fields
+
+-- an entry keeps how many scalars its shape has, and how deep it is
+abbrev pub IsCounted : code.Shape → Shape → Type 0
+IsCounted (made.Array a) s = (a.scalars ≡ scalars s) × (a.depth ≡ depth s)
+IsCounted (made.Record r) s = (r.scalars ≡ scalars s) × (r.depth ≡ depth s)
+
+pub record IsEntry (shapes : List Shape) (m : code.Shape) : Type 0 where
+  pub parts : PartsAreMade (length shapes) m
+  pub counted : IsCounted m (made_shape shapes m)
+
+-- each entry is made of those before it
+abbrev pub AreMadeInOrder : List Shape → List code.Shape → Type 0
+AreMadeInOrder known [] = Unit {0}
+AreMadeInOrder known (m ∷ ms) = IsEntry known m × AreMadeInOrder (known ++ made_shape known m ∷ []) ms
+
+-- what a declaration is
+abbrev pub mode_of : Bool → Mode
+mode_of true = by_place
+mode_of false = by_value
+
+abbrev pub formal_in : List Shape → formal.Formal → Formal
+formal_in shapes f = record { mode = mode_of f.by_place; shape = type_shape shapes f.of }
+
+abbrev pub standard_of : standard.Standard → Standard
+standard_of standards.Read = reads
+standard_of standards.Write = writes
+standard_of standards.WriteLn = writes_line
+
+-- a constant with a fault is nothing that a name stands for
+abbrev pub object_in : List Shape → declaration.Object → Option (Object Shape Signature)
+object_in shapes (kind.Named t) = Some (a_type (type_shape shapes t))
+object_in shapes (kind.Constant v) = Some (a_constant (scalar_value v))
+object_in shapes kind.FaultyConstant = None
+object_in shapes (kind.Variable t) = Some (a_variable (type_shape shapes t))
+object_in shapes (kind.Procedure fs) = Some (a_procedure (map (formal_in shapes) fs.items))
+object_in shapes (kind.Standard s) = Some (a_standard (standard_of s))
+
+abbrev pub ObjectIsMade : ℕ → declaration.Object → Type 0
+ObjectIsMade n (kind.Named t) = IsMade n t
+ObjectIsMade n (kind.Variable t) = IsMade n t
+ObjectIsMade n (kind.Procedure fs) = All (λ f. IsMade n f.of) fs.items
+ObjectIsMade n _ = Unit {0}

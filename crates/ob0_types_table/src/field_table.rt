@@ -1,0 +1,97 @@
+//! The fields of a record, each found by its name in logarithmic time.
+
+ghost use Rattle.std.specs.Prelude.{◌≡◌, List, IfOk, option_map};
+ghost use Rattle.ob0_values.specs.Values as shape;
+ghost use Rattle.ob0_types_table.specs.FieldIndex.{IsIndex};
+ghost use Rattle.ob0_types_table.specs.FieldPlaces.{place_of_field};
+ghost use Rattle.ob0_types_table.specs.Tables.{fields_shape, type_shape};
+ghost use Rattle.ob0_types_rules.specs.Typing.{shape_of_field};
+
+use crate::known::Field;
+use crate::types::TypeId;
+use std::alloc::{AllocError, Global};
+use std::collections::BTreeMap;
+use std::marker::Model;
+
+/// A field that is the first of its name: its place and its type.
+#[derive(Clone, Copy)]
+struct First {
+    place: usize,
+    of: TypeId,
+}
+
+/// Fields in order, with the first of each name.
+#[derive(Drop)]
+pub struct FieldTable<'t> {
+    fields: Vec<Field<'t>>,
+    first_of: BTreeMap<&'t str, First>,
+}
+
+impl<'t> Model for FieldTable<'t> {
+    ghost use Rattle.std.specs.Prelude.{List};
+    ghost use Rattle.ob0_types_table.specs.declared.known.Field.{Field};
+
+    ghost Value = { List Field };
+
+    ghost use Rattle.ob0_types_table.specs.FieldIndex.{IsIndex};
+
+    ghost view = { λ t. t.fields.items };
+
+    ghost invariant = { λ t. IsIndex t.first_of t.fields.items };
+}
+
+/// The first field of each name. The last field goes first, so that the first of a name stays.
+fn first_of<'t>(alloc: Global, fields: &[Field<'t>]) -> Result<BTreeMap<&'t str, First>, AllocError>
+    ensures { IfOk result (λ m. IsIndex m fields.now) }
+{
+    let mut first = BTreeMap::new(alloc);
+    let mut left = fields.len();
+    while left > 0 {
+        left -= 1;
+        let field = &fields[left];
+        let entry = First {
+            place: left,
+            of: field.of,
+        };
+        first.insert(field.name, entry)?;
+    }
+    Ok(first)
+}
+
+impl<'t> FieldTable<'t> {
+    pub(crate) fn new(fields: Vec<Field<'t>>) -> Result<FieldTable<'t>, AllocError>
+        ensures { IfOk result (λ t. t ≡ fields.entry.items) }
+    {
+        let first = first_of(*fields.allocator(), fields.as_slice())?;
+        Ok(FieldTable {
+            fields,
+            first_of: first,
+        })
+    }
+
+    pub fn as_slice(&self) -> &[Field<'t>]
+        ensures { result.now ≡ self.now }
+    {
+        self.fields.as_slice()
+    }
+
+    /// The type of the first field of this name.
+    pub(crate) fn find(&self, name: &str) -> Option<TypeId>
+        ensures { (shapes : List shape.Shape) → option_map (type_shape shapes) result ≡ shape_of_field (fields_shape shapes self.now) name.now }
+    {
+        match self.first_of.get(name) {
+            None => None,
+            Some(first) => Some(first.of),
+        }
+    }
+
+    /// The place of the first field of this name.
+    pub fn place(&self, name: &str) -> Option<usize>
+        ensures { (shapes : List shape.Shape) → result ≡ place_of_field (fields_shape shapes self.now) name.now }
+    {
+        match self.first_of.get(name) {
+            None => None,
+            Some(first) => Some(first.place),
+        }
+    }
+}

@@ -1,0 +1,83 @@
+//! Operations on the values of constants, where an operand may have none. An operand that settles an operation alone decides
+//! it, whatever the other is worth.
+
+ghost use Rattle.std.specs.Prelude.{◌≡◌, Some, option_and_then, option_map};
+ghost use Rattle.ob0_values.specs.Scalars.{scalar_value};
+ghost use Rattle.ob0_values.specs.Values as values;
+ghost use Rattle.ob0_types_table.specs.Operators.{product_value, sum_value};
+ghost use Rattle.ob0_types_rules.specs.Selected.{both};
+ghost use Rattle.ob0_types_rules.specs.Typing.{given_value};
+
+use ob0_tree::{AddOperator, MultiplyOperator, Relation, Sign};
+use ob0_values::Scalar;
+use ob0_values::scalar::{
+    add, add_is_settled, multiply, multiply_is_settled, negated, relate, signed,
+};
+
+pub fn related(relation: Relation, left: Option<Scalar>, right: Option<Scalar>) -> Option<Scalar>
+    ensures { option_map scalar_value result ≡ both (λ x y. given_value (values.relate relation x y)) (option_map scalar_value left) (option_map scalar_value right) }
+{
+    match left {
+        None => None,
+        Some(left) => match right {
+            None => None,
+            Some(right) => relate(relation, left, right).ok(),
+        },
+    }
+}
+
+pub fn with_sign(sign: Option<Sign>, operand: Option<Scalar>) -> Option<Scalar>
+    ensures { option_map scalar_value result ≡ option_and_then (λ x. given_value (values.signed sign x)) (option_map scalar_value operand) }
+{
+    match operand {
+        None => None,
+        Some(operand) => signed(sign, operand).ok(),
+    }
+}
+
+pub fn complement(operand: Option<Scalar>) -> Option<Scalar>
+    ensures { option_map scalar_value result ≡ option_and_then (λ x. given_value (values.negated x)) (option_map scalar_value operand) }
+{
+    match operand {
+        None => None,
+        Some(operand) => negated(operand).ok(),
+    }
+}
+
+pub fn added(operator: AddOperator, left: Option<Scalar>, right: Option<Scalar>) -> Option<Scalar>
+    ensures { option_map scalar_value result ≡ option_and_then (sum_value operator (option_map scalar_value right)) (option_map scalar_value left) }
+{
+    match left {
+        None => None,
+        Some(left) => {
+            if add_is_settled(operator, left) {
+                return Some(left);
+            }
+            match right {
+                None => None,
+                Some(right) => add(operator, left, right).ok(),
+            }
+        }
+    }
+}
+
+pub fn multiplied(
+    operator: MultiplyOperator,
+    left: Option<Scalar>,
+    right: Option<Scalar>,
+) -> Option<Scalar>
+    ensures { option_map scalar_value result ≡ option_and_then (product_value operator (option_map scalar_value right)) (option_map scalar_value left) }
+{
+    match left {
+        None => None,
+        Some(left) => {
+            if multiply_is_settled(operator, left) {
+                return Some(left);
+            }
+            match right {
+                None => None,
+                Some(right) => multiply(operator, left, right).ok(),
+            }
+        }
+    }
+}

@@ -1,4 +1,0 @@
-//! The types of Oberon-0 and its well-typed modules: definitions, and laws over them.
-#![tactic(auto)]
-
-pub mod laws;

@@ -1,0 +1,116 @@
+-- Messages that an editor writes aren't nested deeply, and are read as they were meant.
+use Rattle.std.proofs.Common.{◌≡◌, ◌≤◌, ◌<◌, ◌^◌, ℕ, pos, List, [], ◌∷◌, true, cond, Option, Some, None, map, arith, refl, ap}
+use Rattle.std.specs.Prelude.{nat_lt, string_bytes, Ok, codes}
+use Rattle.std.specs.Str.{chars}
+use Rattle.serde_json.specs.Data.{Data, depth, items_depth}
+use Rattle.serde_json.specs.View.{items_of}
+use Rattle.ob0_text.specs.declared.edits.Change.{Change}
+use Rattle.ob0_text.specs.declared.edits.Indent.TheVariants.{Tab, Spaces}
+use Rattle.ob0_text.specs.declared.positions.Range.{Range}
+use Rattle.ob0_text.specs.OpenDocuments.{Opened, Changed, Closed, TextChange, reported_change}
+use Rattle.ob0_rpc.specs.Asks.{call_of}
+use Rattle.ob0_rpc.specs.Messages.{Reads}
+use Rattle.ob0_rpc.specs.Notes.{change_in, all_changes, change_of, open_of}
+use Rattle.ob0_rpc.specs.Shapes.{notification_message}
+use Rattle.ob0_world_rules.specs.Edited.{whole_text}
+use Rattle.ob0_world_rules.specs.Asks.{Ask, rename, inline_here, inline_all, format}
+use Rattle.ob0_world_editor.specs.Shapes.{request_message, change_by, change_value, change_params, open_params, close_params, params_for, method_of}
+use Rattle.ob0_world_editor.specs.Heard.{IsNote, IsRequest, call_for}
+
+-- ---- depths
+
+shallow_change : (range : Option Range) (new : List ℕ) → depth (change_by range new) ≤ 3
+shallow_change (Some range) new = omega arith
+shallow_change None new = omega arith
+
+shallow_changes : (cs : List Change) → items_depth (items_of (map change_value cs)) ≤ 3
+shallow_changes [] = omega arith
+shallow_changes (c ∷ cs) = omega (arith, shallow_change c.range (string_bytes c.text), shallow_changes cs)
+
+pub shallow_change_params : (uri : List ℕ) (version : ℕ) (cs : List Change) → depth (change_params uri version (map change_value cs)) ≤ 126
+shallow_change_params uri version cs = omega (arith, shallow_changes cs)
+
+pub shallow_request : (k : ℕ) (uri : List ℕ) (ask : Ask) → depth (request_message k (method_of ask) (params_for uri ask)) ≤ 127
+shallow_request k uri (rename position name) = omega arith
+shallow_request k uri (inline_here position) = omega arith
+shallow_request k uri (inline_all position) = omega arith
+shallow_request k uri (format Tab) = omega arith
+shallow_request k uri (format (Spaces n)) = omega arith
+
+-- ---- changes are read as they were written
+
+read_back : (range : Option Range) (new : List ℕ) → change_in (change_by range new) ≡ Some (record { range = range; text = chars new })
+read_back (Some range) new = refl
+read_back None new = refl
+
+changes_read_back : (cs : List Change) → all_changes (items_of (map change_value cs)) ≡ Some (map reported_change cs)
+changes_read_back [] = refl
+changes_read_back (c ∷ cs) = rw (read_back c.range (string_bytes c.text), changes_read_back cs) refl
+
+-- a version of 63 bits is read as it was written
+version_read : (n : ℕ) → n < 2 ^ 63 → cond (nat_lt n (2 ^ 63)) (Some (pos n)) None ≡ Some (pos n)
+version_read n h = rw (lt_true n (2 ^ 63) h) refl
+  where
+    lt_true : (a b : ℕ) → a < b → nat_lt a b ≡ true
+    lt_true a b h = search (Rattle.std.proofs.Common.rules)
+
+-- ---- notes
+
+pub opening_told : (content uri : List ℕ) (version : ℕ) (text : List ℕ) → version < 2 ^ 63 → Reads content (Some (notification_message (codes "textDocument/didOpen") (open_params uri version text)))
+    → IsNote (Opened uri (pos version) (chars text)) content
+opening_told content uri version text h reads =
+    record {
+      json = notification_message (codes "textDocument/didOpen") (open_params uri version text);
+      reads = reads;
+      method = codes "textDocument/didOpen";
+      params = open_params uri version text;
+      means = refl;
+      told = ap (λ v. open_of (Some uri) v (Some (chars text))) (version_read version h);
+      fits = version_read version h;
+    }
+
+changed_so : (content uri : List ℕ) (version : ℕ) (values : List Data) (all : List TextChange) → version < 2 ^ 63 → all_changes (items_of values) ≡ Some all
+    → Reads content (Some (notification_message (codes "textDocument/didChange") (change_params uri version values))) → IsNote (Changed uri (pos version) all) content
+changed_so content uri version values all h are reads =
+    record {
+      json = notification_message (codes "textDocument/didChange") (change_params uri version values);
+      reads = reads;
+      method = codes "textDocument/didChange";
+      params = change_params uri version values;
+      means = refl;
+      told = (λ i. change_of (Some uri) (version_read version h i) (are i));
+      fits = version_read version h;
+    }
+
+pub changing_told : (content uri : List ℕ) (version : ℕ) (cs : List Change) → version < 2 ^ 63 → Reads content (Some (notification_message (codes "textDocument/didChange") (change_params uri version (map change_value cs))))
+    → IsNote (Changed uri (pos version) (map reported_change cs)) content
+changing_told content uri version cs h reads = changed_so content uri version (map change_value cs) (map reported_change cs) h (changes_read_back cs) reads
+
+pub rewriting_told : (content uri : List ℕ) (version : ℕ) (text : List ℕ) → version < 2 ^ 63 → Reads content (Some (notification_message (codes "textDocument/didChange") (change_params uri version (change_by None text ∷ []))))
+    → IsNote (Changed uri (pos version) (whole_text (chars text) ∷ [])) content
+rewriting_told content uri version text h reads = changed_so content uri version (change_by None text ∷ []) (whole_text (chars text) ∷ []) h refl reads
+
+pub closing_told : (content uri : List ℕ) → Reads content (Some (notification_message (codes "textDocument/didClose") (close_params uri))) → IsNote (Closed uri) content
+closing_told content uri reads =
+    record {
+      json = notification_message (codes "textDocument/didClose") (close_params uri);
+      reads = reads;
+      method = codes "textDocument/didClose";
+      params = close_params uri;
+      means = refl;
+      told = refl;
+      fits = tt;
+    }
+
+-- ---- asks
+
+pub ask_requested : (content : List ℕ) (k : ℕ) (uri : List ℕ) (ask : Ask) → Reads content (Some (request_message k (method_of ask) (params_for uri ask))) → IsRequest k uri ask content
+ask_requested content k uri ask reads =
+    record { json = request_message k (method_of ask) (params_for uri ask); reads = reads; params = params_for uri ask; means = refl; calls = called ask }
+  where
+    called : (ask : Ask) → call_of (method_of ask) (params_for uri ask) ≡ Ok (call_for uri ask)
+    called (rename position name) = refl
+    called (inline_here position) = refl
+    called (inline_all position) = refl
+    called (format Tab) = refl
+    called (format (Spaces n)) = refl

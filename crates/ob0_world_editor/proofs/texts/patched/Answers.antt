@@ -1,0 +1,15 @@
+use Rattle.std.proofs.Common.{◌∙◌, ap, sym, Err}
+use Rattle.ob0_text.specs.Units.{width_of}
+use Rattle.ob0_text.specs.Patches as patches
+use Rattle.ob0_world_rules.proofs.EditedTexts.{edited_as_patched}
+use Rattle.ob0_world_editor.proofs.texts.patched.Goals as goal
+
+pub returns-in-Ok : goal.returns-in-Ok
+returns-in-Ok g c =
+    edited_as_patched c.args.unit _ c.args.edits.now
+    ∙ sym (λ i. patches.patched (width_of (c.in_ok-store.ensures.unit i)) (c.in_ok-store.ensures.content i) c.args.edits.now) ∙ c.in-Ok.ensures.ok
+
+pub returns-in-Err-Overlap : goal.returns-in-Err-Overlap
+returns-in-Err-Overlap g c =
+    edited_as_patched c.args.unit _ c.args.edits.now
+    ∙ sym (λ i. patches.patched (width_of (c.in_ok-store.ensures.unit i)) (c.in_ok-store.ensures.content i) c.args.edits.now) ∙ c.in-Err-Overlap.ensures.overlap (ap Err c.in-Err-Overlap.field-0-is)

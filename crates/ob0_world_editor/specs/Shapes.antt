@@ -1,0 +1,97 @@
+-- The messages that an editor writes, as JSON values (LSP 3.17). Members stand in byte order of their names.
+use Rattle.std.specs.Prelude.{ℕ, List, true, false, Bool, Option, Some, None, codes, string_bytes}
+use Rattle.serde_json.specs.Data.{Data, boolean, number, array, object, unsigned, no_items, member, no_members}
+use Rattle.serde_json.specs.View.{items_of}
+use Rattle.ob0_text.specs.declared.positions.Position.{Position}
+use Rattle.ob0_text.specs.declared.positions.Range.{Range}
+use Rattle.ob0_text.specs.declared.edits.Change.{Change}
+use Rattle.ob0_text.specs.declared.edits.Indent.{Indent}
+use Rattle.ob0_text.specs.declared.edits.Indent.TheVariants.{Tab, Spaces}
+use Rattle.ob0_rpc.specs.Shapes.{text, json_rpc}
+use Rattle.ob0_world_rules.specs.Asks.{Ask, rename, inline_here, inline_all, format}
+
+-- {"id":k,"jsonrpc":"2.0","method":M,"params":P}
+abbrev pub request_message : ℕ → List ℕ → Data → Data
+request_message k method params =
+    object (member (codes "id") (number (unsigned k)) (member (codes "jsonrpc") json_rpc
+    (member (codes "method") (text method) (member (codes "params") params no_members))))
+
+-- {"character":c,"line":l}
+abbrev pub position_value : Position → Data
+position_value p = object (member (codes "character") (number (unsigned p.character)) (member (codes "line") (number (unsigned p.line)) no_members))
+
+-- {"end":P,"start":P}
+abbrev pub range_value : Range → Data
+range_value r = object (member (codes "end") (position_value r.end) (member (codes "start") (position_value r.start) no_members))
+
+-- ---- notes
+
+-- {"languageId":"oberon-0","text":t,"uri":u,"version":v} in the member `textDocument`
+abbrev pub open_params : List ℕ → ℕ → List ℕ → Data
+open_params uri version contents =
+    object (member (codes "textDocument") (object (member (codes "languageId") (text (codes "oberon-0")) (member (codes "text") (text contents)
+    (member (codes "uri") (text uri) (member (codes "version") (number (unsigned version)) no_members))))) no_members)
+
+-- {"range":R,"text":t}, without `range` for the whole text
+abbrev pub change_by : Option Range → List ℕ → Data
+change_by (Some range) new = object (member (codes "range") (range_value range) (member (codes "text") (text new) no_members))
+change_by None new = object (member (codes "text") (text new) no_members)
+
+abbrev pub change_value : Change → Data
+change_value c = change_by c.range (string_bytes c.text)
+
+-- {"contentChanges":[C,..],"textDocument":{"uri":u,"version":v}}
+abbrev pub change_params : List ℕ → ℕ → List Data → Data
+change_params uri version changes =
+    object (member (codes "contentChanges") (array (items_of changes))
+    (member (codes "textDocument") (object (member (codes "uri") (text uri) (member (codes "version") (number (unsigned version)) no_members))) no_members))
+
+-- {"uri":u}
+abbrev pub document_value : List ℕ → Data
+document_value uri = object (member (codes "uri") (text uri) no_members)
+
+-- {"textDocument":{"uri":u}}
+abbrev pub close_params : List ℕ → Data
+close_params uri = object (member (codes "textDocument") (document_value uri) no_members)
+
+-- ---- asks
+
+-- {"newName":n,"position":P,"textDocument":{"uri":u}}
+abbrev pub rename_params : List ℕ → Position → List ℕ → Data
+rename_params uri position name =
+    object (member (codes "newName") (text name) (member (codes "position") (position_value position) (member (codes "textDocument") (document_value uri) no_members)))
+
+-- the empty range at a position
+abbrev pub empty_at : Position → Range
+empty_at position = record { start = position; end = position }
+
+-- {"context":{"diagnostics":[]},"range":R,"textDocument":{"uri":u}}
+abbrev pub actions_params : List ℕ → Position → Data
+actions_params uri position =
+    object (member (codes "context") (object (member (codes "diagnostics") (array no_items) no_members))
+    (member (codes "range") (range_value (empty_at position)) (member (codes "textDocument") (document_value uri) no_members)))
+
+-- {"insertSpaces":b,"tabSize":n}
+abbrev pub options_by : Bool → ℕ → Data
+options_by spaces size = object (member (codes "insertSpaces") (boolean spaces) (member (codes "tabSize") (number (unsigned size)) no_members))
+
+abbrev pub options_value : Indent → Data
+options_value Tab = options_by false 1
+options_value (Spaces n) = options_by true n
+
+-- {"options":{..},"textDocument":{"uri":u}}
+abbrev pub formatting_params : List ℕ → Indent → Data
+formatting_params uri indent = object (member (codes "options") (options_value indent) (member (codes "textDocument") (document_value uri) no_members))
+
+-- the method of an ask; both ways of inlining ask for the actions at their place
+abbrev pub method_of : Ask → List ℕ
+method_of (rename position name) = codes "textDocument/rename"
+method_of (inline_here position) = codes "textDocument/codeAction"
+method_of (inline_all position) = codes "textDocument/codeAction"
+method_of (format indent) = codes "textDocument/formatting"
+
+abbrev pub params_for : List ℕ → Ask → Data
+params_for uri (rename position name) = rename_params uri position name
+params_for uri (inline_here position) = actions_params uri position
+params_for uri (inline_all position) = actions_params uri position
+params_for uri (format indent) = formatting_params uri indent

@@ -1,0 +1,86 @@
+-- What a content tells the editor: a publication, or the answer to an ask, which is read as what was asked needs it.
+use Rattle.std.specs.Prelude.{ℕ, ℤ, List, [], ◌∷◌, Bool, true, false, Option, Some, None, is_some, option_and_then, option_map, unwrap_or, if◌then◌else◌, codes}
+use Rattle.std.specs.Str.{bytes_eq, chars, is_utf8}
+use Rattle.serde_json.specs.Data.{Data, Items, no_items, item}
+use Rattle.serde_json.specs.Find.{get, at, as_array, as_number, as_i64}
+use Rattle.serde_json.specs.Read.{read}
+use Rattle.ob0_text.specs.declared.positions.Range.{Range}
+use Rattle.ob0_rpc.specs.Members.{text_in, range_in}
+use Rattle.ob0_world_rules.specs.Edited.{Replacement}
+use Rattle.ob0_world_rules.specs.Asks.{Ask, rename, inline_here, inline_all, format}
+use Rattle.ob0_world_rules.specs.Ends.{Asked, numbered, ToEditor, publishes, answers}
+use Rattle.ob0_world_editor.specs.Heard.{number_of}
+
+-- ---- publications
+
+abbrev pub has_none : Items → Bool
+has_none no_items = true
+has_none (item d ds) = false
+
+abbrev pub publication_by : Option (List ℕ) → Option ℤ → Option Items → Option ToEditor
+publication_by (Some uri) version (Some diagnostics) = Some (publishes uri version (has_none diagnostics))
+publication_by (Some uri) version None = None
+publication_by None version diagnostics = None
+
+abbrev pub publication_understood : Data → Option ToEditor
+publication_understood params =
+    publication_by (text_in (codes "uri") params) (option_and_then as_i64 (option_and_then as_number (get (codes "version") params)))
+    (option_and_then as_array (get (codes "diagnostics") params))
+
+-- ---- edits
+
+abbrev pub edit_by : Option Range → Option (List ℕ) → Option Replacement
+edit_by (Some range) (Some text) = Some (record { range = range; text = chars text })
+edit_by (Some range) None = None
+edit_by None text = None
+
+abbrev pub edit_in : Data → Option Replacement
+edit_in d = edit_by (range_in (codes "range") d) (text_in (codes "newText") d)
+
+-- all edits of a list; none where one of them can't be read
+abbrev pub edits_in : Items → Option (List Replacement)
+edits_in no_items = Some []
+edits_in (item d ds) = option_and_then (λ e. option_map (λ es. e ∷ es) (edits_in ds)) (edit_in d)
+
+-- the lists of edits in an answer: of a WorkspaceEdit those of its first document
+abbrev pub workspace_items : Data → Option Items
+workspace_items value = option_and_then as_array (option_and_then (get (codes "edits")) (option_and_then (at 0) (get (codes "documentChanges") value)))
+
+abbrev pub is_titled : List ℕ → Option (List ℕ) → Bool
+is_titled title (Some found) = bytes_eq found title
+is_titled title None = false
+
+-- the first action with this title
+abbrev pub action_in : List ℕ → Items → Option Data
+action_in title no_items = None
+action_in title (item d ds) = if is_titled title (text_in (codes "title") d) then Some d else action_in title ds
+
+abbrev pub action_items : List ℕ → Data → Option Items
+action_items title value = option_and_then workspace_items (option_and_then (get (codes "edit")) (option_and_then (action_in title) (as_array value)))
+
+-- a rename is answered with a WorkspaceEdit, an inlining with actions, of which that with its title is meant, and formatting with a list of edits
+abbrev pub items_for : Ask → Data → Option Items
+items_for (rename position name) value = workspace_items value
+items_for (inline_here position) value = action_items (codes "Inline here") value
+items_for (inline_all position) value = action_items (codes "Inline everywhere") value
+items_for (format indent) value = as_array value
+
+-- the edits of an answer; a refusal and null have none
+abbrev pub edits_for : Ask → Data → List Replacement
+edits_for ask answer = unwrap_or (option_and_then edits_in (option_and_then (items_for ask) (get (codes "result") answer))) []
+
+abbrev pub answer_to : List Asked → Data → ℕ → Option ToEditor
+answer_to asked answer k = option_map (λ a. answers k (edits_for a.ask answer)) (numbered asked k)
+
+abbrev pub answer_understood : List Asked → Data → Option ToEditor
+answer_understood asked answer = option_and_then (answer_to asked answer) (option_and_then number_of (get (codes "id") answer))
+
+-- ---- messages
+
+abbrev pub value_understood : List Asked → Data → Option ToEditor
+value_understood asked d =
+    if is_some (get (codes "method") d) then option_and_then publication_understood (get (codes "params") d) else answer_understood asked d
+
+-- the message in a content, where these asks were sent
+unfoldable pub understood : List Asked → List ℕ → Option ToEditor
+understood asked content = if is_utf8 content then option_and_then (value_understood asked) (read content) else None

@@ -1,0 +1,34 @@
+//! What an editor asks for.
+ghost use Rattle.std.specs.Prelude.{◌≡◌, IfOk};
+ghost use Rattle.ob0_world_editor.specs.Code.{ask_of};
+
+use ob0_text::{Indent, Position};
+use std::alloc::{AllocError, Global};
+
+/// What an editor asks a server for.
+#[derive(Debug, Drop)]
+pub enum Ask {
+    Rename { position: Position, name: String },
+    InlineHere { position: Position },
+    InlineAll { position: Position },
+    Format { indent: Indent },
+}
+
+/// Another ask of the same.
+pub fn copied(alloc: Global, ask: &Ask) -> Result<Ask, AllocError>
+    ensures { IfOk result (λ copy. ask_of copy ≡ ask_of ask.now) }
+{
+    match ask {
+        Ask::Rename { position, name } => Ok(Ask::Rename {
+            position: *position,
+            name: String::from_str(alloc, name.as_str())?,
+        }),
+        Ask::InlineHere { position } => Ok(Ask::InlineHere {
+            position: *position,
+        }),
+        Ask::InlineAll { position } => Ok(Ask::InlineAll {
+            position: *position,
+        }),
+        Ask::Format { indent } => Ok(Ask::Format { indent: *indent }),
+    }
+}

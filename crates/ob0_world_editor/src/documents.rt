@@ -1,0 +1,64 @@
+//! The documents that are open in the editor.
+ghost use Rattle.std.specs.Prelude.{◌≡◌, OnOk, string_bytes};
+ghost use Rattle.std.specs.Option.{option_map};
+ghost use Rattle.std.specs.FinMap as map_of;
+ghost use Rattle.ob0_world_editor.specs.Entries.{open_of};
+
+use std::alloc::{AllocError, Global};
+use std::collections::BTreeMap;
+use std::marker::Model;
+
+/// A document that is open in the editor.
+#[derive(Drop)]
+pub struct Open {
+    pub version: u64,
+    pub text: String,
+    /// No two openings have one number.
+    pub opening: u64,
+}
+
+/// The open documents, by their uris.
+#[derive(Drop)]
+pub struct OpenDocuments {
+    by_uri: BTreeMap<String, Open>,
+}
+
+impl Model for OpenDocuments {
+    ghost use Rattle.ob0_world_rules.specs.Ends.{Documents};
+    ghost use Rattle.ob0_world_editor.specs.Entries.{documents_of, open_documents_code};
+
+    ghost Value = { Documents };
+
+    ghost coded = { open_documents_code };
+
+    ghost view = { λ documents. documents_of documents.by_uri.entries };
+}
+
+impl OpenDocuments {
+    pub fn new(alloc: Global) -> OpenDocuments
+        ensures { result ≡ map_of.empty }
+    {
+        OpenDocuments {
+            by_uri: BTreeMap::new(alloc),
+        }
+    }
+
+    pub fn get(&self, uri: &str) -> Option<&Open>
+        ensures { option_map (λ d. open_of d.now) result ≡ map_of.get self.now uri.now }
+    {
+        self.by_uri.get(uri)
+    }
+
+    pub fn put(&mut self, uri: String, document: Open) -> Result<(), AllocError>
+        ensures { OnOk result (self.new ≡ map_of.insert self.old (string_bytes uri) (open_of document)) }
+    {
+        self.by_uri.insert(uri, document)?;
+        Ok(())
+    }
+
+    pub fn close(&mut self, uri: &str)
+        ensures { self.new ≡ map_of.remove self.old uri.now }
+    {
+        self.by_uri.remove(uri);
+    }
+}

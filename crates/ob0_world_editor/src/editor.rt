@@ -1,0 +1,291 @@
+//! What an editor keeps, and what it does.
+ghost use Rattle.std.specs.Prelude.{◌≡◌, IfOk, OnOk, OnErr, map, option_map, is_some, ◌<◌, ◌^◌};
+ghost use Rattle.std.specs.Str.{chars};
+ghost use Rattle.ob0_text.specs.OpenDocuments.{reported_change};
+ghost use Rattle.ob0_world_rules.specs.Ends.{new_editor, numbered, open_at};
+ghost use Rattle.ob0_world_rules.specs.Editing.{opens_document, changes_document, closes_document, asks_about, has_edits, keeps, held_answer, without_answer, applies_asked, applies_answer};
+ghost use Rattle.ob0_world_editor.specs.Code.{ask_of, message_of};
+ghost use Rattle.ob0_world_rules.specs.Edited.{replacements};
+ghost use Rattle.ob0_world_editor.specs.Moves.{AreFew, Moves, ComesOf, IsRewritten, IsMade, IsPlaceOf};
+ghost use Rattle.ob0_world_editor.specs.Understood.{understood};
+
+use crate::applied::{Applied, Applying};
+use crate::asks::{Ask, copied};
+use crate::documents::{Open, OpenDocuments};
+use crate::reading::{Message, numbered_ask, read_message};
+use crate::texts::{changed, patched};
+use crate::writing::{did_change, did_close, did_open, did_rewrite, request};
+use ob0_text::{Change, Edit, Unit, Whole};
+use std::alloc::{AllocError, Global};
+use std::marker::Model;
+
+/// What was asked, and the state of the document then.
+#[derive(Drop)]
+pub struct Asked {
+    pub ask: Ask,
+    pub uri: String,
+    pub opening: u64,
+    pub version: u64,
+}
+
+/// An answer that the editor holds.
+#[derive(Drop)]
+pub struct Answer {
+    pub number: u64,
+    pub edits: Vec<Edit>,
+}
+
+/// A document that gets a new text.
+#[derive(Drop)]
+struct Rewritten {
+    applied: Applied,
+    version: u64,
+    opening: u64,
+}
+
+/// An editor.
+#[derive(Drop)]
+pub struct Editor {
+    alloc: Global,
+    unit: Unit,
+    documents: OpenDocuments,
+    openings: u64,
+    asked: Vec<Asked>,
+    answers: Vec<Answer>,
+}
+
+impl Model for Editor {
+    ghost use Rattle.std.specs.Prelude.{map};
+    ghost use Rattle.std.specs.Coded.{codes};
+    ghost use Rattle.ob0_world_rules.specs.Ends.{Editor};
+    ghost use Rattle.ob0_world_editor.specs.Code.{asked_of, answer_of};
+    ghost use Rattle.ob0_world_editor.specs.Entries.{open_documents_code};
+
+    ghost Value = { Editor };
+
+    ghost coded = { Prim.hlevel (codes, open_documents_code) };
+
+    ghost view = { λ e. record { unit = e.unit; documents = e.documents; openings = e.openings; asked = map asked_of e.asked.items; answers = map answer_of e.answers.items } };
+}
+
+impl Editor {
+    /// An editor with no document, whose positions are counted in this unit.
+    pub fn new(alloc: Global, unit: Unit) -> Editor
+        ensures { result ≡ new_editor unit }
+    {
+        Editor {
+            alloc,
+            unit,
+            documents: OpenDocuments::new(alloc),
+            openings: 0,
+            asked: Vec::new(alloc),
+            answers: Vec::new(alloc),
+        }
+    }
+
+    /// Opens a document; the content tells the server. None where it is open already.
+    pub fn open(&mut self, uri: &str, text: &str) -> Result<Option<Vec<u8>>, AllocError>
+        requires { AreFew self.old }
+        ensures ok { IfOk result (λ content. Moves (opens_document self.old uri.now (chars text.now) (open_at self.old uri.now)) self.old content self.new) }
+        ensures err { OnErr result (self.new.asked ≡ self.old.asked) }
+    {
+        if self.documents.get(uri).is_some() {
+            return Ok(None);
+        }
+        let content = did_open(self.alloc, uri, 1, text)?;
+        let key = String::from_str(self.alloc, uri)?;
+        let text = String::from_str(self.alloc, text)?;
+        let opening = self.openings + 1;
+        self.documents.put(
+            key,
+            Open {
+                version: 1,
+                text,
+                opening,
+            },
+        )?;
+        self.openings = opening;
+        Ok(Some(content))
+    }
+
+    /// Changes a document; the content tells the server. None where it isn't open.
+    pub fn change(&mut self, uri: &str, changes: &[Change]) -> Result<Option<Vec<u8>>, AllocError>
+        requires { AreFew self.old }
+        ensures ok { IfOk result (λ content. Moves (changes_document self.old uri.now (map reported_change changes.now) (open_at self.old uri.now)) self.old content self.new) }
+        ensures err { OnErr result (self.new.asked ≡ self.old.asked) }
+    {
+        let Some(open) = self.documents.get(uri) else {
+            return Ok(None);
+        };
+        let text = changed::<Whole>(self.alloc, self.unit, open.text.as_str(), changes)?;
+        let version = open.version + 1;
+        let opening = open.opening;
+        let content = did_change(self.alloc, uri, version, changes)?;
+        let key = String::from_str(self.alloc, uri)?;
+        self.documents.put(
+            key,
+            Open {
+                version,
+                text,
+                opening,
+            },
+        )?;
+        Ok(Some(content))
+    }
+
+    /// Closes a document; the content tells the server. None where it isn't open.
+    pub fn close(&mut self, uri: &str) -> Result<Option<Vec<u8>>, AllocError>
+        ensures ok { IfOk result (λ content. Moves (closes_document self.old uri.now (open_at self.old uri.now)) self.old content self.new) }
+        ensures err { OnErr result (self.new.asked ≡ self.old.asked) }
+    {
+        if self.documents.get(uri).is_none() {
+            return Ok(None);
+        }
+        let content = did_close(self.alloc, uri)?;
+        self.documents.close(uri);
+        Ok(Some(content))
+    }
+
+    /// Asks this of a document; the content is the request. None where it isn't open.
+    pub fn ask(&mut self, uri: &str, ask: &Ask) -> Result<Option<Vec<u8>>, AllocError>
+        requires { AreFew self.old }
+        ensures ok { IfOk result (λ content. Moves (asks_about self.old uri.now (ask_of ask.now) (open_at self.old uri.now)) self.old content self.new) }
+        ensures err { OnErr result (self.new.asked ≡ self.old.asked) }
+    {
+        let Some(open) = self.documents.get(uri) else {
+            return Ok(None);
+        };
+        let (version, opening) = (open.version, open.opening);
+        let number = self.asked.len() as u64 + 1;
+        let content = request(self.alloc, number, uri, ask)?;
+        let ask = copied(self.alloc, ask)?;
+        let uri = String::from_str(self.alloc, uri)?;
+        self.asked.push(Asked {
+            ask,
+            uri,
+            opening,
+            version,
+        })?;
+        Ok(Some(content))
+    }
+
+    /// Reads a content that came from the server; None where it is no message for this editor.
+    pub fn read(&self, content: &[u8]) -> Result<Option<Message>, AllocError>
+        ensures { IfOk result (λ found. option_map message_of found ≡ understood self.now.asked content.now) }
+    {
+        read_message(self.alloc, self.asked.as_slice(), content)
+    }
+
+    /// Keeps an answer, if it has edits, and says whether it has.
+    pub fn keep(&mut self, number: u64, edits: Vec<Edit>) -> Result<bool, AllocError>
+        ensures kept { OnOk result (self.new ≡ keeps self.old number (replacements edits.items)) }
+        ensures some { IfOk result (λ kept. kept ≡ has_edits (replacements edits.items)) }
+        ensures err { OnErr result (self.new.asked ≡ self.old.asked) }
+    {
+        if edits.is_empty() {
+            return Ok(false);
+        }
+        self.answers.push(Answer { number, edits })?;
+        Ok(true)
+    }
+
+    /// Makes the edits of answer `k`, where the document is the same opening with the same version as when it was asked
+    /// about; the content tells the server. Else the answer is dropped.
+    pub fn apply(&mut self, k: u64) -> Result<Applying, AllocError>
+        requires { AreFew self.old }
+        ensures ok { IfOk result (λ applying. ComesOf (applies_answer self.old k (held_answer k self.old.answers)) self.old applying self.new) }
+        ensures err { OnErr result (self.new.asked ≡ self.old.asked) }
+    {
+        let Some(edits) = self.let_go(k) else {
+            return Ok(Applying::NotHeld);
+        };
+        match self.rewritten(k, edits.as_slice())? {
+            Some(rewritten) => self.make(rewritten),
+            None => Ok(Applying::Dropped),
+        }
+    }
+
+    /// Lets answer `k` go, and says whether it was held.
+    pub fn discard(&mut self, k: u64) -> bool
+        ensures held { result ≡ is_some (held_answer k self.old.answers) }
+        ensures after { self.new ≡ without_answer self.old k }
+    {
+        self.let_go(k).is_some()
+    }
+
+    fn let_go(&mut self, k: u64) -> Option<Vec<Edit>>
+        ensures edits { option_map (λ v. replacements v.items) result ≡ held_answer k self.old.answers }
+        ensures after { self.new ≡ without_answer self.old k }
+    {
+        let place = place_of(self.answers.as_slice(), k)?;
+        let answer = self.answers.remove(place);
+        Some(answer.edits)
+    }
+
+    /// The document that was asked about, with these edits made; None where it isn't the same any more, or the edits can't be made.
+    fn rewritten(&self, k: u64, edits: &[Edit]) -> Result<Option<Rewritten>, AllocError>
+        requires { AreFew self.now }
+        ensures { IfOk result (λ rewritten. IsRewritten self.now (applies_asked self.now (replacements edits.now) (numbered self.now.asked k)) rewritten) }
+    {
+        let Some(asked) = numbered_ask(self.asked.as_slice(), k) else {
+            return Ok(None);
+        };
+        let Some(document) = self.documents.get(asked.uri.as_str()) else {
+            return Ok(None);
+        };
+        if document.opening != asked.opening || document.version != asked.version {
+            return Ok(None);
+        }
+        let Some(after) = patched::<Whole>(self.alloc, self.unit, document.text.as_str(), edits)?
+        else {
+            return Ok(None);
+        };
+        let uri = String::from_str(self.alloc, asked.uri.as_str())?;
+        let before = String::from_str(self.alloc, document.text.as_str())?;
+        Ok(Some(Rewritten {
+            applied: Applied { uri, before, after },
+            version: document.version + 1,
+            opening: document.opening,
+        }))
+    }
+
+    /// Takes a document's new text, and tells the server.
+    fn make(&mut self, rewritten: Rewritten) -> Result<Applying, AllocError>
+        requires { rewritten.version < 2 ^ 63 }
+        ensures ok { IfOk result (λ applying. IsMade self.old rewritten applying self.new) }
+        ensures err { OnErr result (self.new.asked ≡ self.old.asked) }
+    {
+        let applied = rewritten.applied;
+        let version = rewritten.version;
+        let opening = rewritten.opening;
+        let content = did_rewrite(
+            self.alloc,
+            applied.uri.as_str(),
+            version,
+            applied.after.as_str(),
+        )?;
+        let key = String::from_str(self.alloc, applied.uri.as_str())?;
+        let text = String::from_str(self.alloc, applied.after.as_str())?;
+        self.documents.put(
+            key,
+            Open {
+                version,
+                text,
+                opening,
+            },
+        )?;
+        Ok(Applying::Made { applied, content })
+    }
+}
+
+/// Where the first answer to ask `k` stands.
+fn place_of(answers: &[Answer], k: u64) -> Option<usize>
+    ensures { IsPlaceOf answers.now k result }
+{
+    for place in 0..answers.len() {
+        if answers[place].number == k {
+            return Some(place);
+        }
+    }
+    None
+}

@@ -1,0 +1,276 @@
+//! The messages of a server, as the editor reads them.
+ghost use Rattle.std.specs.Prelude.{◌≡◌, IfOk, codes, option_map, option_and_then, map, true};
+ghost use Rattle.serde_json.specs.Data.{Items};
+ghost use Rattle.serde_json.specs.Find.{get, as_str, as_number, as_i64, as_array};
+ghost use Rattle.serde_json.specs.View.{view, items_view};
+ghost use Rattle.ob0_rpc.specs.Members.{text_in as text_of_member, range_in as range_of_member, position_in as position_of_member, position_of as position_told, range_of as range_told, count_in as count_of_member};
+ghost use Rattle.ob0_world_editor.specs.Code.{message_of, ask_of, asked_of};
+ghost use Rattle.ob0_world_rules.specs.Edited.{replacement_of, replacements};
+ghost use Rattle.ob0_world_editor.specs.Heard.{number_of};
+ghost use Rattle.ob0_world_editor.specs.Understood.{understood, value_understood, publication_understood, answer_understood, has_none, edit_in, edits_in, workspace_items, is_titled, action_in, action_items, items_for as items_of_answer, edits_for};
+ghost use Rattle.ob0_world_rules.specs.Ends.{numbered};
+
+use crate::asks::Ask;
+use crate::editor::Asked;
+use ob0_text::{Edit, Position, Range};
+use serde_json::Value;
+use std::alloc::{AllocError, Global};
+
+/// A message of a server.
+#[derive(Drop)]
+pub enum Message {
+    Published {
+        uri: String,
+        version: Option<i64>,
+        empty: bool,
+    },
+    /// The answer to an ask; a refusal has no edits.
+    Answered {
+        number: u64,
+        edits: Vec<Edit>,
+    },
+}
+
+/// Reads a content, where these asks were sent; None where it is no message that a server sends for them.
+pub fn read_message(
+    alloc: Global,
+    asked: &[Asked],
+    content: &[u8],
+) -> Result<Option<Message>, AllocError>
+    ensures { IfOk result (λ found. option_map message_of found ≡ understood (map asked_of asked.now) content.now) }
+{
+    match Value::from_slice(alloc, content) {
+        Ok(message) => read_value(alloc, asked, &message),
+        Err(error) => if error.is_memory() {
+            Err(AllocError)
+        } else {
+            Ok(None)
+        },
+    }
+}
+
+fn read_value(
+    alloc: Global,
+    asked: &[Asked],
+    message: &Value,
+) -> Result<Option<Message>, AllocError>
+    ensures { IfOk result (λ found. option_map message_of found ≡ value_understood (map asked_of asked.now) (view message.now)) }
+{
+    if message.get("method").is_none() {
+        return read_answer(alloc, asked, message);
+    }
+    match message.get("params") {
+        Some(params) => read_publication(alloc, params),
+        None => Ok(None),
+    }
+}
+
+// ---- publications
+
+fn read_publication(alloc: Global, params: &Value) -> Result<Option<Message>, AllocError>
+    ensures { IfOk result (λ found. option_map message_of found ≡ publication_understood (view params.now)) }
+{
+    let Some(uri) = text_in(params, "uri") else {
+        return Ok(None);
+    };
+    let Some(empty) = has_no_diagnostics(params) else {
+        return Ok(None);
+    };
+    let version = published_version(params);
+    let uri = String::from_str(alloc, uri)?;
+    Ok(Some(Message::Published {
+        uri,
+        version,
+        empty,
+    }))
+}
+
+fn published_version(params: &Value) -> Option<i64>
+    ensures { result ≡ option_and_then as_i64 (option_and_then as_number (get (codes "version") (view params.now))) }
+{
+    params.get("version")?.as_i64()
+}
+
+fn has_no_diagnostics(params: &Value) -> Option<bool>
+    ensures { result ≡ option_map has_none (option_and_then as_array (get (codes "diagnostics") (view params.now))) }
+{
+    let diagnostics = published_diagnostics(params)?;
+    Some(diagnostics.is_empty())
+}
+
+fn published_diagnostics(params: &Value) -> Option<&Vec<Value>>
+    ensures { option_map (λ v. items_view v.now.items) result ≡ option_and_then as_array (get (codes "diagnostics") (view params.now)) }
+{
+    params.get("diagnostics")?.as_array()
+}
+
+// ---- answers
+
+fn read_answer(
+    alloc: Global,
+    asked: &[Asked],
+    answer: &Value,
+) -> Result<Option<Message>, AllocError>
+    ensures { IfOk result (λ found. option_map message_of found ≡ answer_understood (map asked_of asked.now) (view answer.now)) }
+{
+    let Some(number) = answer_number(answer) else {
+        return Ok(None);
+    };
+    let Some(asked) = numbered_ask(asked, number) else {
+        return Ok(None);
+    };
+    let edits = read_edits(alloc, &asked.ask, answer)?;
+    Ok(Some(Message::Answered { number, edits }))
+}
+
+fn answer_number(answer: &Value) -> Option<u64>
+    ensures { result ≡ option_and_then number_of (get (codes "id") (view answer.now)) }
+{
+    answer.get("id")?.as_u64()
+}
+
+/// Ask `number`; the first has number 1.
+pub fn numbered_ask(asked: &[Asked], number: u64) -> Option<&Asked>
+    ensures { option_map (λ a. asked_of a.now) result ≡ numbered (map asked_of asked.now) number }
+{
+    if number == 0 {
+        return None;
+    }
+    let index = (number - 1) as usize;
+    if index < asked.len() {
+        Some(&asked[index])
+    } else {
+        None
+    }
+}
+
+/// The edits in the answer to an ask; none where there are no such.
+fn read_edits(alloc: Global, ask: &Ask, answer: &Value) -> Result<Vec<Edit>, AllocError>
+    ensures { IfOk result (λ edits. replacements edits.items ≡ edits_for (ask_of ask.now) (view answer.now)) }
+{
+    let Some(values) = answered_values(ask, answer) else {
+        return Ok(Vec::new(alloc));
+    };
+    match edits_of(alloc, values)? {
+        Some(edits) => Ok(edits),
+        None => Ok(Vec::new(alloc)),
+    }
+}
+
+fn answered_values<'v>(ask: &Ask, answer: &'v Value) -> Option<&'v Vec<Value>>
+    ensures { option_map (λ v. items_view v.now.items) result ≡ option_and_then (items_of_answer (ask_of ask.now)) (get (codes "result") (view answer.now)) }
+{
+    let result = answer.get("result")?;
+    match ask {
+        Ask::Rename {
+            position: _position,
+            name: _name,
+        } => workspace_values(result),
+        Ask::InlineHere {
+            position: _position,
+        } => action_values(result, "Inline here"),
+        Ask::InlineAll {
+            position: _position,
+        } => action_values(result, "Inline everywhere"),
+        Ask::Format { indent: _indent } => result.as_array(),
+    }
+}
+
+/// The edits of the first document of a WorkspaceEdit.
+fn workspace_values(edit: &Value) -> Option<&Vec<Value>>
+    ensures { option_map (λ v. items_view v.now.items) result ≡ workspace_items (view edit.now) }
+{
+    let first = edit.get("documentChanges")?.get(0)?;
+    first.get("edits")?.as_array()
+}
+
+/// The edits of the action with this title.
+fn action_values<'v>(actions: &'v Value, title: &str) -> Option<&'v Vec<Value>>
+    ensures { option_map (λ v. items_view v.now.items) result ≡ action_items title.now (view actions.now) }
+{
+    let action = titled(actions.as_array()?, title)?;
+    workspace_values(action.get("edit")?)
+}
+
+fn titled<'v>(actions: &'v [Value], title: &str) -> Option<&'v Value>
+    ensures { option_map (λ v. view v.now) result ≡ action_in title.now (items_view actions.now) }
+{
+    for action in actions {
+        if has_title(action, title) {
+            return Some(action);
+        }
+    }
+    None
+}
+
+fn has_title(action: &Value, title: &str) -> bool
+    ensures { result ≡ is_titled title.now (text_of_member (codes "title") (view action.now)) }
+{
+    match text_in(action, "title") {
+        Some(found) => found == title,
+        None => false,
+    }
+}
+
+// ---- edits
+
+/// The edits of a list; none where one of them can't be read.
+fn edits_of(alloc: Global, values: &[Value]) -> Result<Option<Vec<Edit>>, AllocError>
+    ensures { IfOk result (λ found. option_map (λ edits. replacements edits.items) found ≡ edits_in (items_view values.now)) }
+{
+    let mut edits = Vec::new(alloc);
+    for value in values {
+        match edit_of(alloc, value)? {
+            Some(edit) => edits.push(edit)?,
+            None => return Ok(None),
+        }
+    }
+    Ok(Some(edits))
+}
+
+fn edit_of(alloc: Global, value: &Value) -> Result<Option<Edit>, AllocError>
+    ensures { IfOk result (λ found. option_map replacement_of found ≡ edit_in (view value.now)) }
+{
+    let Some(range) = range_in(value, "range") else {
+        return Ok(None);
+    };
+    let Some(text) = text_in(value, "newText") else {
+        return Ok(None);
+    };
+    let text = String::from_str(alloc, text)?;
+    Ok(Some(Edit { range, text }))
+}
+
+fn text_in<'v>(value: &'v Value, name: &str) -> Option<&'v str>
+    ensures { option_map (λ s. s.now) result ≡ text_of_member name.now (view value.now) }
+{
+    value.get(name)?.as_str()
+}
+
+fn range_in(value: &Value, name: &str) -> Option<Range>
+    ensures { result ≡ range_of_member name.now (view value.now) }
+{
+    range_of(value.get(name)?)
+}
+
+fn range_of(value: &Value) -> Option<Range>
+    ensures { result ≡ range_told (view value.now) }
+{
+    let start = position_in(value, "start")?;
+    let end = position_in(value, "end")?;
+    Some(Range { start, end })
+}
+
+fn position_in(value: &Value, name: &str) -> Option<Position>
+    ensures { result ≡ position_of_member name.now (view value.now) }
+{
+    position_of(value.get(name)?)
+}
+
+fn position_of(value: &Value) -> Option<Position>
+    ensures { result ≡ position_told (view value.now) }
+{
+    let line = value.get("line")?.as_u64()?;
+    let character = value.get("character")?.as_u64()?;
+    Some(Position { line, character })
+}

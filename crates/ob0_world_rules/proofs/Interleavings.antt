@@ -1,0 +1,415 @@
+-- Each event keeps what the two ends keep, and so does every list of events.
+use Rattle.std.proofs.Common.{◌≡◌, ◌∙◌, ℕ, suc, ◌+◌, ◌≤◌, Bool, true, false, cond, List, [], ◌∷◌, ◌++◌, length, refl, sym, ap, subst, arith, inl, inr}
+use Rattle.std.specs.Prelude.{ℤ, pos, fold, All, Option, Some, None, is_some, option_map, ◌==◌}
+use Rattle.std.specs.Str.{bytes_eq}
+use Rattle.std.specs.Ordering.{nat_cmp}
+use Rattle.std.specs.Cmp.Lexicographic.{slice_cmp}
+use Rattle.std.specs.FinMap as map_of
+use Rattle.std.proofs.lemmas.Option.{same_Some, none-some}
+use Rattle.std.proofs.lemmas.List.{append-nil}
+use Rattle.std.proofs.lemmas.List.Elements.{All-nil, All-head, All-tail, All-push, All-append, All-cons}
+use Rattle.ob0_text.specs.declared.positions.Unit.{Unit}
+use Rattle.ob0_text.specs.OpenDocuments.{OpenDocuments, Document, InStep, OutOfStep, DocumentNote, Opened, Changed, Lost, Closed, TextChange, changed_text, updated, after_note, changed_document, document_at}
+use Rattle.ob0_text.proofs.EntryLaws.{updated-some, updated-none}
+use Rattle.ob0_world_rules.specs.Language.{WellTypedText, SameRun}
+use Rattle.ob0_world_rules.specs.Edited.{Replacement, edited, whole_text, after_changes}
+use Rattle.ob0_world_rules.specs.Asks.{Ask}
+use Rattle.ob0_world_rules.specs.Answers.{IsAnswer}
+use Rattle.ob0_world_rules.specs.Ends.{Open, Asked, Answer, Editor, numbered, open_at, ToServer, tells, asks, ToEditor, publishes, answers, Applied, Made, Ends, start, after_message, will_hold, as_held}
+use Rattle.ob0_world_rules.specs.Editing.{opens_document, changes_text, changes_document, closes_document, asks_about, keeps, held_answer, all_but, without_answer, discards, if_same, applies_text, applies_edits, applies_asked, applies_answer, Move, idle, sends, Outcome, not_held, lets_go, makes}
+use Rattle.ob0_world_rules.specs.Serving.{MayPublish, taken_back, MayTell, MaySend}
+use Rattle.ob0_world_rules.specs.Events.{Event, open_document, change_document, close_document, ask_about, serve, take_message, apply, discard, Seen, moved, takes, comes_of}
+use Rattle.ob0_world_rules.specs.Happens.{Serves, Happens, Run}
+use Rattle.ob0_world_rules.specs.Headline.{KeepTheRun, KeepsTheRun, IsRight, IsMadeFor, latest, IsUpToDate, Holds}
+use Rattle.ob0_world_rules.proofs.UriLaws.{get_put, get_removed, same_uri, uri_itself}
+use Rattle.ob0_world_rules.proofs.Latest.{latest_push}
+use Rattle.ob0_world_rules.proofs.SameDocument.{Known, Same, same_from, still_known, later_answers, later_open, later_close, later_ask, slice_get_last, found, left}
+use Rattle.ob0_world_rules.proofs.KeptRuns.{answer_keeps}
+use Rattle.ob0_world_rules.proofs.Keeping.{Fits, AnswerFits, HeldFits, AsksSee, Kept, message_unit, sends_kept, put_mirrors, remove_mirrors, rewrites_kept, answers_kept, held_known}
+
+-- ---- the editor's events
+
+module _ (unit : Unit) where
+  open_kept : (w : Ends) (uri text : List ℕ) (o : Option Open) → Kept unit w → Kept unit (moved w (opens_document w.editor uri text o)).after
+  open_kept w uri text (Some d) kept = kept
+  open_kept w uri text None kept =
+      let d : Open = record { version = 1; text = text; opening = w.editor.openings + 1 } in
+      let e : Editor = record w.editor { documents = map_of.insert w.editor.documents uri d; openings = w.editor.openings + 1 } in
+      sends_kept unit w e (tells (Opened uri (pos 1) text)) kept (later_open w.editor uri d refl)
+      (λ q x at. found w.editor.documents uri q d x (x.opening ≤ w.editor.openings + 1) at
+      (λ same is. subst (λ y. y.opening ≤ w.editor.openings + 1) is (omega arith))
+      (λ was. let known : x.opening ≤ w.editor.openings = kept.openings q x was in omega arith))
+      refl refl (put_mirrors w uri d kept.mirror) tt
+
+  change_kept : (w : Ends) (uri : List ℕ) (how : List TextChange) (o : Option Open) → open_at w.editor uri ≡ o → Kept unit w → Kept unit (moved w (changes_document w.editor uri how o)).after
+  change_kept w uri how None is kept = kept
+  change_kept w uri how (Some d) is kept = go (after_changes w.editor.unit (Some d.text) how) refl
+    where
+      go : (t : Option (List ℕ)) → after_changes w.editor.unit (Some d.text) how ≡ t → Kept unit (moved w (changes_text w.editor uri d how t)).after
+      go None made = kept
+      go (Some text) made = rewrites_kept unit w uri d how text kept is made
+
+  close_kept : (w : Ends) (uri : List ℕ) (o : Option Open) → Kept unit w → Kept unit (moved w (closes_document w.editor uri o)).after
+  close_kept w uri None kept = kept
+  close_kept w uri (Some d) kept =
+      let e : Editor = record w.editor { documents = map_of.remove w.editor.documents uri } in
+      sends_kept unit w e (tells (Closed uri)) kept (later_close w.editor uri)
+      (λ q x at. kept.openings q x (left w.editor.documents uri q x at))
+      refl refl (remove_mirrors w uri kept.mirror) tt
+
+  ask_kept : (w : Ends) (uri : List ℕ) (ask : Ask) (o : Option Open) → open_at w.editor uri ≡ o → Kept unit w → Kept unit (moved w (asks_about w.editor uri ask o)).after
+  ask_kept w uri ask None is kept = kept
+  ask_kept w uri ask (Some d) is kept =
+      let a : Asked = record { ask = ask; uri = uri; opening = d.opening; version = d.version } in
+      let e : Editor = record w.editor { asked = w.editor.asked ++ a ∷ [] } in
+      let known : Known e (suc (length w.editor.asked)) (λ x. document_at (will_hold w) uri ≡ Some (as_held x)) =
+      record {
+        asked = a;
+        is = slice_get_last w.editor.asked a;
+        past = record {
+          known = kept.openings uri d is;
+          risen = λ x at opening. subst (λ y. d.version ≤ y.version) (same_Some d x (sym is ∙ at)) (omega arith);
+        };
+        still = λ x same. kept.mirror uri ∙ ap (option_map as_held) same.at;
+      } in
+      sends_kept unit w e (asks (suc (length w.editor.asked)) uri ask) kept (later_ask w.editor (a ∷ []))
+      kept.openings refl refl kept.mirror (known, tt)
+
+  -- a message that the editor has taken is no more in the queue
+  rest_kept : (w : Ends) (rest : List ToEditor) → Kept unit w → All (AnswerFits unit w.editor) rest → Kept unit (record w { to_editor = rest })
+  rest_kept w rest kept fit =
+      record { counts = kept.counts; holds = kept.holds; mirror = kept.mirror; openings = kept.openings; asked = kept.asked; answered = fit; answers_held = kept.answers_held; applied = kept.applied; made = kept.made }
+
+  -- an answer with edits fits the document that was asked about
+  with_edits : (e : Editor) (k : ℕ) (edit : Replacement) (edits : List Replacement) → Known e k (Fits unit (edit ∷ edits)) → Known e k (λ d. KeepTheRun unit d.text (edit ∷ edits))
+  with_edits e k edit edits known = record { asked = known.asked; is = known.is; past = known.past; still = λ d same. go d (known.still d same) }
+    where
+      go : (d : Open) → Fits unit (edit ∷ edits) d → KeepTheRun unit d.text (edit ∷ edits)
+      go d (inl none) = absurd (cc)
+      go d (inr keep) = keep
+
+  take_kept : (w : Ends) (queue : List ToEditor) → Kept unit w → All (AnswerFits unit w.editor) queue → Kept unit (takes w queue).after
+  take_kept w [] kept fit = kept
+  take_kept w (publishes uri version empty ∷ rest) kept fit = rest_kept w rest kept (All-tail (AnswerFits unit w.editor) (publishes uri version empty) rest fit)
+  take_kept w (answers k [] ∷ rest) kept fit = rest_kept w rest kept (All-tail (AnswerFits unit w.editor) (answers k []) rest fit)
+  take_kept w (answers k (edit ∷ edits) ∷ rest) kept fit =
+      let a : Answer = record { number = k; edits = edit ∷ edits } in
+      let known : Known w.editor k (Fits unit (edit ∷ edits)) = All-head (AnswerFits unit w.editor) (answers k (edit ∷ edits)) rest fit in
+      answers_kept unit w (w.editor.answers ++ a ∷ []) rest kept
+      (All-push (HeldFits unit w.editor) w.editor.answers a kept.answers_held (with_edits w.editor k edit edits known))
+      (All-tail (AnswerFits unit w.editor) (answers k (edit ∷ edits)) rest fit)
+
+  -- ---- applying
+
+  All-all_but : (P : Answer → Type 0) (k : ℕ) (list : List Answer) → All P list → All P (all_but k list)
+  All-all_but P k [] all = all
+  All-all_but P k (a ∷ rest) all = go (a.number == k) (All-all_but P k rest (All-tail P a rest all))
+    where
+      go : (b : Bool) → All P (all_but k rest) → All P (cond b rest (a ∷ all_but k rest))
+      go true later = All-tail P a rest all
+      go false later = All-cons P a (all_but k rest) (All-head P a rest all) later
+
+  without_kept : (w : Ends) (k : ℕ) → Kept unit w → Kept unit (record w { editor = without_answer w.editor k })
+  without_kept w k kept =
+      answers_kept unit w (all_but k w.editor.answers) w.to_editor kept (All-all_but (HeldFits unit w.editor) k w.editor.answers kept.answers_held) kept.answered
+
+  discard_kept : (w : Ends) (k : ℕ) (o : Option (List Replacement)) → Kept unit w → Kept unit (comes_of w k (discards w.editor k o)).after
+  discard_kept w k None kept = kept
+  discard_kept w k (Some edits) kept = without_kept w k kept
+
+  applied_kept : (w : Ends) (a : Applied) → Kept unit w → KeepsTheRun a → Kept unit (record w { applied = w.applied ++ a ∷ [] })
+  applied_kept w a kept keeps =
+      record { counts = kept.counts; holds = kept.holds; mirror = kept.mirror; openings = kept.openings; asked = kept.asked; answered = kept.answered; answers_held = kept.answers_held; applied = All-push KeepsTheRun w.applied a kept.applied keeps; made = kept.made }
+
+  whole : (u : Unit) (old text : List ℕ) → after_changes u (Some old) (whole_text text ∷ []) ≡ Some text
+  unfolding changed_text
+  whole u old text = refl
+
+  -- e is the editor once it has let the answer go
+  text_kept : (w : Ends) (e : Editor) (k : ℕ) (uri : List ℕ) (d : Open) (edits : List Replacement) (o : Option (List ℕ)) → edited unit d.text edits ≡ o → open_at e uri ≡ Some d → Kept unit (record w { editor = e })
+      → KeepTheRun unit d.text edits → Kept unit (comes_of w k (applies_text e uri d o)).after
+  text_kept w e k uri d edits None is_made at kept keep = kept
+  text_kept w e k uri d edits (Some text) is_made at kept keep =
+      let a : Applied = record { uri = uri; before = d.text; after = text } in
+      let is : keep.after ≡ text = same_Some keep.after text (sym keep.makes ∙ is_made) in
+      let keeps : KeepsTheRun a = record { before_fits = keep.before_fits; after_fits = subst WellTypedText is keep.after_fits; same = subst (SameRun d.text) is keep.same } in
+      rewrites_kept unit (record w { editor = e; applied = w.applied ++ a ∷ [] }) uri d (whole_text text ∷ []) text
+      (applied_kept (record w { editor = e }) a kept keeps) at (whole e.unit d.text text)
+
+  edits_kept : (w : Ends) (e : Editor) (k : ℕ) (edits : List Replacement) (a : Asked) (o : Option Open) → if_same a (open_at e a.uri) ≡ o → Kept unit (record w { editor = e })
+      → ((d : Open) → Same e a d → KeepTheRun unit d.text edits) → Kept unit (comes_of w k (applies_edits e edits a.uri o)).after
+  edits_kept w e k edits a None is kept keep = kept
+  edits_kept w e k edits a (Some d) is kept keep =
+      let same : Same e a d = same_from e a d is in
+      text_kept w e k a.uri d edits (edited e.unit d.text edits) (ap (λ u. edited u d.text edits) (sym kept.counts)) same.at kept (keep d same)
+
+  asked_kept : (w : Ends) (e : Editor) (k : ℕ) (edits : List Replacement) (o : Option Asked) → numbered e.asked k ≡ o → Kept unit (record w { editor = e }) → Known e k (λ d. KeepTheRun unit d.text edits)
+      → Kept unit (comes_of w k (applies_asked e edits o)).after
+  asked_kept w e k edits None is kept known = kept
+  asked_kept w e k edits (Some a) is kept known =
+      let same : known.asked ≡ a = same_Some known.asked a (sym known.is ∙ is) in
+      edits_kept w e k edits a (if_same a (open_at e a.uri)) refl kept (subst (λ x. (d : Open) → Same e x d → KeepTheRun unit d.text edits) same known.still)
+
+  apply_kept : (w : Ends) (k : ℕ) (o : Option (List Replacement)) → held_answer k w.editor.answers ≡ o → Kept unit w → Kept unit (comes_of w k (applies_answer w.editor k o)).after
+  apply_kept w k None is kept = kept
+  apply_kept w k (Some edits) is kept =
+      let e : Editor = without_answer w.editor k in
+      let known : Known w.editor k (λ d. KeepTheRun unit d.text edits) = held_known unit w.editor k w.editor.answers edits is kept.answers_held in
+      asked_kept w e k edits (numbered w.editor.asked k) refl (without_kept w k kept)
+      (still_known w.editor e k (λ d. KeepTheRun unit d.text edits) (later_answers w.editor e.answers) known)
+
+  -- ---- the server's events
+
+  -- the last publication for each held document was made for what is held
+  abbrev AreLatest : OpenDocuments → List Made → Type 0
+  AreLatest held made = (uri : List ℕ) (version : ℤ) (text : List ℕ) → document_at held uri ≡ Some (InStep version text) → IsMadeFor version text (latest uri made)
+
+  abbrev Others : OpenDocuments → List ℕ → List Made → Type 0
+  Others held uri made = (q : List ℕ) (version : ℤ) (text : List ℕ) → bytes_eq uri q ≡ false → document_at held q ≡ Some (InStep version text) → IsMadeFor version text (latest q made)
+
+  both_answers : {b : Bool} → b ≡ true → b ≡ false → ⊥
+  both_answers t f = cc
+
+  apart : (q uri : List ℕ) → bytes_eq uri q ≡ false → bytes_eq q uri ≡ true → ⊥
+  apart q uri differ same =
+      let itself : bytes_eq uri q ≡ true = subst (λ x. bytes_eq uri x ≡ true) (sym (same_uri q uri same)) (uri_itself uri) in
+      both_answers itself differ
+
+  -- the document that is held under a uri, and it alone, was published anew
+  others_and_this : (held : OpenDocuments) (uri : List ℕ) (made : List Made) → Others held uri made
+      → ((q : List ℕ) (version : ℤ) (text : List ℕ) → uri ≡ q → document_at held q ≡ Some (InStep version text) → IsMadeFor version text (latest q made)) → AreLatest held made
+  others_and_this held uri made others this q version text at = go (bytes_eq uri q) refl
+    where
+      go : (b : Bool) → bytes_eq uri q ≡ b → IsMadeFor version text (latest q made)
+      go true is = this q version text (same_uri uri q is) at
+      go false is = others q version text is at
+
+  publish_latest : (held : OpenDocuments) (uri : List ℕ) (m : Made) (made : List Made) → m.uri ≡ uri → document_at held uri ≡ Some (InStep m.version m.text) → Others held uri made → AreLatest held (made ++ m ∷ [])
+  publish_latest held uri m made named at others q version text found_at =
+      subst (IsMadeFor version text) (sym (latest_push q made m)) (go (bytes_eq m.uri q) refl)
+    where
+      go : (b : Bool) → bytes_eq m.uri q ≡ b → IsMadeFor version text (cond b (Some m) (latest q made))
+      go true is =
+          let same : uri ≡ q = sym named ∙ same_uri m.uri q is in
+          let one : InStep m.version m.text ≡ InStep version text = same_Some _ _ (sym at ∙ ap (document_at held) same ∙ found_at) in
+          (cc, cc)
+      go false is = others q version text (subst (λ u. bytes_eq u q ≡ false) named is) found_at
+
+  -- what is sent fits, and the publications among it are right and the latest
+  record Sound (e : Editor) (held : OpenDocuments) (said : List ToEditor) (made more : List Made) : Type 0 where
+    fit : All (AnswerFits unit e) said
+    right : All IsRight more
+    now : AreLatest held (made ++ more)
+
+  silent : (e : Editor) (held : OpenDocuments) (made : List Made) (said : List ToEditor) (more : List Made) → said ≡ [] → more ≡ [] → AreLatest held made → Sound e held said made more
+  silent e held made said more none none_made now =
+      subst (λ s. Sound e held s made more) (sym none)
+      (subst (λ m. Sound e held [] made m) (sym none_made)
+      (record { fit = All-nil (AnswerFits unit e); right = All-nil IsRight; now = subst (AreLatest held) (sym (append-nil made)) now }))
+
+  publish_sound : (e : Editor) (held : OpenDocuments) (uri : List ℕ) (o : Option Document) (said : List ToEditor) (made more : List Made) → document_at held uri ≡ o → Others held uri made → MayPublish uri o said more → Sound e held said made more
+  publish_sound e held uri (Some (InStep version text)) said made more at others (empty, right, is_said, is_made) =
+      let m : Made = record { uri = uri; version = version; text = text; empty = empty } in
+      subst (λ s. Sound e held s made more) (sym is_said)
+      (subst (λ ms. Sound e held (publishes uri (Some version) empty ∷ []) made ms) (sym is_made)
+      (record {
+        fit = All-push (AnswerFits unit e) [] (publishes uri (Some version) empty) (All-nil (AnswerFits unit e)) tt;
+        right = All-push IsRight [] m (All-nil IsRight) right;
+        now = publish_latest held uri m made refl at others;
+      }))
+  publish_sound e held uri (Some OutOfStep) said made more at others h =
+      silent e held made said more h.0 h.1
+      (others_and_this held uri made others (λ q version text same found_at. absurd (let other : OutOfStep ≡ InStep version text = same_Some _ _ (sym at ∙ ap (document_at held) same ∙ found_at) in cc)))
+  publish_sound e held uri None said made more at others h =
+      silent e held made said more h.0 h.1
+      (others_and_this held uri made others (λ q version text same found_at. absurd (none-some (InStep version text) (sym at ∙ ap (document_at held) same ∙ found_at))))
+
+  taken_back_fits : (e : Editor) (uri : List ℕ) (b : Bool) → All (AnswerFits unit e) (taken_back uri b)
+  taken_back_fits e uri true = All-push (AnswerFits unit e) [] (publishes uri None true) (All-nil (AnswerFits unit e)) tt
+  taken_back_fits e uri false = All-nil (AnswerFits unit e)
+
+  put_others : (held : OpenDocuments) (uri : List ℕ) (d : Document) (made : List Made) → AreLatest held made → Others (record { unit = held.unit; by_uri = map_of.insert held.by_uri uri d }) uri made
+  put_others held uri d made now q version text differ at = go (bytes_eq q uri) refl (sym (get_put held.by_uri uri d q) ∙ at)
+    where
+      go : (b : Bool) → bytes_eq q uri ≡ b → cond b (Some d) (document_at held q) ≡ Some (InStep version text) → IsMadeFor version text (latest q made)
+      go true is h = absurd (apart q uri differ is)
+      go false is h = now q version text h
+
+  update_others : (held : OpenDocuments) (uri : List ℕ) (f : Document → Document) (made : List Made) → AreLatest held made → Others (record { unit = held.unit; by_uri = updated held.by_uri uri f }) uri made
+  update_others held uri f made now = go (document_at held uri) refl
+    where
+      go : (o : Option Document) → document_at held uri ≡ o → Others (record { unit = held.unit; by_uri = updated held.by_uri uri f }) uri made
+      go None is = subst (λ m. Others (record { unit = held.unit; by_uri = m }) uri made) (sym (updated-none held.by_uri uri f is)) (λ q version text differ at. now q version text at)
+      go (Some d) is = subst (λ m. Others (record { unit = held.unit; by_uri = m }) uri made) (sym (updated-some held.by_uri uri f d is)) (put_others held uri (f d) made now)
+
+  -- a document that is lost is in step no more
+  lost_latest : (held : OpenDocuments) (uri : List ℕ) (made : List Made) → AreLatest held made → AreLatest (after_note held (Lost uri)) made
+  lost_latest held uri made now = go (document_at held uri) refl
+    where
+      go : (o : Option Document) → document_at held uri ≡ o → AreLatest (after_note held (Lost uri)) made
+      go None is = subst (λ m. AreLatest (record { unit = held.unit; by_uri = m }) made) (sym (updated-none held.by_uri uri (λ _. OutOfStep) is)) (λ q version text at. now q version text at)
+      go (Some d) is =
+          subst (λ m. AreLatest (record { unit = held.unit; by_uri = m }) made) (sym (updated-some held.by_uri uri (λ _. OutOfStep) d is))
+          (others_and_this (record { unit = held.unit; by_uri = map_of.insert held.by_uri uri OutOfStep }) uri made (put_others held uri OutOfStep made now)
+          (λ q version text same at. absurd (there q version text same at)))
+        where
+          there : (q : List ℕ) (version : ℤ) (text : List ℕ) → uri ≡ q → map_of.get (map_of.insert held.by_uri uri OutOfStep) q ≡ Some (InStep version text) → ⊥
+          there q version text same at =
+              let put : map_of.get (map_of.insert held.by_uri uri OutOfStep) q ≡ Some OutOfStep =
+              get_put held.by_uri uri OutOfStep q ∙ ap (λ b. cond b (Some OutOfStep) (document_at held q)) (subst (λ x. bytes_eq x uri ≡ true) same (uri_itself uri)) in
+              let other : OutOfStep ≡ InStep version text = same_Some _ _ (sym put ∙ at) in cc
+
+  remove_latest : (held : OpenDocuments) (uri : List ℕ) (made : List Made) → AreLatest held made → AreLatest (after_note held (Closed uri)) made
+  remove_latest held uri made now q version text at = go (bytes_eq q uri) (sym (get_removed held.by_uri uri q) ∙ at)
+    where
+      go : (b : Bool) → cond b None (document_at held q) ≡ Some (InStep version text) → IsMadeFor version text (latest q made)
+      go true h = absurd (none-some (InStep version text) h)
+      go false h = now q version text h
+
+  note_sound : (e : Editor) (held : OpenDocuments) (note : DocumentNote) (said : List ToEditor) (made more : List Made) → AreLatest held made → MayTell held note said more → Sound e (after_note held note) said made more
+  note_sound e held (Opened uri version text) said made more now h =
+      publish_sound e (after_note held (Opened uri version text)) uri (document_at (after_note held (Opened uri version text)) uri) said made more refl (put_others held uri (InStep version text) made now) h
+  note_sound e held (Changed uri version how) said made more now h =
+      publish_sound e (after_note held (Changed uri version how)) uri (document_at (after_note held (Changed uri version how)) uri) said made more refl
+      (update_others held uri (changed_document held.unit version how) made now) h
+  note_sound e held (Lost uri) said made more now h = silent e (after_note held (Lost uri)) made said more h.0 h.1 (lost_latest held uri made now)
+  note_sound e held (Closed uri) said made more now h =
+      let quiet : Sound e (after_note held (Closed uri)) [] made more = silent e (after_note held (Closed uri)) made [] more refl h.1 (remove_latest held uri made now) in
+      record {
+        fit = subst (All (AnswerFits unit e)) (sym h.0) (taken_back_fits e uri (is_some (document_at held uri)));
+        right = quiet.right;
+        now = quiet.now;
+      }
+
+  -- an ask is answered for the document that the editor meant, where that is still the same
+  ask_fits : (e : Editor) (held : OpenDocuments) (k : ℕ) (uri : List ℕ) (ask : Ask) (edits : List Replacement) → held.unit ≡ unit → Known e k (λ d. document_at held uri ≡ Some (as_held d)) → IsAnswer held.unit (document_at held uri) ask edits
+      → Known e k (Fits unit edits)
+  ask_fits e held k uri ask edits same_unit known may =
+      record { asked = known.asked; is = known.is; past = known.past; still = λ d same. go (document_at held uri) d (known.still d same) (subst (λ u. IsAnswer u (document_at held uri) ask edits) same_unit may) }
+    where
+      go : (o : Option Document) (d : Open) → o ≡ Some (as_held d) → IsAnswer unit o ask edits → Fits unit edits d
+      go o d is may = answer_keeps unit d.text ask edits (subst (λ x. IsAnswer unit x ask edits) is may)
+
+  -- the server, as it takes this message, meets what the editor asked about
+  abbrev Meets : Editor → OpenDocuments → ToServer → Type 0
+  Meets e held m = AsksSee e held (m ∷ [])
+
+  message_sound : (e : Editor) (held : OpenDocuments) (m : ToServer) (said : List ToEditor) (made more : List Made) → held.unit ≡ unit → Meets e held m → AreLatest held made → MaySend held m said more → Sound e (after_message held m) said made more
+  message_sound e held (tells note) said made more same_unit meets now h = note_sound e held note said made more now h
+  message_sound e held (asks k uri ask) said made more same_unit meets now (edits, may, is_said, is_made) =
+      let quiet : Sound e held [] made more = silent e held made [] more refl is_made now in
+      record {
+        fit = subst (All (AnswerFits unit e)) (sym is_said) (All-push (AnswerFits unit e) [] (answers k edits) (All-nil (AnswerFits unit e)) (ask_fits e held k uri ask edits same_unit meets.0 may));
+        right = quiet.right;
+        now = quiet.now;
+      }
+
+  abbrev Both : Ends → Type 0
+  Both w = Kept unit w × AreLatest w.held w.made
+
+  -- the first message, and those behind it
+  sees_first : (e : Editor) (held : OpenDocuments) (m : ToServer) (rest : List ToServer) → AsksSee e held (m ∷ rest) → Meets e held m × AsksSee e (after_message held m) rest
+  sees_first e held (tells note) rest h = (tt, h)
+  sees_first e held (asks k uri ask) rest h = ((h.0, tt), h.1)
+
+  serve_kept : (w : Ends) (queue : List ToServer) (seen : Seen) (new : Ends) → w.to_server ≡ queue → Both w → Serves w queue seen new → Both new
+  serve_kept w [] seen new is both h = subst Both (sym h.1) both
+  serve_kept w (m ∷ rest) seen new is (kept, now) (said, more, may, shown, is_new) =
+      let see : Meets w.editor w.held m × AsksSee w.editor (after_message w.held m) rest = sees_first w.editor w.held m rest (subst (AsksSee w.editor w.held) is kept.asked) in
+      let sound : Sound w.editor (after_message w.held m) said w.made more = message_sound w.editor w.held m said w.made more kept.holds see.0 now may in
+      subst Both (sym is_new) (
+        record {
+          counts = kept.counts;
+          holds = message_unit w.held m ∙ kept.holds;
+          mirror = subst (λ q. (uri : List ℕ) → document_at (fold after_message w.held q) uri ≡ option_map as_held (open_at w.editor uri)) is kept.mirror;
+          openings = kept.openings;
+          asked = see.1;
+          answered = All-append (AnswerFits unit w.editor) w.to_editor said kept.answered sound.fit;
+          answers_held = kept.answers_held;
+          applied = kept.applied;
+          made = All-append IsRight w.made more kept.made sound.right;
+        },
+        sound.now,
+      )
+
+  -- ---- all events
+
+  -- the server is as it was
+  abbrev Unmoved : Ends → Ends → Type 0
+  Unmoved w after = (after.held ≡ w.held) × (after.made ≡ w.made)
+
+  move_unmoved : (w : Ends) (m : Move) → Unmoved w (moved w m).after
+  move_unmoved w idle = (refl, refl)
+  move_unmoved w (sends e m) = (refl, refl)
+
+  take_unmoved : (w : Ends) (queue : List ToEditor) → Unmoved w (takes w queue).after
+  take_unmoved w [] = (refl, refl)
+  take_unmoved w (publishes uri version empty ∷ rest) = (refl, refl)
+  take_unmoved w (answers k edits ∷ rest) = (refl, refl)
+
+  outcome_unmoved : (w : Ends) (k : ℕ) (o : Outcome) → Unmoved w (comes_of w k o).after
+  outcome_unmoved w k not_held = (refl, refl)
+  outcome_unmoved w k (lets_go e) = (refl, refl)
+  outcome_unmoved w k (makes e a m) = (refl, refl)
+
+  -- an event at the editor
+  at_the_editor : (w after new : Ends) → new ≡ after → Kept unit after → Unmoved w after → AreLatest w.held w.made → Both new
+  at_the_editor w after new is kept unmoved now =
+      subst Both (sym is) (kept, subst (λ made. AreLatest after.held made) (sym unmoved.1) (subst (λ held. AreLatest held w.made) (sym unmoved.0) now))
+
+  -- a move of the editor
+  move_kept : (w : Ends) (m : Move) (new : Ends) → new ≡ (moved w m).after → Kept unit (moved w m).after → AreLatest w.held w.made → Both new
+  move_kept w m new is kept now = at_the_editor w (moved w m).after new is kept (move_unmoved w m) now
+
+  outcome_kept : (w : Ends) (k : ℕ) (o : Outcome) (new : Ends) → new ≡ (comes_of w k o).after → Kept unit (comes_of w k o).after → AreLatest w.held w.made → Both new
+  outcome_kept w k o new is kept now = at_the_editor w (comes_of w k o).after new is kept (outcome_unmoved w k o) now
+
+  event_kept : (w : Ends) (event : Event) (seen : Seen) (new : Ends) → Both w → Happens w event seen new → Both new
+  event_kept w (open_document uri text) seen new (kept, now) h =
+      let o : Option Open = open_at w.editor uri in move_kept w (opens_document w.editor uri text o) new h.1 (open_kept w uri text o kept) now
+  event_kept w (change_document uri how) seen new (kept, now) h =
+      let o : Option Open = open_at w.editor uri in move_kept w (changes_document w.editor uri how o) new h.1 (change_kept w uri how o refl kept) now
+  event_kept w (close_document uri) seen new (kept, now) h =
+      let o : Option Open = open_at w.editor uri in move_kept w (closes_document w.editor uri o) new h.1 (close_kept w uri o kept) now
+  event_kept w (ask_about uri ask) seen new (kept, now) h =
+      let o : Option Open = open_at w.editor uri in move_kept w (asks_about w.editor uri ask o) new h.1 (ask_kept w uri ask o refl kept) now
+  event_kept w serve seen new both h = serve_kept w w.to_server seen new refl both h
+  event_kept w take_message seen new (kept, now) h =
+      at_the_editor w (takes w w.to_editor).after new h.1 (take_kept w w.to_editor kept kept.answered) (take_unmoved w w.to_editor) now
+  event_kept w (apply k) seen new (kept, now) h =
+      let o : Option (List Replacement) = held_answer k w.editor.answers in outcome_kept w k (applies_answer w.editor k o) new h.1 (apply_kept w k o refl kept) now
+  event_kept w (discard k) seen new (kept, now) h =
+      let o : Option (List Replacement) = held_answer k w.editor.answers in outcome_kept w k (discards w.editor k o) new h.1 (discard_kept w k o kept) now
+
+  run_kept : (events : List Event) (w new : Ends) → Both w → Run w events new → Both new
+  run_kept [] w new both h = subst Both (sym h) both
+  run_kept (event ∷ events) w new both (seen, between, happens, run) = run_kept events between new (event_kept w event seen between both happens) run
+
+  nothing_at : {X : Type 0} (q : List ℕ) (x : X) (P : Type 0) → map_of.get (map_of.empty {X = X} {R = slice_cmp nat_cmp}) q ≡ Some x → P
+  nothing_at q x P h = absurd (none-some x (sym (map_of.get-empty (slice_cmp nat_cmp) q) ∙ h))
+
+  start_kept : Both (start unit)
+  start_kept = (
+    record {
+      counts = refl;
+      holds = refl;
+      mirror = λ q. map_of.get-empty (slice_cmp nat_cmp) q ∙ sym (ap (option_map as_held) (map_of.get-empty (slice_cmp nat_cmp) q));
+      openings = λ uri d at. nothing_at uri d (d.opening ≤ 0) at;
+      asked = tt;
+      answered = All-nil (AnswerFits unit (start unit).editor);
+      answers_held = All-nil (HeldFits unit (start unit).editor);
+      applied = All-nil KeepsTheRun;
+      made = All-nil IsRight;
+    },
+    λ uri version text at. nothing_at uri (InStep version text) (IsMadeFor version text None) at,
+  )
+
+  up_to_date : (w : Ends) → Both w → w.to_server ≡ [] → IsUpToDate w
+  up_to_date w (kept, now) nothing_waits uri d at =
+      let held : document_at w.held uri ≡ Some (as_held d) = subst (λ q. document_at (fold after_message w.held q) uri ≡ Some (as_held d)) nothing_waits (kept.mirror uri ∙ ap (option_map as_held) at) in
+      now uri (pos d.version) d.text held
+
+pub in_every_interleaving : (unit : Unit) (events : List Event) (w : Ends) → Run (start unit) events w → Holds w
+in_every_interleaving unit events w run =
+    let both : Both unit w = run_kept unit events (start unit) w (start_kept unit) run in
+    record { applied = both.0.applied; made = both.0.made; mirror = both.0.mirror; latest_made = up_to_date unit w both }

@@ -1,0 +1,183 @@
+-- What the two ends keep, whatever happens.
+use Rattle.std.proofs.Common.{◌≡◌, ◌∙◌, ℕ, ◌+◌, ◌≤◌, Bool, true, false, cond, List, [], ◌∷◌, ◌++◌, refl, sym, ap, subst}
+use Rattle.std.specs.Prelude.{◌⊎◌, ⊤, pos, fold, All, Some, None, option_map, ◌==◌}
+use Rattle.std.specs.Str.{bytes_eq}
+use Rattle.std.specs.FinMap as map_of
+use Rattle.std.proofs.lemmas.Bool.{eqb-true}
+use Rattle.std.proofs.lemmas.Option.{same_Some, none-some}
+use Rattle.std.proofs.lemmas.List.Elements.{All-head, All-tail, All-weaker}
+use Rattle.std.proofs.lemmas.List.Sums.{fold_push}
+use Rattle.ob0_text.specs.declared.positions.Unit.{Unit}
+use Rattle.ob0_text.specs.OpenDocuments.{OpenDocuments, document, DocumentNote, Opened, Changed, Lost, Closed, TextChange, after_note, changed_document, document_at}
+use Rattle.ob0_text.proofs.EntryLaws.{updated-some}
+use Rattle.ob0_world_rules.specs.Edited.{Replacement, after_changes}
+use Rattle.ob0_world_rules.specs.Ends.{Open, Answer, Editor, open_at, ToServer, tells, asks, ToEditor, publishes, answers, Ends, after_message, will_hold, as_held, Mirrors}
+use Rattle.ob0_world_rules.specs.Editing.{held_answer, rewritten, rewrites}
+use Rattle.ob0_world_rules.specs.Headline.{KeepTheRun, KeepsTheRun, IsRight}
+use Rattle.ob0_world_rules.proofs.UriLaws.{get_put, get_removed, mapped_choice}
+use Rattle.ob0_world_rules.proofs.SameDocument.{Known, Later, still_known, later_answers, later_rewrite, found}
+
+-- no edits, or edits that keep the run of this document
+abbrev pub Fits : Unit → List Replacement → Open → Type 0
+Fits unit edits d = (edits ≡ []) ⊎ KeepTheRun unit d.text edits
+
+-- an answer on its way fits the document that was asked about, where that is still the same
+abbrev pub AnswerFits : Unit → Editor → ToEditor → Type 0
+AnswerFits unit e (publishes uri version empty) = ⊤
+AnswerFits unit e (answers k edits) = Known e k (Fits unit edits)
+
+-- and so does one that the editor holds, which has edits
+abbrev pub HeldFits : Unit → Editor → Answer → Type 0
+HeldFits unit e a = Known e a.number (λ d. KeepTheRun unit d.text a.edits)
+
+-- the server, as it takes an ask, will hold the document that was asked about, where that is still the same
+abbrev pub AsksSee : Editor → OpenDocuments → List ToServer → Type 0
+AsksSee e held [] = ⊤
+AsksSee e held (tells note ∷ rest) = AsksSee e (after_note held note) rest
+AsksSee e held (asks k uri ask ∷ rest) = Known e k (λ d. document_at held uri ≡ Some (as_held d)) × AsksSee e held rest
+
+abbrev pub KnowsOpenings : Editor → Type 0
+KnowsOpenings e = (uri : List ℕ) (d : Open) → open_at e uri ≡ Some d → d.opening ≤ e.openings
+
+pub record Kept (unit : Unit) (w : Ends) : Type 0 where
+  -- both ends count positions in this unit
+  pub counts : w.editor.unit ≡ unit
+  pub holds : w.held.unit ≡ unit
+  pub mirror : Mirrors w
+  pub openings : KnowsOpenings w.editor
+  pub asked : AsksSee w.editor w.held w.to_server
+  pub answered : All (AnswerFits unit w.editor) w.to_editor
+  pub answers_held : All (HeldFits unit w.editor) w.editor.answers
+  pub applied : All KeepsTheRun w.applied
+  pub made : All IsRight w.made
+
+-- ---- the unit
+
+pub note_unit : (held : OpenDocuments) (note : DocumentNote) → (after_note held note).unit ≡ held.unit
+note_unit held (Opened uri version text) = refl
+note_unit held (Changed uri version how) = refl
+note_unit held (Lost uri) = refl
+note_unit held (Closed uri) = refl
+
+pub message_unit : (held : OpenDocuments) (m : ToServer) → (after_message held m).unit ≡ held.unit
+message_unit held (tells note) = note_unit held note
+message_unit held (asks k uri ask) = refl
+
+will_unit : (held : OpenDocuments) (q : List ToServer) → (fold after_message held q).unit ≡ held.unit
+will_unit held [] = refl
+will_unit held (m ∷ q) = will_unit (after_message held m) q ∙ message_unit held m
+
+-- ---- later on
+
+answer_later : (unit : Unit) (e e' : Editor) → Later e e' → (m : ToEditor) → AnswerFits unit e m → AnswerFits unit e' m
+answer_later unit e e' later (publishes uri version empty) h = h
+answer_later unit e e' later (answers k edits) h = still_known e e' k (Fits unit edits) later h
+
+pub answers_later : (unit : Unit) (e e' : Editor) → Later e e' → (ms : List ToEditor) → All (AnswerFits unit e) ms → All (AnswerFits unit e') ms
+answers_later unit e e' later ms h = All-weaker (AnswerFits unit e) (AnswerFits unit e') (answer_later unit e e' later) ms h
+
+pub held_later : (unit : Unit) (e e' : Editor) → Later e e' → (list : List Answer) → All (HeldFits unit e) list → All (HeldFits unit e') list
+held_later unit e e' later list h =
+    All-weaker (HeldFits unit e) (HeldFits unit e') (λ a known. still_known e e' a.number (λ d. KeepTheRun unit d.text a.edits) later known) list h
+
+pub asks_later : (e e' : Editor) → Later e e' → (held : OpenDocuments) (q : List ToServer) → AsksSee e held q → AsksSee e' held q
+asks_later e e' later held [] h = h
+asks_later e e' later held (tells note ∷ rest) h = asks_later e e' later (after_note held note) rest h
+asks_later e e' later held (asks k uri ask ∷ rest) h =
+    (still_known e e' k (λ d. document_at held uri ≡ Some (as_held d)) later h.0, asks_later e e' later held rest h.1)
+
+asks_append : (e : Editor) (held : OpenDocuments) (q more : List ToServer) → AsksSee e held q → AsksSee e (fold after_message held q) more → AsksSee e held (q ++ more)
+asks_append e held [] more h k = k
+asks_append e held (tells note ∷ rest) more h k = asks_append e (after_note held note) rest more h k
+asks_append e held (asks n uri ask ∷ rest) more h k = (h.0, asks_append e held rest more h.1 k)
+
+-- ---- the editor sends
+
+-- the ends once the editor is this one and its message waits for the server
+abbrev pub sent_by : Ends → Editor → ToServer → Ends
+sent_by w e m = record w { editor = e; to_server = w.to_server ++ m ∷ [] }
+
+pub sends_kept : (unit : Unit) (w : Ends) (e : Editor) (m : ToServer) → Kept unit w → Later w.editor e → KnowsOpenings e → e.unit ≡ w.editor.unit → e.answers ≡ w.editor.answers
+    → ((uri : List ℕ) → document_at (after_message (will_hold w) m) uri ≡ option_map as_held (open_at e uri)) → AsksSee e (will_hold w) (m ∷ []) → Kept unit (sent_by w e m)
+sends_kept unit w e m kept later openings same_unit same mirror see =
+    record {
+      counts = same_unit ∙ kept.counts;
+      holds = kept.holds;
+      mirror = λ uri. ap (λ held. document_at held uri) (fold_push after_message w.held w.to_server m) ∙ mirror uri;
+      openings = openings;
+      asked = asks_append e w.held w.to_server (m ∷ []) (asks_later w.editor e later w.held w.to_server kept.asked) see;
+      answered = answers_later unit w.editor e later w.to_editor kept.answered;
+      answers_held = subst (λ list. All (HeldFits unit e) list) (sym same) (held_later unit w.editor e later w.editor.answers kept.answers_held);
+      applied = kept.applied;
+      made = kept.made;
+    }
+
+-- a document is put in at both ends
+put_mirror : (w : Ends) (uri : List ℕ) (d : Open) → Mirrors w → (q : List ℕ)
+    → map_of.get (map_of.insert (will_hold w).by_uri uri (as_held d)) q ≡ option_map as_held (map_of.get (map_of.insert w.editor.documents uri d) q)
+put_mirror w uri d mirror q =
+    get_put (will_hold w).by_uri uri (as_held d) q ∙ ap (cond (bytes_eq q uri) (Some (as_held d))) (mirror q)
+    ∙ sym (mapped_choice as_held (bytes_eq q uri) (Some d) (map_of.get w.editor.documents q))
+    ∙ ap (option_map as_held) (sym (get_put w.editor.documents uri d q))
+
+pub put_mirrors : (w : Ends) (uri : List ℕ) (d : Open) → Mirrors w → (q : List ℕ)
+    → map_of.get (map_of.insert (will_hold w).by_uri uri (as_held d)) q ≡ option_map as_held (map_of.get (map_of.insert w.editor.documents uri d) q)
+put_mirrors w uri d mirror q = put_mirror w uri d mirror q
+
+pub remove_mirrors : (w : Ends) (uri : List ℕ) → Mirrors w → (q : List ℕ)
+    → map_of.get (map_of.remove (will_hold w).by_uri uri) q ≡ option_map as_held (map_of.get (map_of.remove w.editor.documents uri) q)
+remove_mirrors w uri mirror q =
+    get_removed (will_hold w).by_uri uri q ∙ ap (cond (bytes_eq q uri) None) (mirror q)
+    ∙ sym (mapped_choice as_held (bytes_eq q uri) None (map_of.get w.editor.documents q))
+    ∙ ap (option_map as_held) (sym (get_removed w.editor.documents uri q))
+
+-- a document that gets a new text is changed so at the server
+change_mirrors : (w : Ends) (uri : List ℕ) (d new : Open) (how : List TextChange) → Mirrors w → (will_hold w).unit ≡ w.editor.unit → open_at w.editor uri ≡ Some d
+    → after_changes w.editor.unit (Some d.text) how ≡ Some new.text → (q : List ℕ)
+    → document_at (after_note (will_hold w) (Changed uri (pos new.version) how)) q ≡ option_map as_held (map_of.get (map_of.insert w.editor.documents uri new) q)
+change_mirrors w uri d new how mirror same_unit was_open is q =
+    let held : document_at (will_hold w) uri ≡ Some (as_held d) = mirror uri ∙ ap (option_map as_held) was_open in
+    ap (λ m. map_of.get m q) (updated-some (will_hold w).by_uri uri (changed_document (will_hold w).unit (pos new.version) how) (as_held d) held)
+    ∙ ap (λ text. map_of.get (map_of.insert (will_hold w).by_uri uri (document (pos new.version) text)) q) (ap (λ u. after_changes u (Some d.text) how) same_unit ∙ is)
+    ∙ put_mirror w uri new mirror q
+
+pub rewrites_kept : (unit : Unit) (w : Ends) (uri : List ℕ) (d : Open) (how : List TextChange) (text : List ℕ) → Kept unit w → open_at w.editor uri ≡ Some d
+    → after_changes w.editor.unit (Some d.text) how ≡ Some text → Kept unit (sent_by w (rewrites w.editor uri d text) (tells (Changed uri (pos (d.version + 1)) how)))
+rewrites_kept unit w uri d how text kept was_open is =
+    let new : Open = rewritten d text in
+    sends_kept unit w (rewrites w.editor uri d text) (tells (Changed uri (pos (d.version + 1)) how)) kept (later_rewrite w.editor uri d text was_open)
+    (λ q x at. found w.editor.documents uri q new x (x.opening ≤ w.editor.openings) at
+    (λ same is. subst (λ y. y.opening ≤ w.editor.openings) is (kept.openings uri d was_open))
+    (λ was. kept.openings q x was))
+    refl refl (change_mirrors w uri d new how kept.mirror (will_unit w.held w.to_server ∙ kept.holds ∙ sym kept.counts) was_open is) tt
+
+-- ---- answers in the editor
+
+-- the editor holds other answers, and takes them from the queue
+pub answers_kept : (unit : Unit) (w : Ends) (list : List Answer) (queue : List ToEditor) → Kept unit w → All (HeldFits unit w.editor) list → All (AnswerFits unit w.editor) queue
+    → Kept unit (record w { editor = record w.editor { answers = list }; to_editor = queue })
+answers_kept unit w list queue kept held fit =
+    let e : Editor = record w.editor { answers = list } in
+    let later : Later w.editor e = later_answers w.editor list in
+    record {
+      counts = kept.counts;
+      holds = kept.holds;
+      mirror = kept.mirror;
+      openings = kept.openings;
+      asked = asks_later w.editor e later w.held w.to_server kept.asked;
+      answered = answers_later unit w.editor e later queue fit;
+      answers_held = held_later unit w.editor e later list held;
+      applied = kept.applied;
+      made = kept.made;
+    }
+
+pub held_known : (unit : Unit) (e : Editor) (k : ℕ) (list : List Answer) (edits : List Replacement) → held_answer k list ≡ Some edits → All (HeldFits unit e) list → Known e k (λ d. KeepTheRun unit d.text edits)
+held_known unit e k [] edits h all = absurd (none-some edits h)
+held_known unit e k (a ∷ rest) edits h all =
+    go (a.number == k) refl h (λ later. held_known unit e k rest edits later (All-tail (HeldFits unit e) a rest all))
+  where
+    go : (b : Bool) → a.number == k ≡ b → cond b (Some a.edits) (held_answer k rest) ≡ Some edits → (held_answer k rest ≡ Some edits → Known e k (λ d. KeepTheRun unit d.text edits)) → Known e k (λ d. KeepTheRun unit d.text edits)
+    go true is h next =
+        subst (λ n. Known e n (λ d. KeepTheRun unit d.text edits)) (eqb-true a.number k is)
+        (subst (λ es. Known e a.number (λ d. KeepTheRun unit d.text es)) (same_Some a.edits edits h) (All-head (HeldFits unit e) a rest all))
+    go false is h next = next h

@@ -1,0 +1,135 @@
+-- The fields of a module's text are one list, whichever table of ordinals its names were read with.
+use Rattle.std.proofs.Common.{◌≡◌, ◌≢◌, ◌∙◌, ℕ, suc, ◌+◌, ◌<◌, ◌≤◌, Option, Some, None, List, [], ◌∷◌, map, length, replicate, set, refl, sym, ap, subst, arith, le_refl, get_or-set_other, get_or-set_same}
+use Rattle.std.proofs.Math.ListN.{length-set}
+use Rattle.std.proofs.lemmas.List.{get_or-replicate, length-replicate}
+use Rattle.ob0_tree.specs.declared.tree.Role.TheVariants as role
+use Rattle.ob0_tree.specs.Lexeme.{Lexeme, Name, Number, Mark, EndOfText, relabelled}
+use Rattle.ob0_tree.specs.Order.{Ascending, leaves}
+use Rattle.ob0_tree.specs.Parsed.{tree_of}
+use Rattle.ob0_tree.specs.Places.{text_at, value_at}
+use Rattle.ob0_tree.specs.Tree.{Sort, Tree, mapped, spell}
+use Rattle.ob0_tree.proofs.Leaves.{ascending_bounds, leaves_ascend, leaves_spelled, lexeme_names}
+use Rattle.ob0_tree.proofs.Mapped.{spell_mapped}
+use Rattle.ob0_scope_rules.specs.Names as written
+use Rattle.ob0_scope_rules.specs.Resolution.{Resolution, ordinal_in}
+use Rattle.ob0_types.specs.CheckedModules.{IsWellTyped}
+use Rattle.ob0_rename_laws.specs.Fields.{refielded}
+use Rattle.ob0_rename_laws.specs.Owners.{AreOwners, of_records}
+use Rattle.ob0_types_fields.specs.Identifiers.{field_identifiers}
+use Rattle.ob0_types_fields.specs.Owned.{HasOwners, fields_among, owned_tokens, with_fields_at}
+use Rattle.ob0_types_fields.proofs.OwnedModules.{owners_by_declaration-holds}
+use Rattle.ob0_types_fields.proofs.OwnedTokens.{module-tokens, tokens}
+use Rattle.ob0_world_rules.proofs.OneModule.{Same, one_named_tree}
+
+-- ---- the table of a module's fields
+
+-- what stands below stays
+kept_below : (xs : List (ℕ × Option ℕ)) (table : List (Option ℕ)) (low high i : ℕ) → Ascending low (tokens xs) high → i < low → ordinal_in (with_fields_at table (fields_among xs)) i ≡ ordinal_in table i
+kept_below [] table low high i ascend below = refl
+kept_below ((x, None) ∷ xs) table low high i ascend below = kept_below xs table (x + 1) high i ascend.1 (omega (arith, ascend.0, below))
+kept_below ((x, Some k) ∷ xs) table low high i ascend below =
+    let other : i ≢ x = omega (arith, ascend.0, below) in
+    kept_below xs (set table x (Some k)) (x + 1) high i ascend.1 (omega (arith, ascend.0, below)) ∙ get_or-set_other table x i (Some k) None other
+
+-- identifiers in text order, whose fields are written into a table that has none of them
+has_owners : (xs : List (ℕ × Option ℕ)) (table : List (Option ℕ)) (low high : ℕ) → Ascending low (tokens xs) high → high ≤ length table → ((i : ℕ) → low ≤ i → i < high → ordinal_in table i ≡ None)
+    → HasOwners (ordinal_in (with_fields_at table (fields_among xs))) xs
+has_owners [] table low high ascend within vacant = tt
+has_owners ((x, None) ∷ xs) table low high ascend within vacant =
+    let last = ascending_bounds (x + 1) (tokens xs) high ascend.1 in (
+      kept_below xs table (x + 1) high x ascend.1 (omega arith) ∙ vacant x ascend.0 (omega (arith, last)),
+      has_owners xs table (x + 1) high ascend.1 within (λ i l u. vacant i (omega (arith, l, ascend.0)) u),
+    )
+has_owners ((x, Some k) ∷ xs) table low high ascend within vacant =
+    let next : List (Option ℕ) = set table x (Some k) in
+    let last = ascending_bounds (x + 1) (tokens xs) high ascend.1 in
+    let inside : x < length table = omega (arith, last, within) in
+    let still : high ≤ length next = subst (λ n. high ≤ n) (sym (length-set table x (Some k))) within in (
+      kept_below xs next (x + 1) high x ascend.1 (omega arith) ∙ get_or-set_same table x (Some k) None inside,
+      has_owners xs next (x + 1) high ascend.1 still (λ i l u. let other : i ≢ x = omega (arith, l) in get_or-set_other table x i (Some k) None other ∙ vacant i (omega (arith, l, ascend.0)) u),
+    )
+
+abbrev table_of : Resolution → List (Option ℕ)
+table_of r = with_fields_at (replicate (length r.module_read.source.tokens) None) (fields_among (owned_tokens r))
+
+module _ (r : Resolution) (well : IsWellTyped r) where
+  table_has : HasOwners (ordinal_in (table_of r)) (owned_tokens r)
+  table_has =
+      let n : ℕ = length r.module_read.source.tokens in
+      let nothing : Option ℕ = None in
+      let ascend = subst (λ ts. Ascending 0 ts n) (sym (module-tokens _ (tree_of r.module_read))) (leaves_ascend r.module_read well.resolved.parsed) in
+      has_owners (owned_tokens r) (replicate n nothing) 0 n ascend (subst (λ z. n ≤ z) (sym (length-replicate n nothing)) (le_refl n)) (λ i l u. get_or-replicate n i nothing None u)
+
+  table_owns : AreOwners r.module_read (table_of r)
+  table_owns = owners_by_declaration-holds r (table_of r) well.resolved well.well_typed table_has
+
+-- ---- two tables of one module
+
+names_relabelled : {N M : Type 0} (f : N → M) (g : ℕ → ℕ) (xs : List (Lexeme N)) → lexeme_names (map (relabelled f g) xs) ≡ map f (lexeme_names xs)
+names_relabelled f g [] = refl
+names_relabelled f g (Name n ∷ xs) = ap (λ z. f n ∷ z) (names_relabelled f g xs)
+names_relabelled f g (Number n ∷ xs) = names_relabelled f g xs
+names_relabelled f g (Mark k ∷ xs) = names_relabelled f g xs
+names_relabelled f g (EndOfText ∷ xs) = names_relabelled f g xs
+
+leaves_mapped : {N M : Type 0} {s : Sort} (f : N → M) (g : ℕ → ℕ) (t : Tree N s) → leaves (mapped f g t) ≡ map f (leaves t)
+leaves_mapped f g t =
+    leaves_spelled role.Declaring (mapped f g t)
+    ∙ (ap lexeme_names (spell_mapped f g t) ∙ (names_relabelled f g (spell t) ∙ ap (map f) (sym (leaves_spelled role.Declaring t))))
+
+-- each field's name, longer by the ordinal of its record
+abbrev marked_by : ℕ → written.Name → written.Name
+marked_by k x = k ∷ x
+
+longer : (k : ℕ) (x : List ℕ) → x ≡ k ∷ x → ⊥
+longer k x h = let long : length x ≡ suc (length x) = ap length h in omega (arith, long)
+
+one_owner : (a b : Option ℕ) (x : written.Name) → of_records marked_by a x ≡ of_records marked_by b x → a ≡ b
+one_owner None None x h = refl
+one_owner None (Some k) x h = absurd (longer k x h)
+one_owner (Some k) None x h = absurd (longer k x (sym h))
+one_owner (Some k) (Some l) x h = cc
+
+head_is : {A : Type 0} {x y : A} {xs ys : List A} → x ∷ xs ≡ y ∷ ys → x ≡ y
+head_is h = cc
+
+tail_is : {A : Type 0} {x y : A} {xs ys : List A} → x ∷ xs ≡ y ∷ ys → xs ≡ ys
+tail_is h = cc
+
+-- what a table writes at a token
+abbrev writes : (ℕ → written.Name) → List (Option ℕ) → ℕ → written.Name
+writes text table i = of_records marked_by (ordinal_in table i) (text i)
+
+same_owned : (text : ℕ → written.Name) (a b : List (Option ℕ)) (xs ys : List (ℕ × Option ℕ)) → HasOwners (ordinal_in a) xs → HasOwners (ordinal_in b) ys → tokens xs ≡ tokens ys
+    → map (writes text a) (tokens xs) ≡ map (writes text b) (tokens ys) → xs ≡ ys
+same_owned text a b [] [] h k same wrote = refl
+same_owned text a b [] ((y, l) ∷ ys) h k same wrote = absurd (cc)
+same_owned text a b ((x, o) ∷ xs) [] h k same wrote = absurd (cc)
+same_owned text a b ((x, o) ∷ xs) ((y, l) ∷ ys) h k same wrote =
+    let token : x ≡ y = head_is same in
+    let here : writes text a x ≡ writes text b x = head_is wrote ∙ ap (writes text b) (sym token) in
+    let table : ordinal_in a x ≡ ordinal_in b x = one_owner (ordinal_in a x) (ordinal_in b x) (text x) here in
+    let owner : o ≡ l = sym h.0 ∙ (table ∙ (ap (ordinal_in b) token ∙ k.0)) in
+    let rest : xs ≡ ys = same_owned text a b xs ys h.1 k.1 (tail_is same) (tail_is wrote) in
+    λ i. (token i, owner i) ∷ rest i
+
+module _ (r q : Resolution) (well : IsWellTyped r) (also : IsWellTyped q) (e : Same r.module_read q.module_read) where
+  tokens_of : tokens (owned_tokens r) ≡ leaves (tree_of r.module_read)
+  tokens_of = module-tokens _ (tree_of r.module_read)
+
+  tokens_too : tokens (owned_tokens q) ≡ leaves (tree_of q.module_read)
+  tokens_too = module-tokens _ (tree_of q.module_read)
+
+  -- the module with its fields so marked
+  same_writing : map (writes (text_at r.module_read.source) (table_of r)) (leaves (tree_of r.module_read)) ≡ map (writes (text_at q.module_read.source) (table_of q)) (leaves (tree_of q.module_read))
+  same_writing =
+      sym (leaves_mapped (writes (text_at r.module_read.source) (table_of r)) (value_at r.module_read.source) (tree_of r.module_read))
+      ∙ (ap leaves (sym (table_owns r well marked_by) ∙ (ap (refielded (of_records marked_by)) (one_named_tree e) ∙ table_owns q also marked_by))
+      ∙ leaves_mapped (writes (text_at q.module_read.source) (table_of q)) (value_at q.module_read.source) (tree_of q.module_read))
+
+  pub one_list_of_fields : field_identifiers r ≡ field_identifiers q
+  one_list_of_fields =
+      let text : ℕ → written.Name = text_at r.module_read.source in
+      let there : map (writes text (table_of r)) (tokens (owned_tokens r)) ≡ map (writes text (table_of q)) (tokens (owned_tokens q)) =
+      ap (map (writes text (table_of r))) tokens_of ∙ (same_writing ∙ (ap (λ s. map (writes (text_at s) (table_of q)) (leaves (tree_of q.module_read))) (sym e.source) ∙ ap (map (writes text (table_of q))) (sym tokens_too))) in
+      ap fields_among (same_owned text (table_of r) (table_of q) (owned_tokens r) (owned_tokens q) (table_has r well) (table_has q also) (tokens_of ∙ (ap leaves e.tree ∙ sym tokens_too)) there)

@@ -1,0 +1,180 @@
+-- A constant is inlined in one way at a place: the edits are one list, and there are none where it is refused.
+use Rattle.std.proofs.Common.{◌≡◌, ◌∙◌, ℕ, nat_lt, Option, Some, None, List, [], ◌∷◌, map, length, drop, slice_get, sym, ap, inl, inr, eq-eqb, eqb-true}
+use Rattle.std.specs.Prelude.{Ok, Err, Vec, if◌then◌else◌}
+use Rattle.std.specs.List.{filter, list_any, position_from, zip}
+use Rattle.std.specs.declared.alloc.Global.{Global}
+use Rattle.ob0_scan.specs.Scanned.{Scanned, max_text}
+use Rattle.ob0_text.specs.declared.edits.Edit.{Edit}
+use Rattle.ob0_text.specs.declared.positions.Unit.{Unit}
+use Rattle.ob0_text.specs.declared.refusals.EditRefusal.{EditRefusal}
+use Rattle.ob0_text.specs.declared.refusals.EditRefusal.TheVariants.{CommentInside, Memory, Shadowed, TooDeep, TooLong}
+use Rattle.ob0_text.specs.Units.{width_of}
+use Rattle.ob0_tree.specs.declared.tree.Role.TheVariants as role
+use Rattle.ob0_tree.specs.Parsed.{Parsed, IsParsed, tree_of, named_tree_of}
+use Rattle.ob0_tree.specs.Places.{named}
+use Rattle.ob0_tree.specs.Tree.{Tree, identifiers, module_text, nesting, occurrences}
+use Rattle.ob0_tree.proofs.Leaves.{leaves_ascend, occurrences_ascend}
+use Rattle.ob0_edits.specs.Ranges.{range_of}
+use Rattle.ob0_edits.specs.Removed.{span_over, without_text}
+use Rattle.ob0_edits.specs.Replaced.{edit_at, with_text_at}
+use Rattle.ob0_scope_rules.specs.Inlining.{inlined, inlined_everywhere, only}
+use Rattle.ob0_scope_rules.specs.Names.{declared, same_label}
+use Rattle.ob0_scope_rules.specs.Occurrences.{bindings}
+use Rattle.ob0_scope_rules.specs.Resolution.{declaring_only, token_declaring}
+use Rattle.ob0_values.specs.declared.scalar.Scalar.{Scalar}
+use Rattle.ob0_values.specs.declared.scalar.Scalar.TheVariants as scalar
+use Rattle.ob0_values.specs.Scalars.{scalar_value}
+use Rattle.ob0_scope.specs.declared.naming.Named.{Named}
+use Rattle.ob0_types_rules.specs.ConstantValues.{value_of_constant}
+use Rattle.ob0_inline.specs.declared.constants.Constant.{Constant}
+use Rattle.ob0_inline.specs.declared.uses.Use.{Use}
+use Rattle.ob0_inline.specs.Declarations.{is_inside, is_semicolon}
+use Rattle.ob0_inline.specs.Everywhere.{AnswersEverywhere, IsConstantAt, any_hidden, refusal_everywhere}
+use Rattle.ob0_inline.specs.Uses.{AnswersHere, IsUseAt, is_shown, refusal_here}
+use Rattle.ob0_inline.specs.Values.{value_factor, value_text}
+use Rattle.ob0_inline.proofs.UsesStand.{one_place}
+use Rattle.ob0_session_offers.specs.Inlinings.{InlinesIn, IsNotInlinedIn}
+use Rattle.ob0_session_offers.specs.declared.inlining.Inlining.{Inlining}
+use Rattle.ob0_session_offers.specs.declared.inlining.Inlining.TheVariants.{Here, Everywhere}
+use Rattle.ob0_session_offers.specs.Texts.{utf8}
+use Rattle.ob0_world_rules.specs.Edited.{replacements}
+use Rattle.ob0_world_rules.proofs.OneModule.{Same, same_module, one_named_tree, one_name, same_parts}
+
+one_scalar : (a b : Scalar) → Some (scalar_value a) ≡ Some (scalar_value b) → a ≡ b
+one_scalar (scalar.Number n) (scalar.Number m) e = cc
+one_scalar (scalar.Number n) (scalar.Truth b) e = absurd (cc)
+one_scalar (scalar.Truth a) (scalar.Number m) e = absurd (cc)
+one_scalar (scalar.Truth a) (scalar.Truth b) e = cc
+
+some_one : {x y : ℕ} → Some x ≡ Some y → x ≡ y
+some_one h = cc
+
+abbrev named_with : ℕ → ℕ → Named
+named_with token ordinal = record { token = token; ordinal = ordinal }
+
+-- ---- at one use
+
+abbrev refused_at : Scanned → Tree ℕ module_text → ℕ → ℕ → Scalar → Option EditRefusal
+refused_at s t token occurrence value =
+    if nat_lt max_text (length (with_text_at s (token ∷ []) (value_text value))) then Some TooLong
+    else if nat_lt 100 (nesting (inlined (named s t) (only occurrence) (value_factor value))) then Some TooDeep
+    else if is_shown (named s t) occurrence value then None
+    else Some Shadowed
+
+module _ {m n : Parsed} (e : Same m n) (parsed : IsParsed n) (offset : ℕ) (u v : Use) (at : IsUseAt m offset u) (also : IsUseAt n offset v) where
+  same_named : Some (named_with u.token u.constant) ≡ Some (named_with v.token v.constant)
+  same_named = sym at.named ∙ (one_name e offset ∙ also.named)
+
+  use_token : u.token ≡ v.token
+  use_token = ap (λ (o : Option Named). elim o [ Some x ↦ x.token | None ↦ u.token ]) same_named
+
+  use_constant : u.constant ≡ v.constant
+  use_constant = ap (λ (o : Option Named). elim o [ Some x ↦ x.ordinal | None ↦ u.constant ]) same_named
+
+  use_value : u.value ≡ v.value
+  use_value = one_scalar u.value v.value (sym at.worth ∙ ((λ i. value_of_constant (one_named_tree e i) (use_constant i)) ∙ also.worth))
+
+  use_occurrence : u.occurrence ≡ v.occurrence
+  use_occurrence =
+      let there : slice_get (occurrences (tree_of n)) u.occurrence ≡ Some u.token = ap (λ t. slice_get (occurrences t) u.occurrence) (sym e.tree) ∙ at.occurs in
+      let ascend = occurrences_ascend (tree_of n) 0 (length n.source.tokens) (leaves_ascend n parsed) in
+      let so = one_place 0 (length n.source.tokens) (occurrences (tree_of n)) u.occurrence v.occurrence u.token v.token ascend there also.occurs in
+      eqb-true u.occurrence v.occurrence (sym so ∙ eq-eqb u.token v.token use_token)
+
+  same_refusal_here : refusal_here m u ≡ refusal_here n v
+  same_refusal_here = λ i. refused_at (e.source i) (e.tree i) (use_token i) (use_occurrence i) (use_value i)
+
+  same_edit_here : (unit : Unit) (text : List ℕ) → edit_at unit text m.source.tokens (value_text u.value) u.token ≡ edit_at unit text n.source.tokens (value_text v.value) v.token
+  same_edit_here unit text = λ i. edit_at unit text ((e.source i).tokens) (value_text (use_value i)) (use_token i)
+
+use_there : {m n : Parsed} → Same m n → (offset : ℕ) (u : Use) → IsUseAt m offset u → IsUseAt n offset u
+use_there e offset u at = record {
+  named = sym (one_name e offset) ∙ at.named;
+  occurs = ap (λ t. slice_get (occurrences t) u.occurrence) (sym e.tree) ∙ at.occurs;
+  worth = ap (λ t. value_of_constant t u.constant) (sym (one_named_tree e)) ∙ at.worth;
+}
+
+module _ {m n : Parsed} (e : Same m n) (parsed : IsParsed n) (unit : Unit) (text : List ℕ) (offset : ℕ) (xs : Vec Edit Global) where
+  here_one : (ys : Vec Edit Global) → AnswersHere unit text m offset (Ok xs) → AnswersHere unit text n offset (Ok ys) → replacements xs.items ≡ replacements ys.items
+  here_one ys (inl (u, at, (free, h))) (inl (v, also, (free_too, k))) =
+      same_parts xs.items ys.items (h.here ∙ (ap (λ z. z ∷ []) (same_edit_here e parsed offset u v at also unit text) ∙ sym k.here))
+  here_one ys (inr (bad, none)) k = absurd (cc)
+  here_one ys (inl h) (inr (bad, none)) = absurd (cc)
+
+  here_or_refused : (refusal : EditRefusal) → (refusal ≡ Memory → ⊥) → AnswersHere unit text m offset (Ok xs) → AnswersHere unit text n offset (Err refusal) → ⊥
+  here_or_refused refusal why (inl (u, at, (free, h))) (inl (v, also, inl refused)) =
+      let both : None ≡ Some refusal = sym free ∙ (same_refusal_here e parsed offset u v at also ∙ refused) in cc
+  here_or_refused refusal why (inl (u, at, (free, h))) (inl (v, also, inr memory)) = why memory
+  here_or_refused refusal why (inl (u, at, (free, h))) (inr (is, nowhere)) = nowhere u (use_there e offset u at)
+  here_or_refused refusal why (inr (bad, none)) k = absurd (cc)
+
+-- ---- everywhere
+
+abbrev uses_in : Scanned → Tree ℕ module_text → ℕ → List ℕ
+uses_in s t d = map (λ u. u.0) (filter (λ u. same_label u.1 (declared d)) (zip (occurrences t) (bindings (named s t))))
+
+abbrev refused_everywhere : Scanned → Tree ℕ module_text → ℕ → Scalar → ℕ → ℕ → Option EditRefusal
+refused_everywhere s t ordinal value first last =
+    if nat_lt max_text (length (without_text s first last (uses_in s t ordinal) (value_text value))) then Some TooLong
+    else if nat_lt 100 (nesting (inlined_everywhere (named s t) ordinal (value_factor value))) then Some TooDeep
+    else if any_hidden (named s t) (record { ordinal = ordinal; value = value; first = first; last = last }) then Some Shadowed
+    else if list_any (is_inside (span_over s.tokens first last)) s.comments then Some CommentInside
+    else None
+
+module _ {m n : Parsed} (e : Same m n) (offset : ℕ) (c d : Constant) (at : IsConstantAt m offset c) (also : IsConstantAt n offset d) where
+  same_constant : Some (named_with at.token c.ordinal) ≡ Some (named_with also.token d.ordinal)
+  same_constant = sym at.named ∙ (one_name e offset ∙ also.named)
+
+  constant_ordinal : c.ordinal ≡ d.ordinal
+  constant_ordinal = ap (λ (o : Option Named). elim o [ Some x ↦ x.ordinal | None ↦ c.ordinal ]) same_constant
+
+  constant_value : c.value ≡ d.value
+  constant_value = one_scalar c.value d.value (sym at.is_constant.worth ∙ ((λ i. value_of_constant (one_named_tree e i) (constant_ordinal i)) ∙ also.is_constant.worth))
+
+  constant_first : c.first ≡ d.first
+  constant_first = some_one (sym at.is_constant.begins ∙ ((λ i. token_declaring (declaring_only (identifiers role.Declaring (e.tree i))) (constant_ordinal i)) ∙ also.is_constant.begins))
+
+  constant_last : c.last ≡ d.last
+  constant_last = some_one (sym at.is_constant.ends ∙ ((λ i. position_from (λ t. is_semicolon t.kind) (constant_first i) (drop (constant_first i) ((e.source i).tokens))) ∙ also.is_constant.ends))
+
+  same_refusal_everywhere : refusal_everywhere m c ≡ refusal_everywhere n d
+  same_refusal_everywhere = λ i. refused_everywhere (e.source i) (e.tree i) (constant_ordinal i) (constant_value i) (constant_first i) (constant_last i)
+
+  same_edits_everywhere : (unit : Unit) (text : List ℕ)
+      → (range_of (width_of unit) text (span_over m.source.tokens c.first c.last), []) ∷ map (edit_at unit text m.source.tokens (value_text c.value)) (uses_in m.source (tree_of m) c.ordinal)
+      ≡ (range_of (width_of unit) text (span_over n.source.tokens d.first d.last), []) ∷ map (edit_at unit text n.source.tokens (value_text d.value)) (uses_in n.source (tree_of n) d.ordinal)
+  same_edits_everywhere unit text = λ i.
+      (range_of (width_of unit) text (span_over ((e.source i).tokens) (constant_first i) (constant_last i)), [])
+      ∷ map (edit_at unit text ((e.source i).tokens) (value_text (constant_value i))) (uses_in (e.source i) (e.tree i) (constant_ordinal i))
+
+module _ {m n : Parsed} (e : Same m n) (unit : Unit) (text : List ℕ) (offset : ℕ) (xs : Vec Edit Global) where
+  everywhere_one : (ys : Vec Edit Global) → AnswersEverywhere unit text m offset (Ok xs) → AnswersEverywhere unit text n offset (Ok ys) → replacements xs.items ≡ replacements ys.items
+  everywhere_one ys (inl (c, at, (free, h))) (inl (d, also, (free_too, k))) =
+      same_parts xs.items ys.items (h.everywhere ∙ (same_edits_everywhere e offset c d at also unit text ∙ sym k.everywhere))
+  everywhere_one ys (inr (bad, none)) k = absurd (cc)
+  everywhere_one ys (inl h) (inr (bad, none)) = absurd (cc)
+
+  everywhere_or_refused : (refusal : EditRefusal) → (refusal ≡ Memory → ⊥) → AnswersEverywhere unit text m offset (Ok xs) → AnswersEverywhere unit text n offset (Err refusal) → ⊥
+  everywhere_or_refused refusal why (inl (c, at, (free, h))) (inl (d, also, inl refused)) =
+      let both : None ≡ Some refusal = sym free ∙ (same_refusal_everywhere e offset c d at also ∙ refused) in cc
+  everywhere_or_refused refusal why (inl (c, at, (free, h))) (inl (d, also, inr memory)) = why memory
+  everywhere_or_refused refusal why (inl (c, at, (free, h))) (inr (is, none)) =
+      let nothing : value_of_constant (named_tree_of n) c.ordinal ≡ None = none (record { token = at.token; ordinal = c.ordinal }) (sym (one_name e offset) ∙ at.named) in
+      let some : None ≡ Some (scalar_value c.value) = sym nothing ∙ (ap (λ t. value_of_constant t c.ordinal) (sym (one_named_tree e)) ∙ at.is_constant.worth) in
+      cc
+  everywhere_or_refused refusal why (inr (bad, none)) k = absurd (cc)
+
+-- ---- in a text
+
+module _ (unit : Unit) (text : List ℕ) (offset : ℕ) (xs : Vec Edit Global) where
+  pub inlines_one : (how : Inlining) (ys : Vec Edit Global) → InlinesIn how unit text offset xs → InlinesIn how unit text offset ys → replacements xs.items ≡ replacements ys.items
+  inlines_one Here ys h k =
+      here_one (same_module (utf8 text) h.module_read k.module_read h.read.scan h.read.parsed k.read.scan k.read.parsed) k.read.parsed unit text offset xs ys h.inlines k.inlines
+  inlines_one Everywhere ys h k =
+      everywhere_one (same_module (utf8 text) h.module_read k.module_read h.read.scan h.read.parsed k.read.scan k.read.parsed) unit text offset xs ys h.inlines k.inlines
+
+  pub inlines_or_refused : (how : Inlining) → InlinesIn how unit text offset xs → IsNotInlinedIn how unit text offset → ⊥
+  inlines_or_refused Here h k =
+      here_or_refused (same_module (utf8 text) h.module_read k.module_read h.read.scan h.read.parsed k.read.scan k.read.parsed) k.read.parsed unit text offset xs k.refused.0 k.refused.1 h.inlines k.refused.2
+  inlines_or_refused Everywhere h k =
+      everywhere_or_refused (same_module (utf8 text) h.module_read k.module_read h.read.scan h.read.parsed k.read.scan k.read.parsed) unit text offset xs k.refused.0 k.refused.1 h.inlines k.refused.2

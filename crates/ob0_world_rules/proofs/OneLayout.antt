@@ -1,0 +1,61 @@
+-- A text has one layout: the edits that lay it out are one list, and there are none where it is too long.
+use Rattle.std.proofs.Common.{◌≡◌, ◌∙◌, ℕ, ◌≤◌, List, map, length, sym, ap, arith, subst}
+use Rattle.std.specs.Str.{chars}
+use mathlib.Core.List.{map-map}
+use Rattle.ob0_scan.specs.Lexed.{Lexed}
+use Rattle.ob0_scan.specs.Scanned.{max_text}
+use Rattle.ob0_scan.proofs.Cuts.{one_cut}
+use Rattle.ob0_scan.proofs.Spans.{one_scan}
+use Rattle.ob0_text.specs.declared.edits.Edit.{Edit}
+use Rattle.ob0_text.specs.declared.edits.Indent.{Indent}
+use Rattle.ob0_text.specs.declared.positions.Unit.{Unit}
+use Rattle.ob0_text.specs.Units.{width_of}
+use Rattle.ob0_tree.specs.Tree.{Tree, module_text}
+use Rattle.ob0_scope_rules.specs.Names.{Name}
+use Rattle.ob0_layout.specs.Layout.{layout}
+use Rattle.ob0_layout.specs.Sites.{Said, said, edit_of, changed_sites, all_sites}
+use Rattle.ob0_layout.specs.Standings.{line_roles}
+use Rattle.ob0_session_offers.specs.Diagnosed.{IsTextOf, IsWellTypedModule}
+use Rattle.ob0_session_offers.specs.Texts.{utf8}
+use Rattle.ob0_session_offers.specs.Layouts.{LaysOut, IsTooLongLaidOut, changes_of, layout_of}
+use Rattle.ob0_world_rules.specs.Edited.{Replacement, replacements}
+use Rattle.ob0_world_rules.proofs.Trees.{same_tree}
+
+abbrev said_as : Said → Replacement
+said_as s = record { range = s.range; text = chars s.text }
+
+same_said : (xs ys : List Edit) → map said xs ≡ map said ys → replacements xs ≡ replacements ys
+same_said xs ys e = sym (map-map said_as said xs) ∙ (ap (map said_as) e ∙ map-map said_as said ys)
+
+module _ (text : List ℕ) (m n : IsWellTypedModule (utf8 text)) where
+  one_source : m.text_of.scanned ≡ n.text_of.scanned
+  one_source = one_scan m.text_of.scanned n.text_of.scanned m.text_of.scan.scan n.text_of.scan.scan (m.text_of.scan.of ∙ sym n.text_of.scan.of)
+
+  one_module : m.tree ≡ n.tree
+  one_module = same_tree (utf8 text) m.tree n.tree m.text_of n.text_of
+
+  one_lexing : m.text_of.scan.scan.lexemes ≡ n.text_of.scan.scan.lexemes
+  one_lexing =
+      one_cut (utf8 text) m.text_of.scan.scan.lexemes n.text_of.scan.scan.lexemes
+      (subst (λ t. Lexed t m.text_of.scan.scan.lexemes) m.text_of.scan.of m.text_of.scan.scan.lexed)
+      (subst (λ t. Lexed t n.text_of.scan.scan.lexemes) n.text_of.scan.of n.text_of.scan.scan.lexed)
+
+  one_layout : (indent : Indent) → layout_of indent m ≡ layout_of indent n
+  one_layout indent = λ i. layout indent (one_module i) (one_lexing i)
+
+  one_change : (unit : Unit) (indent : Indent) → changes_of unit indent text m ≡ changes_of unit indent text n
+  one_change unit indent = λ i. map (edit_of indent (width_of unit) text) (changed_sites indent (one_source i).text (all_sites (line_roles 0 (one_module i)) (one_lexing i)))
+
+pub lays_out_one : (unit : Unit) (indent : Indent) (text : List ℕ) (xs ys : List Edit) → LaysOut unit indent text xs → LaysOut unit indent text ys → replacements xs ≡ replacements ys
+lays_out_one unit indent text xs ys h k = same_said xs ys (h.changes ∙ (one_change text h.before k.before unit indent ∙ sym k.changes))
+
+-- a text that has a module is short enough
+short_enough : (text : List ℕ) (tree : Tree Name module_text) → IsTextOf tree text → length text ≤ max_text
+short_enough text tree is = subst (λ t. length t ≤ max_text) is.scan.of is.module_of.short
+
+pub lays_out_or_long : (unit : Unit) (indent : Indent) (text : List ℕ) (xs : List Edit) → LaysOut unit indent text xs → IsTooLongLaidOut indent text → ⊥
+lays_out_or_long unit indent text xs h long =
+    let short : length (utf8 h.after) ≤ max_text = short_enough (utf8 h.after) h.before.tree h.same_module in
+    let here : length (layout_of indent h.before) ≤ max_text = subst (λ t. length t ≤ max_text) h.laid_out short in
+    let there : length (layout_of indent long.before) ≤ max_text = subst (λ t. length t ≤ max_text) (one_layout text h.before long.before indent) here in
+    omega (arith, there, long.long)

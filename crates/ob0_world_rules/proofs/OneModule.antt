@@ -1,0 +1,55 @@
+-- A text is read as one module: two readings have the same tokens, and the same tree over them. What is said of a module by
+-- these two is the same of both.
+use Rattle.std.proofs.Common.{◌≡◌, ◌∙◌, ℕ, Option, List, [], ◌∷◌, map, sym, ap, arith}
+use Rattle.std.specs.Prelude.{option_and_then}
+use Rattle.std.specs.List.{find, zip}
+use Rattle.std.specs.Str.{chars}
+use mathlib.Core.List.{map-map}
+use Rattle.ob0_scan.specs.Scanned.{Scanned, IsScanOf}
+use Rattle.ob0_scan.proofs.Spans.{one_scan}
+use Rattle.ob0_text.specs.declared.edits.Edit.{Edit}
+use Rattle.ob0_text.specs.declared.positions.Range.{Range}
+use Rattle.ob0_tree.specs.declared.tree.Role.TheVariants as role
+use Rattle.ob0_tree.specs.Lexeme.{EndOfText}
+use Rattle.ob0_tree.specs.Order.{leaves}
+use Rattle.ob0_tree.specs.Parsed.{Parsed, IsParsed, tree_of, named_tree_of}
+use Rattle.ob0_tree.specs.Places.{lexemes, named}
+use Rattle.ob0_tree.specs.Tree.{Tree, module_text, identifiers}
+use Rattle.ob0_scope_rules.specs.Resolution.{span_at}
+use Rattle.ob0_scope_rules.specs.Scopes.{numbered}
+use Rattle.ob0_parse.proofs.Unique.{same}
+use Rattle.ob0_edits.specs.Replaced.{parts}
+use Rattle.ob0_scope_rules.specs.Spans.{is_on}
+use Rattle.ob0_scope.specs.Standing.{BoundIdentifier, name_on, named_by}
+use Rattle.ob0_scope.specs.declared.naming.Named.{Named}
+use Rattle.ob0_world_rules.specs.Edited.{Replacement, replacements}
+
+pub record Same (m n : Parsed) : Type 0 where
+  pub source : m.source ≡ n.source
+  pub tree : tree_of m ≡ tree_of n
+
+pub same_module : (text : List ℕ) (m n : Parsed) → IsScanOf text m.source → IsParsed m → IsScanOf text n.source → IsParsed n → Same m n
+same_module text m n scan parsed other too =
+    let source : m.source ≡ n.source = one_scan m.source n.source scan.scan other.scan (scan.of ∙ sym other.of) in
+    let both = same (tree_of m) (tree_of n) (EndOfText ∷ []) (EndOfText ∷ []) (omega arith) (omega arith) (parsed.places ∙ (ap (λ (s : Scanned). lexemes s.tokens) source ∙ sym too.places)) in
+    record { source = source; tree = both.0 }
+
+abbrev pub standing_of : Scanned → Tree ℕ module_text → List BoundIdentifier
+standing_of s t = zip (identifiers role.Declaring t) (leaves (numbered (named s t)))
+
+abbrev name_in : Scanned → Tree ℕ module_text → ℕ → Option Named
+name_in s t offset = option_and_then named_by (find (λ x. is_on offset (span_at s x.0.1)) (standing_of s t))
+
+module _ {m n : Parsed} (e : Same m n) where
+  pub one_named_tree : named_tree_of m ≡ named_tree_of n
+  one_named_tree = λ i. named (e.source i) (e.tree i)
+
+  pub one_name : (offset : ℕ) → name_on m offset ≡ name_on n offset
+  one_name offset = λ i. name_in (e.source i) (e.tree i) offset
+
+-- edits that say the same are the same
+abbrev of_parts : Range × List ℕ → Replacement
+of_parts p = record { range = p.0; text = chars p.1 }
+
+pub same_parts : (xs ys : List Edit) → map parts xs ≡ map parts ys → replacements xs ≡ replacements ys
+same_parts xs ys e = sym (map-map of_parts parts xs) ∙ (ap (map of_parts) e ∙ map-map of_parts parts ys)

@@ -1,0 +1,56 @@
+-- What is answered to what an editor asks for.
+use Rattle.std.specs.Prelude.{◌≡◌, ◌⊎◌, ℕ, List, [], Bool, Option, Some, None, IsTrue, ◌↔◌, Vec}
+use Rattle.std.specs.declared.alloc.Global.{Global}
+use Rattle.ob0_text.specs.declared.positions.Position.{Position}
+use Rattle.ob0_text.specs.declared.positions.Unit.{Unit}
+use Rattle.ob0_text.specs.declared.edits.Edit.{Edit}
+use Rattle.ob0_text.specs.declared.refusals.EditRefusal.{EditRefusal}
+use Rattle.ob0_text.specs.OpenDocuments.{Document, InStep, OutOfStep}
+use Rattle.ob0_text.specs.Texts.{offset_of}
+use Rattle.ob0_text.specs.Units.{width_of}
+use Rattle.ob0_rename.specs.InTexts.{RenamesIn, IsRefusedIn}
+use Rattle.ob0_session_offers.specs.Inlinings.{InlinesIn, IsNotInlinedIn}
+use Rattle.ob0_session_offers.specs.Layouts.{LaysOut, IsTooLongLaidOut}
+pub use Rattle.ob0_session_offers.specs.declared.inlining.Inlining.{Inlining}
+pub use Rattle.ob0_session_offers.specs.declared.inlining.Inlining.TheVariants.{Here, Everywhere}
+use Rattle.ob0_world_rules.specs.Language.{WellTypedText}
+use Rattle.ob0_world_rules.specs.Edited.{Replacement, replacements}
+use Rattle.ob0_world_rules.specs.Asks.{Ask, rename, inline_here, inline_all, format, indent_read}
+
+-- the place in bytes at which a position stands
+abbrev pub place_at : Unit → List ℕ → Position → ℕ
+place_at unit text position = offset_of (width_of unit) text position
+
+-- these edits inline, here or everywhere, what is named at a position
+abbrev pub InlinesAt : Inlining → Unit → List ℕ → Position → List Edit → Type 0
+InlinesAt how unit text position edits = (found : Vec Edit Global) × InlinesIn how unit text (place_at unit text position) found × (edits ≡ found.items)
+
+-- These edits are what was asked for: they write the new name, inline here or everywhere, or lay out the text.
+abbrev pub HandsOut : Unit → List ℕ → Ask → List Edit → Type 0
+HandsOut unit text (rename position name) edits = RenamesIn unit text position name edits
+HandsOut unit text (inline_here position) edits = InlinesAt Here unit text position edits
+HandsOut unit text (inline_all position) edits = InlinesAt Everywhere unit text position edits
+HandsOut unit text (format indent) edits = LaysOut unit (indent_read indent) text edits
+
+-- there are none, for a reason: the one refusal of the new name, or of the inlining that was asked for, or a layout that is too long
+abbrev pub Refuses : Unit → List ℕ → Ask → Type 0
+Refuses unit text (rename position name) = (refusal : EditRefusal) × IsRefusedIn unit text position name refusal
+Refuses unit text (inline_here position) = IsNotInlinedIn Here unit text (place_at unit text position)
+Refuses unit text (inline_all position) = IsNotInlinedIn Everywhere unit text (place_at unit text position)
+Refuses unit text (format indent) = IsTooLongLaidOut (indent_read indent) text
+
+-- what is answered about a text: the edits that were asked for; none where they are refused, or it is no well-typed module
+abbrev pub AnswersFor : Unit → List ℕ → Ask → List Replacement → Type 0
+AnswersFor unit text ask given =
+    ((edits : List Edit) × HandsOut unit text ask edits × (given ≡ replacements edits))
+    ⊎ ((Refuses unit text ask ⊎ ¬ WellTypedText text) × (given ≡ []))
+
+-- what is answered about a document: nothing, where it isn't held or is out of step
+abbrev pub IsAnswer : Unit → Option Document → Ask → List Replacement → Type 0
+IsAnswer unit (Some (InStep version text)) ask given = AnswersFor unit text ask given
+IsAnswer unit (Some OutOfStep) ask given = given ≡ []
+IsAnswer unit None ask given = given ≡ []
+
+-- a list of diagnostics is empty exactly where the text is well-typed
+abbrev pub TellsOf : List ℕ → Bool → Type 0
+TellsOf text empty = IsTrue empty ↔ WellTypedText text

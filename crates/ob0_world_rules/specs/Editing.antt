@@ -1,0 +1,108 @@
+-- What the editor does at each event, and what it sends.
+use Rattle.std.specs.Prelude.{ℕ, suc, ◌+◌, pos, List, [], ◌∷◌, ◌++◌, Bool, true, false, ◌&&◌, ◌==◌, length, Option, Some, None, if◌then◌else◌}
+use Rattle.std.specs.FinMap as map_of
+use Rattle.ob0_text.specs.OpenDocuments.{TextChange, Opened, Changed, Closed}
+use Rattle.ob0_world_rules.specs.Edited.{Replacement, edited, whole_text, after_changes}
+use Rattle.ob0_world_rules.specs.Asks.{Ask}
+use Rattle.ob0_world_rules.specs.Ends.{Open, Asked, Answer, Editor, numbered, open_at, ToServer, tells, asks, Applied}
+
+-- nothing, or the editor becomes this one and sends this message
+pub data Move : Type 0 where
+  idle : Move
+  sends : Editor → ToServer → Move
+
+-- ---- documents
+
+-- a document that is open isn't opened; else it gets version 1 and an opening number of its own
+abbrev pub opens_document : Editor → List ℕ → List ℕ → Option Open → Move
+opens_document e uri text (Some d) = idle
+opens_document e uri text None =
+    let d : Open = record { version = 1; text = text; opening = e.openings + 1 } in
+    sends (record e { documents = map_of.insert e.documents uri d; openings = e.openings + 1 }) (tells (Opened uri (pos 1) text))
+
+-- an open document gets a new text, and its version rises by one
+abbrev pub rewritten : Open → List ℕ → Open
+rewritten d text = record { version = d.version + 1; text = text; opening = d.opening }
+
+abbrev pub rewrites : Editor → List ℕ → Open → List ℕ → Editor
+rewrites e uri d text = record e { documents = map_of.insert e.documents uri (rewritten d text) }
+
+abbrev pub changes_text : Editor → List ℕ → Open → List TextChange → Option (List ℕ) → Move
+changes_text e uri d how (Some text) = sends (rewrites e uri d text) (tells (Changed uri (pos (d.version + 1)) how))
+changes_text e uri d how None = idle
+
+abbrev pub changes_document : Editor → List ℕ → List TextChange → Option Open → Move
+changes_document e uri how (Some d) = changes_text e uri d how (after_changes e.unit (Some d.text) how)
+changes_document e uri how None = idle
+
+abbrev pub closes_document : Editor → List ℕ → Option Open → Move
+closes_document e uri (Some d) = sends (record e { documents = map_of.remove e.documents uri }) (tells (Closed uri))
+closes_document e uri None = idle
+
+-- ---- asks and answers
+
+abbrev pub asks_about : Editor → List ℕ → Ask → Option Open → Move
+asks_about e uri ask (Some d) =
+    let asked : Asked = record { ask = ask; uri = uri; opening = d.opening; version = d.version } in
+    sends (record e { asked = e.asked ++ asked ∷ [] }) (asks (suc (length e.asked)) uri ask)
+asks_about e uri ask None = idle
+
+abbrev pub has_edits : List Replacement → Bool
+has_edits [] = false
+has_edits (e ∷ es) = true
+
+-- an answer is kept only with edits
+abbrev pub keeps : Editor → ℕ → List Replacement → Editor
+keeps e number [] = e
+keeps e number (edit ∷ edits) = record e { answers = e.answers ++ record { number = number; edits = edit ∷ edits } ∷ [] }
+
+abbrev pub held_answer : ℕ → List Answer → Option (List Replacement)
+held_answer k [] = None
+held_answer k (a ∷ rest) = if a.number == k then Some a.edits else held_answer k rest
+
+-- all answers but the one that `held_answer` finds
+abbrev pub all_but : ℕ → List Answer → List Answer
+all_but k [] = []
+all_but k (a ∷ rest) = if a.number == k then rest else a ∷ all_but k rest
+
+-- the editor once answer k is held no more
+abbrev pub without_answer : Editor → ℕ → Editor
+without_answer e k = record e { answers = all_but k e.answers }
+
+-- ---- applying
+
+-- what becomes of an answer that is to be applied or dropped
+pub data Outcome : Type 0 where
+  not_held : Outcome
+  -- the editor lets it go
+  lets_go : Editor → Outcome
+  -- the editor makes the edits, and sends the whole text
+  makes : Editor → Applied → ToServer → Outcome
+
+abbrev pub discards : Editor → ℕ → Option (List Replacement) → Outcome
+discards e k (Some edits) = lets_go (without_answer e k)
+discards e k None = not_held
+
+-- the document, where it is the same opening with the same version as when it was asked about
+abbrev pub if_same : Asked → Option Open → Option Open
+if_same asked (Some d) = if d.opening == asked.opening && d.version == asked.version then Some d else None
+if_same asked None = None
+
+abbrev pub applies_text : Editor → List ℕ → Open → Option (List ℕ) → Outcome
+applies_text e uri d (Some text) =
+    makes (rewrites e uri d text) (record { uri = uri; before = d.text; after = text })
+    (tells (Changed uri (pos (d.version + 1)) (whole_text text ∷ [])))
+applies_text e uri d None = lets_go e
+
+abbrev pub applies_edits : Editor → List Replacement → List ℕ → Option Open → Outcome
+applies_edits e edits uri (Some d) = applies_text e uri d (edited e.unit d.text edits)
+applies_edits e edits uri None = lets_go e
+
+abbrev pub applies_asked : Editor → List Replacement → Option Asked → Outcome
+applies_asked e edits (Some asked) = applies_edits e edits asked.uri (if_same asked (open_at e asked.uri))
+applies_asked e edits None = lets_go e
+
+-- the edits of answer k are made of the document, where that is the same as when it was asked about; else the answer is dropped
+abbrev pub applies_answer : Editor → ℕ → Option (List Replacement) → Outcome
+applies_answer e k (Some edits) = applies_asked (without_answer e k) edits (numbered e.asked k)
+applies_answer e k None = not_held

@@ -1,0 +1,120 @@
+-- The two ends of a conversation and what stands between them.
+use Rattle.std.specs.Prelude.{◌≡◌, ℕ, zero, suc, ℤ, pos, List, [], Bool, Option, None, option_map, slice_get, fold}
+use Rattle.std.specs.Ordering.{nat_cmp}
+use Rattle.std.specs.Cmp.Lexicographic.{slice_cmp}
+use Rattle.std.specs.FinMap as map_of
+use Rattle.ob0_text.specs.declared.positions.Unit.{Unit}
+use Rattle.ob0_text.specs.OpenDocuments.{OpenDocuments, Document, InStep, DocumentNote, after_note, none_open, document_at}
+use Rattle.ob0_world_rules.specs.Edited.{Replacement}
+use Rattle.ob0_world_rules.specs.Asks.{Ask}
+
+-- ---- the editor
+
+-- a document that is open in the editor; no two openings have one number
+pub record Open : Type 0 where
+  pub version : ℕ
+  pub text : List ℕ
+  pub opening : ℕ
+
+-- by the bytes of their uris
+abbrev pub Documents : Type 0
+Documents = map_of.FinMap (slice_cmp nat_cmp) Open
+
+-- an ask, by what it asks, the document that it is about and the state in which that was then
+pub record Asked : Type 0 where
+  pub ask : Ask
+  pub uri : List ℕ
+  pub opening : ℕ
+  pub version : ℕ
+
+-- an answer that the editor holds
+pub record Answer : Type 0 where
+  pub number : ℕ
+  pub edits : List Replacement
+
+pub record Editor : Type 0 where
+  -- what positions are counted in
+  pub unit : Unit
+  pub documents : Documents
+  -- how many documents were opened so far
+  pub openings : ℕ
+  -- the asks that were sent; the first has number 1
+  pub asked : List Asked
+  pub answers : List Answer
+
+abbrev pub new_editor : Unit → Editor
+new_editor unit = record { unit = unit; documents = map_of.empty; openings = 0; asked = []; answers = [] }
+
+abbrev pub numbered : List Asked → ℕ → Option Asked
+numbered asked zero = None
+numbered asked (suc k) = slice_get asked k
+
+abbrev pub open_at : Editor → List ℕ → Option Open
+open_at e uri = map_of.get e.documents uri
+
+-- ---- the queues
+
+pub data ToServer : Type 0 where
+  tells : DocumentNote → ToServer
+  -- the ask's number, the uri and what is asked
+  asks : ℕ → List ℕ → Ask → ToServer
+
+pub data ToEditor : Type 0 where
+  -- the uri, the version, and whether no diagnostic is in the list; a close sends a list without version
+  publishes : List ℕ → Option ℤ → Bool → ToEditor
+  -- the ask's number and the edits; a refusal has none
+  answers : ℕ → List Replacement → ToEditor
+
+-- ---- what has come of it so far
+
+-- an edit that the editor applied
+pub record Applied : Type 0 where
+  pub uri : List ℕ
+  pub before : List ℕ
+  pub after : List ℕ
+
+-- a publication with a version, the text that it was made for, and whether no diagnostic was in it
+pub record Made : Type 0 where
+  pub uri : List ℕ
+  pub version : ℤ
+  pub text : List ℕ
+  pub empty : Bool
+
+-- ---- the whole
+
+pub record Ends : Type 0 where
+  pub editor : Editor
+  pub to_server : List ToServer
+  -- the documents that the server holds
+  pub held : OpenDocuments
+  pub to_editor : List ToEditor
+  pub applied : List Applied
+  pub made : List Made
+
+-- nothing was opened yet, and both ends count positions in this unit
+abbrev pub start : Unit → Ends
+start unit =
+    record {
+      editor = new_editor unit;
+      to_server = [];
+      held = none_open unit;
+      to_editor = [];
+      applied = [];
+      made = [];
+    }
+
+-- the documents that the server will hold once it has taken the messages that wait for it
+abbrev pub after_message : OpenDocuments → ToServer → OpenDocuments
+after_message held (tells note) = after_note held note
+after_message held (asks number uri ask) = held
+
+abbrev pub will_hold : Ends → OpenDocuments
+will_hold w = fold after_message w.held w.to_server
+
+-- a document of the editor, as the server holds it
+abbrev pub as_held : Open → Document
+as_held d = InStep (pos d.version) d.text
+
+-- The mirror: what is held, followed by the messages that wait for the server, is the editor's documents.
+abbrev pub Mirrors : Ends → Type 0
+Mirrors w = (uri : List ℕ) → document_at (will_hold w) uri ≡ option_map as_held (open_at w.editor uri)

@@ -1,0 +1,12 @@
+pub mod Language
+pub mod Answers
+pub mod Serving
+pub mod Happens
+pub mod Headline
+pub mod OneRun
+pub mod Played
+pub mod Edited
+pub mod Asks
+pub mod Ends
+pub mod Editing
+pub mod Events
