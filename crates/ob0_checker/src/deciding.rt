@@ -12,11 +12,11 @@ ghost use Rattle.ob0_types_rules.specs.WellTyped.{fits_over};
 use crate::names::Names;
 use crate::walk::{Parameter, Typed, Walk};
 use ob0_scope_rules::Resolved;
-use ob0_types_table::{Formal, Known, Object, TypeId};
 use ob0_tree::{
     Block, Constant, Names as NameList, Procedure, Section, Statement, TypeDeclaration, Variables,
     WrittenType,
 };
+use ob0_types_table::{Formal, Known, Object, TypeId};
 use std::alloc::{AllocError, Global};
 use std::marker::Model;
 

@@ -14,8 +14,8 @@ ghost use Rattle.ob0_values.specs.Values.{Shape};
 
 use crate::names::Names;
 use ob0_scope_rules::Resolved;
-use ob0_types_table::{Field, Known, MOST_DEPTH, MOST_SCALARS, TypeId};
 use ob0_tree::{ArrayType, FieldList, Fields, RecordType, WrittenType};
+use ob0_types_table::{Field, Known, MOST_DEPTH, MOST_SCALARS, TypeId};
 use ob0_values::Scalar;
 use std::alloc::{AllocError, Global};
 

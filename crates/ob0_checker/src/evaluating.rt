@@ -9,9 +9,9 @@ ghost use Rattle.ob0_values.specs.Values as values;
 ghost use Rattle.ob0_types_rules.specs.Typing.{given_value};
 
 use crate::names::Names;
+use ob0_tree::{Comparison, Designator, Expression, Factor, Simple, Term};
 use ob0_types_table::number_at;
 use ob0_types_table::operators::{added, complement, multiplied, related, with_sign};
-use ob0_tree::{Comparison, Designator, Expression, Factor, Simple, Term};
 use ob0_values::Scalar;
 
 impl<'a, 't> Names<'a, 't> {

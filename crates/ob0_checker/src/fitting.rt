@@ -13,9 +13,9 @@ ghost use Rattle.ob0_types_rules.specs.WellTyped.{agree, argument_fits, argument
 ghost use Rattle.ob0_values.specs.Values.{Shape};
 
 use crate::names::Names;
+use ob0_tree::{Assignment, Call, Designator, Elsif, Expression, If, Statement};
 use ob0_types_rules::designated::designated;
 use ob0_types_table::{Formal, Object, Standard, TypeId};
-use ob0_tree::{Assignment, Call, Designator, Elsif, Expression, If, Statement};
 
 static READ: [Formal; 1] = [Formal {
     by_place: true,

@@ -4,8 +4,8 @@ ghost use Rattle.std.specs.Prelude.{◌≡◌, option_and_then, option_map};
 ghost use Rattle.ob0_tree.specs.View.{designator_of, expression_of, factor_of, selector_of, simple_of, term_of};
 
 use crate::names::Names;
-use ob0_types_table::{TypeId, added, complement, multiplied, related, with_sign};
 use ob0_tree::{Comparison, Designator, Expression, Factor, Selector, Simple, Term};
+use ob0_types_table::{TypeId, added, complement, multiplied, related, with_sign};
 
 impl<'a, 't> Names<'a, 't> {
     ghost use Rattle.ob0_types_table.specs.KnownTables.{label_object, shapes_of};

@@ -2,8 +2,8 @@
 
 use crate::denoting::denote;
 use ob0_scope_rules::Resolved;
-use ob0_types_table::{Formal, Known, Object, Shadowed, TypeId};
 use ob0_tree::WrittenType;
+use ob0_types_table::{Formal, Known, Object, Shadowed, TypeId};
 use std::alloc::{AllocError, Global};
 use std::marker::Model;
 

@@ -8,9 +8,9 @@ ghost use Rattle.ob0_values.specs.Scalars.{scalar_value};
 ghost use Rattle.ob0_inline.specs.Declarations.{is_semicolon};
 ghost use Rattle.ob0_inline.specs.Everywhere.{IsConstant, IsConstantAt, NoConstantAt};
 
-use ob0_scope_rules::Resolved;
 use ob0_scan::{Symbol, Token, TokenKind};
 use ob0_scope::name_at;
+use ob0_scope_rules::Resolved;
 use ob0_types::WellTyped;
 use ob0_values::Scalar;
 

@@ -10,8 +10,8 @@ ghost use Rattle.ob0_inline.specs.Everywhere.{any_hidden};
 ghost use Rattle.ob0_inline.specs.Uses.{is_shown};
 
 use crate::constants::Constant;
-use ob0_scope_rules::Resolved;
 use ob0_scope::seen;
+use ob0_scope_rules::Resolved;
 use ob0_values::Scalar;
 use std::alloc::{AllocError, Global};
 

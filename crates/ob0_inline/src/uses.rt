@@ -4,8 +4,8 @@ ghost use Rattle.std.specs.Prelude.{◌≡◌, ◌==◌, MatchOption, Some};
 ghost use Rattle.std.specs.List.{position_from};
 ghost use Rattle.ob0_inline.specs.Uses.{IsUse, IsUseAt};
 
-use ob0_scope_rules::Resolved;
 use ob0_scope::name_at;
+use ob0_scope_rules::Resolved;
 use ob0_types::WellTyped;
 use ob0_values::Scalar;
 

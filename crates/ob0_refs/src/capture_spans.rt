@@ -6,9 +6,9 @@ ghost use Rattle.ob0_scope.specs.Renames.{place_of};
 ghost use Rattle.ob0_refs.specs.Captured.{capture_span};
 
 use crate::declaration_spans::declared_at;
-use ob0_scope_rules::{Resolved, token_span};
 use ob0_scan::Span;
 use ob0_scope::Capture;
+use ob0_scope_rules::{Resolved, token_span};
 
 /// Where it is that a capture is: at the identifier that declares the declaration, or at an occurrence.
 pub fn capture_span(names: &Resolved, declaration: usize, capture: Capture) -> Option<Span>

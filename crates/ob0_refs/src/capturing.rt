@@ -5,9 +5,9 @@ ghost use Rattle.ob0_refs.specs.Parts.{capture_at};
 ghost use Rattle.ob0_refs.specs.Captured.{captured_span};
 
 use crate::answers::Capture;
-use ob0_scope_rules::Resolved;
-use ob0_scope::captures as first_capture;
 use crate::capture_span;
+use ob0_scope::captures as first_capture;
+use ob0_scope_rules::Resolved;
 use std::alloc::{AllocError, Global};
 
 /// Where another name for a declaration isn't free: the identifier that declares it, where another declaration of its

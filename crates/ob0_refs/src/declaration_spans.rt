@@ -4,9 +4,9 @@ ghost use Rattle.std.specs.Prelude.{◌≡◌, IfOk, map};
 ghost use Rattle.ob0_scope_rules.specs.Resolution.{span_at};
 ghost use Rattle.ob0_refs.specs.Places.{declared_at, references_to};
 
-use ob0_scope_rules::{Resolved, token_span};
 use ob0_scan::{Span, Tokens};
 use ob0_scope::tokens_bound;
+use ob0_scope_rules::{Resolved, token_span};
 use std::alloc::{AllocError, Global};
 
 /// Where that is declared which has an ordinal. None for a predeclared name.

@@ -9,14 +9,14 @@ ghost use Rattle.ob0_refs.specs.Questions.{all_shown_at, field_shown, selected_s
 ghost use Rattle.ob0_refs.specs.FieldParts.{selection_on};
 
 use crate::answers::Hover;
+use crate::field_line;
 use crate::hovering::hover as hover_name;
 use crate::names::is_on;
-use ob0_scope_rules::{Resolved, token_span};
 use ob0_scan::Tokens;
+use ob0_scope_rules::{Resolved, token_span};
 use ob0_selections::{Selection, declared_by, selections_by};
-use crate::field_line;
-use ob0_types_table::{Known, text_at};
 use ob0_types::WellTyped;
+use ob0_types_table::{Known, text_at};
 use std::alloc::{AllocError, Global};
 
 /// What is shown at a place, where it lies in a name or at its end: of a name its declaration, and of a field its type,

@@ -5,9 +5,9 @@ ghost use Rattle.ob0_refs.specs.Parts.{hover_in};
 ghost use Rattle.ob0_refs.specs.Shown.{shown_at, shown_of};
 
 use crate::answers::Hover;
-use ob0_scope_rules::token_span;
-use ob0_scope::{Named, name_at};
 use crate::name_text;
+use ob0_scope::{Named, name_at};
+use ob0_scope_rules::token_span;
 use ob0_types::WellTyped;
 use std::alloc::{AllocError, Global};
 

@@ -17,9 +17,9 @@ use crate::hovers::{
     Parameter, constant_text, named_type_text, predeclared_text, procedure_text, variable_text,
 };
 use crate::typing::type_text;
-use ob0_scope_rules::{PREDECLARED, Resolved};
 use ob0_scan::Tokens;
 use ob0_scope::Named;
+use ob0_scope_rules::{PREDECLARED, Resolved};
 use ob0_types_table::{Formal, Known, Object, TypeId, text_at};
 use std::alloc::{AllocError, Global};
 

@@ -11,9 +11,9 @@ ghost use Rattle.ob0_edits.specs.Replaced.{AreNames};
 ghost use Rattle.ob0_scope.specs.Standing.{IsRenamedAt, tokens_bound};
 ghost use Rattle.ob0_rename.specs.Renaming.{is_declared_as, tokens_renamed};
 
-use ob0_scope_rules::Resolved;
 use ob0_scan::{Span, Tokens};
 use ob0_scope::renamed_tokens;
+use ob0_scope_rules::Resolved;
 use ob0_text::{Range, TextStore};
 use std::alloc::{AllocError, Global};
 

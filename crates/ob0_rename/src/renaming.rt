@@ -19,10 +19,10 @@ use crate::places::{token_range, tokens_renamed};
 use ob0_analysis::WellTyped;
 use ob0_edits::edits_for;
 use ob0_edits::laws::{names_stand_for_names, renamed_words_spell};
-use ob0_scope_rules::{PREDECLARED, Resolved};
+use ob0_run_rules::laws::free_keeps_modules;
 use ob0_scan::is_identifier;
 use ob0_scope::{Capture, captures, name_at};
-use ob0_run_rules::laws::free_keeps_modules;
+use ob0_scope_rules::{PREDECLARED, Resolved};
 use ob0_text::{Edit, EditRefusal, Position, TextStore};
 use std::alloc::Global;
 

@@ -8,8 +8,8 @@ ghost use Rattle.ob0_run_cells.specs.Lowering.{end_of};
 ghost use Rattle.ob0_run_cells.specs.LoweredStatements.{HaveNumbers};
 ghost use Rattle.ob0_run.specs.Outcomes.{end_in, run_of};
 
-use ob0_run_lowering::program;
 use ob0_run_cells::activation_laws::{bounds_have_room, runs_lowered};
+use ob0_run_lowering::program;
 use ob0_run_machine::{Ending, Item};
 use ob0_types::WellTyped;
 use std::alloc::{AllocError, Global};

@@ -16,8 +16,8 @@ ghost use Rattle.ob0_run_lowering.specs.LoweredBodies.{ArgumentsLower, Statement
 use crate::Scene;
 use ob0_run_machine::code;
 use ob0_run_machine::code::{Argument, Statement};
-use ob0_types_table::{Formal, Object, Standard};
 use ob0_tree::{Call, Expression};
+use ob0_types_table::{Formal, Object, Standard};
 use std::alloc::{AllocError, Global};
 
 /// The code of a call.

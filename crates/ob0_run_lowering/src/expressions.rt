@@ -10,10 +10,10 @@ ghost use Rattle.ob0_run_lowering.specs.Scenes.{HasSmall};
 
 use crate::lowered::{Located, Lowered};
 use crate::scene::Scene;
-use ob0_types_rules::designated::designated;
 use ob0_run_machine::code::{Argument, Number, Place, Truth};
-use ob0_types_table::{Formal, TypeId};
 use ob0_tree::{Designator, Expression};
+use ob0_types_rules::designated::designated;
+use ob0_types_table::{Formal, TypeId};
 use std::alloc::{AllocError, Global};
 
 /// The number that a code is.

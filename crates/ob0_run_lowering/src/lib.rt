@@ -16,7 +16,7 @@ mod statements;
 mod types;
 
 pub use lowered::{Located, Lowered};
-pub use scene::{Scene, Site};
-pub use types::Types;
-pub use statements::body;
 pub use programs::program;
+pub use scene::{Scene, Site};
+pub use statements::body;
+pub use types::Types;

@@ -21,8 +21,8 @@ use crate::lowered::{Located, Lowered};
 use crate::operators::{added, multiplied, negated, related, signed};
 use crate::scene::Scene;
 use ob0_run_machine::code::{Element, Number, Place, Truth};
-use ob0_types_table::{Object, Parts, TypeId, number_at, text_at};
 use ob0_tree::{Comparison, Designator, Expression, Factor, Selector, Simple, Term};
+use ob0_types_table::{Object, Parts, TypeId, number_at, text_at};
 use ob0_values::Scalar;
 use std::alloc::{AllocError, Global};
 

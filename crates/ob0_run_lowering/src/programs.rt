@@ -17,12 +17,11 @@ ghost use Rattle.ob0_run_lowering.specs.Placed.{most};
 
 use crate::ground::Ground;
 use crate::sight::{Frame, Sight};
-use crate::body;
-use crate::{Scene, Site, Types};
+use crate::{Scene, Site, Types, body};
 use ob0_run_machine::code;
 use ob0_scope_rules::Resolved;
-use ob0_types_table::Known;
 use ob0_tree::{Block, Procedure};
+use ob0_types_table::Known;
 use std::alloc::{AllocError, Global};
 
 /// A module on its way to a program: where what is in sight is, and the procedures so far.

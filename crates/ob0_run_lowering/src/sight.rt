@@ -4,8 +4,8 @@ ghost use Rattle.std.specs.Prelude.{◌≡◌, ◌≤◌, ◌+◌, ℕ, suc, IfO
 ghost use Rattle.ob0_run_lowering.specs.Scenes.{site_at};
 ghost use Rattle.ob0_run_lowering.specs.Placed.{IsNextSite, most};
 
-use crate::ground::Ground;
 use crate::Site;
+use crate::ground::Ground;
 use ob0_tree::{Names as NameList, Section, Variables};
 use std::alloc::{AllocError, Global};
 

@@ -7,9 +7,9 @@ ghost use Rattle.ob0_types_rules.specs.InLabels.{in_labels};
 ghost use Rattle.ob0_run_machine.specs.View.{sequence_of, statement_of};
 ghost use Rattle.ob0_run_lowering.specs.LoweredBodies.{BodyLowers, CodeLowers, SequenceLowers, StatementLowers};
 
+use crate::Scene;
 use crate::assigning::assignment;
 use crate::calling::call;
-use crate::Scene;
 use ob0_run_machine::code;
 use ob0_tree::{If, Statement};
 use std::alloc::{AllocError, Global};

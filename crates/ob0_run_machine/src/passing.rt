@@ -9,7 +9,7 @@ ghost use Rattle.ob0_run_machine.specs.View.{argument_of};
 use crate::addresses::Addresses;
 use crate::code::Argument;
 use crate::ending::Stop;
-use crate::evaluating::{locate, truth, evaluate_number};
+use crate::evaluating::{evaluate_number, locate, truth};
 use crate::level::Level;
 use crate::machine::push_block;
 use crate::operators::as_cell;

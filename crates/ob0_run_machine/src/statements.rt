@@ -12,7 +12,7 @@ ghost use Rattle.ob0_run_machine.specs.View.{branches_in, call_of, number_of, pl
 use crate::addresses::Addresses;
 use crate::code::{Call, If, Number, Place, Repeat, Statement, Truth, While};
 use crate::ending::{Ending, Stop};
-use crate::evaluating::{locate, truth, evaluate_number};
+use crate::evaluating::{evaluate_number, locate, truth};
 use crate::level::{Level, outside};
 use crate::machine::{Item, Machine, copy, store};
 use crate::operators::as_cell;

@@ -15,8 +15,8 @@ ghost use Rattle.ob0_scope.specs.Searching.{found_in_block, found_in_procedure, 
 use crate::checks::{add_block, add_formals};
 use crate::renamed::renumber;
 use crate::writing::token_text;
-use ob0_scope_rules::{Resolved, ordinal_at};
 use ob0_scan::Tokens;
+use ob0_scope_rules::{Resolved, ordinal_at};
 use ob0_tree::{Block, Procedure};
 use std::alloc::{AllocError, Global};
 use std::marker::Model;

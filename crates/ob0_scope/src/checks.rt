@@ -10,8 +10,8 @@ ghost use Rattle.ob0_scope_rules.specs.DeclaredOnce.{block_names, group_fields, 
 ghost use Rattle.ob0_scope_rules.specs.DeclaredTwice.{again, block_twice, closing_other, fields_twice, formals_twice, group_twice, procedure_twice, twice_in, types_twice, unless, variables_twice};
 
 use crate::writing::token_text;
-use ob0_scope_rules::token_span;
 use ob0_scan::{Code, Fault, Tokens};
+use ob0_scope_rules::token_span;
 use ob0_tree::{
     Block, Constant, Fields, Module, Names, Procedure, RecordType, Section, TypeDeclaration,
     Variables, WrittenType,

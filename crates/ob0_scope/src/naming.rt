@@ -8,8 +8,8 @@ ghost use Rattle.ob0_scope_rules.specs.Resolution.{ordinal_in};
 ghost use Rattle.ob0_scope_rules.specs.Scopes.{same_ordinal};
 ghost use Rattle.ob0_scope.specs.Standing.{IsRenamedAt, is_declaring, name_on, tokens_bound};
 
-use ob0_scope_rules::Resolved;
 use ob0_scan::{Token, TokenKind};
+use ob0_scope_rules::Resolved;
 use ob0_tree::Role;
 use std::alloc::{AllocError, Global};
 

@@ -3,8 +3,8 @@
 ghost use Rattle.std.specs.Prelude.{◌≡◌, ◌++◌, OnOk};
 ghost use Rattle.ob0_scope_rules.specs.Resolution.{undeclared_at};
 
-use ob0_scope_rules::{ordinal_at, token_span};
 use ob0_scan::{Code, Fault, Tokens};
+use ob0_scope_rules::{ordinal_at, token_span};
 use std::alloc::AllocError;
 
 /// Tells of each occurrence that a table binds to nothing.

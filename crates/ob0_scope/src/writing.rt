@@ -4,8 +4,8 @@ ghost use Rattle.std.specs.Prelude.{◌≡◌};
 ghost use Rattle.ob0_tree.specs.Places.{text_at};
 ghost use Rattle.ob0_scope.specs.Written.{as_in, is_renamed, name_at};
 
-use ob0_scope_rules::ordinal_at;
 use ob0_scan::Tokens;
+use ob0_scope_rules::ordinal_at;
 use std::marker::Model;
 
 /// A text, and a name that stands in place of each identifier of one declaration, if there is one.

@@ -15,10 +15,10 @@ ghost use Rattle.ob0_selections.specs.FieldParts.{meaning_in, type_in, typed_in}
 
 use crate::selecting::Selection;
 use ob0_scope_rules::Resolved;
-use ob0_types_table::{FieldOf, Known, TypeId, text_at};
 use ob0_tree::{
     Block, Fields, Names, Procedure, RecordType, Section, TypeDeclaration, Variables, WrittenType,
 };
+use ob0_types_table::{FieldOf, Known, TypeId, text_at};
 use std::alloc::{AllocError, Global};
 
 /// The identifiers that declare the fields of a module, in text order: each with its field and this field's type.

@@ -14,12 +14,12 @@ ghost use Rattle.ob0_selections.specs.Selections.{noted, path_selections, select
 ghost use Rattle.ob0_selections.specs.SelectionParts.{found_in, meaning_in, selected_from, selection_in};
 
 use ob0_scope_rules::Resolved;
-use ob0_types_table::{FieldOf, Known, Object, TypeId, scalar_type, text_at};
 use ob0_tree::{
     Assignment, Block, Call, Constant, Designator, Elsif, Expression, Factor, Fields, If,
     Procedure, RecordType, Section, Selector, Simple, Statement, Term, TypeDeclaration, Variables,
     WrittenType,
 };
+use ob0_types_table::{FieldOf, Known, Object, TypeId, scalar_type, text_at};
 use std::alloc::AllocError;
 
 /// A selector that is a name: the token of its identifier, the field that it selects, and the field's type.

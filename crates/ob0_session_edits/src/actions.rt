@@ -17,10 +17,10 @@ ghost use Rattle.ob0_session_offers.specs.declared.inlining.Inlining.TheVariants
 
 use ob0_analysis::{Asked, Question, WellTyped, ask};
 use ob0_inline::{inline_all, inline_here};
-use ob0_session_offers::Inlining;
-use ob0_session_json::writing::{DocumentEdits, write_action};
 use ob0_rpc::{Client, Id, Written, result, result_of, write_comma, write_piece};
 use ob0_scan::Tokens;
+use ob0_session_json::writing::{DocumentEdits, write_action};
+use ob0_session_offers::Inlining;
 use ob0_text::{Edit, EditRefusal, Position, Range, TextStore};
 use serde_json::Value;
 use std::alloc::{AllocError, Global};

@@ -11,8 +11,8 @@ ghost use Rattle.ob0_text.specs.Texts.{position_of};
 ghost use Rattle.ob0_text.specs.Units.{width_of};
 
 use ob0_analysis::{Diagnosis, diagnose_again};
-use ob0_session_json::results::range_value;
 use ob0_scan::Tokens;
+use ob0_session_json::results::range_value;
 use ob0_text::{Position, TextStore};
 use serde_json::{Value, json};
 use std::alloc::{AllocError, Global};

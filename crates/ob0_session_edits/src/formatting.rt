@@ -11,10 +11,10 @@ ghost use Rattle.ob0_session_edits.specs.Formatted.{AnswersFormatting, Formats};
 use ob0_analysis::{Asked, Question, WellTyped, ask};
 use ob0_layout::format;
 use ob0_layout::laws::{gaps_make_the_layout, lexemes_stay, module_stays};
-use ob0_session_json::results::{refused, refused_ill_typed};
-use ob0_session_json::writing::Edits;
 use ob0_rpc::{Id, result_of};
 use ob0_scan::Tokens;
+use ob0_session_json::results::{refused, refused_ill_typed};
+use ob0_session_json::writing::Edits;
 use ob0_text::{Edit, EditRefusal, Indent, TextStore};
 use std::alloc::{AllocError, Global};
 

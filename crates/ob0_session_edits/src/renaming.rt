@@ -9,10 +9,10 @@ ghost use Rattle.ob0_session_edits.specs.Renamed.{AnswersRenaming, asked_of, edi
 
 use ob0_analysis::Asked;
 use ob0_rename::rename_in;
-use ob0_session_json::results::{refused_because, refused_ill_typed};
-use ob0_session_json::writing::DocumentEdits;
 use ob0_rpc::{Client, Id, Place, result_of};
 use ob0_scan::Tokens;
+use ob0_session_json::results::{refused_because, refused_ill_typed};
+use ob0_session_json::writing::DocumentEdits;
 use ob0_text::{Edit, TextStore};
 use std::alloc::{AllocError, Global};
 

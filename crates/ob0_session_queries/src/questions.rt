@@ -14,10 +14,10 @@ ghost use Rattle.ob0_session_queries.specs.declared.questions.NameQuestion.TheVa
 use ob0_analysis::{Asked, Question, WellTyped, ask};
 use ob0_edits::ranges;
 use ob0_refs::{Of, at, definition, hover, references};
-use ob0_session_json::results::{hover_value, location_value, range_value};
-use ob0_session_json::writing::Locations;
 use ob0_rpc::{Id, Place, result, result_of};
 use ob0_scan::{Span, Tokens};
+use ob0_session_json::results::{hover_value, location_value, range_value};
+use ob0_session_json::writing::Locations;
 use ob0_text::TextStore;
 use serde_json::Value;
 use std::alloc::{AllocError, Global};

@@ -1,7 +1,7 @@
 //! What documents and a text are left as where the memory of a call is refused.
 
 use crate::text::changes_of;
-use ob0_text::{Change, Documents, StoredText, Lines, Position, Range, TextStore};
+use ob0_text::{Change, Documents, Lines, Position, Range, StoredText, TextStore};
 use std::alloc::{AllocError, Global};
 use std::process::Abort;
 use std::test::Fail;
@@ -20,7 +20,8 @@ const CHANGED: &str = "a\r\nb\nd";
 /// Whether a document is in step with this version and text.
 fn is_in_step(documents: &Documents<Lines>, uri: &str, wanted: (i64, &str)) -> bool {
     match documents.get(uri) {
-        Some(StoredText::InStep { version, text }) => version == wanted.0 && text.as_str() == wanted.1,
+        Some(StoredText::InStep { version, text }) => version == wanted.0
+            && text.as_str() == wanted.1,
         Some(StoredText::OutOfStep) => false,
         None => false,
     }

@@ -8,13 +8,13 @@ ghost use Rattle.std.specs.Prelude.{◌≡◌, ◌≤◌, ◌↔◌, ◌++◌, [
 ghost use Rattle.ob0_types_fields.specs.Listed.{listed_by};
 
 use ob0_checker::decide;
-use ob0_types_fields::FieldList;
+use ob0_scan::{Code, Fault};
 use ob0_scope_rules::{PREDECLARED, Resolved};
 use ob0_types_check::laws::modules_fit;
 use ob0_types_check::tell;
-use ob0_scan::{Code, Fault};
-use ob0_types_table::{Known, Parts, TypeId};
+use ob0_types_fields::FieldList;
 use ob0_types_rules::laws::fits_by_ordinal;
+use ob0_types_table::{Known, Parts, TypeId};
 use ob0_values::Scalar;
 use std::alloc::{AllocError, Global};
 use std::marker::Model;

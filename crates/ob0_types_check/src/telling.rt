@@ -17,8 +17,8 @@ ghost use Rattle.ob0_types_check.specs.SoFar.{at_first};
 ghost use Rattle.ob0_types_check.specs.SupposedFacts.{meaning_of, so_far_in};
 
 use crate::telling::supposed::{Meaning, Supposed, predeclared};
-use ob0_scope_rules::Resolved;
 use ob0_scan::{Code, Fault};
+use ob0_scope_rules::Resolved;
 use std::alloc::{AllocError, Global};
 
 /// The names of a module that nothing binds, in text order, and then the faults of its types. Its second declarations and closing names

@@ -9,8 +9,8 @@ ghost use Rattle.ob0_scope_rules.specs.Resolution.{span_at};
 ghost use Rattle.ob0_scope_rules.specs.Spans.{is_on};
 ghost use Rattle.ob0_types_fields.specs.Identifiers.{AreInTextOrder, field_on, first, is_field, record_tokens, tokens_among};
 
-use ob0_scope_rules::token_span;
 use ob0_scan::{Span, Tokens};
+use ob0_scope_rules::token_span;
 use ob0_types_table::text_at;
 use std::alloc::{AllocError, Global};
 

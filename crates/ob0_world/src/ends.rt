@@ -15,9 +15,9 @@ ghost use Rattle.ob0_world.specs.Worlds.{HasCome, SameHistory};
 
 use crate::events::{Event, Seen};
 use crate::played::{Made, Played};
-use ob0_world_editor::{Applied, Applying, Ask, Editor, Message, initialize};
 use ob0_session::{Session, SessionFault};
 use ob0_text::{Change, Documents, StoredText, TextStore, Unit};
+use ob0_world_editor::{Applied, Applying, Ask, Editor, Message, initialize};
 use std::alloc::{AllocError, Global};
 use std::collections::VecDeque;
 use std::marker::Model;

@@ -1,7 +1,7 @@
 //! What may happen to the two ends, and what is seen of it.
 
-use ob0_world_editor::Ask;
 use ob0_text::Change;
+use ob0_world_editor::Ask;
 
 /// One event.
 #[derive(Debug, Drop)]

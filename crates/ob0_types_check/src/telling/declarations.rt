@@ -11,8 +11,8 @@ ghost use Rattle.ob0_types_check.specs.SupposedFacts.{heading_in, meaning_of, so
 
 use crate::telling::Reporter;
 use crate::telling::supposed::{Meaning, Supposed};
-use ob0_types_table::{Formal, TypeId};
 use ob0_tree::{Block, Constant, Names, Procedure, Section, Statement, TypeDeclaration, Variables};
+use ob0_types_table::{Formal, TypeId};
 use std::alloc::AllocError;
 
 /// Puts as many parameters behind others as these names are.

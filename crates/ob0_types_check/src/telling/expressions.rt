@@ -14,11 +14,11 @@ ghost use Rattle.ob0_types_check.specs.SupposedFacts.{facts_in, form_in, operand
 
 use crate::telling::supposed::{Meaning, Supposed};
 use ob0_scan::{Code, Fault};
-use ob0_types_table::{TypeId, number_at, operators};
 use ob0_tree::{
     AddOperator, Comparison, Designator, Expression, Factor, MultiplyOperator, Relation, Selector,
     Sign, Simple, Term,
 };
+use ob0_types_table::{TypeId, number_at, operators};
 use ob0_values::Scalar;
 use std::alloc::AllocError;
 

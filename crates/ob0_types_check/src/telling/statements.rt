@@ -11,8 +11,8 @@ ghost use Rattle.ob0_types_check.specs.SupposedFacts.{facts_in, formal_of, opera
 use crate::telling::expressions::Operand;
 use crate::telling::supposed::{Meaning, Supposed};
 use ob0_scan::{Code, Fault};
-use ob0_types_table::{Formal, TypeId};
 use ob0_tree::{Assignment, Call, Elsif, Expression, If, Statement};
+use ob0_types_table::{Formal, TypeId};
 use std::alloc::AllocError;
 
 impl<'t> Supposed<'t> {

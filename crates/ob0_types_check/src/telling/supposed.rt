@@ -10,8 +10,8 @@ ghost use Rattle.ob0_types_check.specs.SoFar.{define, is_within, make, no_scalar
 ghost use Rattle.ob0_types_check.specs.SupposedFacts.{counted, declared_at, elements_of, field_of, meaning_of, parts_of, size_of, so_far_in};
 ghost use Rattle.ob0_types_check.specs.WrittenTypeFaults.{array_size, beside, record_size};
 
-use ob0_scope_rules::{Resolved, token_span};
 use ob0_scan::{Code, Fault, Span};
+use ob0_scope_rules::{Resolved, token_span};
 use ob0_types_table::{Formal, MOST_DEPTH, MOST_SCALARS, TypeId, text_at};
 use ob0_values::Scalar;
 use std::alloc::{AllocError, Global};
