@@ -22,7 +22,7 @@ use Rattle.ob0_types_check.specs.SoFar.{SoFar, at_first, predeclared_meanings}
 use Rattle.ob0_types_check.proofs.PartsFitting.{PartsFit, parts_fit}
 use Rattle.ob0_types_check.specs.ModuleLaws.{ModulesFit}
 use Rattle.ob0_types_check.proofs.DeclaredModules.{module_placed, numbering_of}
-use Rattle.ob0_types_check.proofs.DeclaredNames.{AreSeen, BlockPlaced, ConstantsPlaced, IsPlaced, Numbering, ProcedurePlaced, ProceduresPlaced, SectionsPlaced, TypesPlaced, VariablesPlaced, after_names-map, behind_constants, behind_procedure, behind_types, behind_variables, constants-mapped, formals-mapped, inside_procedure, scope_behind, types-mapped, variables-mapped}
+use Rattle.ob0_types_check.proofs.DeclaredNames.{AreSeen, BlockPlaced, ConstantsPlaced, IsPlaced, Numbering, ProcedurePlaced, ProceduresPlaced, SectionsPlaced, TypesPlaced, VariablesPlaced, after_names-map, behind_constants, behind_procedure, behind_types, behind_variables, constants-mapped, formals-mapped, scope_behind, types-mapped, variables-mapped}
 use Rattle.ob0_types_check.proofs.DeclaredStanding.{Later, NamesStand, Stands, agrees_where_seen, defined, later_of, later_same, later_then, stands_defined, stands_later}
 use Rattle.ob0_types_check.proofs.DeclaredTypes.{none_both}
 use Rattle.ob0_types_check.proofs.BlocksDeclared.{Declared, constants_declare, declared_then, more_constructors, next_le, types_declare, variables_declare}

@@ -1,5 +1,5 @@
--- Each name in an expression that has a type, in a type that denotes one and in well-typed statements stands for something.
-use Rattle.std.proofs.Common.{◌≡◌, ℕ, suc, ◌+◌, true, false, true≢false, List, [], ◌∷◌, ◌++◌, map, Option, Some, None, option_map, option_and_then, refl, sym, ◌∙◌}
+-- Each name in an expression that has a type, in a type that denotes one and in well-typed statements has a meaning.
+use Rattle.std.proofs.Common.{◌≡◌, ℕ, suc, ◌+◌, true, true≢false, List, [], ◌∷◌, ◌++◌, map, Option, Some, None, option_map, option_and_then, refl, sym, ◌∙◌}
 use Rattle.ob0_scope_rules.specs.Parts.{names_listed}
 use Rattle.ob0_tree.specs.Tree.{Tree, addend, adds, arguments, array_type, assigns, branches, calls, compares, designator, else_branch, else_part, elsif_branch, elsif_part, empty, end, expression, factor, field, fields, further_argument, further_fields, further_statement, index, integer, items, maybe, more, multiplier, multiplies, named_type, negation, no_arguments, no_fields, none, occurrences, one, parenthesised, product, record_type, relates, repeat_loop, runs, selector, sequence, simple, some_arguments, some_fields, statement, sum, term, then_argument, then_fields, then_statement, while_loop, written_type}
 use Rattle.ob0_types_rules.specs.Arguments.{arguments_listed, further_arguments}
@@ -16,7 +16,7 @@ pub each-of-both : {A : Type 0} (P : A → Type 0) (xs ys : List A) → Each P x
 each-of-both P [] ys p q = q
 each-of-both P (x ∷ xs) ys p q = (p.0, each-of-both P xs ys p.1 q)
 
--- a name of which something is known stands for something
+-- a name of which something is known has a meaning
 name-of : {V Q B : Type 0} (f : Option (Object V Q) → Option B) → f None ≡ None → (o : Option (Object V Q)) (b : B) → f o ≡ Some b → (x : Object V Q) × (o ≡ Some x)
 name-of f nothing None b h = absurd (some-none b (sym h ∙ nothing))
 name-of f nothing (Some x) b h = (x, refl)

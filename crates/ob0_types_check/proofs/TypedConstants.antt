@@ -19,7 +19,7 @@ use Rattle.ob0_types_check.proofs.FittingNames.{only-tokens, tokens-fit}
 use Rattle.ob0_types_check.proofs.Proved.{constants-again}
 use Rattle.ob0_types_check.proofs.TypedExpressions.{expression-right}
 use Rattle.ob0_types_check.proofs.TypedNames.{constants-typed, names-typed, types-apart}
-use Rattle.ob0_types_check.proofs.TypedOperands.{TypesApart, and-then, asked-right, none-of-both}
+use Rattle.ob0_types_check.proofs.TypedOperands.{TypesApart, and-then, required-right, none-of-both}
 use Rattle.ob0_types_check.proofs.Untold.{some-same}
 
 pub is-there : {A : Type 0} (o : Option A) → is_some o ≡ true → (a : A) × (o ≡ Some a)
@@ -104,5 +104,5 @@ no_fault_in_lengths-holds p shapes label meaning e agrees h =
     let integer = apart.integer o.of (c.known ∙ ap Some (length-integer v n c.of counted c.scalar)) in
     let t = (required after after.types.integer o).known in
     none-of-both (told_expression facts e).faults (length_of after o).faults c.none
-    (none-of-both (required after after.types.integer o).faults _ (asked-right after (shape_in shapes) agrees.types apart after.types.integer o integer)
+    (none-of-both (required after after.types.integer o).faults _ (required-right after (shape_in shapes) agrees.types apart after.types.integer o integer)
     (bounds-right after o (after.types.same t after.types.integer) o.value v n c.value counted))

@@ -1,4 +1,4 @@
--- Names that have a type, and the types of a table: told apart by what is known of them.
+-- Names that have a type; and the types of a table, which what is known of them tells apart.
 use Rattle.std.proofs.Common.{◌≡◌, ℕ, Bool, true, false, true≢false, List, [], ◌∷◌, slice_get, Option, Some, None, option_map, option_and_then, if◌then◌else◌, refl, sym, ap, ◌∙◌}
 use Rattle.ob0_scan.specs.declared.fault.Code.TheVariants as code
 use Rattle.ob0_tree.specs.declared.tree.Role.{Role}

@@ -27,7 +27,7 @@ pub and-then : {A B : Type 0} (next : A → Option B) (o : Option A) (r : B) →
 and-then next None r h = absurd (cc)
 and-then next (Some a) r h = (a, refl, h)
 
--- types told apart by what is known of them: INTEGER and BOOLEAN, and those that are made of parts
+-- what is known of types tells them apart: INTEGER and BOOLEAN, and those that are made of parts
 pub record TypesApart {T : Type 0} (types : Types T) (shape : T → Option Shape) : Type 0 where
   pub integer : (t : T) → shape t ≡ Some integer_shape → types.same t types.integer ≡ true
   pub boolean : (t : T) → shape t ≡ Some boolean_shape → types.same t types.boolean ≡ true
@@ -37,31 +37,31 @@ module _ {T : Type 0} (facts : Facts T) (shape : T → Option Shape) (types : Ty
   same-fits : (t u : T) → facts.types.same t u ≡ true → fits facts.types t u ≡ true
   same-fits t u e = ap (λ b. b || (facts.types.same t facts.types.unknown || facts.types.same u facts.types.unknown)) e
 
-  pub asked-right : (wanted : T) (o : Operand T) → facts.types.same o.of wanted ≡ true → (required facts wanted o).faults ≡ []
-  asked-right wanted o e = ap (λ b. if b then [] else at_operand facts code.TypeMismatch o) (same-fits o.of wanted e)
+  pub required-right : (wanted : T) (o : Operand T) → facts.types.same o.of wanted ≡ true → (required facts wanted o).faults ≡ []
+  required-right wanted o e = ap (λ b. if b then [] else at_operand facts code.TypeMismatch o) (same-fits o.of wanted e)
 
   both-right : (wanted : T) (a b : Operand T) → facts.types.same a.of wanted ≡ true → facts.types.same b.of wanted ≡ true → (asked_both facts wanted a b).faults ≡ []
   both-right wanted a b p q =
       let left : Reported T = record { known = if facts.types.same a.of wanted then (required facts wanted b).known else facts.types.unknown; faults = (required facts wanted b).faults } in
       let wrong : Reported T = record { known = facts.types.unknown; faults = at_operand facts code.TypeMismatch a } in
-      ap (λ c. (if c then left else wrong).faults) (same-fits a.of wanted p) ∙ asked-right wanted b q
+      ap (λ c. (if c then left else wrong).faults) (same-fits a.of wanted p) ∙ required-right wanted b q
 
-  -- both are of the type that is asked for
-  abbrev AreAsked : T → T → T → Type 0
-  AreAsked wanted a b = (facts.types.same a wanted ≡ true) × (facts.types.same b wanted ≡ true)
+  -- both are of the required type
+  abbrev AreRequired : T → T → T → Type 0
+  AreRequired wanted a b = (facts.types.same a wanted ≡ true) × (facts.types.same b wanted ≡ true)
 
-  add-asked : (o : AddOperator) (s t w : Shape) → add_type o s t ≡ Some w → (a b : T) → shape a ≡ Some s → shape b ≡ Some t → AreAsked (wanted_by_add facts.types o) a b
-  add-asked add_operator.Add integer_shape integer_shape w e a b p q = (apart.integer a p, apart.integer b q)
-  add-asked add_operator.Subtract integer_shape integer_shape w e a b p q = (apart.integer a p, apart.integer b q)
-  add-asked add_operator.Or boolean_shape boolean_shape w e a b p q = (apart.boolean a p, apart.boolean b q)
-  add-asked _ _ _ w e a b p q = absurd (cc)
+  add-required : (o : AddOperator) (s t w : Shape) → add_type o s t ≡ Some w → (a b : T) → shape a ≡ Some s → shape b ≡ Some t → AreRequired (wanted_by_add facts.types o) a b
+  add-required add_operator.Add integer_shape integer_shape w e a b p q = (apart.integer a p, apart.integer b q)
+  add-required add_operator.Subtract integer_shape integer_shape w e a b p q = (apart.integer a p, apart.integer b q)
+  add-required add_operator.Or boolean_shape boolean_shape w e a b p q = (apart.boolean a p, apart.boolean b q)
+  add-required _ _ _ w e a b p q = absurd (cc)
 
-  multiply-asked : (o : MultiplyOperator) (s t w : Shape) → multiply_type o s t ≡ Some w → (a b : T) → shape a ≡ Some s → shape b ≡ Some t → AreAsked (wanted_by_multiply facts.types o) a b
-  multiply-asked multiply_operator.Multiply integer_shape integer_shape w e a b p q = (apart.integer a p, apart.integer b q)
-  multiply-asked multiply_operator.Divide integer_shape integer_shape w e a b p q = (apart.integer a p, apart.integer b q)
-  multiply-asked multiply_operator.Modulo integer_shape integer_shape w e a b p q = (apart.integer a p, apart.integer b q)
-  multiply-asked multiply_operator.And boolean_shape boolean_shape w e a b p q = (apart.boolean a p, apart.boolean b q)
-  multiply-asked _ _ _ w e a b p q = absurd (cc)
+  multiply-required : (o : MultiplyOperator) (s t w : Shape) → multiply_type o s t ≡ Some w → (a b : T) → shape a ≡ Some s → shape b ≡ Some t → AreRequired (wanted_by_multiply facts.types o) a b
+  multiply-required multiply_operator.Multiply integer_shape integer_shape w e a b p q = (apart.integer a p, apart.integer b q)
+  multiply-required multiply_operator.Divide integer_shape integer_shape w e a b p q = (apart.integer a p, apart.integer b q)
+  multiply-required multiply_operator.Modulo integer_shape integer_shape w e a b p q = (apart.integer a p, apart.integer b q)
+  multiply-required multiply_operator.And boolean_shape boolean_shape w e a b p q = (apart.boolean a p, apart.boolean b q)
+  multiply-required _ _ _ w e a b p q = absurd (cc)
 
   -- what a comparison asks for, by the type of its left side
   integers-equal : (a : T) → facts.types.same a facts.types.integer ≡ true → wanted_by_equality facts.types a ≡ facts.types.integer
@@ -86,54 +86,54 @@ module _ {T : Type 0} (facts : Facts T) (shape : T → Option Shape) (types : Ty
       ap (λ b. if b then facts.types.integer else (if facts.types.same a facts.types.unknown then facts.types.unknown else facts.types.boolean)) (not-true (facts.types.same a facts.types.integer) (no-integer a h))
       ∙ ap (λ b. if b then facts.types.unknown else facts.types.boolean) (not-true (facts.types.same a facts.types.unknown) (no-unknown a h))
 
-  of-integers : (r : Relation) (a b : T) → shape a ≡ Some integer_shape → shape b ≡ Some integer_shape → AreAsked (wanted_by_relation facts.types r a) a b
+  of-integers : (r : Relation) (a b : T) → shape a ≡ Some integer_shape → shape b ≡ Some integer_shape → AreRequired (wanted_by_relation facts.types r a) a b
   of-integers r a b p q =
       let wanted = integers-related r a (apart.integer a p) in
       (ap (facts.types.same a) wanted ∙ apart.integer a p, ap (facts.types.same b) wanted ∙ apart.integer b q)
 
-  of-truths : (a b : T) → shape a ≡ Some boolean_shape → shape b ≡ Some boolean_shape → AreAsked (wanted_by_equality facts.types a) a b
+  of-truths : (a b : T) → shape a ≡ Some boolean_shape → shape b ≡ Some boolean_shape → AreRequired (wanted_by_equality facts.types a) a b
   of-truths a b p q =
       let wanted = truths-equal a p in
       (ap (facts.types.same a) wanted ∙ apart.boolean a p, ap (facts.types.same b) wanted ∙ apart.boolean b q)
 
-  relation-asked : (r : Relation) (s t w : Shape) → relation_type r s t ≡ Some w → (a b : T) → shape a ≡ Some s → shape b ≡ Some t → AreAsked (wanted_by_relation facts.types r a) a b
-  relation-asked r integer_shape integer_shape w e a b p q = of-integers r a b p q
-  relation-asked relation.Equal boolean_shape boolean_shape w e a b p q = of-truths a b p q
-  relation-asked relation.NotEqual boolean_shape boolean_shape w e a b p q = of-truths a b p q
-  relation-asked _ _ _ w e a b p q = absurd (cc)
+  relation-required : (r : Relation) (s t w : Shape) → relation_type r s t ≡ Some w → (a b : T) → shape a ≡ Some s → shape b ≡ Some t → AreRequired (wanted_by_relation facts.types r a) a b
+  relation-required r integer_shape integer_shape w e a b p q = of-integers r a b p q
+  relation-required relation.Equal boolean_shape boolean_shape w e a b p q = of-truths a b p q
+  relation-required relation.NotEqual boolean_shape boolean_shape w e a b p q = of-truths a b p q
+  relation-required _ _ _ w e a b p q = absurd (cc)
 
   pub added-right : (o : AddOperator) (a b : Operand T) (s t w : Shape) → add_type o s t ≡ Some w → shape a.of ≡ Some s → shape b.of ≡ Some t → (added facts o a b).faults ≡ []
   added-right o a b s t w e p q =
-      let asked = add-asked o s t w e a.of b.of p q in
-      none-of-both (asked_both facts (wanted_by_add facts.types o) a b).faults [] (both-right (wanted_by_add facts.types o) a b asked.0 asked.1) refl
+      let both = add-required o s t w e a.of b.of p q in
+      none-of-both (asked_both facts (wanted_by_add facts.types o) a b).faults [] (both-right (wanted_by_add facts.types o) a b both.0 both.1) refl
 
   pub multiplied-right : (o : MultiplyOperator) (a b : Operand T) (s t w : Shape) → multiply_type o s t ≡ Some w → shape a.of ≡ Some s → shape b.of ≡ Some t → (multiplied facts o a b).faults ≡ []
   multiplied-right o a b s t w e p q =
-      let asked = multiply-asked o s t w e a.of b.of p q in
-      none-of-both (asked_both facts (wanted_by_multiply facts.types o) a b).faults [] (both-right (wanted_by_multiply facts.types o) a b asked.0 asked.1) refl
+      let both = multiply-required o s t w e a.of b.of p q in
+      none-of-both (asked_both facts (wanted_by_multiply facts.types o) a b).faults [] (both-right (wanted_by_multiply facts.types o) a b both.0 both.1) refl
 
   pub related-right : (r : Relation) (a b : Operand T) (s t w : Shape) → relation_type r s t ≡ Some w → shape a.of ≡ Some s → shape b.of ≡ Some t → (related facts r a b).faults ≡ []
   related-right r a b s t w e p q =
-      let asked = relation-asked r s t w e a.of b.of p q in
-      none-of-both (asked_both facts (wanted_by_relation facts.types r a.of) a b).faults [] (both-right (wanted_by_relation facts.types r a.of) a b asked.0 asked.1) refl
+      let both = relation-required r s t w e a.of b.of p q in
+      none-of-both (asked_both facts (wanted_by_relation facts.types r a.of) a b).faults [] (both-right (wanted_by_relation facts.types r a.of) a b both.0 both.1) refl
 
-  sign-asked : (g : Sign) (s w : Shape) → sign_type (Some g) s ≡ Some w → s ≡ integer_shape
-  sign-asked sign.Plus integer_shape w e = refl
-  sign-asked sign.Minus integer_shape w e = refl
-  sign-asked _ _ w e = absurd (cc)
+  sign-required : (g : Sign) (s w : Shape) → sign_type (Some g) s ≡ Some w → s ≡ integer_shape
+  sign-required sign.Plus integer_shape w e = refl
+  sign-required sign.Minus integer_shape w e = refl
+  sign-required _ _ w e = absurd (cc)
 
   pub signed-right : (g : Option Sign) (o : Operand T) (s w : Shape) → sign_type g s ≡ Some w → shape o.of ≡ Some s → (signed facts g o).faults ≡ []
   signed-right None o s w e h = refl
   signed-right (Some g) o s w e h =
-      none-of-both (required facts facts.types.integer o).faults [] (asked-right facts.types.integer o (apart.integer o.of (h ∙ ap Some (sign-asked g s w e)))) refl
+      none-of-both (required facts facts.types.integer o).faults [] (required-right facts.types.integer o (apart.integer o.of (h ∙ ap Some (sign-required g s w e)))) refl
 
-  complement-asked : (s w : Shape) → complement_type s ≡ Some w → s ≡ boolean_shape
-  complement-asked boolean_shape w e = refl
-  complement-asked _ w e = absurd (cc)
+  complement-required : (s w : Shape) → complement_type s ≡ Some w → s ≡ boolean_shape
+  complement-required boolean_shape w e = refl
+  complement-required _ w e = absurd (cc)
 
   pub complemented-right : (o : Operand T) (s w : Shape) → complement_type s ≡ Some w → shape o.of ≡ Some s → (complemented facts o).faults ≡ []
   complemented-right o s w e h =
-      none-of-both (required facts facts.types.boolean o).faults [] (asked-right facts.types.boolean o (apart.boolean o.of (h ∙ ap Some (complement-asked s w e)))) refl
+      none-of-both (required facts facts.types.boolean o).faults [] (required-right facts.types.boolean o (apart.boolean o.of (h ∙ ap Some (complement-required s w e)))) refl
 
   -- selectors
 
@@ -175,13 +175,13 @@ module _ {T : Type 0} (facts : Facts T) (shape : T → Option Shape) (types : Ty
   element-found (a_record fields) s t (k, fs, e, each) far i n u h = absurd (some-none u (sym h ∙ ap (λ z. element_type z t) e))
   element-found unknown_form s t a far i n u h = absurd a
 
-  index-asked : (s t u : Shape) → element_type s t ≡ Some u → t ≡ integer_shape
-  index-asked (array_shape k n s) integer_shape u e = refl
-  index-asked _ _ u e = absurd (cc)
+  index-required : (s t u : Shape) → element_type s t ≡ Some u → t ≡ integer_shape
+  index-required (array_shape k n s) integer_shape u e = refl
+  index-required _ _ u e = absurd (cc)
 
   pub element-right : (o i : Operand T) (s t u : Shape) → shape o.of ≡ Some s → shape i.of ≡ Some t → element_type s t ≡ Some u → (element_selected facts o i).faults ≡ []
   element-right o i s t u hs ht e =
       let n : T = (required facts facts.types.integer i).known in
       let inner : List Fault = (element_in facts i n (facts.types.form o.of)).faults in
-      none-of-both (required facts facts.types.integer i).faults (inner ++ []) (asked-right facts.types.integer i (apart.integer i.of (ht ∙ ap Some (index-asked s t u e))))
+      none-of-both (required facts facts.types.integer i).faults (inner ++ []) (required-right facts.types.integer i (apart.integer i.of (ht ∙ ap Some (index-required s t u e))))
       (none-of-both inner [] (element-found (facts.types.form o.of) s t (types.formed o.of s hs) (apart.scalar o.of s hs) i n u e) refl)

@@ -26,7 +26,7 @@ use Rattle.ob0_types_check.proofs.EqualShapes.{agree-equal, each-true}
 use Rattle.ob0_types_check.proofs.FittingExpressions.{parts-placed}
 use Rattle.ob0_types_check.proofs.FittingStatements.{EachAgreed, arguments-agreed, arguments-mapped, split}
 use Rattle.ob0_types_check.proofs.TypedNames.{types-apart}
-use Rattle.ob0_types_check.proofs.TypedOperands.{TypesApart, and-then, asked-right, none-of-both}
+use Rattle.ob0_types_check.proofs.TypedOperands.{TypesApart, and-then, required-right, none-of-both}
 use Rattle.ob0_types_check.proofs.Untold.{goes-on, some-none, some-same}
 use Rattle.ob0_types_check.proofs.TypedTargets.{expression-typed, no-signature, operand-typed, target-typed, variable-of}
 
@@ -43,18 +43,18 @@ module _ {T N : Type 0} (facts : Facts T) (shape : T → Option Shape) (types : 
   apart-in : (xs ys : List (Role × ℕ)) → TokensAgree facts shape label meaning (xs ++ ys) → TokensAgree facts shape label meaning xs × TokensAgree facts shape label meaning ys
   apart-in = split facts shape types label meaning
 
-  -- a type that is asked of an expression of that type
-  asked-typed : (wanted : T) (w : Shape) (e : Tree ℕ expression) → shape wanted ≡ Some w → Named e → type_of meaning (here e) ≡ Some w → told_asked facts wanted e ≡ []
+  -- a type that is required of an expression of that type
+  required-typed : (wanted : T) (w : Shape) (e : Tree ℕ expression) → shape wanted ≡ Some w → Named e → type_of meaning (here e) ≡ Some w → told_asked facts wanted e ≡ []
   unfolding told_asked
-  asked-typed wanted w e hw k h =
+  required-typed wanted w e hw k h =
       let o : Operand T = (told_expression facts e).known in
-      none-of-both (told_expression facts e).faults (required facts wanted o).faults (expression-typed facts shape types apart only label meaning e k w h) (asked-right facts shape types apart wanted o (alike o.of wanted w (operand-typed facts shape types apart only label meaning e k w h) hw))
+      none-of-both (told_expression facts e).faults (required facts wanted o).faults (expression-typed facts shape types apart only label meaning e k w h) (required-right facts shape types apart wanted o (alike o.of wanted w (operand-typed facts shape types apart only label meaning e k w h) hw))
 
   condition-right : (e : Tree ℕ expression) → Named e → condition_fits meaning (here e) ≡ true → reported_condition facts e ≡ []
   unfolding condition_fits
   condition-right e k h =
       let (s, truth, typed) = agree-equal (Some boolean_shape) (type_of meaning (here e)) h in
-      asked-typed facts.types.boolean boolean_shape e types.boolean k (typed ∙ sym truth)
+      required-typed facts.types.boolean boolean_shape e types.boolean k (typed ∙ sym truth)
 
   assignment-right : (x : ℕ) (path : Tree ℕ (items selector)) (e : Tree ℕ expression) → Named (assigns x path e) → statement_fits meaning (here (assigns x path e)) ≡ true → told_assigned facts (told_target facts x path) e ≡ []
   unfolding statement_fits
@@ -62,7 +62,7 @@ module _ {T N : Type 0} (facts : Facts T) (shape : T → Option Shape) (types : 
       let (s, left, right) = agree-equal (variable_type meaning (Some (label x, here path))) (type_of meaning (here e)) h in
       let rest = apart-in (ids path) (ids e) k.1 in
       let t = target-typed facts shape types apart only label meaning x path s (k.0, rest.0) left in
-      none-of-both (told_target facts x path).faults (told_asked facts (told_target facts x path).known.of e) t.none (asked-typed (told_target facts x path).known.of s e t.known rest.1 right)
+      none-of-both (told_target facts x path).faults (told_asked facts (told_target facts x path).known.of e) t.none (required-typed (told_target facts x path).known.of s e t.known rest.1 right)
 
   -- calls
 
@@ -112,13 +112,13 @@ module _ {T N : Type 0} (facts : Facts T) (shape : T → Option Shape) (types : 
       let p : IsPlace e g.shape = place-known e k g.shape (given ∙ sym own) in
       none-of-both (told_expression facts e).faults _ (expression-typed facts shape types apart only label meaning e k g.shape p.typed)
       (ap (λ b. (if not b then record { known = facts.types.unknown; faults = at_operand facts code.NotVariable o } else required facts of o).faults) p.placed
-      ∙ asked-right facts shape types apart of o (alike o.of of g.shape (operand-typed facts shape types apart only label meaning e k g.shape p.typed) wanted))
+      ∙ required-right facts shape types apart of o (alike o.of of g.shape (operand-typed facts shape types apart only label meaning e k g.shape p.typed) wanted))
   passed-right false of g e mode wanted k h =
       let o : Operand T = (told_expression facts e).known in
       let (s, own, given) = agree-equal (Some g.shape) (type_of meaning (here e)) (sym (λ i. agree (Some g.shape) (elim (mode i) [ by_value ↦ type_of meaning (here e) | by_place ↦ variable_type meaning (designated (here e)) ])) ∙ h) in
       let typed : type_of meaning (here e) ≡ Some g.shape = given ∙ sym own in
       none-of-both (told_expression facts e).faults _ (expression-typed facts shape types apart only label meaning e k g.shape typed)
-      (asked-right facts shape types apart of o (alike o.of of g.shape (operand-typed facts shape types apart only label meaning e k g.shape typed) wanted))
+      (required-right facts shape types apart of o (alike o.of of g.shape (operand-typed facts shape types apart only label meaning e k g.shape typed) wanted))
 
   argument-right : (f : known.Formal T) (g : Formal) (e : Tree ℕ expression) → g.mode ≡ mode_of f.by_place → shape f.of ≡ Some g.shape → Named e → argument_fits meaning g (here e) ≡ true → told_argument facts f e ≡ []
   unfolding told_argument

@@ -3,7 +3,7 @@ use Rattle.std.proofs.Common.{◌≡◌, ℕ, false, List, [], Option, Some, Non
 use Rattle.ob0_tree.specs.declared.tree.Role.{Role}
 use Rattle.ob0_tree.specs.declared.tree.Role.TheVariants as role
 use Rattle.ob0_tree.specs.Places.{value_at}
-use Rattle.ob0_tree.specs.Tree.{Sort, Tree, designator, expression, identifiers, items, mapped, none, selector}
+use Rattle.ob0_tree.specs.Tree.{Sort, Tree, designator, expression, identifiers, items, mapped, selector}
 use Rattle.ob0_types_rules.specs.Expressions as meant
 use Rattle.ob0_types_rules.specs.Expressions.{Object}
 use Rattle.ob0_types_rules.specs.Typing.{object_type, type_at, type_of}
@@ -11,7 +11,6 @@ use Rattle.ob0_types_rules.specs.WellTyped.{Signature, Typed, signature_of, vari
 use Rattle.ob0_values.specs.Values.{Shape}
 use Rattle.ob0_types_check.specs.ExpressionFaults.{told_expression, told_selectors}
 use Rattle.ob0_types_check.specs.Known.{Facts, Meaning, Operand, a_constant, a_procedure, a_type, a_variable}
-use Rattle.ob0_types_check.specs.Known as known
 use Rattle.ob0_types_check.specs.Operations.{a_name}
 use Rattle.ob0_types_check.specs.SoFar.{facts_at}
 use Rattle.ob0_types_check.specs.StatementFaults.{assigned, assigned_meaning, told_target}
@@ -27,7 +26,7 @@ use Rattle.ob0_types_check.proofs.TypedNames.{names-typed, types-apart}
 use Rattle.ob0_types_check.proofs.TypedOperands.{TypesApart, none-of-both}
 use Rattle.ob0_types_check.proofs.Untold.{some-none}
 
--- what stands for a variable, by the type at the end of its selectors
+-- a variable, by the type at the end of its selectors
 pub variable-of : {P : Type 0} (o : Option (Object Shape P)) (f : Shape → Option Shape) (s : Shape) → (elim o [ Some (meant.a_variable v) ↦ f v | _ ↦ None ]) ≡ Some s → (v : Shape) × (o ≡ Some (meant.a_variable v)) × (f v ≡ Some s)
 variable-of None f s h = absurd (some-none s (sym h))
 variable-of (Some (meant.a_type t)) f s h = absurd (some-none s (sym h))
