@@ -11,7 +11,7 @@ use Rattle.ob0_tree.specs.Tree.{Tree, module_text}
 use Rattle.ob0_tree.specs.Parsed.{named_tree_of}
 use Rattle.ob0_scope_rules.specs.Names.{Name, as_names}
 use Rattle.ob0_scope_rules.specs.Resolution.{IsResolution, Resolution}
-use Rattle.ob0_types_rules.specs.WellTyped.{WellTyped, fits_over}
+use Rattle.ob0_types_rules.specs.WellTyped.{WellTyped}
 use Rattle.ob0_types.specs.FaultOrder.{AreFirstFaults}
 use Rattle.ob0_parse.specs.ExpectedText.{expected_text}
 use Rattle.ob0_parse.specs.RefusedBy.{RefusedBy}
@@ -96,7 +96,7 @@ pub record TellsTypes (text : List ℕ) (told : List Complaint) : Type 0 where
   pub scan : IsScanOf text names.module_read.source
   pub ill_typed : WellTyped (named_tree_of names.module_read) → ⊥
   pub faults : List Fault
-  pub first : AreFirstFaults (fits_over as_names (named_tree_of names.module_read)) names faults
+  pub first : AreFirstFaults names faults
   pub some : 0 < length faults
   pub few : length faults ≤ 100
   pub all : told ≡ map complaint_of faults

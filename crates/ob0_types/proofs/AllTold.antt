@@ -7,8 +7,11 @@ use Rattle.ob0_scope_rules.specs.Names.{as_labels, as_names}
 use Rattle.ob0_scope_rules.specs.DeclaredOnce.{declared_once}
 use Rattle.ob0_scope_rules.specs.Resolution.{IsResolution, Resolution, is_of_declarations}
 use Rattle.ob0_tree.specs.Parsed.{named_tree_of, tree_of}
+use Rattle.ob0_types_check.specs.DeclarationFaults.{reported_module}
 use Rattle.ob0_types_check.specs.ModuleLaws.{ModulesFit}
-use Rattle.ob0_types.specs.FaultOrder.{AreFirstFaults, faults_of_types}
+use Rattle.ob0_types_check.specs.WellTypedLaws.{NoFaultInModules}
+use Rattle.ob0_types.specs.FaultOrder.{AreFirstOf}
+use Rattle.ob0_types.specs.FoundFaults.{faults_found, types_found}
 use Rattle.ob0_types.specs.CheckedModules.{IsChecked, IsTold}
 use Rattle.ob0_types_rules.specs.Bindings.{module_bindings, object_bound}
 use Rattle.ob0_checker.specs.Checking.{Keeps}
@@ -74,20 +77,25 @@ if_some None f h = tt
 if_some (Some a) f h = f a h
 
 -- a fault of types is told exactly of a module that doesn't fit
-types_told : ModulesFit → (fits : Bool) (r : Resolution) → IsResolution r → fits ≡ fits_over as_names (named_tree_of r.module_read) → IsTold fits (faults_of_types fits r)
+types_told : ModulesFit → (fits : Bool) (r : Resolution) → IsResolution r → fits ≡ fits_over as_names (named_tree_of r.module_read) → IsTold fits (types_found fits r)
 types_told law true r h e = (λ none. refl, λ right. refl)
 types_told law false r h e = (λ none. e ∙ law r h none, λ right. absurd (true≢false (sym right)))
 
+-- what is found of the types is what is reported of them: of a well-typed module nothing is
+types_reported : NoFaultInModules → (fits : Bool) (r : Resolution) → IsResolution r → fits ≡ fits_over as_names (named_tree_of r.module_read) → types_found fits r ≡ reported_module r
+types_reported law true r h e = sym (law r h (sym e))
+types_reported law false r h e = refl
+
 -- where nothing is told exactly of a module that fits and declares each name once, it is told exactly of a well-typed one
-pub checked_told : (r : Resolution) (fits : Bool) (faults : List Fault) → FitsByOrdinal → ModulesFit → IsResolution r → fits ≡ fits_over as_labels (in_labels r (tree_of r.module_read))
-    → ((faults ≡ []) ↔ (faults_of_types fits r ++ filter is_of_declarations r.faults ≡ []))
-    → (known : Option Tables) → fits ≡ is_some known → IfSome known (Keeps (module_bindings as_labels (in_labels r (tree_of r.module_read)))) → length faults ≤ 100 → AreFirstFaults fits r faults → IsChecked (record { names = r; faults = faults; known = known })
+pub checked_told : (r : Resolution) (fits : Bool) (faults : List Fault) → FitsByOrdinal → ModulesFit → NoFaultInModules → IsResolution r → fits ≡ fits_over as_labels (in_labels r (tree_of r.module_read))
+    → ((faults ≡ []) ↔ (faults_found fits r ≡ []))
+    → (known : Option Tables) → fits ≡ is_some known → IfSome known (Keeps (module_bindings as_labels (in_labels r (tree_of r.module_read)))) → length faults ≤ 100 → AreFirstOf (faults_found fits r) faults → IsChecked (record { names = r; faults = faults; known = known })
 unfolding WellTyped
-checked_told r fits faults law told_law h e alike known some keeps few first =
+checked_told r fits faults law told_law none_law h e alike known some keeps few first =
     let m = named_tree_of r.module_read in
     let any = list_any is_of_declarations r.faults in
     let by_names : fits ≡ fits_over as_names m = e ∙ ap (fits_over as_labels) (sym h.numbering) ∙ sym (law m) in
-    let whole : IsTold (fits && not any) (faults_of_types fits r ++ filter is_of_declarations r.faults) = told_with fits (faults_of_types fits r) r.faults (types_told told_law fits r h by_names) in
+    let whole : IsTold (fits && not any) (faults_found fits r) = told_with fits (types_found fits r) r.faults (types_told told_law fits r h by_names) in
     let told : IsTold (fits && not any) faults = ((λ none. whole.0 (alike.0 none)), (λ right. alike.1 (whole.1 right))) in
     record {
       resolved = h;
@@ -100,5 +108,5 @@ checked_told r fits faults law told_law h e alike known some keeps few first =
       holds = if_some known (λ t kept d. sym (kept d) ∙ ap (λ z. object_bound (module_bindings as_labels z) d) (sym h.numbering)) keeps;
       kept = λ none. sym some ∙ first_right fits any (told.0 none);
       few = few;
-      first = subst (λ b. AreFirstFaults b r faults) by_names first;
+      first = subst (λ fs. AreFirstOf (fs ++ filter is_of_declarations r.faults) faults) (types_reported none_law fits r h by_names) first;
     }

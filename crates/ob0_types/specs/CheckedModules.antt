@@ -2,12 +2,12 @@
 use Rattle.std.specs.Prelude.{◌≡◌, ℕ, ◌≤◌, Bool, true, List, [], length, ◌↔◌, IfSome, is_some, Option}
 use Rattle.ob0_scan.specs.declared.fault.Fault.{Fault}
 use Rattle.ob0_scope_rules.specs.Resolution.{Resolution, IsResolution}
-use Rattle.ob0_scope_rules.specs.Names.{Name, as_names}
+use Rattle.ob0_scope_rules.specs.Names.{Name}
 use Rattle.ob0_tree.specs.Parsed.{named_tree_of}
 use Rattle.ob0_tree.specs.Tree.{Tree, module_text}
 use Rattle.ob0_types_rules.specs.Bindings.{declared_object}
 use Rattle.ob0_types_table.specs.KnownTables.{Tables, declared_in}
-use Rattle.ob0_types_rules.specs.WellTyped.{WellTyped, fits_over}
+use Rattle.ob0_types_rules.specs.WellTyped.{WellTyped}
 use Rattle.ob0_types.specs.FaultOrder.{AreFirstFaults}
 
 pub record CheckedModule : Type 0 where
@@ -31,7 +31,7 @@ pub record IsChecked (c : CheckedModule) : Type 0 where
   pub holds : IfSome c.known (HoldsDeclarations (named_tree_of c.names.module_read))
   pub kept : c.faults ≡ [] → is_some c.known ≡ true
   pub few : length c.faults ≤ 100
-  pub first : AreFirstFaults (fits_over as_names (named_tree_of c.names.module_read)) c.names c.faults
+  pub first : AreFirstFaults c.names c.faults
 
 -- these are the faults of a module that was checked, whatever is known of it
 abbrev pub AreFaultsOf : Resolution → List Fault → Type 0

@@ -1,5 +1,5 @@
 -- The order in which faults are reported.
-use Rattle.std.specs.Prelude.{◌≡◌, ℕ, Bool, List, [], ◌++◌, take, if◌then◌else◌}
+use Rattle.std.specs.Prelude.{◌≡◌, ℕ, List, ◌++◌, take}
 use Rattle.std.specs.List.{filter}
 use Rattle.std.specs.List.Sorted.{IsPermutation, IsSorted}
 use Rattle.std.specs.Ordering.{nat_cmp, ordering_then}
@@ -40,15 +40,17 @@ place_cmp x y = ordering_then (nat_cmp x.span.start y.span.start) (nat_cmp x.spa
 abbrev pub fault_cmp : Fault → Fault → Ordering
 fault_cmp x y = ordering_then (place_cmp x y) (nat_cmp (code_number x.code) (code_number y.code))
 
--- The faults of types: none where the types of the module fit, else its names that nothing binds, and then what is wrong with its
--- declarations and its statements.
-abbrev pub faults_of_types : Bool → Resolution → List Fault
-faults_of_types fits r = if fits then [] else reported_module r
-
--- These are the first 100, in that order, of the faults of types and of names that are declared twice or close what another
--- name opened.
-pub record AreFirstFaults (fits : Bool) (r : Resolution) (faults : List Fault) : Type 0 where
+-- the first 100, in that order, of all that were found
+pub record AreFirstOf (found faults : List Fault) : Type 0 where
   pub all : List Fault
-  pub joined : IsPermutation (faults_of_types fits r ++ filter is_of_declarations r.faults) all
+  pub joined : IsPermutation found all
   pub in_order : IsSorted fault_cmp all
   pub first : faults ≡ take 100 all
+
+-- The faults of a module, by LANGUAGE.md, Faults of scopes and types: names that nothing binds and faults of types, and names
+-- that are declared twice or close what another name opened. The first 100 are reported.
+abbrev pub faults_in : Resolution → List Fault
+faults_in r = reported_module r ++ filter is_of_declarations r.faults
+
+abbrev pub AreFirstFaults : Resolution → List Fault → Type 0
+AreFirstFaults r faults = AreFirstOf (faults_in r) faults

@@ -2,7 +2,8 @@
 
 ghost use Rattle.ob0_scope_rules.specs.Resolution.{is_of_declarations};
 ghost use Rattle.ob0_types.specs.CheckedModules.{AreFaultsOf, IsChecked};
-ghost use Rattle.ob0_types.specs.FaultOrder.{AreFirstFaults, faults_of_types};
+ghost use Rattle.ob0_types.specs.FaultOrder.{AreFirstOf};
+ghost use Rattle.ob0_types.specs.FoundFaults.{faults_found, types_found};
 ghost use Rattle.std.specs.List.{filter};
 ghost use Rattle.std.specs.Prelude.{◌≡◌, ◌≤◌, ◌↔◌, ◌++◌, [], length, IfOk, IfSome, OnOk, MatchOption};
 ghost use Rattle.ob0_types_fields.specs.Listed.{listed_by};
@@ -10,7 +11,7 @@ ghost use Rattle.ob0_types_fields.specs.Listed.{listed_by};
 use ob0_checker::decide;
 use ob0_scan::{Code, Fault};
 use ob0_scope_rules::{PREDECLARED, Resolved};
-use ob0_types_check::laws::modules_fit;
+use ob0_types_check::laws::{modules_fit, no_fault_in_modules};
 use ob0_types_check::tell;
 use ob0_types_fields::FieldList;
 use ob0_types_rules::laws::fits_by_ordinal;
@@ -88,6 +89,7 @@ pub fn check<'t>(alloc: Global, resolved: &'t Resolved<'t>) -> Result<Checked<'t
 {
     fits_by_ordinal();
     modules_fit();
+    no_fault_in_modules();
     let _module = resolved.module();
     let known = decide(alloc, resolved)?;
     let fields = known_fields(alloc, resolved, &known)?;
@@ -106,6 +108,7 @@ pub fn faults_in<'t>(alloc: Global, resolved: &'t Resolved<'t>) -> Result<Vec<Fa
 {
     fits_by_ordinal();
     modules_fit();
+    no_fault_in_modules();
     let _module = resolved.module();
     let known = decide(alloc, resolved)?;
     let found = faults_of(alloc, resolved, known.is_some())?;
@@ -134,9 +137,9 @@ fn faults_of<'t>(
     resolved: &'t Resolved<'t>,
     fits: bool,
 ) -> Result<Vec<Fault>, AllocError>
-    ensures none { IfOk result (λ faults. (faults.items ≡ []) ↔ (faults_of_types fits resolved.now ++ filter is_of_declarations resolved.now.faults ≡ [])) }
+    ensures none { IfOk result (λ faults. (faults.items ≡ []) ↔ (faults_found fits resolved.now ≡ [])) }
     ensures few { IfOk result (λ faults. length faults.items ≤ 100) }
-    ensures first { IfOk result (λ faults. AreFirstFaults fits resolved.now faults.items) }
+    ensures first { IfOk result (λ faults. AreFirstOf (faults_found fits resolved.now) faults.items) }
 {
     let mut faults = of_types(alloc, resolved, fits)?;
     add_declarations(&mut faults, resolved.faults())?;
@@ -145,13 +148,13 @@ fn faults_of<'t>(
     Ok(faults)
 }
 
-/// The faults of types: those that are told of a module that doesn't fit.
+/// The faults of types. Of a well-typed module there are none, so nothing is looked for.
 fn of_types<'t>(
     alloc: Global,
     resolved: &'t Resolved<'t>,
     fits: bool,
 ) -> Result<Vec<Fault>, AllocError>
-    ensures { IfOk result (λ faults. faults.items ≡ faults_of_types fits resolved.now) }
+    ensures { IfOk result (λ faults. faults.items ≡ types_found fits resolved.now) }
 {
     if fits {
         return Ok(Vec::new(alloc));

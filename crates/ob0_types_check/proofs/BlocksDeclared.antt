@@ -1,5 +1,5 @@
 -- Constants, types, variables and parameters of which nothing is told are declared.
-use Rattle.std.proofs.Common.{◌≡◌, ℕ, suc, ◌+◌, ◌≤◌, true, List, [], ◌∷◌, ◌++◌, map, Option, Some, option_and_then, refl, sym, ap, ◌∙◌, subst, subst₂, le_refl, le_of_lt}
+use Rattle.std.proofs.Common.{◌≡◌, ℕ, suc, ◌+◌, ◌≤◌, true, List, [], ◌∷◌, ◌++◌, map, Option, Some, option_and_then, refl, sym, ap, ◌∙◌, subst, subst₂, le_refl, le_of_lt, arith}
 use Rattle.std.proofs.lemmas.List.{map-append}
 use Rattle.ob0_tree.specs.Places.{named, text_at, value_at}
 use Rattle.ob0_tree.specs.Tree.{Tree, constant, declares_constant, declares_type, declares_variable, end, items, mapped, more, type_name, variable}
@@ -7,7 +7,7 @@ use Rattle.ob0_scope_rules.specs.Names.{Name, as_names}
 use Rattle.ob0_scope_rules.specs.Parts.{constant_names, named_types, names_listed, variable_names}
 use Rattle.ob0_scope_rules.specs.Scopes.{Scope, after_names, declare_names}
 use Rattle.ob0_scope_rules.proofs.Ordinals.{after_names-append, declare_names-append, le-after_names}
-use Rattle.ob0_types_rules.specs.Declarations.{declare_constants, declare_types}
+use Rattle.ob0_types_rules.specs.Declarations.{declare_constants, declare_types, types_constructors, variables_constructors}
 use Rattle.ob0_types_rules.specs.Environments.{meanings}
 use Rattle.ob0_types_rules.specs.Expressions as meant
 use Rattle.ob0_types_rules.specs.Typing.{constant_value, constructors, denoted}
@@ -18,42 +18,48 @@ use Rattle.ob0_types_check.specs.Known.{Reported, a_constant, a_type, a_variable
 use Rattle.ob0_types_check.specs.SoFar.{SoFar, Typed, define, define_all, facts_at}
 use Rattle.ob0_types_check.specs.TypeFaults.{told_constant}
 use Rattle.ob0_types_check.specs.WrittenTypeFaults.{told_type}
+use Rattle.ob0_types_check.proofs.MadeOnce.{Apart, apart_same, apart_then}
 use Rattle.ob0_types_check.proofs.PartsFitting.{PartsFit}
 use Rattle.ob0_types_check.proofs.DeclaredNames.{ConstantsPlaced, Numbering, TypesPlaced, VariablesPlaced, after_names-map, names_listed-mapped, scope_behind}
 use Rattle.ob0_types_check.proofs.DeclaredStanding.{Later, Stands, agrees_where_seen, all_defined, defined, later_same, later_then, stands_defined, stands_later}
 use Rattle.ob0_types_check.proofs.DeclaredTypes.{none_both, type_denotes}
 
--- declarations from the ordinal n on, up to m, give an environment
-pub record Declared (w : Numbering) (n m : ℕ) (p q : SoFar) (before : List Shape) (scope : Scope Name) (given : Option (TypeEnvironment Name)) : Type 0 where
+-- declarations from the ordinal n on, up to m, with the constructors from k on, up to l, give an environment
+pub record Declared (w : Numbering) (n m k l : ℕ) (p q : SoFar) (before : List Shape) (scope : Scope Name) (given : Option (TypeEnvironment Name)) : Type 0 where
   pub env : TypeEnvironment Name
   pub given_is : given ≡ Some env
   pub after : List Shape
+  pub apart : Apart k l before after
   pub later : Later n p q before after
   pub stands : Stands w q after m scope env
 
-nothing_declared : (w : Numbering) (n : ℕ) (p : SoFar) (before : List Shape) (scope : Scope Name) (env : TypeEnvironment Name) → Stands w p before n scope env → Declared w n n p p before scope (Some env)
-nothing_declared w n p before scope env st = record { env = env; given_is = refl; after = before; later = later_same n p before st.table; stands = st }
+nothing_declared : (w : Numbering) (n k l : ℕ) → l ≡ k → (p : SoFar) (before : List Shape) (scope : Scope Name) (env : TypeEnvironment Name) → Stands w p before n scope env → Declared w n n k l p p before scope (Some env)
+nothing_declared w n k l last p before scope env st = record { env = env; given_is = refl; after = before; apart = apart_same k l before last; later = later_same n p before st.table; stands = st }
 
 -- what is declared in two steps
-pub declared_then : {A : Type 0} (w : Numbering) (n i m : ℕ) (p q r : SoFar) (before mid : List Shape) (scope : Scope Name) (given : Option A) (a : A) (next : A → Option (TypeEnvironment Name)) → n ≤ i → given ≡ Some a → Later n p q before mid → Declared w i m q r mid scope (next a)
-    → Declared w n m p r before scope (option_and_then next given)
-declared_then w n i m p q r before mid scope given a next le is later d = record {
+pub declared_then : {A : Type 0} (w : Numbering) (n i m k j l : ℕ) (p q r : SoFar) (before mid : List Shape) (scope : Scope Name) (given : Option A) (a : A) (next : A → Option (TypeEnvironment Name)) → n ≤ i → given ≡ Some a → Apart k j before mid → Later n p q before mid → Declared w i m j l q r mid scope (next a)
+    → Declared w n m k l p r before scope (option_and_then next given)
+declared_then w n i m k j l p q r before mid scope given a next le is own later d = record {
   env = d.env;
   given_is = ap (option_and_then next) is ∙ d.given_is;
   after = d.after;
+  apart = apart_then k j l before mid d.after own d.apart;
   later = later_then n i p q r before mid d.after le later d.later;
   stands = d.stands;
 }
+
+pub more_constructors : (k m n : ℕ) → k + m + n ≡ k + (m + n)
+more_constructors k m n = omega arith
 
 pub next_le : (n : ℕ) → n ≤ suc n
 next_le n = le_of_lt (le_refl (suc n))
 
 module _ (w : Numbering) (fit : PartsFit) where
-  pub constants_declare : (cs : Tree ℕ (items constant)) (n : ℕ) (p : SoFar) (before : List Shape) (scope : Scope Name) (env : TypeEnvironment Name) → Stands w p before n scope env → ConstantsPlaced w scope n cs → (reported_constants p cs).faults ≡ []
-      → Declared w n (after_names n (constant_names cs)) p (reported_constants p cs).known before (scope_behind w n (constant_names cs) scope) (declare_constants as_names env (named w.source cs))
+  pub constants_declare : (cs : Tree ℕ (items constant)) (k n : ℕ) (p : SoFar) (before : List Shape) (scope : Scope Name) (env : TypeEnvironment Name) → Stands w p before n scope env → ConstantsPlaced w scope n cs → (reported_constants p cs).faults ≡ []
+      → Declared w n (after_names n (constant_names cs)) k k p (reported_constants p cs).known before (scope_behind w n (constant_names cs) scope) (declare_constants as_names env (named w.source cs))
   unfolding reported_constants constant_declared declare_constants
-  constants_declare end n p before scope env st placed h = nothing_declared w n p before scope env st
-  constants_declare (more (declares_constant x e) cs) n p before scope env st placed h =
+  constants_declare end k n p before scope env st placed h = nothing_declared w n k k refl p before scope env st
+  constants_declare (more (declares_constant x e) cs) k n p before scope env st placed h =
       let v : Reported (Option Value) = told_constant (facts_at p true) e in
       let q : SoFar = define p (a_constant v.known) x in
       let a = none_both (v.faults ++ []) (reported_constants q cs).faults h in
@@ -61,14 +67,14 @@ module _ (w : Numbering) (fit : PartsFit) where
       let given : constant_value (meanings as_names env) (named w.source e) ≡ Some c.value = ap (λ s. constant_value (meanings as_names env) (mapped (text_at w.source) (value_at s) e)) (sym st.source) ∙ c.given in
       let d = defined w p before n (a_constant v.known) x st.ordinals st.room st.table placed.0 in
       let next = stands_defined w p q before n scope env (a_constant v.known) (text_at w.source x) (meant.a_constant c.value) st d (c.value, c.known, refl, c.scalar) in
-      declared_then w n (suc n) (after_names (suc n) (constant_names cs)) p q (reported_constants q cs).known before before (scope_behind w (suc n) (constant_names cs) ((text_at w.source x, n) ∷ scope))
-      (constant_value (meanings as_names env) (named w.source e)) c.value (λ v. declare_constants as_names ((text_at w.source x, meant.a_constant v) ∷ env) (named w.source cs)) (next_le n) given d.later
-      (constants_declare cs (suc n) q before ((text_at w.source x, n) ∷ scope) ((text_at w.source x, meant.a_constant c.value) ∷ env) next placed.2 a.1)
+      declared_then w n (suc n) (after_names (suc n) (constant_names cs)) k k k p q (reported_constants q cs).known before before (scope_behind w (suc n) (constant_names cs) ((text_at w.source x, n) ∷ scope))
+      (constant_value (meanings as_names env) (named w.source e)) c.value (λ v. declare_constants as_names ((text_at w.source x, meant.a_constant v) ∷ env) (named w.source cs)) (next_le n) given (apart_same k k before refl) d.later
+      (constants_declare cs k (suc n) q before ((text_at w.source x, n) ∷ scope) ((text_at w.source x, meant.a_constant c.value) ∷ env) next placed.2 a.1)
 
   pub types_declare : (ds : Tree ℕ (items type_name)) (k n : ℕ) (p : SoFar) (before : List Shape) (scope : Scope Name) (env : TypeEnvironment Name) → Stands w p before n scope env → TypesPlaced w scope n ds → (told_types p ds).faults ≡ []
-      → Declared w n (after_names n (named_types ds)) p (told_types p ds).known before (scope_behind w n (named_types ds) scope) (declare_types as_names env k (named w.source ds))
+      → Declared w n (after_names n (named_types ds)) k (k + types_constructors (named w.source ds)) p (told_types p ds).known before (scope_behind w n (named_types ds) scope) (declare_types as_names env k (named w.source ds))
   unfolding told_types type_declared declare_types
-  types_declare end k n p before scope env st placed h = nothing_declared w n p before scope env st
+  types_declare end k n p before scope env st placed h = nothing_declared w n k (k + 0) (omega arith) p before scope env st
   types_declare (more (declares_type x t) ds) k n p before scope env st placed h =
       let u : Reported Typed = told_type p t in
       let q : SoFar = define u.known.behind (a_type u.known.of) x in
@@ -77,10 +83,13 @@ module _ (w : Numbering) (fit : PartsFit) where
       let behind = stands_later w n n n p u.known.behind before s.after scope env (le_refl n) (le_refl n) st s.later in
       let d = defined w u.known.behind s.after n (a_type u.known.of) x behind.ordinals behind.room behind.table placed.0 in
       let next = stands_defined w u.known.behind q s.after n scope env (a_type u.known.of) (text_at w.source x) (meant.a_type s.shape) behind d (s.shape, s.known, refl) in
-      declared_then w n (suc n) (after_names (suc n) (named_types ds)) p q (told_types q ds).known before s.after (scope_behind w (suc n) (named_types ds) ((text_at w.source x, n) ∷ scope))
-      (denoted (meanings as_names env) k (named w.source t)) s.shape (λ s. declare_types as_names ((text_at w.source x, meant.a_type s) ∷ env) (k + constructors (named w.source t)) (named w.source ds)) (next_le n) s.given_is
+      let own : ℕ = constructors (named w.source t) in
+      let others : ℕ = types_constructors (named w.source ds) in
+      subst (λ l. Declared w n (after_names (suc n) (named_types ds)) k l p (told_types q ds).known before (scope_behind w (suc n) (named_types ds) ((text_at w.source x, n) ∷ scope)) (declare_types as_names env k (named w.source (more (declares_type x t) ds)))) (more_constructors k own others)
+      (declared_then w n (suc n) (after_names (suc n) (named_types ds)) k (k + own) (k + own + others) p q (told_types q ds).known before s.after (scope_behind w (suc n) (named_types ds) ((text_at w.source x, n) ∷ scope))
+      (denoted (meanings as_names env) k (named w.source t)) s.shape (λ s. declare_types as_names ((text_at w.source x, meant.a_type s) ∷ env) (k + constructors (named w.source t)) (named w.source ds)) (next_le n) s.given_is s.apart
       (later_then n n p u.known.behind q before s.after s.after (le_refl n) s.later d.later)
-      (types_declare ds (k + constructors (named w.source t)) (suc n) q s.after ((text_at w.source x, n) ∷ scope) ((text_at w.source x, meant.a_type s.shape) ∷ env) next placed.2 a.1)
+      (types_declare ds (k + constructors (named w.source t)) (suc n) q s.after ((text_at w.source x, n) ∷ scope) ((text_at w.source x, meant.a_type s.shape) ∷ env) next placed.2 a.1))
 
   behind-append : (n : ℕ) (xs ys : List ℕ) (scope : Scope Name) → scope_behind w (after_names n xs) ys (scope_behind w n xs scope) ≡ scope_behind w n (xs ++ ys) scope
   behind-append n xs ys scope =
@@ -88,9 +97,9 @@ module _ (w : Numbering) (fit : PartsFit) where
       ∙ (λ i. declare_names (after_names-map (text_at w.source) n xs i) (map (text_at w.source) ys) (declare_names n (map (text_at w.source) xs) scope))))
 
   pub variables_declare : (gs : Tree ℕ (items variable)) (k n : ℕ) (p : SoFar) (before : List Shape) (scope : Scope Name) (env : TypeEnvironment Name) → Stands w p before n scope env → VariablesPlaced w scope n gs → (told_variables p gs).faults ≡ []
-      → Declared w n (after_names n (variable_names gs)) p (told_variables p gs).known before (scope_behind w n (variable_names gs) scope) (declare_typed as_names k (named w.source gs) env)
+      → Declared w n (after_names n (variable_names gs)) k (k + variables_constructors (named w.source gs)) p (told_variables p gs).known before (scope_behind w n (variable_names gs) scope) (declare_typed as_names k (named w.source gs) env)
   unfolding told_variables variables_declared declare_typed
-  variables_declare end k n p before scope env st placed h = nothing_declared w n p before scope env st
+  variables_declare end k n p before scope env st placed h = nothing_declared w n k (k + 0) (omega arith) p before scope env st
   variables_declare (more (declares_variable ns t) gs) k n p before scope env st placed h =
       let xs : List ℕ = names_listed ns in
       let u : Reported Typed = told_type p t in
@@ -101,9 +110,12 @@ module _ (w : Numbering) (fit : PartsFit) where
       let all = all_defined w u.known.behind s.after n scope env (a_variable u.known.of) xs (meant.a_variable s.shape) behind placed.0 (s.shape, s.known, refl) in
       let own : names_listed (named w.source ns) ≡ map (text_at w.source) xs = names_listed-mapped (text_at w.source) (value_at w.source) ns in
       let rest = variables_declare gs (k + constructors (named w.source t)) (after_names n xs) q s.after (scope_behind w n xs scope) (bind_names (map (text_at w.source) xs) (meant.a_variable s.shape) env) all.stands placed.2 a.1 in
-      let whole = declared_then w n (after_names n xs) (after_names (after_names n xs) (variable_names gs)) p q (told_variables q gs).known before s.after (scope_behind w (after_names n xs) (variable_names gs) (scope_behind w n xs scope))
-      (denoted (meanings as_names env) k (named w.source t)) s.shape (λ s. declare_typed as_names (k + constructors (named w.source t)) (named w.source gs) (bind_names (names_listed (named w.source ns)) (meant.a_variable s) env)) (le-after_names n xs) s.given_is
+      let one : ℕ = constructors (named w.source t) in
+      let others : ℕ = variables_constructors (named w.source gs) in
+      let whole = declared_then w n (after_names n xs) (after_names (after_names n xs) (variable_names gs)) k (k + one) (k + one + others) p q (told_variables q gs).known before s.after (scope_behind w (after_names n xs) (variable_names gs) (scope_behind w n xs scope))
+      (denoted (meanings as_names env) k (named w.source t)) s.shape (λ s. declare_typed as_names (k + constructors (named w.source t)) (named w.source gs) (bind_names (names_listed (named w.source ns)) (meant.a_variable s) env)) (le-after_names n xs) s.given_is s.apart
       (later_then n n p u.known.behind q before s.after s.after (le_refl n) s.later all.later)
-      (subst (λ ys. Declared w (after_names n xs) (after_names (after_names n xs) (variable_names gs)) q (told_variables q gs).known s.after (scope_behind w (after_names n xs) (variable_names gs) (scope_behind w n xs scope)) (declare_typed as_names (k + constructors (named w.source t)) (named w.source gs) (bind_names ys (meant.a_variable s.shape) env))) (sym own) rest) in
-      subst₂ (λ m z. Declared w n m p (told_variables q gs).known before z (option_and_then (λ s. declare_typed as_names (k + constructors (named w.source t)) (named w.source gs) (bind_names (names_listed (named w.source ns)) (meant.a_variable s) env)) (denoted (meanings as_names env) k (named w.source t))))
-      (sym (after_names-append n xs (variable_names gs))) (behind-append n xs (variable_names gs) scope) whole
+      (subst (λ ys. Declared w (after_names n xs) (after_names (after_names n xs) (variable_names gs)) (k + one) (k + one + others) q (told_variables q gs).known s.after (scope_behind w (after_names n xs) (variable_names gs) (scope_behind w n xs scope)) (declare_typed as_names (k + constructors (named w.source t)) (named w.source gs) (bind_names ys (meant.a_variable s.shape) env))) (sym own) rest) in
+      subst (λ l. Declared w n (after_names n (xs ++ variable_names gs)) k l p (told_variables q gs).known before (scope_behind w n (xs ++ variable_names gs) scope) (option_and_then (λ s. declare_typed as_names (k + constructors (named w.source t)) (named w.source gs) (bind_names (names_listed (named w.source ns)) (meant.a_variable s) env)) (denoted (meanings as_names env) k (named w.source t)))) (more_constructors k one others)
+      (subst₂ (λ m z. Declared w n m k (k + one + others) p (told_variables q gs).known before z (option_and_then (λ s. declare_typed as_names (k + constructors (named w.source t)) (named w.source gs) (bind_names (names_listed (named w.source ns)) (meant.a_variable s) env)) (denoted (meanings as_names env) k (named w.source t))))
+      (sym (after_names-append n xs (variable_names gs))) (behind-append n xs (variable_names gs) scope) whole)

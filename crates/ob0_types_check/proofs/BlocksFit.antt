@@ -4,13 +4,13 @@ use Rattle.std.proofs.lemmas.List.{length-map}
 use Rattle.std.specs.List.{filter}
 use Rattle.ob0_tree.specs.Parsed.{tree_of}
 use Rattle.ob0_tree.specs.Places.{named, text_at, value_at}
-use Rattle.ob0_tree.specs.Tree.{Tree, begins, block, body, constants, declares, declares_procedure, end, has_body, item, items, mapped, maybe, more, none, one, procedure, type_names, variables}
+use Rattle.ob0_tree.specs.Tree.{Tree, begins, block, body, constants, declares, declares_procedure, end, formals, has_body, item, items, mapped, maybe, more, none, one, procedure, type_names, variables}
 use Rattle.ob0_scope_rules.specs.Names.{Name, as_names}
 use Rattle.ob0_scope_rules.specs.Parts.{constant_names, formal_names, formal_sections, module_block, named_types, procedure_formals, procedure_name, section_constants, section_types, section_variables, variable_names}
 use Rattle.ob0_scope_rules.specs.Resolution.{Resolution, is_of_occurrences}
 use Rattle.ob0_scope_rules.specs.Scopes.{Scope, after_names, after_procedure, first_procedure, first_type, first_variable, predeclared_scope}
 use Rattle.ob0_scope_rules.proofs.Ordinals.{le-after_names, le-after_procedure}
-use Rattle.ob0_types_rules.specs.Declarations.{after_types, after_variables, declare_constants, declare_first, declare_types, formals_constructors, procedure_constructors}
+use Rattle.ob0_types_rules.specs.Declarations.{after_types, after_variables, block_constructors, declare_constants, declare_first, declare_types, formals_constructors, procedure_constructors, procedures_constructors, types_constructors, variables_constructors}
 use Rattle.ob0_types_rules.specs.Environments.{meanings, outermost}
 use Rattle.ob0_types_rules.specs.Expressions as meant
 use Rattle.ob0_types_rules.specs.WellTyped.{Signature, TypeEnvironment, TypedParameter, bind_typed, block_fits, body_fits, by_place, by_value, declare_typed, fits_over, heading, hold, procedure_fits, procedures_fit, sequence_fits, typed_parameters}
@@ -22,16 +22,18 @@ use Rattle.ob0_types_check.specs.SoFar.{SoFar, at_first, predeclared_meanings}
 use Rattle.ob0_types_check.proofs.PartsFitting.{PartsFit, parts_fit}
 use Rattle.ob0_types_check.specs.ModuleLaws.{ModulesFit}
 use Rattle.ob0_types_check.proofs.DeclaredModules.{module_placed, numbering_of}
-use Rattle.ob0_types_check.proofs.DeclaredNames.{AreSeen, BlockPlaced, ConstantsPlaced, Numbering, ProcedurePlaced, ProceduresPlaced, TypesPlaced, VariablesPlaced, after_names-map, behind_constants, behind_procedure, behind_types, behind_variables, constants-mapped, formals-mapped, inside_procedure, types-mapped, variables-mapped}
+use Rattle.ob0_types_check.proofs.DeclaredNames.{AreSeen, BlockPlaced, ConstantsPlaced, IsPlaced, Numbering, ProcedurePlaced, ProceduresPlaced, SectionsPlaced, TypesPlaced, VariablesPlaced, after_names-map, behind_constants, behind_procedure, behind_types, behind_variables, constants-mapped, formals-mapped, scope_behind, types-mapped, variables-mapped}
 use Rattle.ob0_types_check.proofs.DeclaredStanding.{Later, NamesStand, Stands, agrees_where_seen, defined, later_of, later_same, later_then, stands_defined, stands_later}
 use Rattle.ob0_types_check.proofs.DeclaredTypes.{none_both}
-use Rattle.ob0_types_check.proofs.BlocksDeclared.{Declared, constants_declare, declared_then, next_le, types_declare, variables_declare}
+use Rattle.ob0_types_check.proofs.BlocksDeclared.{Declared, constants_declare, declared_then, more_constructors, next_le, types_declare, variables_declare}
+use Rattle.ob0_types_check.proofs.MadeOnce.{Apart, apart_same, apart_then, apart_to}
 use Rattle.ob0_types_check.proofs.BlocksParameters.{formals_of, parameters_kept, parameters_over, sections_declare}
 
--- it fits, and what is known behind it
-pub record FitsLater (n : ℕ) (p q : SoFar) (before : List Shape) (fits : Bool) : Type 0 where
+-- it fits, and what is known behind it, with the constructors from k on, up to l
+pub record FitsLater (n k l : ℕ) (p q : SoFar) (before : List Shape) (fits : Bool) : Type 0 where
   pub right : fits ≡ true
   pub after : List Shape
+  pub apart : Apart k l before after
   pub later : Later n p q before after
 
 -- a procedure that fits, and what is known behind it
@@ -40,10 +42,28 @@ pub record ProcedureFits (w : Numbering) (n : ℕ) (p q : SoFar) (before : List 
   pub typed : typed_parameters as_names env k (procedure_formals (named w.source d)) ≡ Some parameters
   pub right : procedure_fits as_names (bind_typed parameters (heading (procedure_name (named w.source d)) parameters env)) k (named w.source d) ≡ true
   pub after : List Shape
+  pub apart : Apart k (k + procedure_constructors (named w.source d)) before after
   pub later : Later n p q before after
   pub stands : Stands w q after (after_procedure (suc n) d) (behind_procedure w scope n d) (heading (procedure_name (named w.source d)) parameters env)
 
-body_known : (p : SoFar) (statements : Tree ℕ (maybe body)) → (told_body p statements).known ≡ p
+-- what is known behind a procedure's heading, where its parameters and it are known
+abbrev pub heading_known : SoFar → ℕ → Tree ℕ (maybe formals) → SoFar
+heading_known p x fs = behind_heading x (told_sections (record { formals = []; behind = p }) (formal_sections fs)).known
+
+pub record HeadingKnown (w : Numbering) (n : ℕ) (p : SoFar) (before : List Shape) (scope : Scope Name) (env : TypeEnvironment Name) (k x : ℕ) (fs : Tree ℕ (maybe formals)) : Type 0 where
+  pub parameters : List (TypedParameter Name)
+  pub typed : typed_parameters as_names env k (formal_sections (named w.source fs)) ≡ Some parameters
+  pub after : List Shape
+  pub apart : Apart k (k + formals_constructors (formal_sections (named w.source fs))) before after
+  pub later : Later n p (heading_known p x fs) before after
+  pub stands : Stands w (heading_known p x fs) after (suc n) ((text_at w.source x, n) ∷ scope) (heading (text_at w.source x) parameters env)
+  pub inside : Stands w (heading_known p x fs) after (after_names (suc n) (formal_names (formal_sections fs))) (scope_behind w (suc n) (formal_names (formal_sections fs)) ((text_at w.source x, n) ∷ scope)) (bind_typed parameters (heading (text_at w.source x) parameters env))
+
+-- the ordinal behind a block's constructors
+block_end : (k t v p : ℕ) → k + t + v + p ≡ k + (t + (v + p))
+block_end k t v p = omega arith
+
+pub body_known : (p : SoFar) (statements : Tree ℕ (maybe body)) → (told_body p statements).known ≡ p
 unfolding told_body
 body_known p none = refl
 body_known p (one (begins statements)) = refl
@@ -52,7 +72,7 @@ above : (j n : ℕ) → n < j → j ≢ n
 above j n less e = absurd (omega (arith, e, less))
 
 module _ (w : Numbering) (fit : PartsFit) where
-  body_told : (statements : Tree ℕ (maybe body)) (n : ℕ) (p : SoFar) (before : List Shape) (scope : Scope Name) (env : TypeEnvironment Name) → Stands w p before n scope env → AreSeen w scope statements → (told_body p statements).faults ≡ [] → body_fits as_names env (named w.source statements) ≡ true
+  pub body_told : (statements : Tree ℕ (maybe body)) (n : ℕ) (p : SoFar) (before : List Shape) (scope : Scope Name) (env : TypeEnvironment Name) → Stands w p before n scope env → AreSeen w scope statements → (told_body p statements).faults ≡ [] → body_fits as_names env (named w.source statements) ≡ true
   unfolding told_body body_fits
   body_told none n p before scope env st seen h = refl
   body_told (one (begins s)) n p before scope env st seen h =
@@ -60,14 +80,14 @@ module _ (w : Numbering) (fit : PartsFit) where
       ∙ fit.statements p before (text_at w.source) (meanings as_names env) s (agrees_where_seen w p false before n scope env st fit s seen) h
 
   -- a block's constants, types and variables
-  declarations_told : (cs : Tree ℕ (maybe constants)) (ts : Tree ℕ (maybe type_names)) (vs : Tree ℕ (maybe variables)) (ps : Tree ℕ (items procedure)) (statements : Tree ℕ (maybe body)) (k n : ℕ) (p : SoFar) (before : List Shape) (scope : Scope Name) (env : TypeEnvironment Name) → Stands w p before n scope env
+  pub declarations_told : (cs : Tree ℕ (maybe constants)) (ts : Tree ℕ (maybe type_names)) (vs : Tree ℕ (maybe variables)) (ps : Tree ℕ (items procedure)) (statements : Tree ℕ (maybe body)) (k n : ℕ) (p : SoFar) (before : List Shape) (scope : Scope Name) (env : TypeEnvironment Name) → Stands w p before n scope env
       → ConstantsPlaced w scope n (section_constants cs)
       → TypesPlaced w (behind_constants w scope n (has_body (declares cs ts vs ps) statements)) (first_type n (has_body (declares cs ts vs ps) statements)) (section_types ts)
       → VariablesPlaced w (behind_types w scope n (has_body (declares cs ts vs ps) statements)) (first_variable n (has_body (declares cs ts vs ps) statements)) (section_variables vs)
       → (reported_constants p (section_constants cs)).faults ≡ []
       → (told_types (reported_constants p (section_constants cs)).known (section_types ts)).faults ≡ []
       → (told_variables (told_types (reported_constants p (section_constants cs)).known (section_types ts)).known (section_variables vs)).faults ≡ []
-      → Declared w n (first_procedure n (has_body (declares cs ts vs ps) statements)) p (told_variables (told_types (reported_constants p (section_constants cs)).known (section_types ts)).known (section_variables vs)).known before (behind_variables w scope n (has_body (declares cs ts vs ps) statements))
+      → Declared w n (first_procedure n (has_body (declares cs ts vs ps) statements)) k (after_variables k (named w.source (has_body (declares cs ts vs ps) statements))) p (told_variables (told_types (reported_constants p (section_constants cs)).known (section_types ts)).known (section_variables vs)).known before (behind_variables w scope n (has_body (declares cs ts vs ps) statements))
       (option_and_then (declare_typed as_names (after_types k (named w.source (has_body (declares cs ts vs ps) statements))) (section_variables (named w.source vs))) (declare_first as_names env k (named w.source (has_body (declares cs ts vs ps) statements))))
   unfolding declare_first
   declarations_told cs ts vs ps statements k n p before scope env st placed₀ placed₁ placed₂ none₀ none₁ none₂ =
@@ -78,33 +98,68 @@ module _ (w : Numbering) (fit : PartsFit) where
       let p₁ : SoFar = (reported_constants p (section_constants cs)).known in
       let p₂ : SoFar = (told_types p₁ (section_types ts)).known in
       let p₃ : SoFar = (told_variables p₂ (section_variables vs)).known in
-      let dc = constants_declare w fit (section_constants cs) n p before scope env st placed₀ none₀ in
+      let dc = constants_declare w fit (section_constants cs) k n p before scope env st placed₀ none₀ in
       let dt = types_declare w fit (section_types ts) k (first_type n b) p₁ dc.after (behind_constants w scope n b) dc.env dc.stands placed₁ none₁ in
       let le₁ : n ≤ first_type n b = le-after_names n (constant_names (section_constants cs)) in
       let le₂ : n ≤ first_variable n b = le_trans le₁ (le-after_names (first_type n b) (named_types (section_types ts))) in
-      let first : Declared w n (first_variable n b) p p₂ before (behind_types w scope n b) (declare_first as_names env k nb) =
-      declared_then w n (first_type n b) (first_variable n b) p p₁ p₂ before dc.after (behind_types w scope n b) (declare_constants as_names env (section_constants (named w.source cs))) dc.env (λ e. declare_types as_names e k (section_types (named w.source ts))) le₁
-      (ap (declare_constants as_names env) (constants-mapped text value cs) ∙ dc.given_is) dc.later
-      (subst (λ z. Declared w (first_type n b) (first_variable n b) p₁ p₂ dc.after (behind_types w scope n b) (declare_types as_names dc.env k z)) (sym (types-mapped text value ts)) dt) in
+      let first : Declared w n (first_variable n b) k (after_types k nb) p p₂ before (behind_types w scope n b) (declare_first as_names env k nb) =
+      declared_then w n (first_type n b) (first_variable n b) k k (after_types k nb) p p₁ p₂ before dc.after (behind_types w scope n b) (declare_constants as_names env (section_constants (named w.source cs))) dc.env (λ e. declare_types as_names e k (section_types (named w.source ts))) le₁
+      (ap (declare_constants as_names env) (constants-mapped text value cs) ∙ dc.given_is) dc.apart dc.later
+      (subst (λ z. Declared w (first_type n b) (first_variable n b) k (k + types_constructors z) p₁ p₂ dc.after (behind_types w scope n b) (declare_types as_names dc.env k z)) (sym (types-mapped text value ts)) dt) in
       let dv = variables_declare w fit (section_variables vs) (after_types k nb) (first_variable n b) p₂ first.after (behind_types w scope n b) first.env first.stands placed₂ none₂ in
-      declared_then w n (first_variable n b) (first_procedure n b) p p₂ p₃ before first.after (behind_variables w scope n b) (declare_first as_names env k nb) first.env (declare_typed as_names (after_types k nb) (section_variables (named w.source vs))) le₂ first.given_is first.later
-      (subst (λ z. Declared w (first_variable n b) (first_procedure n b) p₂ p₃ first.after (behind_variables w scope n b) (declare_typed as_names (after_types k nb) z first.env)) (sym (variables-mapped text value vs)) dv)
+      declared_then w n (first_variable n b) (first_procedure n b) k (after_types k nb) (after_variables k nb) p p₂ p₃ before first.after (behind_variables w scope n b) (declare_first as_names env k nb) first.env (declare_typed as_names (after_types k nb) (section_variables (named w.source vs))) le₂ first.given_is first.apart first.later
+      (subst (λ z. Declared w (first_variable n b) (first_procedure n b) (after_types k nb) (after_types k nb + variables_constructors z) p₂ p₃ first.after (behind_variables w scope n b) (declare_typed as_names (after_types k nb) z first.env)) (sym (variables-mapped text value vs)) dv)
 
   -- a block behind its declarations
-  block_then : (p v q : SoFar) (before : List Shape) (n m : ℕ) (scope : Scope Name) (given : Option (TypeEnvironment Name)) (statements : Tree ℕ (maybe body)) (test : TypeEnvironment Name → Bool) → n ≤ m → (d : Declared w n m p v before scope given) → FitsLater m v q d.after (test d.env)
-      → FitsLater n p (told_body q statements).known before (hold given test)
-  block_then p v q before n m scope given statements test le d f =
-      subst (λ z. FitsLater n p z before (hold given test)) (sym (body_known q statements)) (record {
+  block_then : (p v q : SoFar) (before : List Shape) (n m k j l : ℕ) (scope : Scope Name) (given : Option (TypeEnvironment Name)) (statements : Tree ℕ (maybe body)) (test : TypeEnvironment Name → Bool) → n ≤ m → (d : Declared w n m k j p v before scope given) → FitsLater m j l v q d.after (test d.env)
+      → FitsLater n k l p (told_body q statements).known before (hold given test)
+  block_then p v q before n m k j l scope given statements test le d f =
+      subst (λ z. FitsLater n k l p z before (hold given test)) (sym (body_known q statements)) (record {
         right = ap (λ o. hold o test) d.given_is ∙ f.right;
         after = f.after;
+        apart = apart_then k j l before d.after f.after d.apart f.apart;
         later = later_then n m p v q before d.after f.after le d.later f.later;
       })
+
+  -- a procedure's heading, and what is known behind it
+  pub heading_told : (x : ℕ) (fs : Tree ℕ (maybe formals)) (k n : ℕ) (p : SoFar) (before : List Shape) (scope : Scope Name) (env : TypeEnvironment Name) → Stands w p before n scope env → IsPlaced w n x → SectionsPlaced w scope (suc n) (formal_sections fs)
+      → (told_sections (record { formals = []; behind = p }) (formal_sections fs)).faults ≡ [] → HeadingKnown w n p before scope env k x fs
+  heading_told x fs k n p before scope env st placed sections untold =
+      let text : ℕ → Name = text_at w.source in
+      let start : Heading = record { formals = []; behind = p } in
+      let g : Heading = (told_sections start (formal_sections fs)).known in
+      let q₁ : SoFar = heading_known p x fs in
+      let weak = stands_later w n n (suc n) p p before before scope env (le_refl n) (next_le n) st (later_same n p before st.table) in
+      let ps = sections_declare w fit (formal_sections fs) k (suc n) start before scope env weak sections untold in
+      let signature : Signature = formals_of ps.parameters in
+      let outer = stands_later w n (suc n) n p g.behind before ps.after scope env (next_le n) (le_refl n) st ps.later in
+      let made = defined w g.behind ps.after n (a_procedure g.formals) x outer.ordinals outer.room outer.table placed in
+      let own = stands_defined w g.behind q₁ ps.after n scope env (a_procedure g.formals) (text x) (meant.a_procedure signature) outer made (signature, refl, ps.formals [] tt) in
+      let names : List ℕ = formal_names (formal_sections fs) in
+      let xs : List Name = map text names in
+      let kept = parameters_kept ps.after ps.after g.behind.declared q₁.declared (suc n) (after_names (suc n) xs) (λ t s e. e) (λ j from to. made.others j (above j n from)) xs ps.parameters (le_refl (after_names (suc n) xs)) ps.own in
+      let inner = parameters_over ps.after q₁.declared (suc n) ((text x, n) ∷ scope) ((text x, meant.a_procedure signature) ∷ env) xs ps.parameters own.names kept in
+      record {
+        parameters = ps.parameters;
+        typed = ap (typed_parameters as_names env k) (formals-mapped text (value_at w.source) fs) ∙ ps.given_is;
+        after = ps.after;
+        apart = subst (λ z. Apart k (k + formals_constructors z) before ps.after) (sym (formals-mapped text (value_at w.source) fs)) ps.apart;
+        later = later_then n n p g.behind q₁ before ps.after ps.after (le_refl n) (later_of n (suc n) p g.behind before ps.after (next_le n) ps.later) made.later;
+        stands = own;
+        inside = record {
+          source = own.source;
+          ordinals = own.ordinals;
+          room = own.room;
+          table = own.table;
+          names = subst (λ j. NamesStand ps.after q₁.declared j (scope_behind w (suc n) names ((text x, n) ∷ scope)) (bind_typed ps.parameters (heading (text x) ps.parameters env))) (after_names-map text (suc n) names) inner;
+        };
+      }
 
   mutual
     unfolding told_block block_fits
 
     pub block_told : (b : Tree ℕ block) (k n : ℕ) (p : SoFar) (before : List Shape) (scope : Scope Name) (env : TypeEnvironment Name) → Stands w p before n scope env → BlockPlaced w scope n b → (told_block p b).faults ≡ []
-        → FitsLater n p (told_block p b).known before (block_fits as_names env k (named w.source b))
+        → FitsLater n k (k + block_constructors (named w.source b)) p (told_block p b).known before (block_fits as_names env k (named w.source b))
     block_told (has_body (declares cs ts vs ps) statements) k n p before scope env st placed h =
         let b : Tree ℕ block = has_body (declares cs ts vs ps) statements in
         let nb : Tree Name block = named w.source b in
@@ -120,12 +175,15 @@ module _ (w : Numbering) (fit : PartsFit) where
         let d = declarations_told cs ts vs ps statements k n p before scope env st placed.0 placed.1 placed.2 a₁.0 a₂.0 a₃.0 in
         let le : n ≤ first_procedure n b = le_trans (le-after_names n (constant_names (section_constants cs))) (le_trans (le-after_names (first_type n b) (named_types (section_types ts))) (le-after_names (first_variable n b) (variable_names (section_variables vs)))) in
         let rest = procedures_told ps statements (after_variables k nb) (first_procedure n b) t₃.known d.after (behind_variables w scope n b) d.env d.stands placed.3 a₄.0 a₄.1 in
-        block_then p t₃.known t₄.known before n (first_procedure n b) (behind_variables w scope n b) (option_and_then (declare_typed as_names (after_types k nb) (section_variables (named w.source vs))) (declare_first as_names env k nb)) statements
-        (λ inner. procedures_fit as_names inner (after_variables k nb) (named w.source statements) (named w.source ps)) le d rest
+        let l : ℕ = after_variables k nb + procedures_constructors (named w.source ps) in
+        subst (λ j. FitsLater n k j p (told_block p (has_body (declares cs ts vs ps) statements)).known before (block_fits as_names env k (named w.source (has_body (declares cs ts vs ps) statements))))
+        (block_end k (types_constructors (section_types (named w.source ts))) (variables_constructors (section_variables (named w.source vs))) (procedures_constructors (named w.source ps)))
+        (block_then p t₃.known t₄.known before n (first_procedure n b) k (after_variables k nb) l (behind_variables w scope n b) (option_and_then (declare_typed as_names (after_types k nb) (section_variables (named w.source vs))) (declare_first as_names env k nb)) statements
+        (λ inner. procedures_fit as_names inner (after_variables k nb) (named w.source statements) (named w.source ps)) le d rest)
 
     procedures_told : (ps : Tree ℕ (items procedure)) (statements : Tree ℕ (maybe body)) (k n : ℕ) (p : SoFar) (before : List Shape) (scope : Scope Name) (env : TypeEnvironment Name) → Stands w p before n scope env → ProceduresPlaced w scope n statements ps → (told_procedures p ps).faults ≡ []
-        → (told_body (told_procedures p ps).known statements).faults ≡ [] → FitsLater n p (told_procedures p ps).known before (procedures_fit as_names env k (named w.source statements) (named w.source ps))
-    procedures_told end statements k n p before scope env st placed h last = record { right = body_told statements n p before scope env st placed last; after = before; later = later_same n p before st.table }
+        → (told_body (told_procedures p ps).known statements).faults ≡ [] → FitsLater n k (k + procedures_constructors (named w.source ps)) p (told_procedures p ps).known before (procedures_fit as_names env k (named w.source statements) (named w.source ps))
+    procedures_told end statements k n p before scope env st placed h last = record { right = body_told statements n p before scope env st placed last; after = before; apart = apart_same k (k + 0) before (omega arith); later = later_same n p before st.table }
     procedures_told (more d rest) statements k n p before scope env st placed h last =
         let nd : Tree Name (item procedure) = named w.source d in
         let q : SoFar = (told_procedure p d).known in
@@ -136,46 +194,34 @@ module _ (w : Numbering) (fit : PartsFit) where
           right = ap (λ o. hold o (λ ps. procedure_fits as_names (bind_typed ps (heading (procedure_name nd) ps env)) k nd && procedures_fit as_names (heading (procedure_name nd) ps env) (k + procedure_constructors nd) (named w.source statements) (named w.source rest))) f.typed
               ∙ (λ i. f.right i && others.right i);
           after = others.after;
+          apart = apart_to k (k + procedure_constructors nd + procedures_constructors (named w.source rest)) (k + (procedure_constructors nd + procedures_constructors (named w.source rest))) before others.after (more_constructors k (procedure_constructors nd) (procedures_constructors (named w.source rest)))
+              (apart_then k (k + procedure_constructors nd) (k + procedure_constructors nd + procedures_constructors (named w.source rest)) before f.after others.after f.apart others.apart);
           later = later_then n (after_procedure (suc n) d) p q (told_procedures q rest).known before f.after others.after (le_trans (next_le n) (le-after_procedure (suc n) d)) f.later others.later;
         }
 
-    procedure_told : (d : Tree ℕ (item procedure)) (k n : ℕ) (p : SoFar) (before : List Shape) (scope : Scope Name) (env : TypeEnvironment Name) → Stands w p before n scope env → ProcedurePlaced w scope n d → (told_procedure p d).faults ≡ []
+    pub procedure_told : (d : Tree ℕ (item procedure)) (k n : ℕ) (p : SoFar) (before : List Shape) (scope : Scope Name) (env : TypeEnvironment Name) → Stands w p before n scope env → ProcedurePlaced w scope n d → (told_procedure p d).faults ≡ []
         → ProcedureFits w n p (told_procedure p d).known before scope env k d
     procedure_told (declares_procedure x fs b closing) k n p before scope env st placed h =
         let d : Tree ℕ (item procedure) = declares_procedure x fs b closing in
         let text : ℕ → Name = text_at w.source in
-        let start : Heading = record { formals = []; behind = p } in
-        let g : Heading = (told_sections start (formal_sections fs)).known in
-        let q₁ : SoFar = behind_heading x g in
+        let q₁ : SoFar = heading_known p x fs in
         let q : SoFar = (told_block q₁ b).known in
-        let a = none_both (told_sections start (formal_sections fs)).faults (told_block q₁ b).faults h in
-        let weak = stands_later w n n (suc n) p p before before scope env (le_refl n) (next_le n) st (later_same n p before st.table) in
-        let ps = sections_declare w fit (formal_sections fs) k (suc n) start before scope env weak placed.1 a.0 in
-        let signature : Signature = formals_of ps.parameters in
-        let outer = stands_later w n (suc n) n p g.behind before ps.after scope env (next_le n) (le_refl n) st ps.later in
-        let made = defined w g.behind ps.after n (a_procedure g.formals) x outer.ordinals outer.room outer.table placed.0 in
-        let own = stands_defined w g.behind q₁ ps.after n scope env (a_procedure g.formals) (text x) (meant.a_procedure signature) outer made (signature, refl, ps.formals [] tt) in
-        let xs : List Name = map text (formal_names (formal_sections fs)) in
+        let a = none_both (told_sections (record { formals = []; behind = p }) (formal_sections fs)).faults (told_block q₁ b).faults h in
+        let e = heading_told x fs k n p before scope env st placed.0 placed.1 a.0 in
+        let first : ℕ = k + formals_constructors (formal_sections (named w.source fs)) in
+        let own : ℕ = block_constructors (named w.source b) in
         let m : ℕ = after_names (suc n) (formal_names (formal_sections fs)) in
-        let kept = parameters_kept ps.after ps.after g.behind.declared q₁.declared (suc n) (after_names (suc n) xs) (λ t s e. e) (λ j from to. made.others j (above j n from)) xs ps.parameters (le_refl (after_names (suc n) xs)) ps.own in
-        let inner = parameters_over ps.after q₁.declared (suc n) ((text x, n) ∷ scope) ((text x, meant.a_procedure signature) ∷ env) xs ps.parameters own.names kept in
-        let inside : Stands w q₁ ps.after m (inside_procedure w scope n d) (bind_typed ps.parameters (heading (text x) ps.parameters env)) = record {
-          source = own.source;
-          ordinals = own.ordinals;
-          room = own.room;
-          table = own.table;
-          names = subst (λ j. NamesStand ps.after q₁.declared j (inside_procedure w scope n d) (bind_typed ps.parameters (heading (text x) ps.parameters env))) (after_names-map text (suc n) (formal_names (formal_sections fs))) inner;
-        } in
-        let f = block_told b (k + formals_constructors (formal_sections (named w.source fs))) m q₁ ps.after (inside_procedure w scope n d) (bind_typed ps.parameters (heading (text x) ps.parameters env)) inside placed.2 a.1 in
+        let f = block_told b first m q₁ e.after (scope_behind w (suc n) (formal_names (formal_sections fs)) ((text x, n) ∷ scope)) (bind_typed e.parameters (heading (text x) e.parameters env)) e.inside placed.2 a.1 in
         let le : suc n ≤ m = le-after_names (suc n) (formal_names (formal_sections fs)) in
-        let to_heading = later_then n n p g.behind q₁ before ps.after ps.after (le_refl n) (later_of n (suc n) p g.behind before ps.after (next_le n) ps.later) made.later in
         record {
-          parameters = ps.parameters;
-          typed = ap (typed_parameters as_names env k) (formals-mapped text (value_at w.source) fs) ∙ ps.given_is;
+          parameters = e.parameters;
+          typed = e.typed;
           right = f.right;
           after = f.after;
-          later = later_then n m p q₁ q before ps.after f.after (le_trans (next_le n) le) to_heading f.later;
-          stands = stands_later w (suc n) m (after_procedure (suc n) d) q₁ q ps.after f.after ((text x, n) ∷ scope) (heading (text x) ps.parameters env) le (le-after_procedure (suc n) d) own f.later;
+          apart = apart_to k (first + own) (k + procedure_constructors (named w.source d)) before f.after (more_constructors k (formals_constructors (formal_sections (named w.source fs))) own)
+              (apart_then k first (first + own) before e.after f.after e.apart f.apart);
+          later = later_then n m p q₁ q before e.after f.after (le_trans (next_le n) le) e.later f.later;
+          stands = stands_later w (suc n) m (after_procedure (suc n) d) q₁ q e.after f.after ((text x, n) ∷ scope) (heading (text x) e.parameters env) le (le-after_procedure (suc n) d) e.stands f.later;
         }
 
 room_first : (xs : List ℕ) → length (predeclared_meanings ++ map (λ token. None) xs) ≡ 7 + length xs
@@ -185,7 +231,7 @@ room_first xs =
     omega (arith, length-append predeclared_meanings later, count)
 
 -- where a module begins
-first_stands : (r : Resolution) → Stands (numbering_of r) (at_first r) [] 7 (predeclared_scope as_names) (outermost as_names)
+pub first_stands : (r : Resolution) → Stands (numbering_of r) (at_first r) [] 7 (predeclared_scope as_names) (outermost as_names)
 first_stands r = record {
   source = refl;
   ordinals = refl;

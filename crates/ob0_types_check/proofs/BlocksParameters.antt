@@ -1,5 +1,5 @@
 -- Formal parameters of which nothing is told have the types of a signature.
-use Rattle.std.proofs.Common.{◌≡◌, ℕ, suc, ◌+◌, ◌<◌, ◌≤◌, Bool, true, false, List, [], ◌∷◌, ◌++◌, map, Option, Some, None, option_and_then, slice_index_or, refl, sym, ap, ◌∙◌, subst, le_refl, le_of_lt, le_trans, append_assoc, append-nil}
+use Rattle.std.proofs.Common.{◌≡◌, ℕ, suc, ◌+◌, ◌<◌, ◌≤◌, Bool, true, false, List, [], ◌∷◌, ◌++◌, map, Option, Some, None, option_and_then, slice_index_or, refl, sym, ap, ◌∙◌, subst, subst₂, le_refl, le_of_lt, le_trans, append_assoc, append-nil, arith}
 use Rattle.std.proofs.lemmas.List.{map-append}
 use Rattle.ob0_tree.specs.Places.{named, text_at, value_at}
 use Rattle.ob0_tree.specs.Tree.{Tree, end, further_section, items, more, then_section, value_section, variable_section, written_type}
@@ -9,6 +9,7 @@ use Rattle.ob0_scope_rules.specs.Scopes.{Scope, after_names, declare_names}
 use Rattle.ob0_scope_rules.proofs.Ordinals.{le-after_names}
 use Rattle.ob0_types_table.specs.Tables.{mode_of}
 use Rattle.ob0_types_table.specs.declared.types.TypeId.{TypeId}
+use Rattle.ob0_types_rules.specs.Declarations.{formals_constructors}
 use Rattle.ob0_types_rules.specs.Environments.{meanings}
 use Rattle.ob0_types_rules.specs.Expressions as meant
 use Rattle.ob0_types_rules.specs.Typing.{constructors, denoted}
@@ -19,6 +20,8 @@ use Rattle.ob0_types_check.specs.Known.{Formal, Meaning, Reported, a_variable}
 use Rattle.ob0_types_check.specs.SoFar.{SoFar, Typed, define, define_all}
 use Rattle.ob0_types_check.specs.WrittenTypeFaults.{told_type}
 use Rattle.ob0_types_check.specs.Agreement.{FormalsAgree, StandsAlike, shape_in}
+use Rattle.ob0_types_check.proofs.BlocksDeclared.{more_constructors}
+use Rattle.ob0_types_check.proofs.MadeOnce.{Apart, apart_same, apart_then}
 use Rattle.ob0_types_check.proofs.PartsFitting.{PartsFit}
 use Rattle.ob0_types_check.proofs.DeclaredNames.{AreSeen, NamesPlaced, Numbering, SectionsPlaced, after_names-map, names_listed-mapped, scope_behind}
 use Rattle.ob0_types_check.proofs.DeclaredShapes.{Longer}
@@ -97,27 +100,29 @@ own_stand w p shapes n scope env mode t s (x ∷ xs) is st placed =
     )
 
 -- parameters from the ordinal n on, behind a heading's others
-pub record Parameters (n : ℕ) (h g : Heading) (before : List Shape) (xs : List Name) (given : Option (List (TypedParameter Name))) : Type 0 where
+pub record Parameters (n k l : ℕ) (h g : Heading) (before : List Shape) (xs : List Name) (given : Option (List (TypedParameter Name))) : Type 0 where
   pub parameters : List (TypedParameter Name)
   pub given_is : given ≡ Some parameters
   pub after : List Shape
+  pub apart : Apart k l before after
   pub later : Later n h.behind g.behind before after
   pub own : ParametersStand after g.behind.declared n xs parameters
   pub formals : (signature : Signature) → FormalsAgree (shape_in before) h.formals signature → FormalsAgree (shape_in after) g.formals (signature ++ formals_of parameters)
 
 -- those of one type, and what is known behind them
-pub record OneType (w : Numbering) (n m : ℕ) (h g : Heading) (before : List Shape) (scope : Scope Name) (env : TypeEnvironment Name) (mode : Mode) (xs : List Name) (given : Option Shape) : Type 0 where
+pub record OneType (w : Numbering) (n m k l : ℕ) (h g : Heading) (before : List Shape) (scope : Scope Name) (env : TypeEnvironment Name) (mode : Mode) (xs : List Name) (given : Option Shape) : Type 0 where
   pub shape : Shape
   pub given_is : given ≡ Some shape
   pub after : List Shape
+  pub apart : Apart k l before after
   pub later : Later n h.behind g.behind before after
   pub stands : Stands w g.behind after m scope (bind_names xs (meant.a_variable shape) env)
   pub own : ParametersStand after g.behind.declared n xs (map (typed_as mode shape) xs)
   pub formals : (signature : Signature) → FormalsAgree (shape_in before) h.formals signature → FormalsAgree (shape_in after) g.formals (signature ++ formals_of (map (typed_as mode shape) xs))
 
 module _ (w : Numbering) (fit : PartsFit) where
-  one_type : (by : Bool) (xs : List ℕ) (t : Tree ℕ written_type) (k n : ℕ) (h : Heading) (before : List Shape) (scope : Scope Name) (env : TypeEnvironment Name) → Stands w h.behind before n scope env → NamesPlaced w n xs → AreSeen w scope t → (told_type h.behind t).faults ≡ []
-      → OneType w n (after_names n xs) h (with_parameters h by xs (told_type h.behind t).known) before (scope_behind w n xs scope) env (mode_of by) (map (text_at w.source) xs) (denoted (meanings as_names env) k (named w.source t))
+  pub one_type : (by : Bool) (xs : List ℕ) (t : Tree ℕ written_type) (k n : ℕ) (h : Heading) (before : List Shape) (scope : Scope Name) (env : TypeEnvironment Name) → Stands w h.behind before n scope env → NamesPlaced w n xs → AreSeen w scope t → (told_type h.behind t).faults ≡ []
+      → OneType w n (after_names n xs) k (k + constructors (named w.source t)) h (with_parameters h by xs (told_type h.behind t).known) before (scope_behind w n xs scope) env (mode_of by) (map (text_at w.source) xs) (denoted (meanings as_names env) k (named w.source t))
   one_type by xs t k n h before scope env st placed seen none =
       let u : Typed = (told_type h.behind t).known in
       let s = type_denotes w fit n scope env k t h.behind before st seen none in
@@ -127,6 +132,7 @@ module _ (w : Numbering) (fit : PartsFit) where
         shape = s.shape;
         given_is = s.given_is;
         after = s.after;
+        apart = s.apart;
         later = later_then n n h.behind u.behind (define_all u.behind (a_variable u.of) xs) before s.after s.after (le_refl n) s.later all.later;
         stands = all.stands;
         own = own_stand w u.behind s.after n scope env (mode_of by) u.of s.shape xs s.known behind placed;
@@ -135,10 +141,10 @@ module _ (w : Numbering) (fit : PartsFit) where
       }
 
   -- one type, and then the others
-  parameters_then : (mode : Mode) (xs : List ℕ) (ns ys : List Name) (n : ℕ) (h g l : Heading) (before : List Shape) (scope : Scope Name) (env : TypeEnvironment Name) (given : Option Shape) (next : TypeEnvironment Name → Option (List (TypedParameter Name))) → ns ≡ map (text_at w.source) xs
-      → (one : OneType w n (after_names n xs) h g before (scope_behind w n xs scope) env mode (map (text_at w.source) xs) given) → Parameters (after_names n xs) g l one.after ys (next (bind_names (map (text_at w.source) xs) (meant.a_variable one.shape) env))
-      → Parameters n h l before (map (text_at w.source) xs ++ ys) (option_and_then (λ s. option_and_then (λ rest. Some (map (typed_as mode s) ns ++ rest)) (next (bind_names ns (meant.a_variable s) env))) given)
-  parameters_then mode xs ns ys n h g l before scope env given next e one rest =
+  parameters_then : (mode : Mode) (xs : List ℕ) (ns ys : List Name) (n k j m : ℕ) (h g l : Heading) (before : List Shape) (scope : Scope Name) (env : TypeEnvironment Name) (given : Option Shape) (next : TypeEnvironment Name → Option (List (TypedParameter Name))) → ns ≡ map (text_at w.source) xs
+      → (one : OneType w n (after_names n xs) k j h g before (scope_behind w n xs scope) env mode (map (text_at w.source) xs) given) → Parameters (after_names n xs) j m g l one.after ys (next (bind_names (map (text_at w.source) xs) (meant.a_variable one.shape) env))
+      → Parameters n k m h l before (map (text_at w.source) xs ++ ys) (option_and_then (λ s. option_and_then (λ rest. Some (map (typed_as mode s) ns ++ rest)) (next (bind_names ns (meant.a_variable s) env))) given)
+  parameters_then mode xs ns ys n k j m h g l before scope env given next e one rest =
       let own : List (TypedParameter Name) = map (typed_as mode one.shape) (map (text_at w.source) xs) in
       let last : ℕ = after_names n (map (text_at w.source) xs) in
       let same : last ≡ after_names n xs = after_names-map (text_at w.source) n xs in
@@ -148,6 +154,7 @@ module _ (w : Numbering) (fit : PartsFit) where
             ∙ (λ i. option_and_then (λ rest. Some (map (typed_as mode one.shape) (e i) ++ rest)) (next (bind_names (e i) (meant.a_variable one.shape) env)))
             ∙ ap (option_and_then (λ rest. Some (own ++ rest))) rest.given_is;
         after = rest.after;
+        apart = apart_then k j m before one.after rest.after one.apart rest.apart;
         later = later_then n (after_names n xs) h.behind g.behind l.behind before one.after rest.after (le-after_names n xs) one.later rest.later;
         own = parameters_both rest.after l.behind.declared n (map (text_at w.source) xs) ys own rest.parameters
             (parameters_kept one.after rest.after g.behind.declared l.behind.declared n last rest.later.longer (λ j from to. rest.later.kept j (subst (λ m. j < m) same to)) (map (text_at w.source) xs) own (le_refl last) one.own)
@@ -157,12 +164,13 @@ module _ (w : Numbering) (fit : PartsFit) where
       }
 
   pub sections_declare : (fs : Tree ℕ (items further_section)) (k n : ℕ) (h : Heading) (before : List Shape) (scope : Scope Name) (env : TypeEnvironment Name) → Stands w h.behind before n scope env → SectionsPlaced w scope n fs → (told_sections h fs).faults ≡ []
-      → Parameters n h (told_sections h fs).known before (map (text_at w.source) (formal_names fs)) (typed_parameters as_names env k (named w.source fs))
+      → Parameters n k (k + formals_constructors (named w.source fs)) h (told_sections h fs).known before (map (text_at w.source) (formal_names fs)) (typed_parameters as_names env k (named w.source fs))
   unfolding told_sections told_section told_parameters typed_parameters
   sections_declare end k n h before scope env st placed none = record {
     parameters = [];
     given_is = refl;
     after = before;
+    apart = apart_same k (k + 0) before (omega arith);
     later = later_same n h.behind before st.table;
     own = tt;
     formals = λ signature agree. subst (FormalsAgree (shape_in before) h.formals) (sym (append-nil signature)) agree;
@@ -174,8 +182,10 @@ module _ (w : Numbering) (fit : PartsFit) where
       let a = none_both (u.faults ++ []) (told_sections g fs).faults none in
       let one = one_type false xs t k n h before scope env st placed.0 placed.1 (none_both u.faults [] a.0).0 in
       let rest = sections_declare fs (k + constructors (named w.source t)) (after_names n xs) g one.after (scope_behind w n xs scope) (bind_names (map (text_at w.source) xs) (meant.a_variable one.shape) env) one.stands placed.2 a.1 in
-      subst (λ ys. Parameters n h (told_sections g fs).known before ys (typed_parameters as_names env k (named w.source (more (then_section (value_section ns t)) fs)))) (sym (map-append (text_at w.source) xs (formal_names fs)))
-      (parameters_then by_value xs (names_listed (named w.source ns)) (map (text_at w.source) (formal_names fs)) n h g (told_sections g fs).known before scope env (denoted (meanings as_names env) k (named w.source t))
+      let own : ℕ = constructors (named w.source t) in
+      let others : ℕ = formals_constructors (named w.source fs) in
+      subst₂ (λ l ys. Parameters n k l h (told_sections g fs).known before ys (typed_parameters as_names env k (named w.source (more (then_section (value_section ns t)) fs)))) (more_constructors k own others) (sym (map-append (text_at w.source) xs (formal_names fs)))
+      (parameters_then by_value xs (names_listed (named w.source ns)) (map (text_at w.source) (formal_names fs)) n k (k + own) (k + own + others) h g (told_sections g fs).known before scope env (denoted (meanings as_names env) k (named w.source t))
       (λ e. typed_parameters as_names e (k + constructors (named w.source t)) (named w.source fs)) (names_listed-mapped (text_at w.source) (value_at w.source) ns) one rest)
   sections_declare (more (then_section (variable_section ns t)) fs) k n h before scope env st placed none =
       let xs : List ℕ = names_listed ns in
@@ -184,6 +194,8 @@ module _ (w : Numbering) (fit : PartsFit) where
       let a = none_both (u.faults ++ []) (told_sections g fs).faults none in
       let one = one_type true xs t k n h before scope env st placed.0 placed.1 (none_both u.faults [] a.0).0 in
       let rest = sections_declare fs (k + constructors (named w.source t)) (after_names n xs) g one.after (scope_behind w n xs scope) (bind_names (map (text_at w.source) xs) (meant.a_variable one.shape) env) one.stands placed.2 a.1 in
-      subst (λ ys. Parameters n h (told_sections g fs).known before ys (typed_parameters as_names env k (named w.source (more (then_section (variable_section ns t)) fs)))) (sym (map-append (text_at w.source) xs (formal_names fs)))
-      (parameters_then by_place xs (names_listed (named w.source ns)) (map (text_at w.source) (formal_names fs)) n h g (told_sections g fs).known before scope env (denoted (meanings as_names env) k (named w.source t))
+      let own : ℕ = constructors (named w.source t) in
+      let others : ℕ = formals_constructors (named w.source fs) in
+      subst₂ (λ l ys. Parameters n k l h (told_sections g fs).known before ys (typed_parameters as_names env k (named w.source (more (then_section (variable_section ns t)) fs)))) (more_constructors k own others) (sym (map-append (text_at w.source) xs (formal_names fs)))
+      (parameters_then by_place xs (names_listed (named w.source ns)) (map (text_at w.source) (formal_names fs)) n k (k + own) (k + own + others) h g (told_sections g fs).known before scope env (denoted (meanings as_names env) k (named w.source t))
       (λ e. typed_parameters as_names e (k + constructors (named w.source t)) (named w.source fs)) (names_listed-mapped (text_at w.source) (value_at w.source) ns) one rest)

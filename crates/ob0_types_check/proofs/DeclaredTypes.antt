@@ -1,5 +1,5 @@
 -- Types as they are written, of which nothing is told, denote the shapes of what is known of them.
-use Rattle.std.proofs.Common.{◌≡◌, ℕ, suc, ◌+◌, Bool, true, false, List, [], ◌∷◌, ◌++◌, length, map, Option, Some, None, option_and_then, if◌then◌else◌, refl, sym, ap, ◌∙◌, subst, le_refl}
+use Rattle.std.proofs.Common.{◌≡◌, ℕ, suc, ◌+◌, Bool, true, false, List, [], ◌∷◌, ◌++◌, length, map, Option, Some, None, option_and_then, if◌then◌else◌, refl, sym, ap, ◌∙◌, subst, subst₂, le_refl, arith}
 use Rattle.ob0_scan.specs.declared.fault.Fault.{Fault}
 use Rattle.ob0_tree.specs.Places.{named, text_at, value_at}
 use Rattle.ob0_tree.specs.Tree.{Tree, array_type, end, fields, further_fields, items, mapped, more, named_type, no_fields, occurrences, record_type, some_fields, then_fields, written_type}
@@ -9,7 +9,7 @@ use Rattle.ob0_scope_rules.specs.Scopes.{Scope}
 use Rattle.ob0_types_table.specs.declared.types.TypeId.{TypeId}
 use Rattle.ob0_types_rules.specs.Environments.{meanings}
 use Rattle.ob0_types_rules.specs.Expressions as meant
-use Rattle.ob0_types_rules.specs.Typing.{array_length, constant_value, denoted, denoted_group, denoted_groups, group_constructors, type_of_name, with_fields, within_limits}
+use Rattle.ob0_types_rules.specs.Typing.{array_length, constant_value, denoted, denoted_group, denoted_groups, constructors, group_constructors, groups_constructors, type_of_name, with_fields, within_limits}
 use Rattle.ob0_types_rules.specs.WellTyped.{Signature, TypeEnvironment}
 use Rattle.ob0_values.specs.Values.{FieldShapes, Shape, Value, array_shape, no_field_shape, record_shape}
 use Rattle.ob0_types_check.specs.ExpressionFaults.{told_expression}
@@ -19,6 +19,8 @@ use Rattle.ob0_types_check.specs.SoFar.{Parts, Size, SoFar, Typed, facts_at, is_
 use Rattle.ob0_types_check.specs.TypeFaults.{length_of, type_meant}
 use Rattle.ob0_types_check.specs.WrittenTypeFaults.{Gathered, array_made, array_size, gathered_behind, nothing_gathered, record_made, record_size, record_word, told_fields, told_groups, told_type, with_name, with_names, word_before}
 use Rattle.ob0_types_check.specs.Agreement.{PartsAgree, StandsAlike, TableAgrees, shape_in}
+use Rattle.ob0_types_check.specs.WellTypedLaws.{constructor_of}
+use Rattle.ob0_types_check.proofs.MadeOnce.{Apart, apart_made, apart_same, apart_then}
 use Rattle.ob0_types_check.proofs.PartsFitting.{PartsFit}
 use Rattle.ob0_types_check.proofs.DeclaredNames.{AreSeen, IsSeen, Numbering, each_part, names_listed-mapped}
 use Rattle.ob0_types_check.proofs.DeclaredShapes.{GatheredAgrees, SizeAgrees, array_sized, followed, followed-assoc, followed-nothing, gathered_kept, is_limited, last_array, last_record, longer_more, longer_then, names_put, record_sized, size_agrees, table_more, with_fields-followed}
@@ -29,34 +31,35 @@ pub none_both : (xs ys : List Fault) → xs ++ ys ≡ [] → (xs ≡ []) × (ys 
 none_both [] ys e = (refl, e)
 none_both (x ∷ xs) ys e = absurd (cc)
 
--- a type, and what is known behind it
-pub record Denotes (n : ℕ) (p : SoFar) (before : List Shape) (given : Option Shape) (u : Typed) : Type 0 where
+-- a type, and what is known behind it; k is the ordinal of its first constructor, and l that of the next one
+pub record Denotes (n : ℕ) (p : SoFar) (before : List Shape) (k l : ℕ) (given : Option Shape) (u : Typed) : Type 0 where
   pub shape : Shape
   pub given_is : given ≡ Some shape
   pub after : List Shape
+  pub apart : Apart k l before after
   pub later : Later n p u.behind before after
   pub known : shape_in after u.of ≡ Some shape
 
 -- a name of a type
-named_denotes : (n : ℕ) (w : SoFar) (p : SoFar) (before : List Shape) (token : ℕ) (m : Option (Meaning TypeId)) (o : Option (meant.Object Shape Signature)) → TableAgrees p.made before → StandsAlike (shape_in before) m o → (type_meant (facts_at w false) token m).faults ≡ []
-    → Denotes n p before (type_of_name o) (record { of = (type_meant (facts_at w false) token m).known; behind = p })
-named_denotes n w p before token None o table alike e = absurd alike
-named_denotes n w p before token (Some (a_type t)) o table (s, known, is) e = record { shape = s; given_is = ap type_of_name is; after = before; later = later_same n p before table; known = known }
-named_denotes n w p before token (Some (a_constant v)) o table alike e = absurd (cc)
-named_denotes n w p before token (Some (a_variable t)) o table alike e = absurd (cc)
-named_denotes n w p before token (Some (a_procedure fs)) o table alike e = absurd (cc)
+named_denotes : (n : ℕ) (w : SoFar) (p : SoFar) (before : List Shape) (k l : ℕ) → l ≡ k → (token : ℕ) (m : Option (Meaning TypeId)) (o : Option (meant.Object Shape Signature)) → TableAgrees p.made before → StandsAlike (shape_in before) m o → (type_meant (facts_at w false) token m).faults ≡ []
+    → Denotes n p before k l (type_of_name o) (record { of = (type_meant (facts_at w false) token m).known; behind = p })
+named_denotes n w p before k l last token None o table alike e = absurd alike
+named_denotes n w p before k l last token (Some (a_type t)) o table (s, known, is) e = record { shape = s; given_is = ap type_of_name is; after = before; apart = apart_same k l before last; later = later_same n p before table; known = known }
+named_denotes n w p before k l last token (Some (a_constant v)) o table alike e = absurd (cc)
+named_denotes n w p before k l last token (Some (a_variable t)) o table alike e = absurd (cc)
+named_denotes n w p before k l last token (Some (a_procedure fs)) o table alike e = absurd (cc)
 
 -- an array or a record that isn't too large
-pub record MadeDenotes (n : ℕ) (p : SoFar) (before : List Shape) (s : Shape) (u : Typed) : Type 0 where
+pub record MadeDenotes (n : ℕ) (p : SoFar) (before : List Shape) (k l : ℕ) (s : Shape) (u : Typed) : Type 0 where
   pub limited : within_limits s ≡ Some s
-  pub denotes : Denotes n p before (Some s) u
+  pub denotes : Denotes n p before k l (Some s) u
 
-made_denotes : (n : ℕ) (p q : SoFar) (before mid : List Shape) (word : ℕ) (parts : Parts) (size : Size) (s : Shape) → Later n p q before mid → PartsAgree (shape_in mid) parts s → SizeAgrees size s → shape_in (mid ++ s ∷ []) (type_with parts (length q.made)) ≡ Some s
-    → (make q word parts size).faults ≡ [] → MadeDenotes n p before s (make q word parts size).known
-made_denotes n p q before mid word parts size s later agrees sized last none =
+made_denotes : (n : ℕ) (p q : SoFar) (before mid : List Shape) (k l word : ℕ) (parts : Parts) (size : Size) (s : Shape) → constructor_of s ≡ Some k → Apart (suc k) l before mid → Later n p q before mid → PartsAgree (shape_in mid) parts s → SizeAgrees size s → shape_in (mid ++ s ∷ []) (type_with parts (length q.made)) ≡ Some s
+    → (make q word parts size).faults ≡ [] → MadeDenotes n p before k l s (make q word parts size).known
+made_denotes n p q before mid k l word parts size s number own later agrees sized last none =
     by_size (is_within size) refl none
   where
-    by_size : (b : Bool) → is_within size ≡ b → (if b then right (made q parts size) else too_large q word).faults ≡ [] → MadeDenotes n p before s (if b then right (made q parts size) else too_large q word).known
+    by_size : (b : Bool) → is_within size ≡ b → (if b then right (made q parts size) else too_large q word).faults ≡ [] → MadeDenotes n p before k l s (if b then right (made q parts size) else too_large q word).known
     by_size false e h = absurd (cc)
     by_size true e h = record {
       limited = is_limited size s sized e;
@@ -64,6 +67,7 @@ made_denotes n p q before mid word parts size s later agrees sized last none =
         shape = s;
         given_is = refl;
         after = mid ++ s ∷ [];
+        apart = apart_made k l before mid s number own;
         later = record {
           source = later.source;
           ordinals = later.ordinals;
@@ -77,49 +81,51 @@ made_denotes n p q before mid word parts size s later agrees sized last none =
     }
 
 -- an array, of a length and behind the type of its elements
-array_denotes : (n : ℕ) (p : SoFar) (before : List Shape) (k count : ℕ) (o : Operand TypeId) (given : Option Shape) (u : Typed) → Denotes n p before given u → (array_made o (Some count) u).faults ≡ []
-    → Denotes n p before (option_and_then (λ s. within_limits (array_shape k count s)) given) (array_made o (Some count) u).known
-array_denotes n p before k count o given u d none =
+array_denotes : (n : ℕ) (p : SoFar) (before : List Shape) (k l count : ℕ) (o : Operand TypeId) (given : Option Shape) (u : Typed) → Denotes n p before (suc k) l given u → (array_made o (Some count) u).faults ≡ []
+    → Denotes n p before k l (option_and_then (λ s. within_limits (array_shape k count s)) given) (array_made o (Some count) u).known
+array_denotes n p before k l count o given u d none =
     let s : Shape = array_shape k count d.shape in
     let size = array_sized (size_at u.behind.made u.of) k count d.shape (size_agrees u.behind.made d.after u.of d.shape d.later.table d.known) in
-    let m = made_denotes n p u.behind before d.after _ (of_elements u.of) (array_size count (size_at u.behind.made u.of)) s d.later (k, count, d.shape, refl, d.known) size (last_array u.behind.made d.after k count d.shape d.later.table) none in
+    let m = made_denotes n p u.behind before d.after k l _ (of_elements u.of) (array_size count (size_at u.behind.made u.of)) s refl d.apart d.later (k, count, d.shape, refl, d.known) size (last_array u.behind.made d.after k count d.shape d.later.table) none in
     record {
       shape = m.denotes.shape;
       given_is = ap (option_and_then (λ s. within_limits (array_shape k count s))) d.given_is ∙ (m.limited ∙ m.denotes.given_is);
       after = m.denotes.after;
+      apart = m.denotes.apart;
       later = m.denotes.later;
       known = m.denotes.known;
     }
 
-sized_array : (n : ℕ) (p : SoFar) (before : List Shape) (k : ℕ) (o : Operand TypeId) (told : Option ℕ) (count : ℕ) (given : Option Shape) (u : Typed) → told ≡ Some count → Denotes n p before given u → (array_made o told u).faults ≡ []
-    → Denotes n p before (option_and_then (λ s. within_limits (array_shape k count s)) given) (array_made o told u).known
-sized_array n p before k o told count given u e d none =
-    subst (λ z. (array_made o z u).faults ≡ [] → Denotes n p before (option_and_then (λ s. within_limits (array_shape k count s)) given) (array_made o z u).known) (sym e) (array_denotes n p before k count o given u d) none
+sized_array : (n : ℕ) (p : SoFar) (before : List Shape) (k l : ℕ) (o : Operand TypeId) (told : Option ℕ) (count : ℕ) (given : Option Shape) (u : Typed) → told ≡ Some count → Denotes n p before (suc k) l given u → (array_made o told u).faults ≡ []
+    → Denotes n p before k l (option_and_then (λ s. within_limits (array_shape k count s)) given) (array_made o told u).known
+sized_array n p before k l o told count given u e d none =
+    subst (λ z. (array_made o z u).faults ≡ [] → Denotes n p before k l (option_and_then (λ s. within_limits (array_shape k count s)) given) (array_made o z u).known) (sym e) (array_denotes n p before k l count o given u d) none
 
 -- fields that are gathered, behind those before
-pub record Gathers (n : ℕ) (p : SoFar) (before : List Shape) (first : FieldShapes) (own : FieldShapes) (g : Gathered) : Type 0 where
+pub record Gathers (n : ℕ) (p : SoFar) (before : List Shape) (k l : ℕ) (first : FieldShapes) (own : FieldShapes) (g : Gathered) : Type 0 where
   pub after : List Shape
+  pub apart : Apart k l before after
   pub later : Later n p g.behind before after
   pub agrees : GatheredAgrees after g (followed first own)
 
-pub record GroupGathers (n : ℕ) (p : SoFar) (before : List Shape) (first : FieldShapes) (given : FieldShapes → Option FieldShapes) (g : Gathered) : Type 0 where
+pub record GroupGathers (n : ℕ) (p : SoFar) (before : List Shape) (k l : ℕ) (first : FieldShapes) (given : FieldShapes → Option FieldShapes) (g : Gathered) : Type 0 where
   pub own : FieldShapes
   pub given_is : (later : FieldShapes) → given later ≡ Some (followed own later)
-  pub gathers : Gathers n p before first own g
+  pub gathers : Gathers n p before k l first own g
 
-pub record GroupsGather (n : ℕ) (p : SoFar) (before : List Shape) (first : FieldShapes) (given : Option FieldShapes) (g : Gathered) : Type 0 where
+pub record GroupsGather (n : ℕ) (p : SoFar) (before : List Shape) (k l : ℕ) (first : FieldShapes) (given : Option FieldShapes) (g : Gathered) : Type 0 where
   pub own : FieldShapes
   pub given_is : given ≡ Some own
-  pub gathers : Gathers n p before first own g
+  pub gathers : Gathers n p before k l first own g
 
 names_behind : (t : TypeId) (g : Gathered) (xs : List ℕ) → (with_names t g xs).behind ≡ g.behind
 names_behind t g [] = refl
 names_behind t g (x ∷ xs) = names_behind t (with_name t g x) xs
 
 -- names of one type
-names_gather : (n : ℕ) (w : Numbering) (g : Gathered) (before : List Shape) (first : FieldShapes) (xs : List ℕ) (ys : List Name) (given : Option Shape) (u : Typed) → g.behind.source ≡ w.source → ys ≡ map (text_at w.source) xs → GatheredAgrees before g first → Denotes n g.behind before given u
-    → GroupGathers n g.behind before first (λ later. option_and_then (λ s. Some (with_fields ys s later)) given) (gathered_behind g xs u)
-names_gather n w g before first xs ys given u source texts h d =
+names_gather : (n : ℕ) (w : Numbering) (g : Gathered) (before : List Shape) (k l : ℕ) (first : FieldShapes) (xs : List ℕ) (ys : List Name) (given : Option Shape) (u : Typed) → g.behind.source ≡ w.source → ys ≡ map (text_at w.source) xs → GatheredAgrees before g first → Denotes n g.behind before k l given u
+    → GroupGathers n g.behind before k l first (λ later. option_and_then (λ s. Some (with_fields ys s later)) given) (gathered_behind g xs u)
+names_gather n w g before k l first xs ys given u source texts h d =
     let own : FieldShapes = with_fields ys d.shape no_field_shape in
     let start : Gathered = record { fields = g.fields; size = g.size; behind = u.behind } in
     let kept = gathered_kept before d.after d.later.longer g first h in
@@ -130,6 +136,7 @@ names_gather n w g before first xs ys given u source texts h d =
       given_is = λ later. ap (option_and_then (λ s. Some (with_fields ys s later))) d.given_is ∙ ap Some (with_fields-followed ys d.shape later);
       gathers = record {
         after = d.after;
+        apart = d.apart;
         later = subst (λ z. Later n g.behind z before d.after) (sym (names_behind u.of start xs)) d.later;
         agrees = subst (λ zs. GatheredAgrees d.after (with_names u.of start xs) (followed first (with_fields zs d.shape no_field_shape))) ((λ i. map (text_at (text i)) xs) ∙ sym texts) put;
       };
@@ -139,58 +146,70 @@ map-same : (xs : List Name) → map (λ x. x) xs ≡ xs
 map-same [] = refl
 map-same (x ∷ xs) = λ i. x ∷ map-same xs i
 
-nothing_agrees : (shapes : List Shape) (p : SoFar) → GatheredAgrees shapes (nothing_gathered p) no_field_shape
+pub nothing_agrees : (shapes : List Shape) (p : SoFar) → GatheredAgrees shapes (nothing_gathered p) no_field_shape
 nothing_agrees shapes p = record { fields = λ x. refl; scalars_are = refl; depth_is = refl }
 
-nothing_more : (n : ℕ) (g : Gathered) (before : List Shape) (first : FieldShapes) → TableAgrees g.behind.made before → GatheredAgrees before g first → Gathers n g.behind before first no_field_shape g
-nothing_more n g before first table h = record { after = before; later = later_same n g.behind before table; agrees = subst (GatheredAgrees before g) (sym (followed-nothing first)) h }
+nothing_more : (n : ℕ) (g : Gathered) (before : List Shape) (k l : ℕ) → l ≡ k → (first : FieldShapes) → TableAgrees g.behind.made before → GatheredAgrees before g first → Gathers n g.behind before k l first no_field_shape g
+nothing_more n g before k l last first table h = record { after = before; apart = apart_same k l before last; later = later_same n g.behind before table; agrees = subst (GatheredAgrees before g) (sym (followed-nothing first)) h }
 
 -- one group and those behind it
-both_gather : (n : ℕ) (p : SoFar) (before : List Shape) (first : FieldShapes) (given : FieldShapes → Option FieldShapes) (g h : Gathered) (others : Option FieldShapes) (one : GroupGathers n p before first given g)
-    → GroupsGather n g.behind one.gathers.after (followed first one.own) others h → GroupsGather n p before first (option_and_then given others) h
-both_gather n p before first given g h others one other = record {
+pub both_gather : (n : ℕ) (p : SoFar) (before : List Shape) (k m l : ℕ) (first : FieldShapes) (given : FieldShapes → Option FieldShapes) (g h : Gathered) (others : Option FieldShapes) (one : GroupGathers n p before k m first given g)
+    → GroupsGather n g.behind one.gathers.after m l (followed first one.own) others h → GroupsGather n p before k l first (option_and_then given others) h
+both_gather n p before k m l first given g h others one other = record {
   own = followed one.own other.own;
   given_is = ap (option_and_then given) other.given_is ∙ one.given_is other.own;
   gathers = record {
     after = other.gathers.after;
+    apart = apart_then k m l before one.gathers.after other.gathers.after one.gathers.apart other.gathers.apart;
     later = later_then n n p g.behind h.behind before one.gathers.after other.gathers.after (le_refl n) one.gathers.later other.gathers.later;
     agrees = subst (GatheredAgrees other.gathers.after h) (followed-assoc first one.own other.own) other.gathers.agrees;
   };
 }
 
 -- a record of all its fields
-record_denotes : (n : ℕ) (p : SoFar) (before : List Shape) (k word : ℕ) (given : Option FieldShapes) (g : Gathered) → GroupsGather n p before no_field_shape given g → (record_made word g).faults ≡ []
-    → Denotes n p before (option_and_then (λ fs. within_limits (record_shape k fs)) given) (record_made word g).known
-record_denotes n p before k word given g h none =
+record_denotes : (n : ℕ) (p : SoFar) (before : List Shape) (k l word : ℕ) (given : Option FieldShapes) (g : Gathered) → GroupsGather n p before (suc k) l no_field_shape given g → (record_made word g).faults ≡ []
+    → Denotes n p before k l (option_and_then (λ fs. within_limits (record_shape k fs)) given) (record_made word g).known
+record_denotes n p before k l word given g h none =
     let after = h.gathers.after in
     let s : Shape = record_shape k h.own in
-    let m = made_denotes n p g.behind before after word (of_fields g.fields) (record_size g.size) s h.gathers.later (k, h.own, refl, h.gathers.agrees.fields) (record_sized after g k h.own h.gathers.agrees) (last_record g.behind.made after k h.own h.gathers.later.table) none in
+    let m = made_denotes n p g.behind before after k l word (of_fields g.fields) (record_size g.size) s refl h.gathers.apart h.gathers.later (k, h.own, refl, h.gathers.agrees.fields) (record_sized after g k h.own h.gathers.agrees) (last_record g.behind.made after k h.own h.gathers.later.table) none in
     record {
       shape = m.denotes.shape;
       given_is = ap (option_and_then (λ fs. within_limits (record_shape k fs))) h.given_is ∙ (m.limited ∙ m.denotes.given_is);
       after = m.denotes.after;
+      apart = m.denotes.apart;
       later = m.denotes.later;
       known = m.denotes.known;
     }
 
-abbrev of_limits : ℕ → ℕ → Option Shape → Option Shape
+abbrev pub of_limits : ℕ → ℕ → Option Shape → Option Shape
 of_limits k count given = option_and_then (λ s. within_limits (array_shape k count s)) given
 
-array_given : (k : ℕ) (value : Option Value) (v : Value) (count : ℕ) (given : Option Shape) → value ≡ Some v → array_length v ≡ Some count → option_and_then (λ v. option_and_then (λ c. of_limits k c given) (array_length v)) value ≡ of_limits k count given
+pub array_given : (k : ℕ) (value : Option Value) (v : Value) (count : ℕ) (given : Option Shape) → value ≡ Some v → array_length v ≡ Some count → option_and_then (λ v. option_and_then (λ c. of_limits k c given) (array_length v)) value ≡ of_limits k count given
 array_given k value v count given e h = ap (option_and_then (λ v. option_and_then (λ c. of_limits k c given) (array_length v))) e ∙ ap (option_and_then (λ c. of_limits k c given)) h
 
-grouped : (o : Option FieldShapes) (f : FieldShapes → Option FieldShapes) (g : FieldShapes → Option Shape) → option_and_then g (option_and_then f o) ≡ option_and_then (λ a. option_and_then g (f a)) o
+pub grouped : (o : Option FieldShapes) (f : FieldShapes → Option FieldShapes) (g : FieldShapes → Option Shape) → option_and_then g (option_and_then f o) ≡ option_and_then (λ a. option_and_then g (f a)) o
 grouped None f g = refl
 grouped (Some a) f g = refl
+
+-- the ordinals of constructors inside one another, and side by side
+later_constructor : (k n : ℕ) → suc k + n ≡ k + suc n
+later_constructor k n = omega arith
+
+later_groups : (k m n : ℕ) → suc k + m + n ≡ k + suc (m + n)
+later_groups k m n = omega arith
+
+more_groups : (k m n : ℕ) → k + m + n ≡ k + (m + n)
+more_groups k m n = omega arith
 
 module _ (w : Numbering) (fit : PartsFit) (n : ℕ) (scope : Scope Name) (env : TypeEnvironment Name) where
   mutual
     unfolding told_type denoted
 
     pub type_denotes : (k : ℕ) (t : Tree ℕ written_type) (p : SoFar) (before : List Shape) → Stands w p before n scope env → AreSeen w scope t → (told_type p t).faults ≡ []
-        → Denotes n p before (denoted (meanings as_names env) k (named w.source t)) (told_type p t).known
+        → Denotes n p before k (k + constructors (named w.source t)) (denoted (meanings as_names env) k (named w.source t)) (told_type p t).known
     type_denotes k (named_type x) p before st seen e =
-        named_denotes n p p before x ((facts_at p false).stands_for x) ((meanings as_names env).stands_for (text_at w.source x)) st.table (seen_stands w p false before n scope env st x seen.0) (none_both (type_meant (facts_at p false) x ((facts_at p false).stands_for x)).faults [] e).0
+        named_denotes n p p before k (k + 0) (omega arith) x ((facts_at p false).stands_for x) ((meanings as_names env).stands_for (text_at w.source x)) st.table (seen_stands w p false before n scope env st x seen.0) (none_both (type_meant (facts_at p false) x ((facts_at p false).stands_for x)).faults [] e).0
     type_denotes k (array_type e u) p before st seen h =
         let parts = each_part (IsSeen w scope) (occurrences e) (occurrences u) seen in
         let o : Operand TypeId = (told_expression (facts_at p true) e).known in
@@ -202,8 +221,9 @@ module _ (w : Numbering) (fit : PartsFit) (n : ℕ) (scope : Scope Name) (env : 
         let long = fit.lengths p before (text_at w.source) (meanings as_names env) e (agrees_where_seen w p true before n scope env st fit e parts.0) (λ i. a.0 i ++ b.0 i) in
         let given : constant_value (meanings as_names env) (named w.source e) ≡ Some long.value = ap (λ s. constant_value (meanings as_names env) (mapped (text_at w.source) (value_at s) e)) (sym st.source) ∙ long.given in
         let element = type_denotes (suc k) u p before st parts.1 c.0 in
-        subst (λ z. Denotes n p before z (array_made o l.known el.known).known) (sym (array_given k (constant_value (meanings as_names env) (named w.source e)) long.value long.length (denoted (meanings as_names env) (suc k) (named w.source u)) given long.counted))
-        (sized_array n p before k o l.known long.length (denoted (meanings as_names env) (suc k) (named w.source u)) el.known long.known element c.1)
+        let inner : ℕ = constructors (named w.source u) in
+        subst₂ (λ j z. Denotes n p before k j z (array_made o l.known el.known).known) (later_constructor k inner) (sym (array_given k (constant_value (meanings as_names env) (named w.source e)) long.value long.length (denoted (meanings as_names env) (suc k) (named w.source u)) given long.counted))
+        (sized_array n p before k (suc k + inner) o l.known long.length (denoted (meanings as_names env) (suc k) (named w.source u)) el.known long.known element c.1)
     type_denotes k (record_type g rest) p before st seen h =
         let parts = each_part (IsSeen w scope) (occurrences g) (occurrences rest) seen in
         let word : ℕ = word_before g (record_word rest) in
@@ -214,22 +234,24 @@ module _ (w : Numbering) (fit : PartsFit) (n : ℕ) (scope : Scope Name) (env : 
         let one = group_gathers (suc k) g (nothing_gathered p) before no_field_shape st parts.0 (nothing_agrees before p) a.0 in
         let later = stands_later w n n n p first.known.behind before one.gathers.after scope env (le_refl n) (le_refl n) st one.gathers.later in
         let other = groups_gather (suc k + group_constructors (named w.source g)) rest first.known one.gathers.after one.own later parts.1 one.gathers.agrees b.0 in
-        subst (λ z. Denotes n p before z (record_made word all.known).known) (grouped (denoted_groups (meanings as_names env) (suc k + group_constructors (named w.source g)) (named w.source rest)) (λ ys. denoted_group (meanings as_names env) (suc k) ys (named w.source g)) (λ fs. within_limits (record_shape k fs)))
-        (record_denotes n p before k word (option_and_then (λ ys. denoted_group (meanings as_names env) (suc k) ys (named w.source g)) (denoted_groups (meanings as_names env) (suc k + group_constructors (named w.source g)) (named w.source rest))) all.known
-        (both_gather n p before no_field_shape (λ ys. denoted_group (meanings as_names env) (suc k) ys (named w.source g)) first.known all.known (denoted_groups (meanings as_names env) (suc k + group_constructors (named w.source g)) (named w.source rest)) one other) b.1)
+        let c : ℕ = group_constructors (named w.source g) in
+        let d : ℕ = groups_constructors (named w.source rest) in
+        subst₂ (λ j z. Denotes n p before k j z (record_made word all.known).known) (later_groups k c d) (grouped (denoted_groups (meanings as_names env) (suc k + group_constructors (named w.source g)) (named w.source rest)) (λ ys. denoted_group (meanings as_names env) (suc k) ys (named w.source g)) (λ fs. within_limits (record_shape k fs)))
+        (record_denotes n p before k (suc k + c + d) word (option_and_then (λ ys. denoted_group (meanings as_names env) (suc k) ys (named w.source g)) (denoted_groups (meanings as_names env) (suc k + group_constructors (named w.source g)) (named w.source rest))) all.known
+        (both_gather n p before (suc k) (suc k + c) (suc k + c + d) no_field_shape (λ ys. denoted_group (meanings as_names env) (suc k) ys (named w.source g)) first.known all.known (denoted_groups (meanings as_names env) (suc k + group_constructors (named w.source g)) (named w.source rest)) one other) b.1)
 
-    group_gathers : (k : ℕ) (t : Tree ℕ fields) (g : Gathered) (before : List Shape) (first : FieldShapes) → Stands w g.behind before n scope env → AreSeen w scope t → GatheredAgrees before g first → (told_fields g t).faults ≡ []
-        → GroupGathers n g.behind before first (λ ys. denoted_group (meanings as_names env) k ys (named w.source t)) (told_fields g t).known
-    group_gathers k no_fields g before first st seen agrees h = record { own = no_field_shape; given_is = λ ys. refl; gathers = nothing_more n g before first st.table agrees }
+    pub group_gathers : (k : ℕ) (t : Tree ℕ fields) (g : Gathered) (before : List Shape) (first : FieldShapes) → Stands w g.behind before n scope env → AreSeen w scope t → GatheredAgrees before g first → (told_fields g t).faults ≡ []
+        → GroupGathers n g.behind before k (k + group_constructors (named w.source t)) first (λ ys. denoted_group (meanings as_names env) k ys (named w.source t)) (told_fields g t).known
+    group_gathers k no_fields g before first st seen agrees h = record { own = no_field_shape; given_is = λ ys. refl; gathers = nothing_more n g before k (k + 0) (omega arith) first st.table agrees }
     group_gathers k (some_fields ns t) g before first st seen agrees h =
         let u : Reported Typed = told_type g.behind t in
         let d = type_denotes k t g.behind before st seen (none_both u.faults [] h).0 in
-        names_gather n w g before first (names_listed ns) (map (λ x. x) (names_listed (named w.source ns))) (denoted (meanings as_names env) k (named w.source t)) u.known st.source
+        names_gather n w g before k (k + constructors (named w.source t)) first (names_listed ns) (map (λ x. x) (names_listed (named w.source ns))) (denoted (meanings as_names env) k (named w.source t)) u.known st.source
         (map-same (names_listed (named w.source ns)) ∙ names_listed-mapped (text_at w.source) (value_at w.source) ns) agrees d
 
-    groups_gather : (k : ℕ) (t : Tree ℕ (items further_fields)) (g : Gathered) (before : List Shape) (first : FieldShapes) → Stands w g.behind before n scope env → AreSeen w scope t → GatheredAgrees before g first → (told_groups g t).faults ≡ []
-        → GroupsGather n g.behind before first (denoted_groups (meanings as_names env) k (named w.source t)) (told_groups g t).known
-    groups_gather k end g before first st seen agrees h = record { own = no_field_shape; given_is = refl; gathers = nothing_more n g before first st.table agrees }
+    pub groups_gather : (k : ℕ) (t : Tree ℕ (items further_fields)) (g : Gathered) (before : List Shape) (first : FieldShapes) → Stands w g.behind before n scope env → AreSeen w scope t → GatheredAgrees before g first → (told_groups g t).faults ≡ []
+        → GroupsGather n g.behind before k (k + groups_constructors (named w.source t)) first (denoted_groups (meanings as_names env) k (named w.source t)) (told_groups g t).known
+    groups_gather k end g before first st seen agrees h = record { own = no_field_shape; given_is = refl; gathers = nothing_more n g before k (k + 0) (omega arith) first st.table agrees }
     groups_gather k (more (then_fields f) rest) g before first st seen agrees h =
         let parts = each_part (IsSeen w scope) (occurrences f) (occurrences rest) seen in
         let next : Reported Gathered = told_fields g f in
@@ -238,4 +260,7 @@ module _ (w : Numbering) (fit : PartsFit) (n : ℕ) (scope : Scope Name) (env : 
         let one = group_gathers k f g before first st parts.0 agrees a.0 in
         let later = stands_later w n n n g.behind next.known.behind before one.gathers.after scope env (le_refl n) (le_refl n) st one.gathers.later in
         let other = groups_gather (k + group_constructors (named w.source f)) rest next.known one.gathers.after (followed first one.own) later parts.1 one.gathers.agrees a.1 in
-        both_gather n g.behind before first (λ ys. denoted_group (meanings as_names env) k ys (named w.source f)) next.known all.known (denoted_groups (meanings as_names env) (k + group_constructors (named w.source f)) (named w.source rest)) one other
+        let c : ℕ = group_constructors (named w.source f) in
+        let d : ℕ = groups_constructors (named w.source rest) in
+        subst (λ j. GroupsGather n g.behind before k j first (denoted_groups (meanings as_names env) k (named w.source (more (then_fields f) rest))) all.known) (more_groups k c d)
+        (both_gather n g.behind before k (k + c) (k + c + d) first (λ ys. denoted_group (meanings as_names env) k ys (named w.source f)) next.known all.known (denoted_groups (meanings as_names env) (k + group_constructors (named w.source f)) (named w.source rest)) one other)

@@ -280,7 +280,7 @@ module _ {T N P : Type 0} (facts : Facts T) (shape : T → Option Shape) (types 
         let right = none-told (told_simple facts b).faults _ left.1 in
         related-whole r a b (simple-fits a parts.0 left.0) (simple-fits b parts.1 right.0) right.1
 
-    simple-fits : (a : Tree ℕ simple) → All a → (told_simple facts a).faults ≡ [] → FitsSimple a
+    pub simple-fits : (a : Tree ℕ simple) → All a → (told_simple facts a).faults ≡ [] → FitsSimple a
     simple-fits (sum g t rest) k h =
         let parts = split (ids t) (ids rest) k in
         let left = none-told (told_term facts t).faults _ h in
@@ -300,7 +300,7 @@ module _ {T N P : Type 0} (facts : Facts T) (shape : T → Option Shape) (types 
         addend-whole x s o t rest ft w typed
         (addends-fit (added facts o x (told_term facts t).known).known w rest known (keeps scalar) parts.1 right.1)
 
-    term-fits : (t : Tree ℕ term) → All t → (told_term facts t).faults ≡ [] → FitsTerm t
+    pub term-fits : (t : Tree ℕ term) → All t → (told_term facts t).faults ≡ [] → FitsTerm t
     term-fits (product f rest) k h =
         let parts = split (ids f) (ids rest) k in
         let left = none-told (told_factor facts f).faults _ h in
@@ -318,7 +318,7 @@ module _ {T N P : Type 0} (facts : Facts T) (shape : T → Option Shape) (types 
         multiplier-whole x s o f rest ff w typed
         (multipliers-fit (multiplied facts o x (told_factor facts f).known).known w rest known (keeps scalar) parts.1 right.1)
 
-    factor-fits : (f : Tree ℕ factor) → All f → (told_factor facts f).faults ≡ [] → FitsFactor f
+    pub factor-fits : (f : Tree ℕ factor) → All f → (told_factor facts f).faults ≡ [] → FitsFactor f
     factor-fits (designator x path) k h =
         let parts = none-told (named facts x).faults _ h in
         let name : NameFits facts shape label meaning x = k.0 parts.0 in

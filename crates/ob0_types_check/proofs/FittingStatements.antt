@@ -49,11 +49,11 @@ module _ {T N : Type 0} (facts : Facts T) (shape : T → Option Shape) (types : 
   abbrev pub Agreed : {s : Sort} → Tree ℕ s → Type 0
   Agreed t = TokensAgree facts shape label meaning (identifiers role.Declaring t)
 
-  split : (xs ys : List (Role × ℕ)) → TokensAgree facts shape label meaning (xs ++ ys) → TokensAgree facts shape label meaning xs × TokensAgree facts shape label meaning ys
+  pub split : (xs ys : List (Role × ℕ)) → TokensAgree facts shape label meaning (xs ++ ys) → TokensAgree facts shape label meaning xs × TokensAgree facts shape label meaning ys
   split [] ys h = (tt, h)
   split (x ∷ xs) ys h = let rest = split xs ys h.1 in ((h.0, rest.0), rest.1)
 
-  known-operand : (e : Tree ℕ expression) → Agreed e → (told_expression facts e).faults ≡ [] → OperandFits shape meaning (told_expression facts e).known (here e)
+  pub known-operand : (e : Tree ℕ expression) → Agreed e → (told_expression facts e).faults ≡ [] → OperandFits shape meaning (told_expression facts e).known (here e)
   known-operand e k h = operand-fits facts shape types label meaning e (tokens-fit facts shape types label meaning (ids e) k) h
 
   -- an expression of which a type is asked
@@ -117,7 +117,7 @@ module _ {T N : Type 0} (facts : Facts T) (shape : T → Option Shape) (types : 
       let parts = none-told (told_expression facts e).faults _ h in
       passed-fits f.by_place f.of g e (told_expression facts e).known (known-operand e k parts.0) mode wanted parts.1
 
-  abbrev EachAgreed : List (Tree ℕ expression) → Type 0
+  abbrev pub EachAgreed : List (Tree ℕ expression) → Type 0
   EachAgreed [] = Unit {0}
   EachAgreed (e ∷ es) = Agreed e × EachAgreed es
 
@@ -137,7 +137,7 @@ module _ {T N : Type 0} (facts : Facts T) (shape : T → Option Shape) (types : 
   further-mapped end = refl
   further-mapped (more (then_argument e) es) = λ i. here e ∷ further-mapped es i
 
-  arguments-mapped : (es : Tree ℕ (maybe arguments)) → arguments_listed (here es) ≡ map here (arguments_listed es)
+  pub arguments-mapped : (es : Tree ℕ (maybe arguments)) → arguments_listed (here es) ≡ map here (arguments_listed es)
   arguments-mapped none = refl
   arguments-mapped (one no_arguments) = refl
   arguments-mapped (one (some_arguments e es)) = λ i. here e ∷ further-mapped es i
@@ -146,7 +146,7 @@ module _ {T N : Type 0} (facts : Facts T) (shape : T → Option Shape) (types : 
   further-agreed end k = tt
   further-agreed (more (then_argument e) es) k = let parts = split (ids e) (ids es) k in (parts.0, further-agreed es parts.1)
 
-  arguments-agreed : (es : Tree ℕ (maybe arguments)) → Agreed es → EachAgreed (arguments_listed es)
+  pub arguments-agreed : (es : Tree ℕ (maybe arguments)) → Agreed es → EachAgreed (arguments_listed es)
   arguments-agreed none k = tt
   arguments-agreed (one no_arguments) k = tt
   arguments-agreed (one (some_arguments e es)) k = let parts = split (ids e) (ids es) k in (parts.0, further-agreed es parts.1)

@@ -24,3 +24,16 @@ pub mod DeclaredTypes
 pub mod BlocksDeclared
 pub mod BlocksParameters
 pub mod BlocksFit
+pub mod EqualShapes
+pub mod TypedOperands
+pub mod TypedExpressions
+pub mod TypedNames
+pub mod TypedConstants
+pub mod TypedTargets
+pub mod TypedStatements
+pub mod BoundParts
+pub mod BoundModules
+pub mod MadeOnce
+pub mod TypedTypes
+pub mod TypedDeclarations
+pub mod TypedModules

@@ -9,4 +9,5 @@ pub mod DeclarationFaults
 pub mod SupposedFacts
 pub mod Agreement
 pub mod ReportLaws
+pub mod WellTypedLaws
 pub mod ModuleLaws

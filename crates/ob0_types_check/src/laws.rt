@@ -2,6 +2,7 @@
 
 ghost use Rattle.ob0_types_check.specs.ModuleLaws.{ModulesFit};
 ghost use Rattle.ob0_types_check.specs.ReportLaws.{ConstantsFit, ExpressionsFit, LengthsFit, StatementsFit, TypesOfTables};
+ghost use Rattle.ob0_types_check.specs.WellTypedLaws.{NamesBound, NoFaultInConstants, NoFaultInExpressions, NoFaultInLengths, NoFaultInModules, NoFaultInStatements, NoFaultInTargets};
 ghost use Rattle.ob0_scope_rules.specs.Names.{Name};
 
 /// What is known of an expression of which nothing is told is its type and its value.
@@ -32,4 +33,39 @@ pub fn types_of_tables()
 /// A module of which nothing is told fits.
 pub fn modules_fit()
     ensures { ModulesFit }
+{}
+
+/// No fault is reported of an expression that has a type.
+pub fn no_fault_in_expressions()
+    ensures { NoFaultInExpressions Name }
+{}
+
+/// No fault is reported of a constant expression that has a value.
+pub fn no_fault_in_constants()
+    ensures { NoFaultInConstants Name }
+{}
+
+/// No fault is reported of the length of an array, where it is one.
+pub fn no_fault_in_lengths()
+    ensures { NoFaultInLengths Name }
+{}
+
+/// No fault is reported of the target of an assignment that is a variable or parameter with its selectors.
+pub fn no_fault_in_targets()
+    ensures { NoFaultInTargets Name }
+{}
+
+/// No fault is reported of well-typed statements.
+pub fn no_fault_in_statements()
+    ensures { NoFaultInStatements Name }
+{}
+
+/// Each name of a well-typed module is bound.
+pub fn names_bound()
+    ensures { NamesBound }
+{}
+
+/// No fault of types is reported of a well-typed module, and none of a name that nothing binds.
+pub fn no_fault_in_modules()
+    ensures { NoFaultInModules }
 {}

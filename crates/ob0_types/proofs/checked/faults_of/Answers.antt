@@ -4,7 +4,7 @@ use Rattle.std.specs.List.{filter}
 use Rattle.std.specs.List.Sorted.{IsPermutation}
 use Rattle.ob0_scope_rules.specs.Resolution.{is_of_declarations}
 use Rattle.ob0_types.proofs.AllTold.{empty_alike}
-use Rattle.ob0_types.specs.FaultOrder.{faults_of_types}
+use Rattle.ob0_types.specs.FoundFaults.{types_found}
 use Rattle.ob0_types.proofs.FaultNumbers.{sorted_by_key}
 use Rattle.ob0_types.proofs.checked.faults_of.Tie as tie
 use Rattle.ob0_types.proofs.checked.faults_of.Goals as goal
@@ -17,7 +17,7 @@ returns-clause-none c =
     let sorted = c.sort_by_key.new.self in
     let kept = c.truncate.new.self in
     let all = c.in_ok-add_declarations.ensures ∙ ap (λ fs. first ++ filter is_of_declarations fs) c.faults.ensures in
-    let joined : added.items ≡ faults_of_types c.args.fits c.args.resolved.now ++ scopes = all ∙ ap (λ fs. fs ++ scopes) c.in_ok-faults.ensures in
+    let joined : added.items ≡ types_found c.args.fits c.args.resolved.now ++ scopes = all ∙ ap (λ fs. fs ++ scopes) c.in_ok-faults.ensures in
     let a = added.ok.0 in
     let s = sorted.ok.0 in
     let k = kept.ok.0 in

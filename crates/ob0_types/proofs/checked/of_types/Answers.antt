@@ -1,7 +1,7 @@
 use Rattle.std.proofs.Common.{sym, ap, ◌∙◌}
 use Rattle.std.proofs.lemmas.Result.{IfOk-weaker}
-use Rattle.ob0_types.specs.FaultOrder.{faults_of_types}
+use Rattle.ob0_types.specs.FoundFaults.{types_found}
 use Rattle.ob0_types.proofs.checked.of_types.Goals as goal
 
 pub returns : goal.returns
-returns c = IfOk-weaker c.tell.result _ _ (λ fs h. h ∙ sym (ap (λ b. faults_of_types b c.args.resolved.now) c.if-fits.false)) c.tell.ensures
+returns c = IfOk-weaker c.tell.result _ _ (λ fs h. h ∙ sym (ap (λ b. types_found b c.args.resolved.now) c.if-fits.false)) c.tell.ensures

@@ -1,0 +1,154 @@
+-- Expressions that have a type: no fault is reported of them.
+use Rattle.std.proofs.Common.{◌≡◌, ℕ, List, [], ◌∷◌, ◌++◌, Option, Some, option_and_then, refl, sym, ap, ◌∙◌}
+use Rattle.ob0_tree.specs.declared.tree.Role.{Role}
+use Rattle.ob0_tree.specs.declared.tree.Role.TheVariants as role
+use Rattle.ob0_tree.specs.Places.{text_at, value_at}
+use Rattle.ob0_tree.specs.Tree.{Sort, Tree, addend, adds, compares, designator, end, expression, factor, field, identifiers, index, integer, items, mapped, more, multiplier, multiplies, negation, none, one, parenthesised, product, relates, selector, simple, sum, term}
+use Rattle.ob0_types_rules.specs.Expressions.{Meanings}
+use Rattle.ob0_types_rules.specs.Typing.{add_type, complement_type, element_type, field_type, multiply_type, object_type, relation_type, sign_type, type_at, type_of, type_of_addends, type_of_factor, type_of_multipliers, type_of_simple, type_of_term}
+use Rattle.ob0_values.specs.Values.{Shape, Value}
+use Rattle.ob0_types_check.specs.ExpressionFaults.{told_addends, told_expression, told_factor, told_multipliers, told_selectors, told_simple, told_term}
+use Rattle.ob0_types_check.specs.Known.{Facts, Operand}
+use Rattle.ob0_types_check.specs.Operations.{added, element_selected, field_selected, multiplied, named, signed}
+use Rattle.ob0_types_check.specs.Agreement.{TypesAgree}
+use Rattle.ob0_types_check.proofs.FittingExpressions.{Fits, FitsExpression, FitsFactor, FitsSimple, FitsTerm, NameFits, TokensFit, expression-fits, factor-fits, simple-fits, split-tokens, term-fits}
+use Rattle.ob0_types_check.proofs.Operands.{added-fits, element-fits, field-fits, multiplied-fits, signed-fits}
+use Rattle.ob0_types_check.proofs.TypedOperands.{TypesApart, added-right, and-then, complemented-right, element-right, field-right, multiplied-right, none-of-both, related-right, signed-right}
+
+-- what is known of an operand is its type
+known-as : {T : Type 0} {shape : T → Option Shape} {o : Operand T} {type : Option Shape} {value : Option Value} (s : Shape) → Fits shape o type value → type ≡ Some s → shape o.of ≡ Some s
+known-as s f e = f.known ∙ (sym f.typed ∙ e)
+
+-- a name that has a type: no fault is reported of it
+abbrev pub NameTyped : {T N P : Type 0} → Facts T → (ℕ → N) → Meanings N Shape P → Role → ℕ → Type 0
+NameTyped facts label meaning role.LookedUp x = (s : Shape) → object_type (meaning.stands_for (label x)) ≡ Some s → (named facts x).faults ≡ []
+NameTyped facts label meaning role.FieldName x = Unit {0}
+NameTyped facts label meaning role.Declaring x = Unit {0}
+NameTyped facts label meaning role.ClosingName x = Unit {0}
+NameTyped facts label meaning role.ModuleName x = Unit {0}
+
+abbrev pub NamesTyped : {T N P : Type 0} → Facts T → (ℕ → N) → Meanings N Shape P → List (Role × ℕ) → Type 0
+NamesTyped facts label meaning [] = Unit {0}
+NamesTyped facts label meaning (x ∷ xs) = NameTyped facts label meaning x.0 x.1 × NamesTyped facts label meaning xs
+
+pub split-names : {T N P : Type 0} (facts : Facts T) (label : ℕ → N) (meaning : Meanings N Shape P) (xs ys : List (Role × ℕ))
+    → NamesTyped facts label meaning (xs ++ ys) → NamesTyped facts label meaning xs × NamesTyped facts label meaning ys
+split-names facts label meaning [] ys h = (tt, h)
+split-names facts label meaning (x ∷ xs) ys h = let rest = split-names facts label meaning xs ys h.1 in ((h.0, rest.0), rest.1)
+
+module _ {T N P : Type 0} (facts : Facts T) (shape : T → Option Shape) (types : TypesAgree facts.types shape) (apart : TypesApart facts.types shape) (label : ℕ → N) (meaning : Meanings N Shape P) where
+  abbrev tree : {s : Sort} → Tree ℕ s → Tree N s
+  tree t = mapped label (value_at facts.source) t
+
+  abbrev ids : {s : Sort} → Tree ℕ s → List (Role × ℕ)
+  ids t = identifiers role.Declaring t
+
+  -- all names of a part are known as they are, and no fault is reported of one that has a type
+  abbrev pub AllTyped : {s : Sort} → Tree ℕ s → Type 0
+  AllTyped t = TokensFit facts shape label meaning (identifiers role.Declaring t) × NamesTyped facts label meaning (identifiers role.Declaring t)
+
+  split : (xs ys : List (Role × ℕ)) → TokensFit facts shape label meaning (xs ++ ys) × NamesTyped facts label meaning (xs ++ ys)
+      → (TokensFit facts shape label meaning xs × NamesTyped facts label meaning xs) × (TokensFit facts shape label meaning ys × NamesTyped facts label meaning ys)
+  split xs ys (k, n) =
+      let left = split-tokens facts shape label meaning xs ys k in
+      let right = split-names facts label meaning xs ys n in
+      ((left.0, right.0), (left.1, right.1))
+
+  mutual
+    unfolding told_expression type_of
+
+    pub expression-right : (e : Tree ℕ expression) → AllTyped e → (s : Shape) → type_of meaning (tree e) ≡ Some s → (told_expression facts e).faults ≡ []
+    expression-right (compares a none) k s h = simple-right a (split (ids a) [] k).0 s h
+    expression-right (compares a (one (relates r b))) k s h =
+        let parts = split (ids a) (ids b) k in
+        let (u, hu, later) = and-then (λ x. option_and_then (relation_type r x) (type_of_simple meaning (tree b))) (type_of_simple meaning (tree a)) s h in
+        let (v, hv, typed) = and-then (relation_type r u) (type_of_simple meaning (tree b)) s later in
+        let left = simple-right a parts.0 u hu in
+        let right = simple-right b parts.1 v hv in
+        let fa : FitsSimple facts shape types label meaning a = simple-fits facts shape types label meaning a parts.0.0 left in
+        let fb : FitsSimple facts shape types label meaning b = simple-fits facts shape types label meaning b parts.1.0 right in
+        none-of-both (told_simple facts a).faults _ left
+        (none-of-both (told_simple facts b).faults _ right (related-right facts shape types apart r (told_simple facts a).known (told_simple facts b).known u v s typed (known-as u fa hu) (known-as v fb hv)))
+
+    simple-right : (a : Tree ℕ simple) → AllTyped a → (s : Shape) → type_of_simple meaning (tree a) ≡ Some s → (told_simple facts a).faults ≡ []
+    simple-right (sum g t rest) k s h =
+        let parts = split (ids t) (ids rest) k in
+        let (u, hu, later) = and-then (λ x. option_and_then (λ y. type_of_addends meaning y (tree rest)) (sign_type g x)) (type_of_term meaning (tree t)) s h in
+        let (v, hv, last) = and-then (λ y. type_of_addends meaning y (tree rest)) (sign_type g u) s later in
+        let left = term-right t parts.0 u hu in
+        let ft : FitsTerm facts shape types label meaning t = term-fits facts shape types label meaning t parts.0.0 left in
+        let ht = known-as u ft hu in
+        let mid = signed-right facts shape types apart g (told_term facts t).known u v hv ht in
+        let (w, known, typed, keeps) = signed-fits facts shape types g (told_term facts t).known u ht mid in
+        none-of-both (told_term facts t).faults _ left
+        (none-of-both (signed facts g (told_term facts t).known).faults _ mid (addends-right (signed facts g (told_term facts t).known).known v rest (known ∙ (sym typed ∙ hv)) parts.1 s last))
+
+    addends-right : (x : Operand T) (s : Shape) (rest : Tree ℕ (items addend)) → shape x.of ≡ Some s → AllTyped rest → (r : Shape) → type_of_addends meaning s (tree rest) ≡ Some r → (told_addends facts x rest).faults ≡ []
+    addends-right x s end hx k r h = refl
+    addends-right x s (more (adds o t) rest) hx k r h =
+        let parts = split (ids t) (ids rest) k in
+        let (v, hv, later) = and-then (λ y. option_and_then (λ z. type_of_addends meaning z (tree rest)) (add_type o s y)) (type_of_term meaning (tree t)) r h in
+        let (z, hz, last) = and-then (λ z. type_of_addends meaning z (tree rest)) (add_type o s v) r later in
+        let left = term-right t parts.0 v hv in
+        let ft : FitsTerm facts shape types label meaning t = term-fits facts shape types label meaning t parts.0.0 left in
+        let ht = known-as v ft hv in
+        let mid = added-right facts shape types apart o x (told_term facts t).known s v z hz hx ht in
+        let (w, known, typed, keeps) = added-fits facts shape types o x (told_term facts t).known s v hx ht mid in
+        none-of-both (told_term facts t).faults _ left
+        (none-of-both (added facts o x (told_term facts t).known).faults _ mid (addends-right (added facts o x (told_term facts t).known).known z rest (known ∙ (sym typed ∙ hz)) parts.1 r last))
+
+    term-right : (t : Tree ℕ term) → AllTyped t → (s : Shape) → type_of_term meaning (tree t) ≡ Some s → (told_term facts t).faults ≡ []
+    term-right (product f rest) k s h =
+        let parts = split (ids f) (ids rest) k in
+        let (u, hu, last) = and-then (λ x. type_of_multipliers meaning x (tree rest)) (type_of_factor meaning (tree f)) s h in
+        let left = factor-right f parts.0 u hu in
+        let ff : FitsFactor facts shape types label meaning f = factor-fits facts shape types label meaning f parts.0.0 left in
+        none-of-both (told_factor facts f).faults _ left (multipliers-right (told_factor facts f).known u rest (known-as u ff hu) parts.1 s last)
+
+    multipliers-right : (x : Operand T) (s : Shape) (rest : Tree ℕ (items multiplier)) → shape x.of ≡ Some s → AllTyped rest → (r : Shape) → type_of_multipliers meaning s (tree rest) ≡ Some r → (told_multipliers facts x rest).faults ≡ []
+    multipliers-right x s end hx k r h = refl
+    multipliers-right x s (more (multiplies o f) rest) hx k r h =
+        let parts = split (ids f) (ids rest) k in
+        let (v, hv, later) = and-then (λ y. option_and_then (λ z. type_of_multipliers meaning z (tree rest)) (multiply_type o s y)) (type_of_factor meaning (tree f)) r h in
+        let (z, hz, last) = and-then (λ z. type_of_multipliers meaning z (tree rest)) (multiply_type o s v) r later in
+        let left = factor-right f parts.0 v hv in
+        let ff : FitsFactor facts shape types label meaning f = factor-fits facts shape types label meaning f parts.0.0 left in
+        let hf = known-as v ff hv in
+        let mid = multiplied-right facts shape types apart o x (told_factor facts f).known s v z hz hx hf in
+        let (w, known, typed, keeps) = multiplied-fits facts shape types o x (told_factor facts f).known s v hx hf mid in
+        none-of-both (told_factor facts f).faults _ left
+        (none-of-both (multiplied facts o x (told_factor facts f).known).faults _ mid (multipliers-right (multiplied facts o x (told_factor facts f).known).known z rest (known ∙ (sym typed ∙ hz)) parts.1 r last))
+
+    factor-right : (f : Tree ℕ factor) → AllTyped f → (s : Shape) → type_of_factor meaning (tree f) ≡ Some s → (told_factor facts f).faults ≡ []
+    factor-right (designator x path) (k, n) s h =
+        let (u, hu, last) = and-then (λ s. type_at meaning s (tree path)) (object_type (meaning.stands_for (label x))) s h in
+        let left = n.0 u hu in
+        let name : NameFits facts shape label meaning x = k.0 left in
+        none-of-both (named facts x).faults _ left (selectors-right (named facts x).known u path (known-as u name.fits hu) (k.1, n.1) s last)
+    factor-right (integer n) k s h = refl
+    factor-right (parenthesised e) k s h = none-of-both (told_expression facts e).faults [] (expression-right e k s h) refl
+    factor-right (negation f) k s h =
+        let (u, hu, typed) = and-then complement_type (type_of_factor meaning (tree f)) s h in
+        let left = factor-right f k u hu in
+        let ff : FitsFactor facts shape types label meaning f = factor-fits facts shape types label meaning f k.0 left in
+        none-of-both (told_factor facts f).faults _ left (complemented-right facts shape types apart (told_factor facts f).known u s typed (known-as u ff hu))
+
+    pub selectors-right : (x : Operand T) (s : Shape) (path : Tree ℕ (items selector)) → shape x.of ≡ Some s → AllTyped path → (r : Shape) → type_at meaning s (tree path) ≡ Some r → (told_selectors facts x path).faults ≡ []
+    selectors-right x s end hx k r h = refl
+    selectors-right x s (more (field n) rest) hx (k, m) r h =
+        let (u, hu, last) = and-then (λ t. type_at meaning t (tree rest)) (field_type s (meaning.written (label n))) r h in
+        let here : field_type s (text_at facts.source n) ≡ Some u = sym (ap (field_type s) k.0) ∙ hu in
+        let left = field-right facts shape types apart x s hx n u here in
+        let (v, known, typed) = field-fits facts shape types x s hx n left in
+        none-of-both (field_selected facts x n).faults _ left (selectors-right (field_selected facts x n).known u rest (known ∙ (sym typed ∙ here)) (k.1, m.1) r last)
+    selectors-right x s (more (index e) rest) hx k r h =
+        let parts = split (ids e) (ids rest) k in
+        let (v, hv, later) = and-then (λ i. option_and_then (λ t. type_at meaning t (tree rest)) (element_type s i)) (type_of meaning (tree e)) r h in
+        let (u, hu, last) = and-then (λ t. type_at meaning t (tree rest)) (element_type s v) r later in
+        let left = expression-right e parts.0 v hv in
+        let fe : FitsExpression facts shape types label meaning e = expression-fits facts shape types label meaning e parts.0.0 left in
+        let he = known-as v fe hv in
+        let mid = element-right facts shape types apart x (told_expression facts e).known s v u hx he hu in
+        let (w, known, typed) = element-fits facts shape types x (told_expression facts e).known s v hx he mid in
+        none-of-both (told_expression facts e).faults _ left
+        (none-of-both (element_selected facts x (told_expression facts e).known).faults _ mid (selectors-right (element_selected facts x (told_expression facts e).known).known u rest (known ∙ (sym typed ∙ hu)) parts.1 r last))

@@ -1,0 +1,128 @@
+-- Names that have a type; and the types of a table, which what is known of them tells apart.
+use Rattle.std.proofs.Common.{◌≡◌, ℕ, Bool, true, false, true≢false, List, [], ◌∷◌, slice_get, Option, Some, None, option_map, option_and_then, if◌then◌else◌, refl, sym, ap, ◌∙◌}
+use Rattle.ob0_scan.specs.declared.fault.Code.TheVariants as code
+use Rattle.ob0_tree.specs.declared.tree.Role.{Role}
+use Rattle.ob0_tree.specs.declared.tree.Role.TheVariants as role
+use Rattle.ob0_types_rules.specs.Expressions as meant
+use Rattle.ob0_types_rules.specs.Expressions.{Object}
+use Rattle.ob0_types_rules.specs.Typing.{constant_of, constants_only, object_type}
+use Rattle.ob0_types_rules.specs.WellTyped.{Signature, Typed, signature_of}
+use Rattle.ob0_types_table.specs.declared.types.TypeId.{TypeId}
+use Rattle.ob0_types_table.specs.declared.types.TypeId.TheVariants as type
+use Rattle.ob0_values.specs.Values.{Shape, array_shape, boolean_shape, integer_shape, record_shape}
+use Rattle.ob0_types_check.specs.Known.{Facts, Meaning, a_constant, a_procedure, a_scalar, a_type, a_variable}
+use Rattle.ob0_types_check.specs.Operations.{a_name, at_token, named_value, right}
+use Rattle.ob0_types_check.specs.Agreement.{StandsAlike, TokenAgrees, TokensAgree, as_array, as_record, shape_in}
+use Rattle.ob0_types_check.specs.SoFar.{Made, form_at, types_at}
+use Rattle.ob0_types_check.proofs.TypedExpressions.{NameTyped, NamesTyped}
+use Rattle.ob0_types_check.proofs.TypedOperands.{TypesApart, and-then}
+use Rattle.ob0_types_check.proofs.Untold.{some-none, some-same}
+
+-- the types of a table
+
+no-array-of : (shapes : List Shape) (i : ℕ) (s : Shape) → option_and_then as_array (slice_get shapes i) ≡ Some s → as_array s ≡ Some s
+no-array-of shapes i s h = let (r, at, is) = and-then as_array (slice_get shapes i) s h in of-array r s is
+  where
+    of-array : (r s : Shape) → as_array r ≡ Some s → as_array s ≡ Some s
+    of-array (array_shape k n u) s e = ap as_array (sym (some-same (array_shape k n u) s e)) ∙ e
+    of-array integer_shape s e = absurd (cc)
+    of-array boolean_shape s e = absurd (cc)
+    of-array (record_shape k fs) s e = absurd (cc)
+
+no-record-of : (shapes : List Shape) (i : ℕ) (s : Shape) → option_and_then as_record (slice_get shapes i) ≡ Some s → as_record s ≡ Some s
+no-record-of shapes i s h = let (r, at, is) = and-then as_record (slice_get shapes i) s h in of-record r s is
+  where
+    of-record : (r s : Shape) → as_record r ≡ Some s → as_record s ≡ Some s
+    of-record (record_shape k fs) s e = ap as_record (sym (some-same (record_shape k fs) s e)) ∙ e
+    of-record integer_shape s e = absurd (cc)
+    of-record boolean_shape s e = absurd (cc)
+    of-record (array_shape k n u) s e = absurd (cc)
+
+integer-alone : (made : List Made) (shapes : List Shape) (t : TypeId) → shape_in shapes t ≡ Some integer_shape → (types_at made).same t type.Integer ≡ true
+integer-alone made shapes type.Integer h = refl
+integer-alone made shapes type.Boolean h = absurd (cc)
+integer-alone made shapes type.Unknown h = absurd (cc)
+integer-alone made shapes (type.Array i) h = absurd (some-none integer_shape (sym (no-array-of shapes i integer_shape h)))
+integer-alone made shapes (type.Record i) h = absurd (some-none integer_shape (sym (no-record-of shapes i integer_shape h)))
+
+boolean-alone : (made : List Made) (shapes : List Shape) (t : TypeId) → shape_in shapes t ≡ Some boolean_shape → (types_at made).same t type.Boolean ≡ true
+boolean-alone made shapes type.Boolean h = refl
+boolean-alone made shapes type.Integer h = absurd (cc)
+boolean-alone made shapes type.Unknown h = absurd (cc)
+boolean-alone made shapes (type.Array i) h = absurd (some-none boolean_shape (sym (no-array-of shapes i boolean_shape h)))
+boolean-alone made shapes (type.Record i) h = absurd (some-none boolean_shape (sym (no-record-of shapes i boolean_shape h)))
+
+scalar-alone : (made : List Made) (shapes : List Shape) (t : TypeId) (s : Shape) → shape_in shapes t ≡ Some s → form_at made t ≡ a_scalar → (as_array s ≡ None) × (as_record s ≡ None)
+scalar-alone made shapes type.Integer s h e = let is = some-same integer_shape s h in (sym (ap as_array is), sym (ap as_record is))
+scalar-alone made shapes type.Boolean s h e = let is = some-same boolean_shape s h in (sym (ap as_array is), sym (ap as_record is))
+scalar-alone made shapes type.Unknown s h e = absurd (cc)
+scalar-alone made shapes (type.Array i) s h e = absurd (cc)
+scalar-alone made shapes (type.Record i) s h e = absurd (cc)
+
+pub types-apart : (made : List Made) (shapes : List Shape) → TypesApart (types_at made) (shape_in shapes)
+types-apart made shapes = record { integer = integer-alone made shapes; boolean = boolean-alone made shapes; scalar = scalar-alone made shapes }
+
+-- names
+
+module _ {T : Type 0} (facts : Facts T) (shape : T → Option Shape) where
+  no-procedure : (o : Option (Object Shape Signature)) (signature : Signature) (s : Shape) → signature_of o ≡ Some signature → object_type o ≡ Some s → ⊥
+  no-procedure None signature s e h = some-none s (sym h)
+  no-procedure (Some (meant.a_type t)) signature s e h = some-none s (sym h)
+  no-procedure (Some (meant.a_constant v)) signature s e h = some-none signature (sym e)
+  no-procedure (Some (meant.a_variable t)) signature s e h = some-none signature (sym e)
+  no-procedure (Some (meant.a_procedure p)) signature s e h = some-none s (sym h)
+  no-procedure (Some (meant.a_standard p)) signature s e h = some-none s (sym h)
+
+  variable-named : (x : ℕ) (t : T) (b : Bool) → b ≡ false → (if b then record { known = a_name facts.types.unknown x; faults = at_token facts code.NotConstant x } else right (a_name t x)).faults ≡ []
+  variable-named x t true e = absurd (true≢false e)
+  variable-named x t false e = refl
+
+  stands-right : (x : ℕ) (m : Option (Meaning T)) (o : Option (Object Shape Signature)) → facts.only_constants ≡ false → StandsAlike shape m o → (s : Shape) → object_type o ≡ Some s → (named_value facts x m).faults ≡ []
+  stands-right x None o only a s h = absurd a
+  stands-right x (Some (a_type t)) o only (u, known, stands) s h = absurd (some-none s (sym h ∙ ap object_type stands))
+  stands-right x (Some (a_procedure fs)) o only (signature, stands, formals) s h = absurd (no-procedure o signature s stands h)
+  stands-right x (Some (a_constant c)) o only a s h = refl
+  stands-right x (Some (a_variable t)) o only a s h = variable-named x t facts.only_constants only
+
+  -- where names stand for constants alone
+
+  abbrev only : Option (Object Shape Signature) → Option (Object Shape (Unit {0}))
+  only o = option_map meant.a_constant (constant_of o)
+
+  only-right : (Q : Type 0) (x : ℕ) (m : Option (Meaning T)) (o : Option (Object Shape Signature)) → StandsAlike shape m o → (s : Shape) → object_type (option_map {U = Object Shape Q} meant.a_constant (constant_of o)) ≡ Some s → (named_value facts x m).faults ≡ []
+  only-right Q x None o a s h = absurd a
+  only-right Q x (Some (a_type t)) o (u, known, stands) s h = absurd (some-none s (sym h ∙ ap (λ z. object_type (option_map {U = Object Shape Q} meant.a_constant (constant_of z))) stands))
+  only-right Q x (Some (a_procedure fs)) o (signature, stands, formals) s h = absurd (no-constant o signature s stands h)
+    where
+      no-constant : (o : Option (Object Shape Signature)) (signature : Signature) (s : Shape) → signature_of o ≡ Some signature → object_type (option_map {U = Object Shape Q} meant.a_constant (constant_of o)) ≡ Some s → ⊥
+      no-constant None signature s e h = some-none s (sym h)
+      no-constant (Some (meant.a_type t)) signature s e h = some-none s (sym h)
+      no-constant (Some (meant.a_constant v)) signature s e h = some-none signature (sym e)
+      no-constant (Some (meant.a_variable t)) signature s e h = some-none s (sym h)
+      no-constant (Some (meant.a_procedure p)) signature s e h = some-none s (sym h)
+      no-constant (Some (meant.a_standard p)) signature s e h = some-none s (sym h)
+  only-right Q x (Some (a_constant c)) o a s h = refl
+  only-right Q x (Some (a_variable t)) o (u, known, stands) s h = absurd (some-none s (sym h ∙ ap (λ z. object_type (option_map {U = Object Shape Q} meant.a_constant (constant_of z))) stands))
+
+module _ {T N : Type 0} (facts : Facts T) (shape : T → Option Shape) (label : ℕ → N) (meaning : Typed N) where
+  name-typed : facts.only_constants ≡ false → (r : Role) (x : ℕ) → TokenAgrees facts shape label meaning r x → NameTyped facts label meaning r x
+  name-typed only role.LookedUp x a = λ s h. stands-right facts shape x (facts.stands_for x) (meaning.stands_for (label x)) only a s h
+  name-typed only role.FieldName x a = tt
+  name-typed only role.Declaring x a = tt
+  name-typed only role.ClosingName x a = tt
+  name-typed only role.ModuleName x a = tt
+
+  pub names-typed : facts.only_constants ≡ false → (xs : List (Role × ℕ)) → TokensAgree facts shape label meaning xs → NamesTyped facts label meaning xs
+  names-typed only [] a = tt
+  names-typed only (x ∷ xs) a = (name-typed only x.0 x.1 a.0, names-typed only xs a.1)
+
+  constant-typed : (Q : Type 0) (r : Role) (x : ℕ) → TokenAgrees facts shape label meaning r x → NameTyped {P = Q} facts label (constants_only meaning) r x
+  constant-typed Q role.LookedUp x a = λ s h. only-right facts shape Q x (facts.stands_for x) (meaning.stands_for (label x)) a s h
+  constant-typed Q role.FieldName x a = tt
+  constant-typed Q role.Declaring x a = tt
+  constant-typed Q role.ClosingName x a = tt
+  constant-typed Q role.ModuleName x a = tt
+
+  pub constants-typed : (Q : Type 0) (xs : List (Role × ℕ)) → TokensAgree facts shape label meaning xs → NamesTyped {P = Q} facts label (constants_only meaning) xs
+  constants-typed Q [] a = tt
+  constants-typed Q (x ∷ xs) a = (constant-typed Q x.0 x.1 a.0, constants-typed Q xs a.1)

@@ -1,0 +1,292 @@
+-- Statements that are well-typed: no fault is reported of them.
+use Rattle.std.proofs.Common.{◌≡◌, ℕ, Bool, true, false, true≢false, not, suc, List, [], ◌∷◌, ◌++◌, length, map, slice_get, Option, Some, None, option_and_then, if◌then◌else◌, refl, sym, ap, ◌∙◌, eq-eqb}
+use Rattle.ob0_scan.specs.declared.fault.Code.TheVariants as code
+use Rattle.ob0_types_table.specs.Tables.{mode_of}
+use Rattle.ob0_types_table.specs.declared.types.TypeId.{TypeId}
+use Rattle.ob0_types_table.specs.declared.types.TypeId.TheVariants as type
+use Rattle.ob0_tree.specs.declared.tree.Role.{Role}
+use Rattle.ob0_tree.specs.declared.tree.Role.TheVariants as role
+use Rattle.ob0_tree.specs.Places.{value_at}
+use Rattle.ob0_tree.specs.Tree.{Sort, Tree, adds, arguments, assigns, branches, calls, compares, designator, else_branch, else_part, elsif_branch, elsif_part, empty, end, expression, further_statement, identifiers, integer, items, mapped, maybe, more, multiplies, negation, none, one, parenthesised, product, relates, repeat_loop, runs, selector, sequence, statement, sum, then_statement, while_loop}
+use Rattle.ob0_types_rules.specs.Arguments.{arguments_listed}
+use Rattle.ob0_types_rules.specs.Expressions as meant
+use Rattle.ob0_types_rules.specs.Expressions.{Object}
+use Rattle.ob0_types_rules.specs.Typing.{designated, object_type, type_at, type_of, type_of_factor}
+use Rattle.ob0_types_rules.specs.WellTyped.{Formal, Signature, Typed, agree, argument_fits, arguments_fit, by_place, by_value, call_fits, condition_fits, else_fits, elsifs_fit, sequence_fits, signature_of, statement_fits, statements_fit, variable_type}
+use Rattle.ob0_values.specs.Values.{Shape, array_shape, boolean_shape, integer_shape, record_shape}
+use Rattle.ob0_types_check.specs.ExpressionFaults.{told_expression}
+use Rattle.ob0_types_check.specs.Known.{Facts, Meaning, Operand, a_constant, a_procedure, a_type, a_variable}
+use Rattle.ob0_types_check.specs.Known as known
+use Rattle.ob0_types_check.specs.Operations.{a_name, at_operand, at_token, named, named_value, required, right}
+use Rattle.ob0_types_check.specs.SoFar.{Made, facts_at, types_at}
+use Rattle.ob0_types_check.specs.StatementFaults.{called, passed, told_argument, told_arguments, told_asked, told_assigned, reported_call, reported_condition, told_else, told_elsifs, told_sequence, told_statement, told_statements, told_target}
+use Rattle.ob0_types_check.specs.Agreement.{FormalsAgree, StandsAlike, TokensAgree, TypesAgree, as_array, as_record, shape_in}
+use Rattle.ob0_types_check.specs.WellTypedLaws.{EachOnce, constructor_of, NoFaultInStatements}
+use Rattle.ob0_types_check.proofs.EqualShapes.{agree-equal, each-true}
+use Rattle.ob0_types_check.proofs.FittingExpressions.{parts-placed}
+use Rattle.ob0_types_check.proofs.FittingStatements.{EachAgreed, arguments-agreed, arguments-mapped, split}
+use Rattle.ob0_types_check.proofs.TypedNames.{types-apart}
+use Rattle.ob0_types_check.proofs.TypedOperands.{TypesApart, and-then, required-right, none-of-both}
+use Rattle.ob0_types_check.proofs.Untold.{goes-on, some-none, some-same}
+use Rattle.ob0_types_check.proofs.TypedTargets.{expression-typed, no-signature, operand-typed, target-typed, variable-of}
+
+module _ {T N : Type 0} (facts : Facts T) (shape : T → Option Shape) (types : TypesAgree facts.types shape) (apart : TypesApart facts.types shape) (alike : (t u : T) (s : Shape) → shape t ≡ Some s → shape u ≡ Some s → facts.types.same t u ≡ true) (only : facts.only_constants ≡ false) (label : ℕ → N) (meaning : Typed N) where
+  abbrev here : {s : Sort} → Tree ℕ s → Tree N s
+  here t = mapped label (value_at facts.source) t
+
+  abbrev ids : {s : Sort} → Tree ℕ s → List (Role × ℕ)
+  ids t = identifiers role.Declaring t
+
+  abbrev Named : {s : Sort} → Tree ℕ s → Type 0
+  Named t = TokensAgree facts shape label meaning (identifiers role.Declaring t)
+
+  apart-in : (xs ys : List (Role × ℕ)) → TokensAgree facts shape label meaning (xs ++ ys) → TokensAgree facts shape label meaning xs × TokensAgree facts shape label meaning ys
+  apart-in = split facts shape types label meaning
+
+  -- a type that is required of an expression of that type
+  required-typed : (wanted : T) (w : Shape) (e : Tree ℕ expression) → shape wanted ≡ Some w → Named e → type_of meaning (here e) ≡ Some w → told_asked facts wanted e ≡ []
+  unfolding told_asked
+  required-typed wanted w e hw k h =
+      let o : Operand T = (told_expression facts e).known in
+      none-of-both (told_expression facts e).faults (required facts wanted o).faults (expression-typed facts shape types apart only label meaning e k w h) (required-right facts shape types apart wanted o (alike o.of wanted w (operand-typed facts shape types apart only label meaning e k w h) hw))
+
+  condition-right : (e : Tree ℕ expression) → Named e → condition_fits meaning (here e) ≡ true → reported_condition facts e ≡ []
+  unfolding condition_fits
+  condition-right e k h =
+      let (s, truth, typed) = agree-equal (Some boolean_shape) (type_of meaning (here e)) h in
+      required-typed facts.types.boolean boolean_shape e types.boolean k (typed ∙ sym truth)
+
+  assignment-right : (x : ℕ) (path : Tree ℕ (items selector)) (e : Tree ℕ expression) → Named (assigns x path e) → statement_fits meaning (here (assigns x path e)) ≡ true → told_assigned facts (told_target facts x path) e ≡ []
+  unfolding statement_fits
+  assignment-right x path e k h =
+      let (s, left, right) = agree-equal (variable_type meaning (Some (label x, here path))) (type_of meaning (here e)) h in
+      let rest = apart-in (ids path) (ids e) k.1 in
+      let t = target-typed facts shape types apart only label meaning x path s (k.0, rest.0) left in
+      none-of-both (told_target facts x path).faults (told_asked facts (told_target facts x path).known.of e) t.none (required-typed (told_target facts x path).known.of s e t.known rest.1 right)
+
+  -- calls
+
+  variable-place : (x : ℕ) (t : T) (b : Bool) → (if b then record { known = a_name facts.types.unknown x; faults = at_token facts code.NotConstant x } else right (a_name t x)).known.is_place ≡ true
+  variable-place x t true = refl
+  variable-place x t false = refl
+
+  named-place : (x : ℕ) (m : Option (Meaning T)) (o : Option (Object Shape Signature)) (v : Shape) → StandsAlike shape m o → o ≡ Some (meant.a_variable v) → (named_value facts x m).known.is_place ≡ true
+  named-place x None o v a e = absurd a
+  named-place x (Some (a_type t)) o v (s, told, stands) e = absurd (some-none v (sym (ap object_type e) ∙ ap object_type stands))
+  named-place x (Some (a_constant c)) o v (w, told, stands, scalar) e = let same : Some (meant.a_constant w) ≡ Some (meant.a_variable v) = sym stands ∙ e in absurd (cc)
+  named-place x (Some (a_procedure fs)) o v (signature, stands, formals) e = no-signature facts shape types apart only label meaning o v signature e stands
+  named-place x (Some (a_variable t)) o v a e = variable-place x t facts.only_constants
+
+  -- a variable with its selectors has their type, and is known as a place
+  pub record IsPlace (e : Tree ℕ expression) (s : Shape) : Type 0 where
+    pub typed : type_of meaning (here e) ≡ Some s
+    pub placed : (told_expression facts e).known.is_place ≡ true
+
+  no-designator : {A : Type 0} (s : Shape) → variable_type meaning None ≡ Some s → A
+  unfolding variable_type
+  no-designator s h = absurd (some-none s (sym h))
+
+  place-known : (e : Tree ℕ expression) → Named e → (s : Shape) → variable_type meaning (designated (here e)) ≡ Some s → IsPlace e s
+  unfolding told_expression type_of variable_type
+  place-known (compares (sum (Some g) t rest) c) k s h = no-designator s h
+  place-known (compares (sum None (product (integer n) factors) rest) c) k s h = no-designator s h
+  place-known (compares (sum None (product (parenthesised a) factors) rest) c) k s h = no-designator s h
+  place-known (compares (sum None (product (negation f) factors) rest) c) k s h = no-designator s h
+  place-known (compares (sum None (product (designator x path) (more (multiplies o u) factors)) rest) c) k s h = no-designator s h
+  place-known (compares (sum None (product (designator x path) end) (more (adds o u) rest)) c) k s h = no-designator s h
+  place-known (compares (sum None (product (designator x path) end) end) (one (relates r b))) k s h = no-designator s h
+  place-known (compares (sum None (product (designator x path) end) end) none) k s h =
+      let (v, stands, typed) = variable-of (meaning.stands_for (label x)) (λ v. type_at meaning v (here path)) s h in
+      let factor : type_of_factor meaning (here (designator x path)) ≡ Some s = goes-on (λ s. type_at meaning s (here path)) (object_type (meaning.stands_for (label x))) v (Some s) (ap object_type stands) typed in
+      record {
+        typed = ap (λ o. option_and_then (λ x. option_and_then (λ y. Some y) (Some x)) (option_and_then (λ x. Some x) o)) factor;
+        placed = parts-placed facts (named facts x).known path ∙ named-place x (facts.stands_for x) (meaning.stands_for (label x)) v k.0 stands;
+      }
+
+  passed-right : (b : Bool) (of : T) (g : Formal) (e : Tree ℕ expression) → g.mode ≡ mode_of b → shape of ≡ Some g.shape → Named e → argument_fits meaning g (here e) ≡ true
+      → (told_expression facts e).faults ++ (passed facts (record { by_place = b; of = of }) (told_expression facts e).known).faults ≡ []
+  unfolding argument_fits
+  passed-right true of g e mode wanted k h =
+      let o : Operand T = (told_expression facts e).known in
+      let (s, own, given) = agree-equal (Some g.shape) (variable_type meaning (designated (here e))) (sym (λ i. agree (Some g.shape) (elim (mode i) [ by_value ↦ type_of meaning (here e) | by_place ↦ variable_type meaning (designated (here e)) ])) ∙ h) in
+      let p : IsPlace e g.shape = place-known e k g.shape (given ∙ sym own) in
+      none-of-both (told_expression facts e).faults _ (expression-typed facts shape types apart only label meaning e k g.shape p.typed)
+      (ap (λ b. (if not b then record { known = facts.types.unknown; faults = at_operand facts code.NotVariable o } else required facts of o).faults) p.placed
+      ∙ required-right facts shape types apart of o (alike o.of of g.shape (operand-typed facts shape types apart only label meaning e k g.shape p.typed) wanted))
+  passed-right false of g e mode wanted k h =
+      let o : Operand T = (told_expression facts e).known in
+      let (s, own, given) = agree-equal (Some g.shape) (type_of meaning (here e)) (sym (λ i. agree (Some g.shape) (elim (mode i) [ by_value ↦ type_of meaning (here e) | by_place ↦ variable_type meaning (designated (here e)) ])) ∙ h) in
+      let typed : type_of meaning (here e) ≡ Some g.shape = given ∙ sym own in
+      none-of-both (told_expression facts e).faults _ (expression-typed facts shape types apart only label meaning e k g.shape typed)
+      (required-right facts shape types apart of o (alike o.of of g.shape (operand-typed facts shape types apart only label meaning e k g.shape typed) wanted))
+
+  argument-right : (f : known.Formal T) (g : Formal) (e : Tree ℕ expression) → g.mode ≡ mode_of f.by_place → shape f.of ≡ Some g.shape → Named e → argument_fits meaning g (here e) ≡ true → told_argument facts f e ≡ []
+  unfolding told_argument
+  argument-right f g e mode wanted k h = passed-right f.by_place f.of g e mode wanted k h
+
+  arguments-right : (fs : List (known.Formal T)) (gs : Signature) (es : List (Tree ℕ expression)) → FormalsAgree shape fs gs → EachAgreed facts shape types label meaning es → arguments_fit meaning gs (map here es) ≡ true
+      → (length fs ≡ length es) × (told_arguments facts fs es ≡ [])
+  unfolding arguments_fit
+  arguments-right [] [] [] a k h = (refl, refl)
+  arguments-right [] [] (e ∷ es) a k h = absurd (true≢false (sym h))
+  arguments-right [] (g ∷ gs) es a k h = absurd a
+  arguments-right (f ∷ fs) [] es a k h = absurd a
+  arguments-right (f ∷ fs) (g ∷ gs) [] a k h = absurd (true≢false (sym h))
+  arguments-right (f ∷ fs) (g ∷ gs) (e ∷ es) a k h =
+      let parts = each-true (argument_fits meaning g (here e)) (arguments_fit meaning gs (map here es)) h in
+      let rest = arguments-right fs gs es a.2 k.1 parts.1 in
+      (λ i. suc (rest.0 i), none-of-both (told_argument facts f e) (told_arguments facts fs es) (argument-right f g e a.0 a.1 k.0 parts.0) rest.1)
+
+  not-called : {A : Type 0} (o p : Option (Object Shape Signature)) (es : List (Tree ℕ expression)) → o ≡ p → signature_of p ≡ None → call_fits meaning (signature_of o) (map here es) ≡ true → A
+  unfolding call_fits
+  not-called o p es e unsigned h = absurd (true≢false (sym (sym (ap (λ s. call_fits meaning s (map here es)) (ap signature_of e ∙ unsigned)) ∙ h)))
+
+  called-right : (x : ℕ) (m : Option (Meaning T)) (o : Option (Object Shape Signature)) (es : List (Tree ℕ expression)) → StandsAlike shape m o → EachAgreed facts shape types label meaning es → call_fits meaning (signature_of o) (map here es) ≡ true → called facts x m es ≡ []
+  unfolding call_fits
+  called-right x None o es a k h = absurd a
+  called-right x (Some (a_type t)) o es (s, told, stands) k h = not-called o (Some (meant.a_type s)) es stands refl h
+  called-right x (Some (a_constant c)) o es (v, told, stands, scalar) k h = not-called o (Some (meant.a_constant v)) es stands refl h
+  called-right x (Some (a_variable t)) o es (s, told, stands) k h = not-called o (Some (meant.a_variable s)) es stands refl h
+  called-right x (Some (a_procedure fs)) o es (signature, stands, formals) k h =
+      let parts = arguments-right fs signature es formals k (sym (ap (λ s. call_fits meaning s (map here es)) stands) ∙ h) in
+      ap (λ b. if b then told_arguments facts fs es else at_token facts code.ArgumentCount x) (eq-eqb (length fs) (length es) parts.0) ∙ parts.1
+
+  call-right : (x : ℕ) (es : Tree ℕ (maybe arguments)) → Named (calls x es) → statement_fits meaning (here (calls x es)) ≡ true → reported_call facts x (arguments_listed es) ≡ []
+  unfolding statement_fits
+  call-right x es k h =
+      called-right x (facts.stands_for x) (meaning.stands_for (label x)) (arguments_listed es) k.0 (arguments-agreed facts shape types label meaning es k.1)
+      (sym (ap (call_fits meaning (signature_of (meaning.stands_for (label x)))) (arguments-mapped facts shape types label meaning es)) ∙ h)
+
+  mutual
+    unfolding told_statement statement_fits
+
+    statement-right : (a : Tree ℕ statement) → Named a → statement_fits meaning (here a) ≡ true → told_statement facts a ≡ []
+    statement-right empty k h = refl
+    statement-right (assigns x path e) k h = assignment-right x path e k h
+    statement-right (calls x es) k h = call-right x es k h
+    statement-right (branches e statements rest last) k h =
+        let tokens = apart-in (ids e) _ k in
+        let others = apart-in (ids statements) _ tokens.1 in
+        let ends = apart-in (ids rest) (ids last) others.1 in
+        let first = each-true (condition_fits meaning (here e)) _ h in
+        let second = each-true (sequence_fits meaning (here statements)) _ first.1 in
+        let third = each-true (elsifs_fit meaning (here rest)) _ second.1 in
+        none-of-both (reported_condition facts e) _ (condition-right e tokens.0 first.0)
+        (none-of-both (told_sequence facts statements) _ (sequence-right statements others.0 second.0)
+        (none-of-both (told_elsifs facts rest) _ (elsifs-right rest ends.0 third.0) (else-right last ends.1 third.1)))
+    statement-right (while_loop e statements) k h =
+        let tokens = apart-in (ids e) (ids statements) k in
+        let parts = each-true (condition_fits meaning (here e)) _ h in
+        none-of-both (reported_condition facts e) _ (condition-right e tokens.0 parts.0) (sequence-right statements tokens.1 parts.1)
+    statement-right (repeat_loop statements e) k h =
+        let tokens = apart-in (ids statements) (ids e) k in
+        let parts = each-true (sequence_fits meaning (here statements)) _ h in
+        none-of-both (told_sequence facts statements) _ (sequence-right statements tokens.0 parts.0) (condition-right e tokens.1 parts.1)
+
+    pub sequence-right : (a : Tree ℕ sequence) → Named a → sequence_fits meaning (here a) ≡ true → told_sequence facts a ≡ []
+    sequence-right (runs a rest) k h =
+        let tokens = apart-in (ids a) (ids rest) k in
+        let parts = each-true (statement_fits meaning (here a)) _ h in
+        none-of-both (told_statement facts a) _ (statement-right a tokens.0 parts.0) (statements-right rest tokens.1 parts.1)
+
+    statements-right : (a : Tree ℕ (items further_statement)) → Named a → statements_fit meaning (here a) ≡ true → told_statements facts a ≡ []
+    statements-right end k h = refl
+    statements-right (more (then_statement a) rest) k h =
+        let tokens = apart-in (ids a) (ids rest) k in
+        let parts = each-true (statement_fits meaning (here a)) _ h in
+        none-of-both (told_statement facts a) _ (statement-right a tokens.0 parts.0) (statements-right rest tokens.1 parts.1)
+
+    elsifs-right : (a : Tree ℕ (items elsif_part)) → Named a → elsifs_fit meaning (here a) ≡ true → told_elsifs facts a ≡ []
+    elsifs-right end k h = refl
+    elsifs-right (more (elsif_branch e statements) rest) k h =
+        let tokens = apart-in (ids (elsif_branch e statements)) (ids rest) k in
+        let inner = apart-in (ids e) (ids statements) tokens.0 in
+        let first = each-true (condition_fits meaning (here e)) _ h in
+        let second = each-true (sequence_fits meaning (here statements)) _ first.1 in
+        none-of-both (reported_condition facts e) _ (condition-right e inner.0 first.0) (none-of-both (told_sequence facts statements) _ (sequence-right statements inner.1 second.0) (elsifs-right rest tokens.1 second.1))
+
+    else-right : (a : Tree ℕ (maybe else_part)) → Named a → else_fits meaning (here a) ≡ true → told_else facts a ≡ []
+    else-right none k h = refl
+    else-right (one (else_branch statements)) k h = sequence-right statements k h
+
+-- one type is at one place of a table
+
+array-equal : (r s : Shape) → as_array r ≡ Some s → r ≡ s
+array-equal (array_shape k n u) s e = some-same (array_shape k n u) s e
+array-equal integer_shape s e = absurd (cc)
+array-equal boolean_shape s e = absurd (cc)
+array-equal (record_shape k fs) s e = absurd (cc)
+
+record-equal : (r s : Shape) → as_record r ≡ Some s → r ≡ s
+record-equal (record_shape k fs) s e = some-same (record_shape k fs) s e
+record-equal integer_shape s e = absurd (cc)
+record-equal boolean_shape s e = absurd (cc)
+record-equal (array_shape k n u) s e = absurd (cc)
+
+found-at : (f : Shape → Option Shape) (shapes : List Shape) (i : ℕ) (s : Shape) → ((r : Shape) → f r ≡ Some s → r ≡ s) → option_and_then f (slice_get shapes i) ≡ Some s → (slice_get shapes i ≡ Some s) × (f s ≡ Some s)
+found-at f shapes i s equal h =
+    let (r, at, is) = and-then f (slice_get shapes i) s h in
+    (at ∙ ap Some (equal r is), sym (ap f (equal r is)) ∙ is)
+
+no-both : {A : Type 0} (s : Shape) → as_array s ≡ Some s → as_record s ≡ Some s → A
+no-both integer_shape e h = absurd (cc)
+no-both boolean_shape e h = absurd (cc)
+no-both (array_shape k n u) e h = absurd (cc)
+no-both (record_shape k fs) e h = absurd (cc)
+
+array-at : (shapes : List Shape) (i : ℕ) (s : Shape) → option_and_then as_array (slice_get shapes i) ≡ Some s → (slice_get shapes i ≡ Some s) × (as_array s ≡ Some s)
+array-at shapes i s h = found-at as_array shapes i s (λ r e. array-equal r s e) h
+
+record-at : (shapes : List Shape) (i : ℕ) (s : Shape) → option_and_then as_record (slice_get shapes i) ≡ Some s → (slice_get shapes i ≡ Some s) × (as_record s ≡ Some s)
+record-at shapes i s h = found-at as_record shapes i s (λ r e. record-equal r s e) h
+
+array-number : (s : Shape) → as_array s ≡ Some s → (k : ℕ) × (constructor_of s ≡ Some k)
+array-number (array_shape k n u) e = (k, refl)
+array-number integer_shape e = absurd (cc)
+array-number boolean_shape e = absurd (cc)
+array-number (record_shape k fs) e = absurd (cc)
+
+record-number : (s : Shape) → as_record s ≡ Some s → (k : ℕ) × (constructor_of s ≡ Some k)
+record-number (record_shape k fs) e = (k, refl)
+record-number integer_shape e = absurd (cc)
+record-number boolean_shape e = absurd (cc)
+record-number (array_shape k n u) e = absurd (cc)
+
+arrays-once : (shapes : List Shape) → EachOnce shapes → (i j : ℕ) (s : Shape) → option_and_then as_array (slice_get shapes i) ≡ Some s → option_and_then as_array (slice_get shapes j) ≡ Some s → i ≡ j
+arrays-once shapes once i j s p q =
+    let left = array-at shapes i s p in
+    let (k, number) = array-number s left.1 in
+    once i j k s s left.0 (array-at shapes j s q).0 number number
+
+records-once : (shapes : List Shape) → EachOnce shapes → (i j : ℕ) (s : Shape) → option_and_then as_record (slice_get shapes i) ≡ Some s → option_and_then as_record (slice_get shapes j) ≡ Some s → i ≡ j
+records-once shapes once i j s p q =
+    let left = record-at shapes i s p in
+    let (k, number) = record-number s left.1 in
+    once i j k s s left.0 (record-at shapes j s q).0 number number
+
+pub once-alike : (made : List Made) (shapes : List Shape) → EachOnce shapes → (t u : TypeId) (s : Shape) → shape_in shapes t ≡ Some s → shape_in shapes u ≡ Some s → (types_at made).same t u ≡ true
+once-alike made shapes once type.Unknown u s p q = absurd (some-none s (sym p))
+once-alike made shapes once type.Integer type.Unknown s p q = absurd (some-none s (sym q))
+once-alike made shapes once type.Integer type.Integer s p q = refl
+once-alike made shapes once type.Integer type.Boolean s p q = (types-apart made shapes).integer type.Boolean (q ∙ sym p)
+once-alike made shapes once type.Integer (type.Array j) s p q = (types-apart made shapes).integer (type.Array j) (q ∙ sym p)
+once-alike made shapes once type.Integer (type.Record j) s p q = (types-apart made shapes).integer (type.Record j) (q ∙ sym p)
+once-alike made shapes once type.Boolean type.Unknown s p q = absurd (some-none s (sym q))
+once-alike made shapes once type.Boolean type.Integer s p q = (types-apart made shapes).boolean type.Integer (q ∙ sym p)
+once-alike made shapes once type.Boolean type.Boolean s p q = refl
+once-alike made shapes once type.Boolean (type.Array j) s p q = (types-apart made shapes).boolean (type.Array j) (q ∙ sym p)
+once-alike made shapes once type.Boolean (type.Record j) s p q = (types-apart made shapes).boolean (type.Record j) (q ∙ sym p)
+once-alike made shapes once (type.Array i) type.Unknown s p q = absurd (some-none s (sym q))
+once-alike made shapes once (type.Array i) type.Integer s p q = (types-apart made shapes).integer (type.Array i) (p ∙ sym q)
+once-alike made shapes once (type.Array i) type.Boolean s p q = (types-apart made shapes).boolean (type.Array i) (p ∙ sym q)
+once-alike made shapes once (type.Array i) (type.Array j) s p q = eq-eqb i j (arrays-once shapes once i j s p q)
+once-alike made shapes once (type.Array i) (type.Record j) s p q = no-both s (array-at shapes i s p).1 (record-at shapes j s q).1
+once-alike made shapes once (type.Record i) type.Unknown s p q = absurd (some-none s (sym q))
+once-alike made shapes once (type.Record i) type.Integer s p q = (types-apart made shapes).integer (type.Record i) (p ∙ sym q)
+once-alike made shapes once (type.Record i) type.Boolean s p q = (types-apart made shapes).boolean (type.Record i) (p ∙ sym q)
+once-alike made shapes once (type.Record i) (type.Array j) s p q = no-both s (array-at shapes j s q).1 (record-at shapes i s p).1
+once-alike made shapes once (type.Record i) (type.Record j) s p q = eq-eqb i j (records-once shapes once i j s p q)
+
+pub no_fault_in_statements-holds : {N : Type 0} → NoFaultInStatements N
+no_fault_in_statements-holds p shapes label meaning statements once agrees h =
+    sequence-right (facts_at p false) (shape_in shapes) agrees.types (types-apart p.made shapes) (once-alike p.made shapes once) refl label meaning statements agrees.tokens h

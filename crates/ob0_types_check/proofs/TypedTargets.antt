@@ -1,0 +1,91 @@
+-- Expressions with all their names, and targets of assignments that are well-typed: no fault is reported of them.
+use Rattle.std.proofs.Common.{◌≡◌, ℕ, false, List, [], Option, Some, None, refl, sym, ap, ◌∙◌}
+use Rattle.ob0_tree.specs.declared.tree.Role.{Role}
+use Rattle.ob0_tree.specs.declared.tree.Role.TheVariants as role
+use Rattle.ob0_tree.specs.Places.{value_at}
+use Rattle.ob0_tree.specs.Tree.{Sort, Tree, designator, expression, identifiers, items, mapped, selector}
+use Rattle.ob0_types_rules.specs.Expressions as meant
+use Rattle.ob0_types_rules.specs.Expressions.{Object}
+use Rattle.ob0_types_rules.specs.Typing.{object_type, type_at, type_of}
+use Rattle.ob0_types_rules.specs.WellTyped.{Signature, Typed, signature_of, variable_type}
+use Rattle.ob0_values.specs.Values.{Shape}
+use Rattle.ob0_types_check.specs.ExpressionFaults.{told_expression, told_selectors}
+use Rattle.ob0_types_check.specs.Known.{Facts, Meaning, Operand, a_constant, a_procedure, a_type, a_variable}
+use Rattle.ob0_types_check.specs.Operations.{a_name}
+use Rattle.ob0_types_check.specs.SoFar.{facts_at}
+use Rattle.ob0_types_check.specs.StatementFaults.{assigned, assigned_meaning, told_target}
+use Rattle.ob0_types_check.specs.Agreement.{StandsAlike, TokensAgree, TypesAgree, shape_in}
+use Rattle.ob0_types_check.specs.ReportLaws.{OperandFits}
+use Rattle.ob0_types_check.specs.WellTypedLaws.{NoFaultInTargets}
+use Rattle.ob0_types_check.proofs.FittingExpressions.{FitsSelectors, selectors-fit}
+use Rattle.ob0_types_check.proofs.FittingNames.{tokens-fit}
+use Rattle.ob0_types_check.proofs.FittingStatements.{known-operand}
+use Rattle.ob0_types_check.proofs.TypedConstants.{is-there}
+use Rattle.ob0_types_check.proofs.TypedExpressions.{AllTyped, expression-right, selectors-right}
+use Rattle.ob0_types_check.proofs.TypedNames.{names-typed, types-apart}
+use Rattle.ob0_types_check.proofs.TypedOperands.{TypesApart, none-of-both}
+use Rattle.ob0_types_check.proofs.Untold.{some-none}
+
+-- a variable, by the type at the end of its selectors
+pub variable-of : {P : Type 0} (o : Option (Object Shape P)) (f : Shape → Option Shape) (s : Shape) → (elim o [ Some (meant.a_variable v) ↦ f v | _ ↦ None ]) ≡ Some s → (v : Shape) × (o ≡ Some (meant.a_variable v)) × (f v ≡ Some s)
+variable-of None f s h = absurd (some-none s (sym h))
+variable-of (Some (meant.a_type t)) f s h = absurd (some-none s (sym h))
+variable-of (Some (meant.a_constant c)) f s h = absurd (some-none s (sym h))
+variable-of (Some (meant.a_variable v)) f s h = (v, refl, h)
+variable-of (Some (meant.a_procedure p)) f s h = absurd (some-none s (sym h))
+variable-of (Some (meant.a_standard p)) f s h = absurd (some-none s (sym h))
+
+module _ {T N : Type 0} (facts : Facts T) (shape : T → Option Shape) (types : TypesAgree facts.types shape) (apart : TypesApart facts.types shape) (only : facts.only_constants ≡ false) (label : ℕ → N) (meaning : Typed N) where
+  abbrev here : {s : Sort} → Tree ℕ s → Tree N s
+  here t = mapped label (value_at facts.source) t
+
+  abbrev ids : {s : Sort} → Tree ℕ s → List (Role × ℕ)
+  ids t = identifiers role.Declaring t
+
+  abbrev Named : {s : Sort} → Tree ℕ s → Type 0
+  Named t = TokensAgree facts shape label meaning (identifiers role.Declaring t)
+
+  all-typed : {s : Sort} (t : Tree ℕ s) → Named t → AllTyped facts shape types apart label meaning t
+  all-typed t k = (tokens-fit facts shape types label meaning (ids t) k, names-typed facts shape label meaning only (ids t) k)
+
+  pub expression-typed : (e : Tree ℕ expression) → Named e → (s : Shape) → type_of meaning (here e) ≡ Some s → (told_expression facts e).faults ≡ []
+  expression-typed e k s h = expression-right facts shape types apart label meaning e (all-typed e k) s h
+
+  pub operand-typed : (e : Tree ℕ expression) → Named e → (s : Shape) → type_of meaning (here e) ≡ Some s → shape (told_expression facts e).known.of ≡ Some s
+  operand-typed e k s h =
+      let o : OperandFits shape meaning (told_expression facts e).known (here e) = known-operand facts shape types label meaning e k (expression-typed e k s h) in
+      o.known ∙ (sym o.typed ∙ h)
+
+  -- targets of assignments
+
+  pub no-signature : {A : Type 0} (o : Option (Object Shape Signature)) (v : Shape) (signature : Signature) → o ≡ Some (meant.a_variable v) → signature_of o ≡ Some signature → A
+  no-signature o v signature e h = absurd (some-none signature (sym h ∙ ap signature_of e))
+
+  assigned-right : (x : ℕ) (m : Option (Meaning T)) (o : Option (Object Shape Signature)) (v : Shape) → StandsAlike shape m o → o ≡ Some (meant.a_variable v) → ((assigned_meaning facts x m).faults ≡ []) × (shape (assigned_meaning facts x m).known ≡ Some v)
+  assigned-right x None o v a e = absurd a
+  assigned-right x (Some (a_type t)) o v (s, told, stands) e = absurd (some-none v (sym (ap object_type e) ∙ ap object_type stands))
+  assigned-right x (Some (a_constant c)) o v (w, told, stands, scalar) e = let same : Some (meant.a_constant w) ≡ Some (meant.a_variable v) = sym stands ∙ e in absurd (cc)
+  assigned-right x (Some (a_procedure fs)) o v (signature, stands, formals) e = no-signature o v signature e stands
+  assigned-right x (Some (a_variable t)) o v (s, told, stands) e = (refl, told ∙ ap object_type (sym stands ∙ e))
+
+  pub record TargetTyped (x : ℕ) (path : Tree ℕ (items selector)) (s : Shape) : Type 0 where
+    pub none : (told_target facts x path).faults ≡ []
+    pub known : shape (told_target facts x path).known.of ≡ Some s
+
+  pub target-typed : (x : ℕ) (path : Tree ℕ (items selector)) (s : Shape) → Named (designator x path) → variable_type meaning (Some (label x, here path)) ≡ Some s → TargetTyped x path s
+  unfolding told_target variable_type
+  target-typed x path s k h =
+      let (v, stands, typed) = variable-of (meaning.stands_for (label x)) (λ v. type_at meaning v (here path)) s h in
+      let a = assigned-right x (facts.stands_for x) (meaning.stands_for (label x)) v k.0 stands in
+      let o : Operand T = a_name (assigned facts x).known x in
+      let rest = selectors-right facts shape types apart label meaning o v path a.1 (all-typed path k.1) s typed in
+      let fs : FitsSelectors facts shape types label meaning o v path = selectors-fit facts shape types label meaning o v path a.1 (tokens-fit facts shape types label meaning (ids path) k.1) rest in
+      record {
+        none = none-of-both (assigned facts x).faults (told_selectors facts o path).faults a.0 rest;
+        known = fs.known ∙ (sym fs.typed ∙ typed);
+      }
+
+pub no_fault_in_targets-holds : {N : Type 0} → NoFaultInTargets N
+no_fault_in_targets-holds p shapes label meaning x path agrees h =
+    let (s, hs) = is-there (variable_type meaning (Some (label x, mapped label (value_at p.source) path))) h in
+    (target-typed (facts_at p false) (shape_in shapes) agrees.types (types-apart p.made shapes) refl label meaning x path s agrees.tokens hs).none

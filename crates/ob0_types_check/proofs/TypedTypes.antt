@@ -1,0 +1,155 @@
+-- Types as they are written that denote one: no fault is reported of them.
+use Rattle.std.proofs.Common.{◌≡◌, ℕ, suc, ◌+◌, Bool, true, false, ◌&&◌, List, [], map, Option, Some, None, option_and_then, if◌then◌else◌, is_some, nat_le, refl, sym, ap, ◌∙◌, le_refl}
+use Rattle.ob0_tree.specs.Places.{named, text_at, value_at}
+use Rattle.ob0_tree.specs.Tree.{Tree, array_type, end, fields, further_fields, items, mapped, more, named_type, no_fields, occurrences, record_type, some_fields, then_fields, written_type}
+use Rattle.ob0_scope_rules.specs.Names.{Name, as_names}
+use Rattle.ob0_scope_rules.specs.Parts.{names_listed}
+use Rattle.ob0_scope_rules.specs.Scopes.{Scope}
+use Rattle.ob0_types_table.specs.declared.types.TypeId.{TypeId}
+use Rattle.ob0_types_rules.specs.Environments.{meanings}
+use Rattle.ob0_types_rules.specs.Expressions as meant
+use Rattle.ob0_types_rules.specs.Typing.{array_length, constant_value, denoted, denoted_group, denoted_groups, depth, group_constructors, groups_constructors, scalars, type_of_name, with_fields, within_limits}
+use Rattle.ob0_types_rules.specs.WellTyped.{Signature, TypeEnvironment, Typed, signature_of}
+use Rattle.ob0_values.specs.Values.{FieldShapes, Shape, Value, array_shape, no_field_shape, record_shape}
+use Rattle.ob0_types_check.specs.ExpressionFaults.{told_expression}
+use Rattle.ob0_types_check.specs.Known.{Meaning, Operand, Reported, a_constant, a_procedure, a_type, a_variable}
+use Rattle.ob0_types_check.specs.Operations.{right}
+use Rattle.ob0_types_check.specs.SoFar.{Parts, Size, SoFar, facts_at, is_within, made, make, of_elements, size_at, too_large}
+use Rattle.ob0_types_check.specs.SoFar as so_far
+use Rattle.ob0_types_check.specs.TypeFaults.{length_of, type_meant}
+use Rattle.ob0_types_check.specs.WrittenTypeFaults.{Gathered, array_made, array_size, nothing_gathered, record_made, record_size, record_word, told_fields, told_groups, told_type, word_before}
+use Rattle.ob0_types_check.specs.Agreement.{StandsAlike, shape_in}
+use Rattle.ob0_types_check.specs.WellTypedLaws.{NoFaultInConstants, NoFaultInLengths, NoFaultInStatements}
+use Rattle.ob0_types_check.proofs.DeclaredNames.{AreSeen, IsSeen, Numbering, each_part}
+use Rattle.ob0_types_check.proofs.DeclaredShapes.{GatheredAgrees, SizeAgrees, array_sized, followed, record_sized, size_agrees}
+use Rattle.ob0_types_check.proofs.DeclaredStanding.{Stands, agrees_where_seen, seen_stands, stands_later}
+use Rattle.ob0_types_check.proofs.DeclaredTypes.{array_given, both_gather, group_gathers, grouped, groups_gather, none_both, nothing_agrees, of_limits, type_denotes}
+use Rattle.ob0_types_check.proofs.PartsFitting.{PartsFit}
+use Rattle.ob0_types_check.proofs.TypedConstants.{no_fault_in_constants-holds, no_fault_in_lengths-holds}
+use Rattle.ob0_types_check.proofs.TypedOperands.{and-then, none-of-both}
+use Rattle.ob0_types_check.proofs.TypedStatements.{no_fault_in_statements-holds}
+use Rattle.ob0_types_check.proofs.Untold.{some-none}
+
+-- what declarations use of expressions and statements: where they are well-typed, no fault is reported of them
+pub record PartsRight : Type 0 where
+  pub constants : NoFaultInConstants Name
+  pub lengths : NoFaultInLengths Name
+  pub statements : NoFaultInStatements Name
+
+pub parts_right : PartsRight
+parts_right = record { constants = no_fault_in_constants-holds; lengths = no_fault_in_lengths-holds; statements = no_fault_in_statements-holds }
+
+-- what comes of two steps comes of the second, where the first one's result is known
+pub given-again : {A B : Type 0} (next : A → Option B) (o : Option A) (a : A) (r : Option B) → o ≡ Some a → option_and_then next o ≡ r → next a ≡ r
+given-again next o a r e h = sym (ap (option_and_then next) e) ∙ h
+
+pub some-there : {A : Type 0} (o : Option A) (a : A) → o ≡ Some a → is_some o ≡ true
+some-there o a e = ap is_some e
+
+-- a type within its limits isn't too large
+within : (b : Bool) (s t : Shape) → (if b then Some s else None) ≡ Some t → b ≡ true
+within true s t h = refl
+within false s t h = absurd (some-none t (sym h))
+
+is-within : (z : Size) (s t : Shape) → SizeAgrees z s → within_limits s ≡ Some t → is_within z ≡ true
+is-within z s t h e =
+    (λ i. nat_le (h.scalars_are i) 65536 && nat_le (h.depth_is i) 100) ∙ within (nat_le (scalars s) 65536 && nat_le (depth s) 100) s t e
+
+make-right : (p : SoFar) (word : ℕ) (parts : Parts) (size : Size) → is_within size ≡ true → (make p word parts size).faults ≡ []
+make-right p word parts size e = ap (λ b. (if b then right (made p parts size) else too_large p word).faults) e
+
+no-type : {A : Type 0} (o : Option (meant.Object Shape Signature)) (signature : Signature) (s : Shape) → signature_of o ≡ Some signature → type_of_name o ≡ Some s → A
+no-type None signature s e h = absurd (some-none s (sym h))
+no-type (Some (meant.a_type t)) signature s e h = absurd (some-none signature (sym e))
+no-type (Some (meant.a_constant v)) signature s e h = absurd (some-none s (sym h))
+no-type (Some (meant.a_variable t)) signature s e h = absurd (some-none s (sym h))
+no-type (Some (meant.a_procedure p)) signature s e h = absurd (some-none s (sym h))
+no-type (Some (meant.a_standard p)) signature s e h = absurd (some-none s (sym h))
+
+-- a name of a type
+meant-right : (p : SoFar) (before : List Shape) (x : ℕ) (m : Option (Meaning TypeId)) (o : Option (meant.Object Shape Signature)) → StandsAlike (shape_in before) m o → (s : Shape) → type_of_name o ≡ Some s → (type_meant (facts_at p false) x m).faults ≡ []
+meant-right p before x None o a s h = refl
+meant-right p before x (Some (a_type t)) o a s h = refl
+meant-right p before x (Some (a_constant c)) o (v, told, stands, scalar) s h = absurd (some-none s (sym h ∙ ap type_of_name stands))
+meant-right p before x (Some (a_variable t)) o (u, told, stands) s h = absurd (some-none s (sym h ∙ ap type_of_name stands))
+meant-right p before x (Some (a_procedure fs)) o (signature, stands, formals) s h = no-type o signature s stands h
+
+-- an array of a length that is known
+array-right : (o : Operand TypeId) (told : Option ℕ) (count : ℕ) (u : so_far.Typed) → told ≡ Some count → is_within (array_size count (size_at u.behind.made u.of)) ≡ true → (array_made o told u).faults ≡ []
+array-right o told count u e h = ap (λ c. (array_made o c u).faults) e ∙ make-right u.behind _ (of_elements u.of) (array_size count (size_at u.behind.made u.of)) h
+
+module _ (w : Numbering) (fit : PartsFit) (fine : PartsRight) (n : ℕ) (scope : Scope Name) (env : TypeEnvironment Name) where
+  abbrev here : Typed Name
+  here = meanings as_names env
+
+  mutual
+    unfolding told_type denoted
+
+    pub type_right : (k : ℕ) (t : Tree ℕ written_type) (p : SoFar) (before : List Shape) → Stands w p before n scope env → AreSeen w scope t → (s : Shape) → denoted (meanings as_names env) k (named w.source t) ≡ Some s → (told_type p t).faults ≡ []
+    type_right k (named_type x) p before st seen s h =
+        none-of-both (type_meant (facts_at p false) x ((facts_at p false).stands_for x)).faults []
+        (meant-right p before x ((facts_at p false).stands_for x) ((meanings as_names env).stands_for (text_at w.source x)) (seen_stands w p false before n scope env st x seen.0) s h) refl
+    type_right k (array_type e u) p before st seen s h =
+        let parts = each_part (IsSeen w scope) (occurrences e) (occurrences u) seen in
+        let given : Option Shape = denoted here (suc k) (named w.source u) in
+        let value : Option Value = constant_value here (named w.source e) in
+        let (v, hv, later) = and-then (λ v. option_and_then (λ c. of_limits k c given) (array_length v)) value s h in
+        let (c, hc, last) = and-then (λ c. of_limits k c given) (array_length v) s later in
+        let o : Operand TypeId = (told_expression (facts_at p true) e).known in
+        let l : Reported (Option ℕ) = length_of (facts_at p false) o in
+        let el : Reported so_far.Typed = told_type p u in
+        let agrees = agrees_where_seen w p true before n scope env st fit e parts.0 in
+        let there : is_some (option_and_then array_length (constant_value here (mapped (text_at w.source) (value_at p.source) e))) ≡ true =
+        some-there (option_and_then array_length (constant_value here (mapped (text_at w.source) (value_at p.source) e))) c
+        (ap (λ z. option_and_then array_length (constant_value here (mapped (text_at w.source) (value_at z) e))) st.source ∙ (ap (option_and_then array_length) hv ∙ hc)) in
+        let none = fine.lengths p before (text_at w.source) here e agrees there in
+        let a = none_both (told_expression (facts_at p true) e).faults l.faults none in
+        let long = fit.lengths p before (text_at w.source) here e agrees none in
+        let known : value ≡ Some long.value = ap (λ z. constant_value here (mapped (text_at w.source) (value_at z) e)) (sym st.source) ∙ long.given in
+        let limited : of_limits k long.length given ≡ Some s = sym (array_given k value long.value long.length given known long.counted) ∙ h in
+        let (r, hr, limits) = and-then (λ s. within_limits (array_shape k long.length s)) given s limited in
+        let inner = type_right (suc k) u p before st parts.1 r hr in
+        let d = type_denotes w fit n scope env (suc k) u p before st parts.1 inner in
+        let size = array_sized (size_at el.known.behind.made el.known.of) k long.length d.shape (size_agrees el.known.behind.made d.after el.known.of d.shape d.later.table d.known) in
+        let small = is-within (array_size long.length (size_at el.known.behind.made el.known.of)) (array_shape k long.length d.shape) s size (given-again (λ s. within_limits (array_shape k long.length s)) given d.shape (Some s) d.given_is limited) in
+        none-of-both (told_expression (facts_at p true) e).faults _ a.0
+        (none-of-both l.faults _ a.1 (none-of-both el.faults (array_made o l.known el.known).faults inner (array-right o l.known long.length el.known long.known small)))
+    type_right k (record_type g rest) p before st seen s h =
+        let parts = each_part (IsSeen w scope) (occurrences g) (occurrences rest) seen in
+        let c : ℕ = group_constructors (named w.source g) in
+        let d : ℕ = groups_constructors (named w.source rest) in
+        let own : FieldShapes → Option FieldShapes = λ ys. denoted_group here (suc k) ys (named w.source g) in
+        let others : Option FieldShapes = denoted_groups here (suc k + c) (named w.source rest) in
+        let (ys, hy, later) = and-then (λ ys. option_and_then (λ fs. within_limits (record_shape k fs)) (own ys)) others s h in
+        let (fs, hf, last) = and-then (λ fs. within_limits (record_shape k fs)) (own ys) s later in
+        let word : ℕ = word_before g (record_word rest) in
+        let first : Reported Gathered = told_fields (nothing_gathered p) g in
+        let all : Reported Gathered = told_groups first.known rest in
+        let none = group_right (suc k) g (nothing_gathered p) before st parts.0 ys fs hf in
+        let one = group_gathers w fit n scope env (suc k) g (nothing_gathered p) before no_field_shape st parts.0 (nothing_agrees before p) none in
+        let behind = stands_later w n n n p first.known.behind before one.gathers.after scope env (le_refl n) (le_refl n) st one.gathers.later in
+        let rests = groups_right (suc k + c) rest first.known one.gathers.after one.own behind parts.1 one.gathers.agrees ys hy in
+        let other = groups_gather w fit n scope env (suc k + c) rest first.known one.gathers.after one.own behind parts.1 one.gathers.agrees rests in
+        let whole = both_gather n p before (suc k) (suc k + c) (suc k + c + d) no_field_shape own first.known all.known others one other in
+        let limited : within_limits (record_shape k whole.own) ≡ Some s = given-again (λ fs. within_limits (record_shape k fs)) (option_and_then own others) whole.own (Some s) whole.given_is (grouped others own (λ fs. within_limits (record_shape k fs)) ∙ h) in
+        let small = is-within (record_size all.known.size) (record_shape k whole.own) s (record_sized whole.gathers.after all.known k whole.own whole.gathers.agrees) limited in
+        none-of-both first.faults _ none (none-of-both all.faults (record_made word all.known).faults rests (make-right all.known.behind word (so_far.of_fields all.known.fields) (record_size all.known.size) small))
+
+    group_right : (k : ℕ) (t : Tree ℕ fields) (g : Gathered) (before : List Shape) → Stands w g.behind before n scope env → AreSeen w scope t → (later fs : FieldShapes) → denoted_group (meanings as_names env) k later (named w.source t) ≡ Some fs → (told_fields g t).faults ≡ []
+    group_right k no_fields g before st seen later fs h = refl
+    group_right k (some_fields ns t) g before st seen later fs h =
+        let (s, hs, last) = and-then (λ s. Some (with_fields (map (λ x. x) (names_listed (named w.source ns))) s later)) (denoted here k (named w.source t)) fs h in
+        none-of-both (told_type g.behind t).faults [] (type_right k t g.behind before st seen s hs) refl
+
+    groups_right : (k : ℕ) (t : Tree ℕ (items further_fields)) (g : Gathered) (before : List Shape) (first : FieldShapes) → Stands w g.behind before n scope env → AreSeen w scope t → GatheredAgrees before g first
+        → (fs : FieldShapes) → denoted_groups (meanings as_names env) k (named w.source t) ≡ Some fs → (told_groups g t).faults ≡ []
+    groups_right k end g before first st seen agrees fs h = refl
+    groups_right k (more (then_fields f) rest) g before first st seen agrees fs h =
+        let parts = each_part (IsSeen w scope) (occurrences f) (occurrences rest) seen in
+        let c : ℕ = group_constructors (named w.source f) in
+        let next : Reported Gathered = told_fields g f in
+        let (ys, hy, hf) = and-then (λ ys. denoted_group here k ys (named w.source f)) (denoted_groups here (k + c) (named w.source rest)) fs h in
+        let none = group_right k f g before st parts.0 ys fs hf in
+        let one = group_gathers w fit n scope env k f g before first st parts.0 agrees none in
+        let behind = stands_later w n n n g.behind next.known.behind before one.gathers.after scope env (le_refl n) (le_refl n) st one.gathers.later in
+        none-of-both next.faults (told_groups next.known rest).faults none (groups_right (k + c) rest next.known one.gathers.after (followed first one.own) behind parts.1 one.gathers.agrees ys hy)
