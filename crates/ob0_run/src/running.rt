@@ -1,15 +1,18 @@
 //! Runs of well-typed modules.
 
-ghost use Rattle.std.specs.Prelude.{◌≡◌, IfOk};
+ghost use Rattle.std.specs.Prelude.{◌≡◌, ◌<◌, ◌*◌, ◌^◌, IfOk, suc, true};
 ghost use Rattle.ob0_tree.specs.Parsed.{named_tree_of};
+ghost use Rattle.ob0_tree.specs.Tree.{Tree, module_text};
+ghost use Rattle.ob0_scope_rules.specs.Names.{Name};
 ghost use Rattle.ob0_run_rules.specs.Runs.{run};
 ghost use Rattle.ob0_run_machine.specs.Outcomes as machine;
 ghost use Rattle.ob0_run_cells.specs.Lowering.{end_of};
 ghost use Rattle.ob0_run_cells.specs.LoweredStatements.{HaveNumbers};
 ghost use Rattle.ob0_run.specs.Outcomes.{end_in, run_of};
+ghost use Rattle.ob0_run.specs.Programs.{RunsAs};
 
-use ob0_run_cells::activation_laws::{bounds_have_room, runs_lowered};
-use ob0_run_lowering::program;
+use ob0_run_cells::activation_laws::runs_lowered;
+use ob0_run_lowering::Program;
 use ob0_run_machine::{Ending, Item};
 use ob0_types::WellTyped;
 use std::alloc::{AllocError, Global};
@@ -66,12 +69,59 @@ fn have_numbers(input: &[i32])
     }
 }
 
-/// Runs a module on an input, with at most so many calls open at a time, and at most so many turns of each execution of
-/// a loop. The module's body is no call.
+/// Whether the cells of the module and of `calls` open calls have addresses, where none has more than `most_cells`.
+fn have_addresses(most_cells: usize, calls: u32) -> bool
+    ensures { result ≡ true → suc calls * most_cells < 2 ^ 64 }
+{
+    let activations = calls as usize + 1;
+    activations.checked_mul(most_cells).is_some()
+}
+
+/// Lowers a module to a program, which can be executed any number of times.
 ///
 /// # Errors
 ///
-/// Out of memory. So is a module one of whose activations would have 2^32 cells or more.
+/// Out of memory.
+pub fn lower(alloc: Global, checked: &WellTyped<'_, '_>) -> Result<Program, AllocError>
+    ensures { IfOk result (RunsAs (named_tree_of checked.now.module_read)) }
+{
+    runs_lowered();
+    ob0_run_lowering::lower(alloc, checked.resolved(), checked.known())
+}
+
+/// Executes a program on an input, with at most `calls` calls open at a time, and at most `turns` iterations of each
+/// execution of a loop. The module's body is no call.
+///
+/// # Errors
+///
+/// Out of memory. So is a program whose module and calls could have 2^64 cells or more between them, for which no machine
+/// has addresses.
+pub fn execute(
+    alloc: Global,
+    program: &Program,
+    input: &[i32],
+    calls: u32,
+    turns: u32,
+) -> Result<Outcome, AllocError>
+    ensures { (m : Tree Name module_text) → RunsAs m program.now → IfOk result (λ o. run_of o ≡ run m input.now calls turns) }
+{
+    let room = have_addresses(program.most_cells, calls);
+    if !room {
+        return Err(AllocError);
+    }
+    have_numbers(input);
+    let outcome = ob0_run_machine::run(alloc, &program.code, input, calls, turns)?;
+    Ok(Outcome {
+        output: outcome.output,
+        end: end_of(outcome.end),
+    })
+}
+
+/// Runs a module on an input: `lower` and `execute`.
+///
+/// # Errors
+///
+/// Those of both.
 pub fn run(
     alloc: Global,
     checked: &WellTyped<'_, '_>,
@@ -81,13 +131,6 @@ pub fn run(
 ) -> Result<Outcome, AllocError>
     ensures { IfOk result (λ o. run_of o ≡ run (named_tree_of checked.now.module_read) input.now calls turns) }
 {
-    runs_lowered();
-    bounds_have_room();
-    have_numbers(input);
-    let lowered = program(alloc, checked.resolved(), checked.known())?;
-    let outcome = ob0_run_machine::run(alloc, &lowered, input, calls, turns)?;
-    Ok(Outcome {
-        output: outcome.output,
-        end: end_of(outcome.end),
-    })
+    let program = lower(alloc, checked)?;
+    execute(alloc, &program, input, calls, turns)
 }

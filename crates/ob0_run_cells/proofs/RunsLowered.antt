@@ -15,7 +15,7 @@ use Rattle.ob0_run_rules.proofs.KeptVariables.{giving_up-keeps}
 use Rattle.ob0_run_rules.proofs.Proved.{runs_by_ordinal-holds}
 use Rattle.ob0_run_machine.specs.Execution as execution
 use Rattle.ob0_run_machine.specs.Lowered as lowered
-use Rattle.ob0_run_cells.specs.ActivationLaws.{BoundsHaveRoom, RunsLowered, run_of}
+use Rattle.ob0_run_cells.specs.ActivationLaws.{RunsLowered, run_of}
 use Rattle.ob0_run_cells.specs.Activations.{Placed, ProgramMeans, outermost_placing}
 use Rattle.ob0_run_cells.specs.Cells.{sizes}
 use Rattle.ob0_run_cells.specs.LoweredStatements.{HaveNumbers, ProgressRepresents, Represents}
@@ -67,8 +67,3 @@ pub runs_lowered-holds : RunsLowered
 unfolding WellTyped run_numbered
 runs_lowered-holds m program most c t input well means few numbers =
     run-lowered as_labels (numbered m) program most c t input (sym (fits_by_ordinal-holds m) ∙ well.1) means few numbers ∙ sym (runs_by_ordinal-holds m input c t)
-
-pub bounds_have_room-holds : BoundsHaveRoom
-bounds_have_room-holds c most h k =
-    let product : suc c * most ≤ 2 ^ 32 * 4294967295 = mul-le (suc c) most (2 ^ 32) 4294967295 h (omega (arith, k)) in
-    omega (arith, product)

@@ -34,7 +34,3 @@ abbrev pub RunsLowered : Type 0
 RunsLowered =
     (m : Tree Name module_text) (program : lowered.Program) (most c t : ℕ) (input : List ℤ) → WellTyped m → ProgramMeans most as_labels (numbered m) program → suc c * most < 2 ^ 64 → HaveNumbers input
     → run_of (execution.run program input c t) ≡ run m input c t
-
--- under a bound of 32 bits, activations of fewer than 2^32 cells have addresses for all
-abbrev pub BoundsHaveRoom : Type 0
-BoundsHaveRoom = (c most : ℕ) → c < 2 ^ 32 → most < 2 ^ 32 → suc c * most < 2 ^ 64

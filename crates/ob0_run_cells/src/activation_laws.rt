@@ -1,6 +1,6 @@
 //! Laws of lowered calls and runs. Each function does nothing: its contract is the law.
 
-ghost use Rattle.ob0_run_cells.specs.ActivationLaws.{BoundsHaveRoom, CallsLowered, RunsLowered};
+ghost use Rattle.ob0_run_cells.specs.ActivationLaws.{CallsLowered, RunsLowered};
 
 /// Calls of lowered procedures do what calls of the module's do that give up their variables, while there are fewer cells than addresses.
 pub fn calls_lowered()
@@ -10,9 +10,4 @@ pub fn calls_lowered()
 /// The run of a program that is lowered from a well-typed module is the module's run.
 pub fn runs_lowered()
     ensures { RunsLowered }
-{}
-
-/// Under a bound of 32 bits, activations of fewer than 2^32 cells have addresses for all.
-pub fn bounds_have_room()
-    ensures { BoundsHaveRoom }
 {}

@@ -36,7 +36,7 @@ use Rattle.ob0_run_lowering.specs.declared.scene.Scene.{Scene}
 use Rattle.ob0_run_lowering.specs.declared.scene.Site.TheVariants as site
 use Rattle.ob0_run_lowering.specs.KnownBlocks.{AreDeclared, BlockDeclared, Objects}
 use Rattle.ob0_run_lowering.specs.Blocks.{Goes, Grown, Later, LowersBlock, Ready, BlockState}
-use Rattle.ob0_run_lowering.specs.Placed.{Follows, GoesBack, Holds, IsFrame, Matches, Places, declared_size, most, place_groups, place_sections, put_at, slots_at}
+use Rattle.ob0_run_lowering.specs.Placed.{Follows, GoesBack, Holds, IsFrame, Matches, Places, declared_size, place_groups, place_sections, put_at, slots_at}
 use Rattle.ob0_run_lowering.specs.declared.programs.Lowering.{Lowering}
 use Rattle.ob0_run_lowering.specs.declared.sight.Frame.{Frame}
 use Rattle.ob0_run_lowering.specs.declared.sight.Sight.{Sight}
@@ -47,7 +47,7 @@ use Rattle.ob0_run_lowering.proofs.Sights.{follows_back, follows_itself, follows
 -- one after the other
 
 pub goes_itself : (t : Tables) (w : Lowering) (d : ℕ) (ps : Tree Label (items procedure)) → Goes t w w d ps ps
-goes_itself t w d ps = record { on = λ s statements ready. (s, ready, λ table code later means. means); follows = follows_itself w.sight; longer = le_refl (length w.procedures.items); grown = λ i e get. get }
+goes_itself t w d ps = record { on = λ s statements ready. (s, ready, λ table most code above later means. means); most_grows = le_refl w.most; follows = follows_itself w.sight; longer = le_refl (length w.procedures.items); grown = λ i e get. get }
 
 pub goes_then : (t : Tables) (w v u : Lowering) (d : ℕ) (ps qs rest : Tree Label (items procedure)) → Goes t w v d ps qs → Goes t v u d qs rest → Goes t w u d ps rest
 goes_then t w v u d ps qs rest a b = record {
@@ -56,8 +56,9 @@ goes_then t w v u d ps qs rest a b = record {
       let second = b.on first.0 statements first.1 in (
         second.0,
         second.1,
-        λ table code later means. first.2 table code (λ i e le get. later i e le (b.grown i e get)) (second.2 table code (λ i e le get. later i e (omega (arith, le, a.longer)) get) means),
+        λ table most code above later means. first.2 table most code (omega (arith, above, b.most_grows)) (λ i e le get. later i e le (b.grown i e get)) (second.2 table most code above (λ i e le get. later i e (omega (arith, le, a.longer)) get) means),
       );
+  most_grows = omega (arith, a.most_grows, b.most_grows);
   follows = follows_then w.sight v.sight u.sight a.follows b.follows;
   longer = omega (arith, a.longer, b.longer);
   grown = λ i e get. b.grown i e (a.grown i e get);
@@ -118,16 +119,15 @@ pub record IsProcedure (t : Tables) (w v u after : Lowering) (depth index : ℕ)
   pub announced : Follows w.sight v.sight
   pub pushed : (e : Procedure) × (v.procedures.items ≡ w.procedures.items ++ e ∷ [])
   pub first_is : first ≡ record { depth = suc depth; cells = 0; lent = 0 }
-  pub placed : (inside : Sight) × Places v.sight inside first (place_sections (slots_at first.depth) (declared_size t) (formal_sections fs)) f × LowersBlock t (record { sight = inside; procedures = v.procedures }) u f b entry
+  pub placed : (inside : Sight) × Places v.sight inside first (place_sections (slots_at first.depth) (declared_size t) (formal_sections fs)) f × LowersBlock t (record { sight = inside; procedures = v.procedures; most = v.most }) u f b entry
   pub back : GoesBack v.sight u.sight after.sight
   pub kept : after.procedures.items ≡ set u.procedures.items index entry
+  pub most_announced : v.most ≡ w.most
+  pub most_kept : after.most ≡ u.most
 
 procedure-kept : (t : Tables) (w v u after : Lowering) (depth index : ℕ) (o : Option ℕ) (name : Name) (fs : Tree Label (maybe formals)) (b : Tree Label block) (first f : Frame) (entry : Procedure)
     → IsProcedure t w v u after depth index o name fs b first f entry → Kept w.procedures.items v.procedures.items u.procedures.items after.procedures.items index entry
 procedure-kept t w v u after depth index o name fs b first f entry is = record { at = is.index_is; pushed = is.pushed; grown = is.placed.2.grown; longer = is.placed.2.longer; kept_is = is.kept }
-
-few : 0 ≤ most
-few = omega arith
 
 pub procedure_goes : (t : Tables) (w v u after : Lowering) (depth index : ℕ) (o : Option ℕ) (name : Name) (fs : Tree Label (maybe formals)) (b : Tree Label block) (closing : Label) (rest : Tree Label (items procedure)) (first f : Frame) (entry : Procedure)
     → IsProcedure t w v u after depth index o name fs b first f entry → Goes t w after depth (more (declares_procedure (as_label as_names o name) fs b closing) rest) rest
@@ -135,7 +135,7 @@ procedure_goes t w v u after depth index o name fs b closing rest first f entry 
     let kept = procedure-kept t w v u after depth index o name fs b first f entry is in
     let x : Label = as_label as_names o name in
     let deep : first.depth ≡ suc depth = ap (λ (z : Frame). z.depth) is.first_is in
-    let inside : Lowering = record { sight = is.placed.0; procedures = v.procedures } in
+    let inside : Lowering = record { sight = is.placed.0; procedures = v.procedures; most = v.most } in
     let places = is.placed.1 in
     let block_is : LowersBlock t inside u f b entry = is.placed.2 in
     record {
@@ -169,18 +169,19 @@ procedure_goes t w v u after depth index o name fs b closing rest first f entry 
               fits = parts.rest_right;
               declared_behind = known.2;
             },
-            λ table code later means. (
+            λ table most code above later means. (
               ps,
               index,
               procedure_of entry,
               parts.typed,
               later index entry (omega (arith, is.index_is)) (kept-entry w.procedures.items v.procedures.items u.procedures.items after.procedures.items index entry kept),
               subst (λ at. BlockMeans table most as_labels at (bind_typed ps headed) (entered_placing ps outer) (s.next + formals_constructors (formal_sections fs)) entry.cells (sequence_of entry.body.items) b) slots
-                  (block_is.means (bind_typed ps headed) (entered_placing ps outer) (s.next + formals_constructors (formal_sections fs)) inner_matches entered (places.few_cells (subst (λ n. n ≤ most) (sym (ap (λ (z : Frame). z.cells) is.first_is)) few)) parts.block_right known.1
-                  table (kept-later table w.procedures.items v.procedures.items u.procedures.items after.procedures.items index entry kept later)),
+                  (block_is.means (bind_typed ps headed) (entered_placing ps outer) (s.next + formals_constructors (formal_sections fs)) inner_matches entered parts.block_right known.1
+                  table most (omega (arith, above, is.most_kept)) (kept-later table w.procedures.items v.procedures.items u.procedures.items after.procedures.items index entry kept later)),
               means,
             ),
           );
+      most_grows = omega (arith, block_is.most_grows, is.most_announced, is.most_kept);
       follows = follows_back w.sight v.sight u.sight after.sight is.announced (follows_then v.sight is.placed.0 u.sight places.follows block_is.follows) is.back;
       longer = kept-longer w.procedures.items v.procedures.items u.procedures.items after.procedures.items index entry kept;
       grown = kept-grown w.procedures.items v.procedures.items u.procedures.items after.procedures.items index entry kept;
@@ -193,11 +194,11 @@ unfolding block_fits
 body-fits env k statements h = h
 
 pub block_lowers : (t : Tables) (w v : Lowering) (inside : Sight) (cs : Tree Label (maybe constants)) (ts : Tree Label (maybe type_names)) (vs : Tree Label (maybe variables)) (ps : Tree Label (items procedure)) (statements : Tree Label (maybe body)) (f own : Frame) (scene : Scene) (entry : Procedure)
-    → Places w.sight inside f (place_groups (slots_at f.depth) (declared_size t) (section_variables vs)) own → Goes t (record { sight = inside; procedures = w.procedures }) v own.depth ps end
+    → Places w.sight inside f (place_groups (slots_at f.depth) (declared_size t) (section_variables vs)) own → (m : ℕ) → w.most ≤ m → own.cells ≤ m → Goes t (record { sight = inside; procedures = w.procedures; most = m }) v own.depth ps end
     → scene.types.now ≡ t → scene.sites.now ≡ v.sight.sites.items → scene.depth ≡ own.depth → BodyLowers scene (sequence_of entry.body.items) statements → entry.cells ≡ own.cells - f.cells
     → LowersBlock t w v f (has_body (declares cs ts vs ps) statements) entry
-block_lowers t w v inside cs ts vs ps statements f own scene entry places goes types sites deep lowers cells = record {
-  means = λ env p k matches frame few fits known table later.
+block_lowers t w v inside cs ts vs ps statements f own scene entry places m more enough goes types sites deep lowers cells = record {
+  means = λ env p k matches frame fits known table most above later.
       let b : Tree Label block = has_body (declares cs ts vs ps) statements in
       let parts = block-parts env k b fits in
       let inner : TypeEnvironment Label = parts.0 in
@@ -229,9 +230,10 @@ block_lowers t w v inside cs ts vs ps statements f own scene entry places goes t
         declared_parts.2,
         groups_placed t at (section_variables vs) (after_types k b) first inner start declared_parts.2 known_parts.0,
         omega (arith, cells, laid.cells, frame.cells, places.more_cells),
-        omega (arith, laid.cells, places.few_cells few),
-        gone.2 table (sequence_of entry.body.items) later (lowers now.env now.placing seen (body-fits now.env now.next statements last.fits)),
+        omega (arith, laid.cells, enough, goes.most_grows, above),
+        gone.2 table most (sequence_of entry.body.items) above later (lowers now.env now.placing seen (body-fits now.env now.next statements last.fits)),
       );
+  most_grows = omega (arith, more, goes.most_grows);
   follows = follows_then w.sight inside v.sight places.follows goes.follows;
   longer = goes.longer;
   grown = goes.grown;
@@ -248,15 +250,16 @@ goes_on t w v u d r xs done x all a less here b =
 
 pub block_means : (t : Tables) (w v : Lowering) (inside : Sight) (b : tree_block.Block) (xs : List tree.Procedure) (done : ℕ) (f own : Frame) (scene : Scene) (entry : Procedure) (r : Resolution)
     → Places w.sight inside f (place_groups (slots_at f.depth) (declared_size t) (section_variables (in_labels r (variables_of (tree_block.out-Block b).variables)))) own
-    → Goes t (record { sight = inside; procedures = w.procedures }) v own.depth (in_labels r (items_of tree_procedure_of xs)) (in_labels r (items_of tree_procedure_of (drop done xs))) → length xs ≤ done → xs ≡ (tree_block.out-Block b).procedures.items
+    → (m : ℕ) → w.most ≤ m → own.cells ≤ m
+    → Goes t (record { sight = inside; procedures = w.procedures; most = m }) v own.depth (in_labels r (items_of tree_procedure_of xs)) (in_labels r (items_of tree_procedure_of (drop done xs))) → length xs ≤ done → xs ≡ (tree_block.out-Block b).procedures.items
     → scene.types.now ≡ t → scene.sites.now ≡ v.sight.sites.items → scene.depth ≡ own.depth → BodyLowers scene (sequence_of entry.body.items) (in_labels r (body_of (tree_block.out-Block b).body)) → entry.cells ≡ own.cells - f.cells
     → LowersBlock t w v f (in_labels r (block_of b)) entry
-block_means t w v inside b xs done f own scene entry r places goes all same types sites deep lowers cells =
+block_means t w v inside b xs done f own scene entry r places m more enough goes all same types sites deep lowers cells =
     let o = tree_block.out-Block b in
     subst (λ z. LowersBlock t w v f (in_labels r z) entry) (sym (block_parts b))
-    (block_lowers t w v inside (in_labels r (constants_of o.constants)) (in_labels r (types_of o.types)) (in_labels r (variables_of o.variables)) (in_labels r (items_of tree_procedure_of o.procedures.items)) (in_labels r (body_of o.body)) f own scene entry places
-    (subst (λ ys. Goes t (record { sight = inside; procedures = w.procedures }) v own.depth (in_labels r (items_of tree_procedure_of ys)) end) same
-    (subst (λ ys. Goes t (record { sight = inside; procedures = w.procedures }) v own.depth (in_labels r (items_of tree_procedure_of xs)) (in_labels r (items_of tree_procedure_of ys))) (drop_all done xs all) goes))
+    (block_lowers t w v inside (in_labels r (constants_of o.constants)) (in_labels r (types_of o.types)) (in_labels r (variables_of o.variables)) (in_labels r (items_of tree_procedure_of o.procedures.items)) (in_labels r (body_of o.body)) f own scene entry places m more enough
+    (subst (λ ys. Goes t (record { sight = inside; procedures = w.procedures; most = m }) v own.depth (in_labels r (items_of tree_procedure_of ys)) end) same
+    (subst (λ ys. Goes t (record { sight = inside; procedures = w.procedures; most = m }) v own.depth (in_labels r (items_of tree_procedure_of xs)) (in_labels r (items_of tree_procedure_of ys))) (drop_all done xs all) goes))
     types sites deep lowers cells)
 
 pub procedure_means : (t : Tables) (w v u after : Lowering) (depth index : ℕ) (p : tree.Procedure) (r : Resolution) (first f : Frame) (entry : Procedure) (rest : Tree Label (items procedure))
@@ -284,13 +287,13 @@ module-fits m well = sym (fits_by_ordinal-holds m) ∙ well.1
 
 pub program_means : (t : Tables) (m : Tree Name module_text) (w v : Lowering) (b : Tree Label block) (entry : Procedure) (program : Program) → WellTyped m → ((k : ℕ) → declared_in t k ≡ declared_object m k) → module_block (numbered m) ≡ b
     → w.sight.sites.items ≡ [] → w.procedures.items ≡ [] → LowersBlock t w v (record { depth = 0; cells = 0; lent = 0 }) b entry
-    → program_of program ≡ record { cells = entry.cells; body = sequence_of entry.body.items; procedures = map procedure_of v.procedures.items } → ProgramMeans most as_labels (numbered m) (program_of program)
+    → program_of program ≡ record { cells = entry.cells; body = sequence_of entry.body.items; procedures = map procedure_of v.procedures.items } → ProgramMeans v.most as_labels (numbered m) (program_of program)
 program_means t m w v b entry program well known is sites procedures lowers made =
     let known_blocks : BlockDeclared (declared_in t) (outermost as_labels) 0 (module_block (numbered m)) = subst (λ (objects : Objects). BlockDeclared objects (outermost as_labels) 0 (module_block (numbered m))) (λ i k. sym (known k) i) (module-declared m well) in
     let start : Placed Label = record { placing = outermost_placing as_labels; cells = 0; lent_places = 0 } in
-    subst (ProgramMeans most as_labels (numbered m)) (sym made)
-    (subst (λ z. BlockMeans (map procedure_of v.procedures.items) most as_labels of_module (outermost as_labels) start 0 entry.cells (sequence_of entry.body.items) z) (sym is)
+    subst (ProgramMeans v.most as_labels (numbered m)) (sym made)
+    (subst (λ z. BlockMeans (map procedure_of v.procedures.items) v.most as_labels of_module (outermost as_labels) start 0 entry.cells (sequence_of entry.body.items) z) (sym is)
     (lowers.means (outermost as_labels) start 0 outermost-matches
     (record { holds = subst (λ xs. Holds xs 0 (outermost_placing as_labels)) (sym sites) outermost-holds; cells = refl; lent_places = refl })
-    few (subst (λ z. block_fits as_labels (outermost as_labels) 0 z ≡ true) is (module-fits m well)) (subst (λ z. BlockDeclared (declared_in t) (outermost as_labels) 0 z) is known_blocks)
-    (map procedure_of v.procedures.items) (λ i e le get. all-later v.procedures.items i e (omega arith) get)))
+    (subst (λ z. block_fits as_labels (outermost as_labels) 0 z ≡ true) is (module-fits m well)) (subst (λ z. BlockDeclared (declared_in t) (outermost as_labels) 0 z) is known_blocks)
+    (map procedure_of v.procedures.items) v.most (le_refl v.most) (λ i e le get. all-later v.procedures.items i e (omega arith) get)))

@@ -19,7 +19,7 @@ use Rattle.ob0_types_table.specs.Tables.{mode_of}
 use Rattle.ob0_scope_rules.specs.Names.{Label, Name, as_names}
 use Rattle.ob0_scope_rules.specs.Scopes.{as_label}
 use Rattle.ob0_types_rules.specs.WellTyped.{by_place, by_value}
-use Rattle.ob0_run_lowering.specs.Placed.{AllWithin, Follows, GoesBack, Holds, IsFrame, IsNextSite, Places, Tells, before_all, most, place_each, place_one, place_sections, put_at, put_site, slots_at}
+use Rattle.ob0_run_lowering.specs.Placed.{AllWithin, Follows, GoesBack, Holds, IsFrame, IsNextSite, Places, Tells, before_all, place_each, place_one, place_sections, put_at, put_site, slots_at}
 use Rattle.ob0_run_lowering.specs.declared.sight.Frame.{Frame}
 use Rattle.ob0_run_lowering.specs.declared.sight.Hidden.{Hidden}
 use Rattle.ob0_run_lowering.specs.declared.sight.Sight.{Sight}
@@ -150,7 +150,7 @@ back_ends start now mark back all w f is =
 -- steps of placing
 
 pub places_nothing : (w : Sight) (f : Frame) → Places w w f (λ p. p) f
-places_nothing w f = record { placed = λ p h. h; follows = follows_itself w; depth = refl; more_cells = le_refl f.cells; few_cells = λ h. h }
+places_nothing w f = record { placed = λ p h. h; follows = follows_itself w; depth = refl; more_cells = le_refl f.cells }
 
 pub places_then : (w v u : Sight) (f g h : Frame) (first second : Placed Label → Placed Label) → Places w v f first g → Places v u g second h → Places w u f (λ p. second (first p)) h
 places_then w v u f g h first second a b = record {
@@ -158,7 +158,6 @@ places_then w v u f g h first second a b = record {
   follows = follows_then w v u a.follows b.follows;
   depth = b.depth ∙ a.depth;
   more_cells = omega (arith, a.more_cells, b.more_cells);
-  few_cells = λ few. b.few_cells (a.few_cells few);
 }
 
 pub places_as : (w v : Sight) (f g : Frame) (first second : Placed Label → Placed Label) → ((p : Placed Label) → first p ≡ second p) → Places w v f first g → Places w v f second g
@@ -180,15 +179,14 @@ place-lent w v f g size_of o name put follows is =
       follows = follows;
       depth = refl;
       more_cells = le_refl f.cells;
-      few_cells = λ few. few;
     }
 
 next-tells : (f : Frame) (s : Site) (n : ℕ) → IsNextSite f s → f.cells ≡ n → Tells f.depth s (in_slot (slots_at f.depth n))
 next-tells f s n next e = (next.0, next.1 ∙ ap (λ m. in_slot (slots_at f.depth m)) e)
 
-pub place-held : (w v : Sight) (f g : Frame) (size_of : Label → ℕ) (o : Option ℕ) (name : Name) (s : Site) (n : ℕ) → IsNextSite f s → ((k : ℕ) → site_at v.sites.items k ≡ put_at o s (site_at w.sites.items) k) → Follows w v → g ≡ record f { cells = f.cells + n } → g.cells ≤ most
+pub place-held : (w v : Sight) (f g : Frame) (size_of : Label → ℕ) (o : Option ℕ) (name : Name) (s : Site) (n : ℕ) → IsNextSite f s → ((k : ℕ) → site_at v.sites.items k ≡ put_at o s (site_at w.sites.items) k) → Follows w v → g ≡ record f { cells = f.cells + n }
     → n ≡ size_of (as_label as_names o name) → Places w v f (place_one (slots_at f.depth) size_of by_value (as_label as_names o name)) g
-place-held w v f g size_of o name s n next put follows is few size =
+place-held w v f g size_of o name s n next put follows is size =
     let cells : g.cells ≡ f.cells + n = ap (λ (z : Frame). z.cells) is in
     record {
       placed = λ p h. record {
@@ -200,7 +198,6 @@ place-held w v f g size_of o name s n next put follows is few size =
       follows = follows;
       depth = ap (λ (z : Frame). z.depth) is;
       more_cells = omega (arith, cells);
-      few_cells = λ h. few;
     }
 
 -- names one after the other: what is left to place, over what is placed so far, gives what all give
@@ -209,10 +206,9 @@ pub record InPlaces {A : Type 0} (fold : List A → Placed Label → Placed Labe
   pub follows : Follows w v
   pub depth : g.depth ≡ f.depth
   pub more_cells : f.cells ≤ g.cells
-  pub few_cells : f.cells ≤ most → g.cells ≤ most
 
 pub in_begins : {A : Type 0} (fold : List A → Placed Label → Placed Label) (xs : List A) (w : Sight) (f : Frame) → InPlaces fold xs w w f f 0
-in_begins fold xs w f = record { on = λ p h. (p, h, refl); follows = follows_itself w; depth = refl; more_cells = le_refl f.cells; few_cells = λ h. h }
+in_begins fold xs w f = record { on = λ p h. (p, h, refl); follows = follows_itself w; depth = refl; more_cells = le_refl f.cells }
 
 pub in_on : {A : Type 0} {fold : List A → Placed Label → Placed Label} {xs : List A} {w v : Sight} {f g : Frame} {done : ℕ} (step : A → Placed Label → Placed Label) (u : Sight) (h : Frame) (x d : A)
     → ((x : A) (xs : List A) (p : Placed Label) → fold (x ∷ xs) p ≡ fold xs (step x p)) → InPlaces fold xs w v f g done → done < length xs → x ≡ get_or xs done d → Places v u g (step x) h → InPlaces fold xs w u f h (done + 1)
@@ -224,7 +220,6 @@ in_on {fold = fold} {xs = xs} {w = w} {v = v} {f = f} {g = g} {done = done} step
       follows = follows_then w v u a.follows b.follows;
       depth = b.depth ∙ a.depth;
       more_cells = omega (arith, a.more_cells, b.more_cells);
-      few_cells = λ few. b.few_cells (a.few_cells few);
     }
 
 pub in_ends : {A : Type 0} {fold : List A → Placed Label → Placed Label} {xs : List A} {w v : Sight} {f g : Frame} {done : ℕ} → ((p : Placed Label) → fold [] p ≡ p) → InPlaces fold xs w v f g done → length xs ≤ done → Places w v f (fold xs) g
@@ -235,7 +230,6 @@ in_ends {fold = fold} {xs = xs} {v = v} {g = g} {done = done} ended a all = reco
   follows = a.follows;
   depth = a.depth;
   more_cells = a.more_cells;
-  few_cells = a.few_cells;
 }
 
 -- a step of an activation as deep

@@ -10,7 +10,7 @@ use Rattle.ob0_run_machine.specs.declared.code.Procedure.{Procedure}
 use Rattle.ob0_run_cells.specs.Activations.{BlockMeans, Placed, Placing, ProceduresMean}
 use Rattle.ob0_run_lowering.specs.declared.scene.Site.{Site}
 use Rattle.ob0_run_lowering.specs.KnownBlocks.{AreDeclared, BlockDeclared, ProceduresDeclared}
-use Rattle.ob0_run_lowering.specs.Placed.{Follows, Holds, IsFrame, Matches, most, slots_at}
+use Rattle.ob0_run_lowering.specs.Placed.{Follows, Holds, IsFrame, Matches, slots_at}
 use Rattle.ob0_run_lowering.specs.declared.programs.Lowering.{Lowering}
 use Rattle.ob0_run_lowering.specs.declared.sight.Frame.{Frame}
 
@@ -36,22 +36,25 @@ pub record Ready (t : Tables) (sites : List Site) (depth : ℕ) (s : BlockState)
   pub fits : procedures_fit as_labels s.env s.next statements ps ≡ true
   pub declared_behind : ProceduresDeclared (declared_in t) s.env s.next ps
 
-abbrev pub AllMean : List lowered.Procedure → BlockState → lowered.Statements → Tree Label (maybe body) → Tree Label (items procedure) → Type 0
-AllMean table s code statements ps = ProceduresMean table most as_labels s.env s.placing s.next code statements ps
+abbrev pub AllMean : List lowered.Procedure → ℕ → BlockState → lowered.Statements → Tree Label (maybe body) → Tree Label (items procedure) → Type 0
+AllMean table most s code statements ps = ProceduresMean table most as_labels s.env s.placing s.next code statements ps
 
--- procedures are lowered, of which some are left: where what is left means what stands there, all do
+-- procedures are lowered, of which some are left: where what is left means what stands there, all do, and no activation has more
+-- cells than is known of then
 pub record Goes (t : Tables) (w v : Lowering) (depth : ℕ) (ps left : Tree Label (items procedure)) : Type 0 where
   pub on : (s : BlockState) (statements : Tree Label (maybe body)) → Ready t w.sight.sites.items depth s statements ps
       → (now : BlockState) × Ready t v.sight.sites.items depth now statements left
-      × ((table : List lowered.Procedure) (code : lowered.Statements) → Later table (length w.procedures.items) v.procedures.items → AllMean table now code statements left → AllMean table s code statements ps)
+      × ((table : List lowered.Procedure) (most : ℕ) (code : lowered.Statements) → v.most ≤ most → Later table (length w.procedures.items) v.procedures.items → AllMean table most now code statements left → AllMean table most s code statements ps)
+  pub most_grows : w.most ≤ v.most
   pub follows : Follows w.sight v.sight
   pub longer : length w.procedures.items ≤ length v.procedures.items
   pub grown : Grown w.procedures.items v.procedures.items
 
 -- a block is lowered to its cells and its statements
 pub record LowersBlock (t : Tables) (w v : Lowering) (f : Frame) (b : Tree Label block) (entry : Procedure) : Type 0 where
-  pub means : (env : TypeEnvironment Label) (p : Placed Label) (k : ℕ) → Matches env p.placing → IsFrame w.sight.sites.items f p → f.cells ≤ most → block_fits as_labels env k b ≡ true → BlockDeclared (declared_in t) env k b
-      → (table : List lowered.Procedure) → Later table (length w.procedures.items) v.procedures.items → BlockMeans table most as_labels (slots_at f.depth) env p k entry.cells (sequence_of entry.body.items) b
+  pub means : (env : TypeEnvironment Label) (p : Placed Label) (k : ℕ) → Matches env p.placing → IsFrame w.sight.sites.items f p → block_fits as_labels env k b ≡ true → BlockDeclared (declared_in t) env k b
+      → (table : List lowered.Procedure) (most : ℕ) → v.most ≤ most → Later table (length w.procedures.items) v.procedures.items → BlockMeans table most as_labels (slots_at f.depth) env p k entry.cells (sequence_of entry.body.items) b
+  pub most_grows : w.most ≤ v.most
   pub follows : Follows w.sight v.sight
   pub longer : length w.procedures.items ≤ length v.procedures.items
   pub grown : Grown w.procedures.items v.procedures.items

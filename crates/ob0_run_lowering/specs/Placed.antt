@@ -128,14 +128,9 @@ pub record IsFrame (sites : List Site) (f : Frame) (p : Placed Label) : Type 0 w
   pub cells : f.cells ≡ p.cells
   pub lent_places : f.lent ≡ p.lent_places
 
--- no activation has more cells
-abbrev pub most : ℕ
-most = 4294967295
-
 -- a step places something more in an activation
 pub record Places (w v : Sight) (f : Frame) (step : Placed Label → Placed Label) (g : Frame) : Type 0 where
   pub placed : (p : Placed Label) → IsFrame w.sites.items f p → IsFrame v.sites.items g (step p)
   pub follows : Follows w v
   pub depth : g.depth ≡ f.depth
   pub more_cells : f.cells ≤ g.cells
-  pub few_cells : f.cells ≤ most → g.cells ≤ most

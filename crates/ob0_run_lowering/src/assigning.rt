@@ -1,15 +1,66 @@
 //! Assignments.
 
-ghost use Rattle.std.specs.Prelude.{IfOk};
+ghost use Rattle.std.specs.Prelude.{◌≡◌, IfOk};
 ghost use Rattle.ob0_tree.specs.View.{assignment_of};
 ghost use Rattle.ob0_types_rules.specs.InLabels.{in_labels};
-ghost use Rattle.ob0_run_machine.specs.View.{statement_of};
+ghost use Rattle.ob0_run_machine.specs.Lowered as machine;
+ghost use Rattle.ob0_run_machine.specs.View.{number_of, operation_of, place_of, statement_of, variable_of};
 ghost use Rattle.ob0_run_lowering.specs.LoweredBodies.{StatementLowers};
 
 use crate::{Lowered, Scene};
-use ob0_run_machine::code::Statement;
+use ob0_run_machine::code::{Number, Operation, Place, Statement, Variable};
 use ob0_tree::Assignment;
 use std::alloc::{AllocError, Global};
+
+/// The code of an assignment of a number.
+fn store_number(alloc: Global, place: Place, n: Number) -> Result<Statement, AllocError>
+    ensures { IfOk result (λ made. statement_of made ≡ machine.stores_number (place_of place) (number_of n)) }
+{
+    match place {
+        Place::Variable(variable) => store_variable(alloc, variable, n),
+        other => Ok(Statement::StoreNumber(other, n)),
+    }
+}
+
+/// The code of an assignment of a number to a variable.
+fn store_variable(alloc: Global, variable: Variable, n: Number) -> Result<Statement, AllocError>
+    ensures { IfOk result (λ made. statement_of made ≡ machine.stores_number (variable_of variable) (number_of n)) }
+{
+    match n {
+        Number::Operation(operation) => {
+            store_operation(alloc, variable, Box::into_inner(operation))
+        }
+        other => Ok(Statement::StoreVariable(variable, other)),
+    }
+}
+
+/// The code of an assignment of an operation's result to a variable, which may be its left operand.
+fn store_operation(
+    alloc: Global,
+    variable: Variable,
+    operation: Operation,
+) -> Result<Statement, AllocError>
+    ensures { IfOk result (λ made. statement_of made ≡ machine.stores_number (variable_of variable) (operation_of operation)) }
+{
+    let Operation { first, link } = operation;
+    match first {
+        Number::Variable(left) => {
+            if left == variable {
+                return Ok(Statement::Update(variable, link));
+            }
+            let operation = Operation {
+                first: Number::Variable(left),
+                link,
+            };
+            let n = Number::Operation(Box::new(alloc, operation)?);
+            Ok(Statement::StoreVariable(variable, n))
+        }
+        first => {
+            let n = Number::Operation(Box::new(alloc, Operation { first, link })?);
+            Ok(Statement::StoreVariable(variable, n))
+        }
+    }
+}
 
 /// The code of an assignment: of a number, of a truth, or of the cells of an array or a record.
 pub(crate) fn assignment(
@@ -21,7 +72,7 @@ pub(crate) fn assignment(
 {
     let target = scene.place(alloc, &a.target)?;
     match scene.expression(alloc, &a.value)? {
-        Lowered::Number(n) => Ok(Statement::StoreNumber(target.place, n)),
+        Lowered::Number(n) => store_number(alloc, target.place, n),
         Lowered::Truth(t) => Ok(Statement::StoreTruth(target.place, t)),
         Lowered::Block(from, cells) => Ok(Statement::Copy(target.place, from, cells)),
         Lowered::Nothing => Ok(Statement::WriteLine),

@@ -2,51 +2,72 @@
 
 ghost use Rattle.std.specs.Prelude.{◌≡◌, IfOk};
 ghost use Rattle.ob0_run_machine.specs.Lowered as machine;
-ghost use Rattle.ob0_run_machine.specs.View.{all_in, any_in, chained_in, number_of, operator_of, truth_of};
+ghost use Rattle.ob0_run_machine.specs.View.{all_in, any_in, applied, chained_in, number_of, operation_of, operator_of, truth_of};
 
-use ob0_run_machine::code::{Chain, Link, Number, Operands, Operator, Several, Truth, Truths};
+use ob0_run_machine::code::{Chain, Link, Number, Operation, Operator, Several, Truth, Truths};
 use std::alloc::{AllocError, Global};
 
-/// Two numbers with an operator between them.
-fn pair(
-    alloc: Global,
-    operator: Operator,
-    left: Number,
-    right: Number,
-) -> Result<Number, AllocError>
-    ensures { IfOk result (λ n. number_of n ≡ machine.operation (operator_of operator) (number_of left) (number_of right)) }
+/// An operator with its right operand.
+fn link(operator: Operator, right: Number) -> Link
+    ensures { (left : machine.Number) → applied result left ≡ machine.operation (operator_of operator) left (number_of right) }
 {
-    let operands = Box::new(alloc, Operands { left, right })?;
-    Ok(Number::Operation(operator, operands))
-}
-
-/// A row with one operation more.
-fn longer(
-    alloc: Global,
-    chain: Chain,
-    operator: Operator,
-    operand: Number,
-) -> Result<Number, AllocError>
-    ensures { IfOk result (λ n. number_of n ≡ machine.operation (operator_of operator) (chained_in chain) (number_of operand)) }
-{
-    let Chain { first, mut rest } = chain;
-    rest.push(Link { operator, operand })?;
-    let chain = Box::new(alloc, Chain { first, rest })?;
-    Ok(Number::Chain(chain))
-}
-
-/// Whether an operation's left side is an operation.
-fn is_deep(operands: &Operands) -> bool {
-    match operands.left {
-        Number::Operation(_, _) => true,
-        Number::Literal(_) => false,
-        Number::Cell(_) => false,
-        Number::Negative(_) => false,
-        Number::Chain(_) => false,
+    match operator {
+        Operator::Sum => match right {
+            Number::Literal(n) => Link::SumLiteral(n),
+            Number::Variable(v) => Link::SumVariable(v),
+            other => Link::Sum(other),
+        },
+        Operator::Difference => match right {
+            Number::Literal(n) => Link::DifferenceLiteral(n),
+            Number::Variable(v) => Link::DifferenceVariable(v),
+            other => Link::Difference(other),
+        },
+        Operator::Product => match right {
+            Number::Literal(n) => Link::ProductLiteral(n),
+            Number::Variable(v) => Link::ProductVariable(v),
+            other => Link::Product(other),
+        },
+        Operator::Quotient => match right {
+            Number::Literal(n) => Link::QuotientLiteral(n),
+            Number::Variable(v) => Link::QuotientVariable(v),
+            other => Link::Quotient(other),
+        },
+        Operator::Remainder => match right {
+            Number::Literal(n) => Link::RemainderLiteral(n),
+            Number::Variable(v) => Link::RemainderVariable(v),
+            other => Link::Remainder(other),
+        },
     }
 }
 
-/// An operation between two numbers.
+/// One operation on a number that is none itself.
+fn single(alloc: Global, first: Number, link: Link) -> Result<Number, AllocError>
+    ensures { IfOk result (λ n. number_of n ≡ applied link (number_of first)) }
+{
+    Ok(Number::Operation(Box::new(alloc, Operation { first, link })?))
+}
+
+/// A row of two operations.
+fn two(alloc: Global, operation: Operation, next: Link) -> Result<Number, AllocError>
+    ensures { IfOk result (λ n. number_of n ≡ applied next (operation_of operation)) }
+{
+    let Operation { first, link } = operation;
+    let mut rest = Vec::new(alloc);
+    rest.push(link)?;
+    rest.push(next)?;
+    Ok(Number::Chain(Box::new(alloc, Chain { first, rest })?))
+}
+
+/// A row with one operation more.
+fn longer(alloc: Global, chain: Chain, link: Link) -> Result<Number, AllocError>
+    ensures { IfOk result (λ n. number_of n ≡ applied link (chained_in chain)) }
+{
+    let Chain { first, mut rest } = chain;
+    rest.push(link)?;
+    Ok(Number::Chain(Box::new(alloc, Chain { first, rest })?))
+}
+
+/// An operation between two numbers. Where the left one is an operation, both are in one row.
 pub(crate) fn operation(
     alloc: Global,
     operator: Operator,
@@ -55,22 +76,14 @@ pub(crate) fn operation(
 ) -> Result<Number, AllocError>
     ensures { IfOk result (λ n. number_of n ≡ machine.operation (operator_of operator) (number_of left) (number_of right)) }
 {
+    let link = link(operator, right);
     match left {
-        Number::Chain(chain) => longer(alloc, Box::into_inner(chain), operator, right),
-        Number::Operation(first, operands) => {
-            if is_deep(&operands) {
-                let chain = Chain {
-                    first: Number::Operation(first, operands),
-                    rest: Vec::new(alloc),
-                };
-                longer(alloc, chain, operator, right)
-            } else {
-                pair(alloc, operator, Number::Operation(first, operands), right)
-            }
-        }
-        Number::Literal(n) => pair(alloc, operator, Number::Literal(n), right),
-        Number::Cell(place) => pair(alloc, operator, Number::Cell(place), right),
-        Number::Negative(number) => pair(alloc, operator, Number::Negative(number), right),
+        Number::Chain(chain) => longer(alloc, Box::into_inner(chain), link),
+        Number::Operation(operation) => two(alloc, Box::into_inner(operation), link),
+        Number::Literal(n) => single(alloc, Number::Literal(n), link),
+        Number::Variable(v) => single(alloc, Number::Variable(v), link),
+        Number::Cell(place) => single(alloc, Number::Cell(place), link),
+        Number::Negative(number) => single(alloc, Number::Negative(number), link),
     }
 }
 

@@ -10,7 +10,7 @@ ghost use Rattle.ob0_run_lowering.specs.Scenes.{HasSmall};
 
 use crate::lowered::{Located, Lowered};
 use crate::scene::Scene;
-use ob0_run_machine::code::{Argument, Number, Place, Truth};
+use ob0_run_machine::code::{Argument, Number, Place, Truth, Variable};
 use ob0_tree::{Designator, Expression};
 use ob0_types_rules::designated::designated;
 use ob0_types_table::{Formal, TypeId};
@@ -54,7 +54,7 @@ fn value_of(lowered: Lowered) -> Argument
 
 fn nowhere() -> Located {
     Located {
-        place: Place::Module(0),
+        place: Place::Variable(Variable::Module(0)),
         of: TypeId::Unknown,
     }
 }

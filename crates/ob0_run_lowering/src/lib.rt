@@ -9,6 +9,7 @@ mod ground;
 mod lowered;
 mod lowering;
 mod operators;
+mod places;
 mod programs;
 mod scene;
 mod sight;
@@ -16,7 +17,7 @@ mod statements;
 mod types;
 
 pub use lowered::{Located, Lowered};
-pub use programs::program;
+pub use programs::{Program, lower};
 pub use scene::{Scene, Site};
 pub use statements::body;
 pub use types::Types;

@@ -19,8 +19,9 @@ ghost use Rattle.ob0_run_lowering.specs.Trees.{base_found, code_of, expression_c
 
 use crate::lowered::{Located, Lowered};
 use crate::operators::{added, multiplied, negated, related, signed};
+use crate::places::{content, element};
 use crate::scene::Scene;
-use ob0_run_machine::code::{Element, Number, Place, Truth};
+use ob0_run_machine::code::{Number, Place, Truth};
 use ob0_tree::{Comparison, Designator, Expression, Factor, Selector, Simple, Term};
 use ob0_types_table::{Object, Parts, TypeId, number_at, text_at};
 use ob0_values::Scalar;
@@ -96,7 +97,7 @@ impl<'s, 'k, 't> Scene<'s, 'k, 't> {
     {
         let Located { place, of } = at;
         match of {
-            TypeId::Integer => Lowered::Number(Number::Cell(place)),
+            TypeId::Integer => Lowered::Number(content(place)),
             TypeId::Boolean => Lowered::Truth(Truth::Flag(place)),
             TypeId::Array(_) => Lowered::Block(place, self.types.size(of)),
             TypeId::Record(_) => Lowered::Block(place, self.types.size(of)),
@@ -141,13 +142,8 @@ impl<'s, 'k, 't> Scene<'s, 'k, 't> {
         let Located { place, of } = at;
         match self.types.known().parts(of) {
             Parts::Array(array) => {
-                let element = Element {
-                    array: place,
-                    index,
-                    length: array.length,
-                    stride: self.types.size(array.element),
-                };
-                let place = Place::Element(Box::new(alloc, element)?);
+                let stride = self.types.size(array.element);
+                let place = element(alloc, place, index, array.length, stride)?;
                 Ok(Some(Located {
                     place,
                     of: array.element,

@@ -1,6 +1,6 @@
 //! Procedures, blocks, and the program of a module.
 
-ghost use Rattle.std.specs.Prelude.{◌≡◌, ℕ, IfOk, OnOk, slice_set};
+ghost use Rattle.std.specs.Prelude.{◌≡◌, ◌≤◌, ℕ, IfOk, OnOk, slice_set};
 ghost use Rattle.ob0_tree.specs.Tree.{more};
 ghost use Rattle.ob0_tree.specs.View.{block_of, procedure_of};
 ghost use Rattle.ob0_tree.specs.Parsed.{named_tree_of};
@@ -13,7 +13,6 @@ ghost use Rattle.ob0_types_rules.specs.InLabels.{in_labels};
 ghost use Rattle.ob0_run_machine.specs.View.{program_of};
 ghost use Rattle.ob0_run_cells.specs.Activations.{ProgramMeans};
 ghost use Rattle.ob0_run_lowering.specs.Blocks.{Goes, LowersBlock};
-ghost use Rattle.ob0_run_lowering.specs.Placed.{most};
 
 use crate::ground::Ground;
 use crate::sight::{Frame, Sight};
@@ -24,11 +23,29 @@ use ob0_tree::{Block, Procedure};
 use ob0_types_table::Known;
 use std::alloc::{AllocError, Global};
 
-/// A module on its way to a program: where what is in sight is, and the procedures so far.
+/// A module on its way to a program: where what is in scope is, the procedures so far, and the most cells of an activation so
+/// far.
 #[derive(Drop)]
 pub(crate) struct Lowering {
     pub(crate) sight: Sight,
     pub(crate) procedures: Vec<code::Procedure>,
+    pub(crate) most: usize,
+}
+
+/// The program of a module, none of whose activations has more than `most_cells` cells, those of its parameters among them.
+#[derive(Drop)]
+pub struct Program {
+    pub code: code::Program,
+    pub most_cells: usize,
+}
+
+/// The greater of two numbers.
+fn greater(a: usize, b: usize) -> usize
+    ensures left { a ≤ result }
+    ensures right { b ≤ result }
+    ensures least { (n : ℕ) → a ≤ n → b ≤ n → result ≤ n }
+{
+    if a < b { b } else { a }
 }
 
 impl Lowering {
@@ -45,6 +62,7 @@ impl Lowering {
     fn keep(&mut self, index: usize, entry: code::Procedure)
         ensures procedures { self.new.procedures.items ≡ slice_set self.old.procedures.items index entry }
         ensures sight { self.new.sight ≡ self.old.sight }
+        ensures most { self.new.most ≡ self.old.most }
     {
         if index < self.procedures.len() {
             self.procedures[index] = entry;
@@ -61,6 +79,7 @@ impl Lowering {
         ensures index { IfOk result (λ i. i ≡ length self.old.procedures.items) }
         ensures sites { IfOk result (λ i. (k : ℕ) → site_at self.new.sight.sites.items k ≡ put_at (ordinal_in ground.now.resolved.now.ordinals name) (site.Procedure depth i) (site_at self.old.sight.sites.items) k) }
         ensures follows { IfOk result (λ i. Follows self.old.sight self.new.sight) }
+        ensures most { IfOk result (λ i. self.new.most ≡ self.old.most) }
         ensures pushed { IfOk result (λ i. (e : code.Procedure) × (self.new.procedures.items ≡ self.old.procedures.items ++ e ∷ [])) }
     {
         let index = self.procedures.len();
@@ -112,6 +131,7 @@ impl Lowering {
         ensures { IfOk result (LowersBlock ground.now.types.now self.old self.new frame (in_labels ground.now.resolved.now (block_of b.now))) }
     {
         let own = self.sight.variables(ground, frame, &b.variables)?;
+        self.most = greater(self.most, own.cells);
         for p in &b.procedures {
             self.procedure(ground, own.depth, p)?;
         }
@@ -129,18 +149,17 @@ impl Lowering {
     }
 }
 
-/// The program of a module, by what is known of its declarations. A module one of whose activations would have 2^32 cells or more
-/// is out of memory.
+/// The program of a module, by what is known of its declarations.
 ///
 /// # Errors
 ///
 /// Out of memory.
-pub fn program<'t>(
+pub fn lower<'t>(
     alloc: Global,
     resolved: &Resolved<'t>,
     known: &Known<'t>,
-) -> Result<code::Program, AllocError>
-    ensures { IfOk result (λ made. WellTyped (named_tree_of resolved.now.module_read) → ((k : ℕ) → declared_in known.now k ≡ declared_object (named_tree_of resolved.now.module_read) k) → ProgramMeans most as_labels (numbered (named_tree_of resolved.now.module_read)) (program_of made)) }
+) -> Result<Program, AllocError>
+    ensures { IfOk result (λ made. WellTyped (named_tree_of resolved.now.module_read) → ((k : ℕ) → declared_in known.now k ≡ declared_object (named_tree_of resolved.now.module_read) k) → ProgramMeans made.most_cells as_labels (numbered (named_tree_of resolved.now.module_read)) (program_of made.code)) }
 {
     let types = Types::new(alloc, known)?;
     let ground = Ground {
@@ -151,6 +170,7 @@ pub fn program<'t>(
     let mut lowering = Lowering {
         sight: Sight::new(alloc),
         procedures: Vec::new(alloc),
+        most: 0,
     };
     let frame = Frame {
         depth: 0,
@@ -158,9 +178,13 @@ pub fn program<'t>(
         lent: 0,
     };
     let entry = lowering.block(&ground, frame, resolved.module().block())?;
-    Ok(code::Program {
+    let code = code::Program {
         cells: entry.cells,
         body: entry.body,
         procedures: lowering.procedures,
+    };
+    Ok(Program {
+        code,
+        most_cells: lowering.most,
     })
 }

@@ -6,7 +6,7 @@ ghost use Rattle.ob0_run_cells.specs.Lowering.{slot_place};
 ghost use Rattle.ob0_run_cells.specs.Lowering as slots;
 
 use crate::types::Types;
-use ob0_run_machine::code::Place;
+use ob0_run_machine::code::{Place, Variable};
 use ob0_scope_rules::Resolved;
 use ob0_types_table::Object;
 
@@ -82,11 +82,11 @@ impl<'s, 'k, 't> Scene<'s, 'k, 't> {
         ensures { place_of result ≡ slot_place (slot_at self.now (label_in self.now.resolved.now name)) }
     {
         match self.site(name) {
-            Site::Module(offset) => Place::Module(offset),
+            Site::Module(offset) => Place::Variable(Variable::Module(offset)),
             Site::Held(at, offset) => held(self.depth.saturating_sub(at), offset),
             Site::Lent(at, index) => Place::Passed(self.depth.saturating_sub(at), index),
-            Site::Nowhere => Place::Module(0),
-            Site::Procedure(_, _) => Place::Module(0),
+            Site::Nowhere => Place::Variable(Variable::Module(0)),
+            Site::Procedure(_, _) => Place::Variable(Variable::Module(0)),
         }
     }
 }
@@ -96,7 +96,7 @@ fn held(up: usize, offset: usize) -> Place
     ensures { place_of result ≡ slot_place (slots.held up offset) }
 {
     if up == 0 {
-        Place::Here(offset)
+        Place::Variable(Variable::Here(offset))
     } else {
         Place::Outside(up, offset)
     }

@@ -1,8 +1,8 @@
 //! Where declarations in sight are, and how the names of a block or of a heading are placed.
 
-ghost use Rattle.std.specs.Prelude.{◌≡◌, ◌≤◌, ◌+◌, ℕ, suc, IfOk, OnOk, MatchOption, length, slice_set};
+ghost use Rattle.std.specs.Prelude.{◌≡◌, ◌≤◌, ◌+◌, ◌^◌, ℕ, suc, IfOk, OnOk, MatchOption, length, slice_set};
 ghost use Rattle.ob0_run_lowering.specs.Scenes.{site_at};
-ghost use Rattle.ob0_run_lowering.specs.Placed.{IsNextSite, most};
+ghost use Rattle.ob0_run_lowering.specs.Placed.{IsNextSite};
 
 use crate::Site;
 use crate::ground::Ground;
@@ -31,9 +31,6 @@ pub(crate) struct Frame {
     pub(crate) lent: usize,
 }
 
-/// No activation has more cells: so the cells of 2^32 activations have addresses.
-pub(crate) const MOST_CELLS: usize = 4294967295;
-
 /// Where the next variable of an activation is.
 fn next_site(frame: Frame) -> Site
     ensures { IsNextSite frame result }
@@ -46,23 +43,16 @@ fn next_site(frame: Frame) -> Site
 }
 
 impl Frame {
-    /// The frame with so many cells more. None past the most that an activation may have.
+    /// The frame with `size` cells more. None where these cells have no addresses: no allocation has room for them.
     fn with(self, size: usize) -> Option<Frame>
-        ensures { MatchOption result (Unit {0}) (λ f. (f ≡ record self { cells = self.cells + size }) × (f.cells ≤ most)) }
+        ensures { MatchOption result (2 ^ 64 ≤ self.cells + size) (λ f. f ≡ record self { cells = self.cells + size }) }
     {
-        match self.cells.checked_add(size) {
-            None => None,
-            Some(cells) => {
-                if cells > MOST_CELLS {
-                    return None;
-                }
-                Some(Frame {
-                    depth: self.depth,
-                    cells,
-                    lent: self.lent,
-                })
-            }
-        }
+        let cells = self.cells.checked_add(size)?;
+        Some(Frame {
+            depth: self.depth,
+            cells,
+            lent: self.lent,
+        })
     }
 }
 

@@ -1,6 +1,6 @@
 //! The types of a module, with how many cells they have.
 
-ghost use Rattle.std.specs.Prelude.{◌≡◌, ◌+◌, ◌*◌, ℕ, ℤ, Some, true, IfOk, IfSome, List, pos, slice_get, slice_index_or};
+ghost use Rattle.std.specs.Prelude.{◌≡◌, ◌≤◌, ◌+◌, ◌*◌, ◌^◌, ℕ, ℤ, Some, true, IfOk, IfSome, List, MatchResult, pos, slice_get, slice_index_or};
 ghost use Rattle.ob0_run_cells.specs.Cells.{field_offset, size, step_offset};
 ghost use Rattle.ob0_run_machine.specs.Evaluation as machine;
 ghost use Rattle.ob0_scope_rules.specs.Names.{Name};
@@ -37,9 +37,9 @@ pub struct Types<'k, 't> {
     layouts: Vec<Layout>,
 }
 
-/// A sum of cells. What has no number is more than there is memory for.
+/// A sum of cells. An error exactly where it has no number of 64 bits: no allocation has room for so many.
 fn plus(cells: usize, more: usize) -> Result<usize, AllocError>
-    ensures { IfOk result (λ n. n ≡ cells + more) }
+    ensures { MatchResult result (λ n. n ≡ cells + more) (λ _. 2 ^ 64 ≤ cells + more) }
 {
     match cells.checked_add(more) {
         None => Err(AllocError),
@@ -47,9 +47,9 @@ fn plus(cells: usize, more: usize) -> Result<usize, AllocError>
     }
 }
 
-/// So many times so many cells.
+/// `count` times `cells`. An error exactly where this has no number of 64 bits.
 fn times(count: usize, cells: usize) -> Result<usize, AllocError>
-    ensures { IfOk result (λ n. n ≡ count * cells) }
+    ensures { MatchResult result (λ n. n ≡ count * cells) (λ _. 2 ^ 64 ≤ count * cells) }
 {
     match count.checked_mul(cells) {
         None => Err(AllocError),

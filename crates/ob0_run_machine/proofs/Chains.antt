@@ -1,14 +1,15 @@
 -- Chains: operations in a row, from left to right.
 use Rattle.std.proofs.Common.{◌≡◌, ℕ, ◌+◌, ◌<◌, ◌≤◌, ℤ, List, [], ◌∷◌, length, get_or, drop, refl, sym, ap, ◌∙◌}
 use Rattle.std.proofs.lemmas.List.{drop_all, drop_more}
-use Rattle.ob0_run_machine.specs.declared.code.Link.{Link, out-Link}
-use Rattle.ob0_run_machine.specs.declared.code.Number.{Chain}
-use Rattle.ob0_run_machine.specs.declared.code.Chain.{out-Chain, roll-Chain, rolls-Chain', roll-out-Chain, Row_of-Link, end_of-Link, more_of-Link, items-the_row-Link, items_hidden-the_row-Link-0}
-use Rattle.ob0_run_machine.specs.declared.code.Number.TheBlock.{hidden-the_row-Link-0}
+use Rattle.ob0_run_machine.specs.declared.code.Link.{Link}
+use Rattle.ob0_run_machine.specs.declared.code.Link as link
+use Rattle.ob0_run_machine.specs.declared.code.Chain.{out-Chain}
+use Rattle.ob0_run_machine.specs.declared.code.Number.{Chain, Row_of-Link, end_of-Link, more_of-Link, items-the_row-Link, items_hidden-the_row-Link-0}
+use Rattle.ob0_run_machine.specs.declared.code.Link.TheBlock.{hidden-the_row-Link-0}
 use Rattle.ob0_run_machine.specs.Evaluation.{Levels, Outcome, ends, gives, number, ◌>>=◌}
 use Rattle.ob0_run_machine.specs.Lowered as lowered
 use Rattle.ob0_run_machine.specs.Answers.{linked}
-use Rattle.ob0_run_machine.specs.View.{chain_of, chained_by, chained_from, chained_in, number_of, operator_of}
+use Rattle.ob0_run_machine.specs.View.{applied, chained_by, chained_from, chained_in, number_of}
 
 pub bind_gives : {A : Type 0} (o : Outcome A) → (o >>= (λ a. gives a)) ≡ o
 bind_gives (gives a) = refl
@@ -27,9 +28,28 @@ abbrev pub continued : Levels → List ℤ → List Link → ℤ → Outcome ℤ
 continued ls cells [] a = gives a
 continued ls cells (l ∷ rest) a = linked ls cells l a >>= continued ls cells rest
 
+-- an operation on a number is that on its value
+pub applied_to : (ls : Levels) (cells : List ℤ) (left : lowered.Number) (l : Link) → number ls cells (applied l left) ≡ (number ls cells left >>= linked ls cells l)
+applied_to ls cells left (link.SumLiteral n) = refl
+applied_to ls cells left (link.SumVariable v) = refl
+applied_to ls cells left (link.Sum n) = refl
+applied_to ls cells left (link.DifferenceLiteral n) = refl
+applied_to ls cells left (link.DifferenceVariable v) = refl
+applied_to ls cells left (link.Difference n) = refl
+applied_to ls cells left (link.ProductLiteral n) = refl
+applied_to ls cells left (link.ProductVariable v) = refl
+applied_to ls cells left (link.Product n) = refl
+applied_to ls cells left (link.QuotientLiteral n) = refl
+applied_to ls cells left (link.QuotientVariable v) = refl
+applied_to ls cells left (link.Quotient n) = refl
+applied_to ls cells left (link.RemainderLiteral n) = refl
+applied_to ls cells left (link.RemainderVariable v) = refl
+applied_to ls cells left (link.Remainder n) = refl
+
 pub chained : (ls : Levels) (cells : List ℤ) (left : lowered.Number) (links : List Link) → number ls cells (chained_from left links) ≡ (number ls cells left >>= continued ls cells links)
 chained ls cells left [] = sym (bind_gives (number ls cells left))
-chained ls cells left (l ∷ rest) = chained ls cells (lowered.operation (operator_of (out-Link l).operator) left (number_of (out-Link l).operand)) rest
+chained ls cells left (l ∷ rest) = chained ls cells (applied l left) rest
+    ∙ ap (λ o. o >>= continued ls cells rest) (applied_to ls cells left l)
     ∙ bind_assoc (number ls cells left) (linked ls cells l) (continued ls cells rest)
 
 -- what was operated so far, with what is left, is the whole
@@ -61,10 +81,8 @@ chain_ends {ls = ls} {cells = cells} {links = links} {done = done} {left = left}
 
 chained_listed : (n : _) (row : Row_of-Link n) (left : lowered.Number) → chained_by row left ≡ chained_from left (items-the_row-Link n row)
 chained_listed _ end_of-Link left = refl
-chained_listed _ (more_of-Link o right row) left = chained_listed _ row (lowered.operation (operator_of o) left (number_of right))
-
-chain_rolled : (c : _) → chain_of (roll-Chain c) ≡ chained_from (number_of c.first) c.rest.items
-chain_rolled c = ap chain_of (rolls-Chain' c) ∙ chained_listed _ (hidden-the_row-Link-0 c.rest) (number_of c.first) ∙ ap (chained_from (number_of c.first)) (items_hidden-the_row-Link-0 c.rest)
+chained_listed _ (more_of-Link l row) left = chained_listed _ row (applied l left)
 
 pub chain_made : (c : _) → number_of (Chain c) ≡ chained_in c.value
-chain_made c = sym (ap chain_of (roll-out-Chain c.value)) ∙ chain_rolled (out-Chain c.value)
+chain_made c = chained_listed _ (hidden-the_row-Link-0 (out-Chain c.value).rest) (number_of (out-Chain c.value).first)
+    ∙ ap (chained_from (number_of (out-Chain c.value).first)) (items_hidden-the_row-Link-0 (out-Chain c.value).rest)

@@ -6,8 +6,11 @@ use Rattle.ob0_run_machine.specs.declared.ending.Stop.{Stop}
 use Rattle.ob0_run_machine.specs.declared.ending.Stop.TheVariants as stop
 use Rattle.ob0_run_machine.specs.Evaluation as evaluation
 use Rattle.ob0_run_machine.specs.Evaluation.{End, Levels, Outcome, ends, gives, number, operate, ◌>>=◌}
-use Rattle.ob0_run_machine.specs.declared.code.Link.{Link, out-Link}
-use Rattle.ob0_run_machine.specs.View.{number_of, operator_of}
+use Rattle.ob0_run_machine.specs.declared.code.Link.{Link}
+use Rattle.ob0_run_machine.specs.declared.evaluated.Evaluated.{Evaluated}
+use Rattle.ob0_run_machine.specs.declared.evaluated.Evaluated.TheVariants as evaluated
+use Rattle.ob0_run_machine.specs.Lowered.{literal}
+use Rattle.ob0_run_machine.specs.View.{applied}
 
 -- how a run ends
 abbrev pub end_of : Ending → End
@@ -23,11 +26,15 @@ abbrev pub outcome_of_result : {A : Type 0} → Result A Ending → Outcome A
 outcome_of_result (Ok a) = gives a
 outcome_of_result (Err e) = ends (end_of e)
 
--- the same where memory may be refused
-abbrev pub Answers : {A B : Type 0} → (A → B) → Result A Stop → Outcome B → Type 0
-Answers view (Ok a) o = o ≡ gives (view a)
-Answers view (Err (stop.Ended e)) o = o ≡ ends (end_of e)
-Answers view (Err stop.Memory) o = Unit {0}
+-- the same of an evaluation
+abbrev pub outcome_of : {A : Type 0} → Evaluated A → Outcome A
+outcome_of (evaluated.Value a) = gives a
+outcome_of evaluated.Overflow = ends evaluation.Overflow
+outcome_of evaluated.Divisor = ends evaluation.Divisor
+outcome_of evaluated.Index = ends evaluation.Index
+outcome_of evaluated.InputEnd = ends evaluation.InputEnd
+outcome_of evaluated.CallBound = ends evaluation.CallBound
+outcome_of evaluated.TurnBound = ends evaluation.TurnBound
 
 -- a number that is there is given, one that isn't is past the 32 bits
 abbrev pub if_there : Option ℤ → Outcome ℤ
@@ -36,4 +43,4 @@ if_there (Some n) = gives n
 
 -- a number with one operation more
 abbrev pub linked : Levels → List ℤ → Link → ℤ → Outcome ℤ
-linked ls cells l left = number ls cells (number_of (out-Link l).operand) >>= operate (operator_of (out-Link l).operator) left
+linked ls cells l left = number ls cells (applied l (literal left))

@@ -5,11 +5,16 @@ use Rattle.ob0_run_machine.specs.declared.code.Place.{Place}
 use Rattle.ob0_run_machine.specs.declared.code.Number as number
 use Rattle.ob0_run_machine.specs.declared.code.Number.{Number}
 use Rattle.ob0_run_machine.specs.declared.code.Chain as chain
+use Rattle.ob0_run_machine.specs.declared.code.Variable.{Variable}
+use Rattle.ob0_run_machine.specs.declared.code.Variable.TheVariants as variable
+use Rattle.ob0_run_machine.specs.declared.code.Row.{Row}
 use Rattle.ob0_run_machine.specs.declared.code.Operator.{Operator}
 use Rattle.ob0_run_machine.specs.declared.code.Operator.TheVariants as operator
+use Rattle.ob0_run_machine.specs.declared.code.Operation.{Operation, out-Operation}
+use Rattle.ob0_run_machine.specs.declared.code.Link as link
 use Rattle.ob0_run_machine.specs.declared.code.Element.{Element, out-Element}
-use Rattle.ob0_run_machine.specs.declared.code.Link.{Link, out-Link}
-use Rattle.ob0_run_machine.specs.declared.code.Operands.{Operands, out-Operands}
+use Rattle.ob0_run_machine.specs.declared.code.Link.{Link}
+use Rattle.ob0_run_machine.specs.declared.code.Operands.{Operands}
 use Rattle.ob0_run_machine.specs.declared.code.Relation.{Relation}
 use Rattle.ob0_run_machine.specs.declared.code.Relation.TheVariants as relation
 use Rattle.ob0_run_machine.specs.declared.code.Truth as truth
@@ -35,10 +40,17 @@ operator_of operator.Product = lowered.product
 operator_of operator.Quotient = lowered.quotient
 operator_of operator.Remainder = lowered.remainder
 
+abbrev pub variable_of : Variable → lowered.Place
+variable_of (variable.Module offset) = lowered.in_module offset
+variable_of (variable.Here offset) = lowered.here offset
+
+abbrev pub row_of : Row → lowered.Place
+row_of r = lowered.element (variable_of r.array) (lowered.cell (variable_of r.index)) r.length r.stride
+
 abbrev mutual
   pub place_of : Place → lowered.Place
-  place_of (place.Module offset) = lowered.in_module offset
-  place_of (place.Here offset) = lowered.here offset
+  place_of (place.Variable v) = variable_of v
+  place_of (place.Row r) = row_of r.value
   place_of (place.Outside up offset) = lowered.outside up offset
   place_of (place.Passed up index) = lowered.passed up index
   place_of (place.Element' pointer array index length stride) = lowered.element (place_of array) (number_of index) length stride
@@ -46,29 +58,45 @@ abbrev mutual
 
   pub number_of : Number → lowered.Number
   number_of (number.Literal n) = lowered.literal n
+  number_of (number.Variable v) = lowered.cell (variable_of v)
   number_of (number.Cell p) = lowered.cell (place_of p)
   number_of (number.Negative' pointer n) = lowered.negative (number_of n)
-  number_of (number.Operation' o pointer left right) = lowered.operation (operator_of o) (number_of left) (number_of right)
-  number_of (number.Chain' pointer c) = chain_of c
+  number_of (number.Operation' pointer first l) = applied l (number_of first)
+  number_of (number.Chain' pointer first shape row) = chained_by row (number_of first)
 
-  pub chain_of : chain.Chain → lowered.Number
-  chain_of (chain.Chain' first shape row) = chained_by row (number_of first)
+  -- an operation on a number
+  pub applied : Link → lowered.Number → lowered.Number
+  applied (link.SumLiteral n) left = lowered.operation lowered.sum left (lowered.literal n)
+  applied (link.SumVariable v) left = lowered.operation lowered.sum left (lowered.cell (variable_of v))
+  applied (link.Sum n) left = lowered.operation lowered.sum left (number_of n)
+  applied (link.DifferenceLiteral n) left = lowered.operation lowered.difference left (lowered.literal n)
+  applied (link.DifferenceVariable v) left = lowered.operation lowered.difference left (lowered.cell (variable_of v))
+  applied (link.Difference n) left = lowered.operation lowered.difference left (number_of n)
+  applied (link.ProductLiteral n) left = lowered.operation lowered.product left (lowered.literal n)
+  applied (link.ProductVariable v) left = lowered.operation lowered.product left (lowered.cell (variable_of v))
+  applied (link.Product n) left = lowered.operation lowered.product left (number_of n)
+  applied (link.QuotientLiteral n) left = lowered.operation lowered.quotient left (lowered.literal n)
+  applied (link.QuotientVariable v) left = lowered.operation lowered.quotient left (lowered.cell (variable_of v))
+  applied (link.Quotient n) left = lowered.operation lowered.quotient left (number_of n)
+  applied (link.RemainderLiteral n) left = lowered.operation lowered.remainder left (lowered.literal n)
+  applied (link.RemainderVariable v) left = lowered.operation lowered.remainder left (lowered.cell (variable_of v))
+  applied (link.Remainder n) left = lowered.operation lowered.remainder left (number_of n)
 
   -- operations in a row
-  pub chained_by : {n : _} → chain.Row_of-Link n → lowered.Number → lowered.Number
-  chained_by chain.end_of-Link left = left
-  chained_by (chain.more_of-Link o right row) left = chained_by row (lowered.operation (operator_of o) left (number_of right))
+  pub chained_by : {n : _} → number.Row_of-Link n → lowered.Number → lowered.Number
+  chained_by number.end_of-Link left = left
+  chained_by (number.more_of-Link l row) left = chained_by row (applied l left)
 
 -- the same by the fields of a node
 abbrev pub element_of : Element → lowered.Place
 element_of e = lowered.element (place_of (out-Element e).array) (number_of (out-Element e).index) (out-Element e).length (out-Element e).stride
 
-abbrev pub operation_of : Operator → Operands → lowered.Number
-operation_of o operands = lowered.operation (operator_of o) (number_of (out-Operands operands).left) (number_of (out-Operands operands).right)
+abbrev pub operation_of : Operation → lowered.Number
+operation_of o = applied (out-Operation o).link (number_of (out-Operation o).first)
 
 abbrev pub chained_from : lowered.Number → List Link → lowered.Number
 chained_from left [] = left
-chained_from left (l ∷ ls) = chained_from (lowered.operation (operator_of (out-Link l).operator) left (number_of (out-Link l).operand)) ls
+chained_from left (l ∷ ls) = chained_from (applied l left) ls
 
 abbrev pub chained_in : chain.Chain → lowered.Number
 chained_in c = chained_from (number_of (chain.out-Chain c).first) (chain.out-Chain c).rest.items
@@ -82,7 +110,7 @@ relation_of relation.Greater = lowered.greater
 relation_of relation.GreaterEqual = lowered.greater_equal
 
 abbrev pub related_by : Relation → Operands → lowered.Truth
-related_by r o = lowered.related (relation_of r) (number_of (out-Operands o).left) (number_of (out-Operands o).right)
+related_by r o = lowered.related (relation_of r) (number_of o.left) (number_of o.right)
 
 abbrev mutual
   pub truth_of : Truth → lowered.Truth
@@ -132,6 +160,8 @@ call_of c = lowered.calls c.procedure c.up (map argument_of c.arguments.items)
 abbrev mutual
   pub statement_of : Statement → lowered.Statement
   statement_of (statement.StoreNumber p n) = lowered.stores_number (place_of p) (number_of n)
+  statement_of (statement.StoreVariable v n) = lowered.stores_number (variable_of v) (number_of n)
+  statement_of (statement.Update v l) = lowered.stores_number (variable_of v) (applied l (lowered.cell (variable_of v)))
   statement_of (statement.StoreTruth p t) = lowered.stores_truth (place_of p) (truth_of t)
   statement_of (statement.Copy p q n) = lowered.copies (place_of p) (place_of q) n
   statement_of (statement.Read p) = lowered.reads (place_of p)

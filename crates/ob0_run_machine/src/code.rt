@@ -10,21 +10,36 @@ pub enum Operator {
     Remainder,
 }
 
+/// A variable of the module or of the running activation, by its offset in the cells of either.
+#[derive(Clone, Copy, PartialEq, Eq, Debug)]
+pub enum Variable {
+    Module(usize),
+    Here(usize),
+}
+
 /// Where a variable or a part of one is.
 #[cycle(numbers)]
 #[derive(Drop)]
 pub enum Place {
-    /// At an offset in the cells of the module.
-    Module(usize),
-    /// At an offset in the cells of the running activation.
-    Here(usize),
+    Variable(Variable),
     /// At an offset, the second number, in the cells of the activation so many levels out.
     Outside(usize, usize),
     /// Where a VAR parameter of the activation so many levels out leads, by its index among these parameters.
     Passed(usize, usize),
+    /// An element of an array that is a variable, at an index that is one: an `Element` in one step.
+    Row(Box<Row>),
     Element(Box<Element>),
     /// A part at an offset.
     Part(Box<Place>, usize),
+}
+
+/// An element of an array, at an index: the array has `length` elements of `stride` cells each.
+#[derive(Clone, Copy, PartialEq, Eq, Debug)]
+pub struct Row {
+    pub array: Variable,
+    pub index: Variable,
+    pub length: usize,
+    pub stride: usize,
 }
 
 /// An element of an array, whose elements have so many cells each.
@@ -41,18 +56,22 @@ pub struct Element {
 #[derive(Drop)]
 pub enum Number {
     Literal(i32),
+    Variable(Variable),
+    /// What is at another place.
     Cell(Place),
     Negative(Box<Number>),
-    Operation(Operator, Box<Operands>),
-    /// Many operations in a row, from left to right.
+    /// One operation.
+    Operation(Box<Operation>),
+    /// Two operations or more in a row, from left to right.
     Chain(Box<Chain>),
 }
 
+/// A number and an operation on it.
 #[cycle(numbers)]
 #[derive(Drop)]
-pub struct Operands {
-    pub left: Number,
-    pub right: Number,
+pub struct Operation {
+    pub first: Number,
+    pub link: Link,
 }
 
 #[cycle(numbers)]
@@ -62,12 +81,25 @@ pub struct Chain {
     pub rest: Vec<Link>,
 }
 
-/// An operator and what stands to the right of it.
+/// An operator with its right operand: a literal, a variable or another number. Its left operand is what was computed so far.
 #[cycle(numbers)]
 #[derive(Drop)]
-pub struct Link {
-    pub operator: Operator,
-    pub operand: Number,
+pub enum Link {
+    SumLiteral(i32),
+    SumVariable(Variable),
+    Sum(Number),
+    DifferenceLiteral(i32),
+    DifferenceVariable(Variable),
+    Difference(Number),
+    ProductLiteral(i32),
+    ProductVariable(Variable),
+    Product(Number),
+    QuotientLiteral(i32),
+    QuotientVariable(Variable),
+    Quotient(Number),
+    RemainderLiteral(i32),
+    RemainderVariable(Variable),
+    Remainder(Number),
 }
 
 /// The relations of numbers.
@@ -79,6 +111,13 @@ pub enum Relation {
     LessEqual,
     Greater,
     GreaterEqual,
+}
+
+/// The two sides of a relation.
+#[derive(Drop)]
+pub struct Operands {
+    pub left: Number,
+    pub right: Number,
 }
 
 #[cycle(truths)]
@@ -126,6 +165,10 @@ pub enum Argument {
 #[derive(Drop)]
 pub enum Statement {
     StoreNumber(Place, Number),
+    /// The same to a variable.
+    StoreVariable(Variable, Number),
+    /// A variable becomes the result of an operation whose left operand it is, as in `x := x + 1`.
+    Update(Variable, Link),
     StoreTruth(Place, Truth),
     /// So many cells from the second place go to the first.
     Copy(Place, Place, usize),

@@ -1,24 +1,28 @@
-//! Places, numbers and truths, evaluated in an activation and over the cells.
+//! Places, numbers and truths, evaluated in an activation and over the cells. A step that is inlined returns a `Result`; one that
+//! is called returns an `Evaluated`, which comes back in registers.
 
-ghost use Rattle.std.specs.Prelude.{◌≡◌, false, if◌then◌else◌, true};
-ghost use Rattle.ob0_run_machine.specs.Answers.{linked, outcome_of_result};
+ghost use Rattle.std.specs.Prelude.{◌≡◌, List, ℤ, false, if◌then◌else◌, true};
+ghost use Rattle.ob0_run_machine.specs.Answers.{linked, outcome_of, outcome_of_result};
 ghost use Rattle.ob0_run_machine.specs.Evaluation.{address, cell_at, gives, number, truth};
 ghost use Rattle.ob0_run_machine.specs.declared.code.Truths.{out-Truths};
 ghost use Rattle.ob0_run_machine.specs.Lowered as lowered;
 ghost use Rattle.ob0_run_machine.specs.Levels.{levels_of};
-ghost use Rattle.ob0_run_machine.specs.View.{all_in, any_in, chained_in, element_of, number_of, operation_of, place_of, related_by, truth_of};
+ghost use Rattle.ob0_run_machine.specs.View.{all_in, any_in, applied, chained_in, element_of, number_of, operation_of, place_of, related_by, row_of, truth_of, variable_of};
 
 use crate::code::{
-    Chain, Element, Link, Number, Operands, Operator, Place, Relation, Several, Truth, Truths,
+    Chain, Element, Link, Number, Operands, Operation, Place, Relation, Row, Several, Truth, Truths,
+    Variable,
 };
 use crate::ending::Ending;
+use crate::evaluated::{Evaluated, flat, unpacked};
 use crate::level::{Level, base_at, passed_at};
-use crate::operators::{alike, compare, element_at, forward, is_true, negative, operate};
-use crate::quick::{quick_address, quick_number};
+use crate::operators::{
+    add, alike, compare, divide, element_at, forward, is_true, modulo, multiply, negative, subtract,
+};
 
-/// What a cell holds. What isn't there is worth 0.
+/// What a cell holds. What isn't there has the value 0.
 #[inline(always)]
-pub fn cell_at(cells: &[i32], address: usize) -> i32
+pub(crate) fn cell_at(cells: &[i32], address: usize) -> i32
     ensures { result ≡ cell_at cells.now address }
 {
     match cells.get(address) {
@@ -27,113 +31,228 @@ pub fn cell_at(cells: &[i32], address: usize) -> i32
     }
 }
 
+/// The address of a variable.
+#[inline(always)]
+pub(crate) fn variable_at(variable: Variable, level: &Level<'_>) -> usize
+    ensures { (cells : List ℤ) → address (levels_of level.now) cells (variable_of variable) ≡ gives result }
+{
+    match variable {
+        Variable::Module(offset) => offset,
+        Variable::Here(offset) => forward(level.base, offset),
+    }
+}
+
+/// What a variable holds.
+#[inline(always)]
+fn value_of(variable: Variable, level: &Level<'_>, cells: &[i32]) -> i32
+    ensures { number (levels_of level.now) cells.now (lowered.cell (variable_of variable)) ≡ gives result }
+{
+    cell_at(cells, variable_at(variable, level))
+}
+
+/// The address of an element of an array that is a variable.
+#[inline(always)]
+fn row(row: &Row, level: &Level<'_>, cells: &[i32]) -> Result<usize, Ending>
+    ensures { outcome_of_result result ≡ address (levels_of level.now) cells.now (row_of row.now) }
+{
+    let index = value_of(row.index, level, cells);
+    element_at(variable_at(row.array, level), row.length, row.stride, index)
+}
+
 /// The address of a place.
+#[inline(always)]
 #[cycle(evaluation)]
-pub fn address(place: &Place, level: &Level<'_>, cells: &[i32]) -> Result<usize, Ending>
+pub(crate) fn locate(place: &Place, level: &Level<'_>, cells: &[i32]) -> Result<usize, Ending>
     ensures { outcome_of_result result ≡ address (levels_of level.now) cells.now (place_of place.now) }
 {
     match place {
-        Place::Module(offset) => Ok(*offset),
-        Place::Here(offset) => Ok(forward(level.base, *offset)),
+        Place::Variable(variable) => Ok(variable_at(*variable, level)),
         Place::Outside(up, offset) => Ok(forward(base_at(level, *up), *offset)),
         Place::Passed(up, index) => Ok(passed_at(level, *up, *index)),
-        Place::Element(e) => element(e, level, cells),
-        Place::Part(whole, offset) => {
-            let a = address(whole, level, cells)?;
-            Ok(forward(a, *offset))
-        }
+        Place::Row(r) => row(r, level, cells),
+        Place::Element(e) => unpacked(element(e, level, cells)),
+        Place::Part(whole, offset) => unpacked(part(whole, *offset, level, cells)),
     }
 }
 
 /// The address of an element.
+#[inline(never)]
 #[cycle(evaluation)]
-fn element(e: &Element, level: &Level<'_>, cells: &[i32]) -> Result<usize, Ending>
+fn element(e: &Element, level: &Level<'_>, cells: &[i32]) -> Evaluated<usize>
+    ensures { outcome_of result ≡ address (levels_of level.now) cells.now (element_of e.now) }
+{
+    flat(indexed(e, level, cells))
+}
+
+#[inline(always)]
+#[cycle(evaluation)]
+fn indexed(e: &Element, level: &Level<'_>, cells: &[i32]) -> Result<usize, Ending>
     ensures { outcome_of_result result ≡ address (levels_of level.now) cells.now (element_of e.now) }
 {
-    let a = address(&e.array, level, cells)?;
-    let i = number(&e.index, level, cells)?;
+    let a = locate(&e.array, level, cells)?;
+    let i = evaluate_number(&e.index, level, cells)?;
     element_at(a, e.length, e.stride, i)
 }
 
+/// The address of a part.
+#[inline(never)]
 #[cycle(evaluation)]
-pub fn number(n: &Number, level: &Level<'_>, cells: &[i32]) -> Result<i32, Ending>
+fn part(whole: &Place, offset: usize, level: &Level<'_>, cells: &[i32]) -> Evaluated<usize>
+    ensures { outcome_of result ≡ address (levels_of level.now) cells.now (lowered.part (place_of whole.now) offset) }
+{
+    match locate(whole, level, cells) {
+        Ok(a) => Evaluated::Value(forward(a, offset)),
+        Err(ending) => flat(Err(ending)),
+    }
+}
+
+/// The value of a number.
+#[inline(always)]
+#[cycle(evaluation)]
+pub(crate) fn evaluate_number(n: &Number, level: &Level<'_>, cells: &[i32]) -> Result<i32, Ending>
     ensures { outcome_of_result result ≡ number (levels_of level.now) cells.now (number_of n.now) }
 {
     match n {
         Number::Literal(n) => Ok(*n),
+        Number::Variable(variable) => Ok(value_of(*variable, level, cells)),
         Number::Cell(place) => {
-            let a = address(place, level, cells)?;
+            let a = locate(place, level, cells)?;
             Ok(cell_at(cells, a))
         }
-        Number::Negative(operand) => {
-            let a = number(operand, level, cells)?;
-            negative(a)
-        }
-        Number::Operation(operator, operands) => operation(*operator, operands, level, cells),
-        Number::Chain(c) => chain(c, level, cells),
+        Number::Negative(operand) => unpacked(opposite(operand, level, cells)),
+        Number::Operation(o) => unpacked(operation(o, level, cells)),
+        Number::Chain(c) => unpacked(chain(c, level, cells)),
     }
 }
 
+#[inline(never)]
 #[cycle(evaluation)]
-fn operation(
-    operator: Operator,
-    operands: &Operands,
-    level: &Level<'_>,
-    cells: &[i32],
-) -> Result<i32, Ending>
-    ensures { outcome_of_result result ≡ number (levels_of level.now) cells.now (operation_of operator operands.now) }
+fn opposite(operand: &Number, level: &Level<'_>, cells: &[i32]) -> Evaluated<i32>
+    ensures { outcome_of result ≡ number (levels_of level.now) cells.now (lowered.negative (number_of operand.now)) }
 {
-    let left = number(&operands.left, level, cells)?;
-    let right = number(&operands.right, level, cells)?;
-    operate(operator, left, right)
+    match evaluate_number(operand, level, cells) {
+        Ok(a) => flat(negative(a)),
+        Err(ending) => flat(Err(ending)),
+    }
 }
 
+#[inline(never)]
 #[cycle(evaluation)]
-fn chain(c: &Chain, level: &Level<'_>, cells: &[i32]) -> Result<i32, Ending>
+fn operation(o: &Operation, level: &Level<'_>, cells: &[i32]) -> Evaluated<i32>
+    ensures { outcome_of result ≡ number (levels_of level.now) cells.now (operation_of o.now) }
+{
+    match evaluate_number(&o.first, level, cells) {
+        Ok(left) => flat(apply(&o.link, left, level, cells)),
+        Err(ending) => flat(Err(ending)),
+    }
+}
+
+#[inline(never)]
+#[cycle(evaluation)]
+fn chain(c: &Chain, level: &Level<'_>, cells: &[i32]) -> Evaluated<i32>
+    ensures { outcome_of result ≡ number (levels_of level.now) cells.now (chained_in c.now) }
+{
+    flat(operations(c, level, cells))
+}
+
+/// The operations of a chain, from left to right.
+#[inline(always)]
+#[cycle(evaluation)]
+fn operations(c: &Chain, level: &Level<'_>, cells: &[i32]) -> Result<i32, Ending>
     ensures { outcome_of_result result ≡ number (levels_of level.now) cells.now (chained_in c.now) }
 {
-    let mut left = number(&c.first, level, cells)?;
+    let mut left = evaluate_number(&c.first, level, cells)?;
     for link in &c.rest {
-        left = linked(link, left, level, cells)?;
+        left = apply(link, left, level, cells)?;
     }
     Ok(left)
 }
 
-/// One operation more.
+/// An operation on a number.
 #[inline(always)]
 #[cycle(evaluation)]
-fn linked(link: &Link, left: i32, level: &Level<'_>, cells: &[i32]) -> Result<i32, Ending>
+fn apply(link: &Link, left: i32, level: &Level<'_>, cells: &[i32]) -> Result<i32, Ending>
     ensures { outcome_of_result result ≡ linked (levels_of level.now) cells.now link.now left }
 {
-    let right = number(&link.operand, level, cells)?;
-    operate(link.operator, left, right)
-}
-
-/// The address of a place: found quickly, or else told with the rule that it breaks.
-#[inline(always)]
-pub fn locate(place: &Place, level: &Level<'_>, cells: &[i32]) -> Result<usize, Ending>
-    ensures { outcome_of_result result ≡ address (levels_of level.now) cells.now (place_of place.now) }
-{
-    match quick_address(place, level, cells) {
-        Some(a) => Ok(a),
-        None => address(place, level, cells),
+    match link {
+        Link::SumLiteral(n) => add(left, *n),
+        Link::SumVariable(v) => add(left, value_of(*v, level, cells)),
+        Link::Sum(n) => {
+            let right = evaluate_number(n, level, cells)?;
+            add(left, right)
+        }
+        Link::DifferenceLiteral(n) => subtract(left, *n),
+        Link::DifferenceVariable(v) => subtract(left, value_of(*v, level, cells)),
+        Link::Difference(n) => {
+            let right = evaluate_number(n, level, cells)?;
+            subtract(left, right)
+        }
+        Link::ProductLiteral(n) => multiply(left, *n),
+        Link::ProductVariable(v) => multiply(left, value_of(*v, level, cells)),
+        Link::Product(n) => {
+            let right = evaluate_number(n, level, cells)?;
+            multiply(left, right)
+        }
+        Link::QuotientLiteral(n) => divide(left, *n),
+        Link::QuotientVariable(v) => divide(left, value_of(*v, level, cells)),
+        Link::Quotient(n) => {
+            let right = evaluate_number(n, level, cells)?;
+            divide(left, right)
+        }
+        Link::RemainderLiteral(n) => modulo(left, *n),
+        Link::RemainderVariable(v) => modulo(left, value_of(*v, level, cells)),
+        Link::Remainder(n) => {
+            let right = evaluate_number(n, level, cells)?;
+            modulo(left, right)
+        }
     }
 }
 
-/// What a number is worth: found quickly, or else told with the rule that it breaks.
+/// The result of an operation on what a variable holds.
 #[inline(always)]
-pub fn evaluate_number(n: &Number, level: &Level<'_>, cells: &[i32]) -> Result<i32, Ending>
-    ensures { outcome_of_result result ≡ number (levels_of level.now) cells.now (number_of n.now) }
+pub(crate) fn evaluate_update(
+    variable: Variable,
+    link: &Link,
+    level: &Level<'_>,
+    cells: &[i32],
+) -> Result<i32, Ending>
+    ensures { outcome_of_result result ≡ number (levels_of level.now) cells.now (applied link.now (lowered.cell (variable_of variable))) }
 {
-    match quick_number(n, level, cells) {
-        Some(v) => Ok(v),
-        None => number(n, level, cells),
+    let left = value_of(variable, level, cells);
+    apply(link, left, level, cells)
+}
+
+/// Whether a truth is TRUE. A constant, a variable and a relation, as most conditions are, are evaluated without a call.
+#[inline(always)]
+pub(crate) fn evaluate_truth(t: &Truth, level: &Level<'_>, cells: &[i32]) -> Result<bool, Ending>
+    ensures { outcome_of_result result ≡ truth (levels_of level.now) cells.now (truth_of t.now) }
+{
+    match t {
+        Truth::Constant(b) => Ok(*b),
+        Truth::Related(relation, operands) => related(*relation, operands, level, cells),
+        _ => truth(t, level, cells),
     }
 }
 
-/// Whether a truth is TRUE.
+#[inline(always)]
 #[cycle(truths)]
-pub fn truth(t: &Truth, level: &Level<'_>, cells: &[i32]) -> Result<bool, Ending>
+fn truth(t: &Truth, level: &Level<'_>, cells: &[i32]) -> Result<bool, Ending>
+    ensures { outcome_of_result result ≡ truth (levels_of level.now) cells.now (truth_of t.now) }
+{
+    unpacked(flat_truth(t, level, cells))
+}
+
+#[inline(never)]
+#[cycle(truths)]
+fn flat_truth(t: &Truth, level: &Level<'_>, cells: &[i32]) -> Evaluated<bool>
+    ensures { outcome_of result ≡ truth (levels_of level.now) cells.now (truth_of t.now) }
+{
+    flat(any_truth(t, level, cells))
+}
+
+#[inline(always)]
+#[cycle(truths)]
+fn any_truth(t: &Truth, level: &Level<'_>, cells: &[i32]) -> Result<bool, Ending>
     ensures { outcome_of_result result ≡ truth (levels_of level.now) cells.now (truth_of t.now) }
 {
     match t {
@@ -157,6 +276,7 @@ pub fn truth(t: &Truth, level: &Level<'_>, cells: &[i32]) -> Result<bool, Ending
 }
 
 /// Whether a relation holds between two numbers.
+#[inline(always)]
 fn related(
     relation: Relation,
     operands: &Operands,

@@ -5,12 +5,12 @@ pub mod addresses;
 pub mod calls;
 pub mod code;
 pub mod ending;
+mod evaluated;
 pub mod evaluating;
 pub mod level;
 pub mod machine;
 pub mod operators;
 pub mod passing;
-pub mod quick;
 pub mod running;
 pub mod statements;
 

@@ -2,10 +2,11 @@
 
 ghost use Rattle.std.specs.Prelude.{◌≡◌, neg_ℤ};
 ghost use Rattle.ob0_run_machine.specs.Answers.{if_there, outcome_of_result};
-ghost use Rattle.ob0_run_machine.specs.Evaluation.{alike, compare, divided_by, element_at, forward, in_range, is_true, as_cell, operate, quotient_of, remainder_of};
-ghost use Rattle.ob0_run_machine.specs.View.{operator_of, relation_of};
+ghost use Rattle.ob0_run_machine.specs.Evaluation.{alike, compare, element_at, forward, in_range, is_true, as_cell, operate};
+ghost use Rattle.ob0_run_machine.specs.Lowered.{difference, product, quotient, remainder, sum};
+ghost use Rattle.ob0_run_machine.specs.View.{relation_of};
 
-use crate::code::{Operator, Relation};
+use crate::code::Relation;
 use crate::ending::Ending;
 
 /// A number where it could be computed in 32 bits, else an overflow.
@@ -21,8 +22,8 @@ fn in_range(number: Option<i32>) -> Result<i32, Ending>
 
 /// DIV, which rounds down, for a divisor from 1 on.
 #[inline(always)]
-fn divide(left: i32, right: i32) -> Result<i32, Ending>
-    ensures { outcome_of_result result ≡ divided_by quotient_of left right }
+pub(crate) fn divide(left: i32, right: i32) -> Result<i32, Ending>
+    ensures { outcome_of_result result ≡ operate quotient left right }
 {
     if right < 1 {
         return Err(Ending::Divisor);
@@ -32,8 +33,8 @@ fn divide(left: i32, right: i32) -> Result<i32, Ending>
 
 /// MOD, the rest from 0 on, for a divisor from 1 on.
 #[inline(always)]
-fn modulo(left: i32, right: i32) -> Result<i32, Ending>
-    ensures { outcome_of_result result ≡ divided_by remainder_of left right }
+pub(crate) fn modulo(left: i32, right: i32) -> Result<i32, Ending>
+    ensures { outcome_of_result result ≡ operate remainder left right }
 {
     if right < 1 {
         return Err(Ending::Divisor);
@@ -42,27 +43,35 @@ fn modulo(left: i32, right: i32) -> Result<i32, Ending>
 }
 
 #[inline(always)]
-pub fn operate(operator: Operator, left: i32, right: i32) -> Result<i32, Ending>
-    ensures { outcome_of_result result ≡ operate (operator_of operator) left right }
+pub(crate) fn add(left: i32, right: i32) -> Result<i32, Ending>
+    ensures { outcome_of_result result ≡ operate sum left right }
 {
-    match operator {
-        Operator::Sum => in_range(left.checked_add(right)),
-        Operator::Difference => in_range(left.checked_sub(right)),
-        Operator::Product => in_range(left.checked_mul(right)),
-        Operator::Quotient => divide(left, right),
-        Operator::Remainder => modulo(left, right),
-    }
+    in_range(left.checked_add(right))
 }
 
 #[inline(always)]
-pub fn negative(number: i32) -> Result<i32, Ending>
+pub(crate) fn subtract(left: i32, right: i32) -> Result<i32, Ending>
+    ensures { outcome_of_result result ≡ operate difference left right }
+{
+    in_range(left.checked_sub(right))
+}
+
+#[inline(always)]
+pub(crate) fn multiply(left: i32, right: i32) -> Result<i32, Ending>
+    ensures { outcome_of_result result ≡ operate product left right }
+{
+    in_range(left.checked_mul(right))
+}
+
+#[inline(always)]
+pub(crate) fn negative(number: i32) -> Result<i32, Ending>
     ensures { outcome_of_result result ≡ in_range (neg_ℤ number) }
 {
     in_range(number.checked_neg())
 }
 
 #[inline(always)]
-pub fn compare(relation: Relation, left: i32, right: i32) -> bool
+pub(crate) fn compare(relation: Relation, left: i32, right: i32) -> bool
     ensures { result ≡ compare (relation_of relation) left right }
 {
     match relation {
@@ -76,21 +85,21 @@ pub fn compare(relation: Relation, left: i32, right: i32) -> bool
 }
 
 #[inline(always)]
-pub fn alike(left: bool, right: bool) -> bool
+pub(crate) fn alike(left: bool, right: bool) -> bool
     ensures { result ≡ alike left right }
 {
     left == right
 }
 
 #[inline(always)]
-pub fn is_true(number: i32) -> bool
+pub(crate) fn is_true(number: i32) -> bool
     ensures { result ≡ is_true number }
 {
     number != 0
 }
 
 #[inline(always)]
-pub fn as_cell(truth: bool) -> i32
+pub(crate) fn as_cell(truth: bool) -> i32
     ensures { result ≡ as_cell truth }
 {
     if truth { 1 } else { 0 }
@@ -98,7 +107,7 @@ pub fn as_cell(truth: bool) -> i32
 
 /// The address so far behind another one.
 #[inline(always)]
-pub fn forward(address: usize, offset: usize) -> usize
+pub(crate) fn forward(address: usize, offset: usize) -> usize
     ensures { result ≡ forward address offset }
 {
     address.wrapping_add(offset)
@@ -106,7 +115,7 @@ pub fn forward(address: usize, offset: usize) -> usize
 
 /// The address of an array's element.
 #[inline(always)]
-pub fn element_at(address: usize, length: usize, stride: usize, index: i32) -> Result<usize, Ending>
+pub(crate) fn element_at(address: usize, length: usize, stride: usize, index: i32) -> Result<usize, Ending>
     ensures { outcome_of_result result ≡ element_at address length stride index }
 {
     if index < 0 {

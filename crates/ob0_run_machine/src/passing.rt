@@ -9,7 +9,7 @@ ghost use Rattle.ob0_run_machine.specs.View.{argument_of};
 use crate::addresses::Addresses;
 use crate::code::Argument;
 use crate::ending::Stop;
-use crate::evaluating::{evaluate_number, locate, truth};
+use crate::evaluating::{evaluate_number, evaluate_truth, locate};
 use crate::level::Level;
 use crate::machine::push_block;
 use crate::operators::as_cell;
@@ -35,7 +35,7 @@ fn pass(
             cells.push(a)?;
         }
         Argument::Truth(t) => {
-            let a = truth(t, level, cells.as_slice())?;
+            let a = evaluate_truth(t, level, cells.as_slice())?;
             cells.push(as_cell(a))?;
         }
         Argument::Block(place, count) => {

@@ -7,12 +7,12 @@ ghost use Rattle.ob0_run_machine.specs.Execution.{Calls, execute};
 ghost use Rattle.ob0_run_machine.specs.Levels.{levels_of};
 ghost use Rattle.ob0_run_machine.specs.Lowered as lowered;
 ghost use Rattle.ob0_run_machine.specs.Machines.{Does, Steps, entering, executed, executed_all, moved, state_of};
-ghost use Rattle.ob0_run_machine.specs.View.{branches_in, call_of, number_of, place_of, repeat_of, sequence_of, statement_of, truth_of, while_of};
+ghost use Rattle.ob0_run_machine.specs.View.{applied, branches_in, call_of, number_of, place_of, repeat_of, sequence_of, statement_of, truth_of, variable_of, while_of};
 
 use crate::addresses::Addresses;
-use crate::code::{Call, If, Number, Place, Repeat, Statement, Truth, While};
+use crate::code::{Call, If, Link, Number, Place, Repeat, Statement, Truth, Variable, While};
 use crate::ending::{Ending, Stop};
-use crate::evaluating::{evaluate_number, locate, truth};
+use crate::evaluating::{evaluate_number, evaluate_truth, evaluate_update, locate, variable_at};
 use crate::level::{Level, outside};
 use crate::machine::{Item, Machine, copy, store};
 use crate::operators::as_cell;
@@ -34,6 +34,38 @@ fn store_number(
     Ok(())
 }
 
+/// An assignment to a variable.
+#[tactic(auto, unfolding(crate::specs::Execution::execute))]
+#[inline(always)]
+fn store_variable(
+    variable: Variable,
+    n: &Number,
+    level: &Level<'_>,
+    machine: &mut Machine<'_>,
+) -> Result<(), Ending>
+    ensures { (enters : Calls) (t : ℕ) → moved result machine.new ≡ execute enters t (levels_of level.now) (lowered.stores_number (variable_of variable) (number_of n.now)) (state_of machine.old) }
+{
+    let v = evaluate_number(n, level, machine.cells.as_slice())?;
+    store(&mut machine.cells, variable_at(variable, level), v);
+    Ok(())
+}
+
+/// A variable becomes the result of an operation on it.
+#[tactic(auto, unfolding(crate::specs::Execution::execute))]
+#[inline(always)]
+fn update(
+    variable: Variable,
+    link: &Link,
+    level: &Level<'_>,
+    machine: &mut Machine<'_>,
+) -> Result<(), Ending>
+    ensures { (enters : Calls) (t : ℕ) → moved result machine.new ≡ execute enters t (levels_of level.now) (lowered.stores_number (variable_of variable) (applied link.now (lowered.cell (variable_of variable)))) (state_of machine.old) }
+{
+    let v = evaluate_update(variable, link, level, machine.cells.as_slice())?;
+    store(&mut machine.cells, variable_at(variable, level), v);
+    Ok(())
+}
+
 #[tactic(auto, unfolding(crate::specs::Execution::execute))]
 #[inline(always)]
 fn store_truth(
@@ -45,7 +77,7 @@ fn store_truth(
     ensures { (enters : Calls) (turns : ℕ) → moved result machine.new ≡ execute enters turns (levels_of level.now) (lowered.stores_truth (place_of place.now) (truth_of t.now)) (state_of machine.old) }
 {
     let a = locate(place, level, machine.cells.as_slice())?;
-    let v = truth(t, level, machine.cells.as_slice())?;
+    let v = evaluate_truth(t, level, machine.cells.as_slice())?;
     store(&mut machine.cells, a, as_cell(v));
     Ok(())
 }
@@ -145,7 +177,7 @@ fn run_call<F: Fn(&mut Machine<'_>, usize, &Level<'_>) -> Result<(), Stop>>(
 fn holds(condition: &Truth, level: &Level<'_>, machine: &Machine<'_>) -> Result<bool, Ending>
     ensures { outcome_of_result result ≡ truth (levels_of level.now) machine.now.cells.items (truth_of condition.now) }
 {
-    truth(condition, level, machine.cells.as_slice())
+    evaluate_truth(condition, level, machine.cells.as_slice())
 }
 
 #[inline(always)]
@@ -162,6 +194,8 @@ fn statement<F: Fn(&mut Machine<'_>, usize, &Level<'_>) -> Result<(), Stop>>(
 {
     match s {
         Statement::StoreNumber(place, n) => Ok(store_number(place, n, level, machine)?),
+        Statement::StoreVariable(variable, n) => Ok(store_variable(*variable, n, level, machine)?),
+        Statement::Update(variable, link) => Ok(update(*variable, link, level, machine)?),
         Statement::StoreTruth(place, t) => Ok(store_truth(place, t, level, machine)?),
         Statement::Copy(to, from, count) => Ok(copy_block(to, from, *count, level, machine)?),
         Statement::Read(place) => Ok(read(place, level, machine)?),

@@ -23,8 +23,8 @@ all-loop-t-init t c = record { so_far = sym (all_fails (levels_of c.args.level.n
 pub any-loop-t-init : goal.any-loop-t-init
 any-loop-t-init t c = record { so_far = sym (any_fails (levels_of c.args.level.now) c.args.cells.now (truth_of (out-Several c.args.several.now).first) (out-Several c.args.several.now).rest.items (gives c.in_ok-left.left) c.in_ok-left.ensures) }
 
-pub truth-returns-in-All : goal.truth-returns-in-All
-truth-returns-in-All t c = c.all.ensures ∙ ap (truth (levels_of c.args.level.now) c.args.cells.now) (ap all_in c.deref-in-All.ensures ∙ sym (all_made c.in-All.several) ∙ ap truth_of (sym c.in-All.is))
+pub any_truth-returns-in-All : goal.any_truth-returns-in-All
+any_truth-returns-in-All t c = c.all.ensures ∙ ap (truth (levels_of c.args.level.now) c.args.cells.now) (ap all_in c.deref-in-All.ensures ∙ sym (all_made c.in-All.several) ∙ ap truth_of (sym c.in-All.is))
 
-pub truth-returns-in-Any : goal.truth-returns-in-Any
-truth-returns-in-Any t c = c.any.ensures ∙ ap (truth (levels_of c.args.level.now) c.args.cells.now) (ap any_in c.deref-in-Any.ensures ∙ sym (any_made c.in-Any.several) ∙ ap truth_of (sym c.in-Any.is))
+pub any_truth-returns-in-Any : goal.any_truth-returns-in-Any
+any_truth-returns-in-Any t c = c.any.ensures ∙ ap (truth (levels_of c.args.level.now) c.args.cells.now) (ap any_in c.deref-in-Any.ensures ∙ sym (any_made c.in-Any.several) ∙ ap truth_of (sym c.in-Any.is))

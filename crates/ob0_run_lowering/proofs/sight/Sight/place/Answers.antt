@@ -28,4 +28,4 @@ returns c =
     subst (λ b. Places c.args.self.now c.bind-2.new.self f (place_one (slots_at f.depth) size_of (mode_of b) (label_in r c.args.name)) c.in-Some-with.next) (sym c.if-by_place.false)
     (place-held c.args.self.now c.bind-2.new.self f c.in-Some-with.next size_of (ordinal_in r.ordinals c.args.name) (text_at r.module_read.source c.args.name) c.next_site.result c.size.result c.next_site.ensures
     (λ k. c.in_ok-bind-2.ensures.sites k ∙ ap (λ o. put_at o c.next_site.result (site_at c.args.self.now.sites.items) k) c.ordinal_at-ordinal.ensures)
-    c.in_ok-bind-2.ensures.follows c.in-Some-with.ensures.0 c.in-Some-with.ensures.1 c.size.ensures)
+    c.in_ok-bind-2.ensures.follows c.in-Some-with.ensures c.size.ensures)

@@ -1,0 +1,52 @@
+//! What evaluations give.
+
+ghost use Rattle.std.specs.Prelude.{◌≡◌};
+ghost use Rattle.ob0_run_machine.specs.Answers.{outcome_of, outcome_of_result};
+
+use crate::ending::Ending;
+
+/// What an evaluation gives, or how it ends the run, in one tag: this is returned in registers, a `Result` through memory.
+#[derive(Clone, Copy, PartialEq, Eq, Debug)]
+pub enum Evaluated<T> {
+    Value(T),
+    Overflow,
+    Divisor,
+    Index,
+    InputEnd,
+    CallBound,
+    TurnBound,
+}
+
+/// A result in one tag.
+#[inline(always)]
+pub(crate) fn flat<T: Copy>(given: Result<T, Ending>) -> Evaluated<T>
+    ensures { outcome_of result ≡ outcome_of_result given }
+{
+    match given {
+        Ok(value) => Evaluated::Value(value),
+        Err(ending) => match ending {
+            Ending::Overflow => Evaluated::Overflow,
+            Ending::Divisor => Evaluated::Divisor,
+            Ending::Index => Evaluated::Index,
+            Ending::InputEnd => Evaluated::InputEnd,
+            Ending::CallBound => Evaluated::CallBound,
+            Ending::TurnBound => Evaluated::TurnBound,
+        },
+    }
+}
+
+/// An evaluation as a result.
+#[inline(always)]
+pub(crate) fn unpacked<T: Copy>(given: Evaluated<T>) -> Result<T, Ending>
+    ensures { outcome_of_result result ≡ outcome_of given }
+{
+    match given {
+        Evaluated::Value(value) => Ok(value),
+        Evaluated::Overflow => Err(Ending::Overflow),
+        Evaluated::Divisor => Err(Ending::Divisor),
+        Evaluated::Index => Err(Ending::Index),
+        Evaluated::InputEnd => Err(Ending::InputEnd),
+        Evaluated::CallBound => Err(Ending::CallBound),
+        Evaluated::TurnBound => Err(Ending::TurnBound),
+    }
+}
