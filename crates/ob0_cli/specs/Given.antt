@@ -2,10 +2,11 @@
 use Rattle.std.specs.Prelude.{◌≡◌, ◌⊎◌, ◌≤◌, ℕ, List, [], Option, Some, codes, if◌then◌else◌, pos}
 use Rattle.std.specs.Str.{bytes_eq}
 use Rattle.std.specs.Str.Parse.{digits_value, without_leading_plus}
-use Rattle.clap.specs.Kinds.{HasKind}
+use Rattle.clap.specs.Kinds.{IsAmong}
+use Rattle.clap.specs.declared.error.kind.ErrorKind.TheVariants.{OutOfMemory}
 use Rattle.clap.specs.Lexer.{without_minus}
 use Rattle.clap.specs.Values.{IsSignedIn, IsUnsignedIn}
-use Rattle.clap.specs.Words.{Row, Text, fault_of, first_of, one_of, subcommand_of}
+use Rattle.clap.specs.Words.{Row, Text, fault_of, first_of, kind_of, one_of, subcommand_of}
 use Rattle.ob0_cli.specs.Lines.{ob0_app}
 use Rattle.ob0_cli.specs.declared.line.CommandLine.{CommandLine}
 use Rattle.ob0_cli.specs.declared.line.CommandLine.TheVariants.{Serve, Check, Run, Rename}
@@ -37,9 +38,9 @@ pub record Gives (words : List Text) (line : CommandLine) : Type 0 where
   pub fine : fault_of ob0_app words ≡ []
   pub read : IsReadFrom (subcommand_of ob0_app words) line
 
--- a refusal is of the kind of the first fault that the words have
+-- a refusal is of the kind of the first fault that the words have, and never of the kind 'out of memory'
 abbrev pub Refuses : List Text → CommandFault → Type 0
-Refuses words (Refused error) = HasKind (fault_of ob0_app words) error
+Refuses words (Refused error) = IsAmong (kind_of error) (fault_of ob0_app words) × ¬ (kind_of error ≡ OutOfMemory)
 Refuses words Memory = Unit {0}
 
 -- ---- what the matches are known to have

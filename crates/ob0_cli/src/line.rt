@@ -51,10 +51,12 @@ pub enum CommandLine<'a> {
 }
 
 /// Why a command line asks for nothing.
-#[derive(Drop)]
+#[derive(Debug, Drop, thiserror::Error)]
 pub enum CommandFault {
     /// The words are refused, or they ask for help or the version.
+    #[error(transparent)]
     Refused(Error),
+    #[error("out of memory")]
     Memory,
 }
 

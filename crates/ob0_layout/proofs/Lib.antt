@@ -12,3 +12,4 @@ pub mod Unnamed
 pub mod LastBytes
 pub mod TextCuts
 pub mod Patched
+pub mod White

@@ -32,10 +32,10 @@ earlier : (a b : ℕ) (cs : List Cut) → a ≤ b → Chain b cs → Chain a cs
 earlier a b [] h chain = tt
 earlier a b (c ∷ cs) h chain = (omega (arith, chain.0), chain.1, chain.2)
 
-none_taken : (n : ℕ) (xs : List ℕ) → take (n - n) xs ≡ []
+pub none_taken : (n : ℕ) (xs : List ℕ) → take (n - n) xs ≡ []
 none_taken n xs = let zero : n - n ≡ 0 = omega arith in ap (λ k. take k xs) zero
 
-two_parts : (text : List ℕ) (a b c : ℕ) → a ≤ b → b ≤ c → take (c - a) (drop a text) ≡ take (b - a) (drop a text) ++ take (c - b) (drop b text)
+pub two_parts : (text : List ℕ) (a b c : ℕ) → a ≤ b → b ≤ c → take (c - a) (drop a text) ≡ take (b - a) (drop a text) ++ take (c - b) (drop b text)
 two_parts text a b c h k =
     let long : c - a ≡ (b - a) + (c - b) = omega arith in
     let there : a + (b - a) ≡ b = omega arith in

@@ -1,9 +1,11 @@
 -- The gaps of a text: before, between and behind its tokens and comments.
 use Rattle.std.specs.Prelude.{◌≤◌, ℕ, ◌+◌, ◌-◌, Bool, true, false, ◌||◌, not, if◌then◌else◌, nat_lt, bytes_eq, Option, Some, None, List, [], ◌∷◌, length, drop, filter, slice_range, string_bytes}
+use Rattle.std.specs.List.{AllPass}
 use Rattle.ob0_scan.specs.declared.lexeme.LexemeKind.{LexemeKind}
 use Rattle.ob0_scan.specs.declared.lexeme.LexemeKind.TheVariants as lexeme
 use Rattle.ob0_scan.specs.declared.lexeme.Token.{Token}
 use Rattle.ob0_scan.specs.declared.lexeme.Span.{Span}
+use Rattle.ob0_scan.specs.Classes.{is_space}
 use Rattle.ob0_scan.specs.Lexed.{Lexeme}
 use Rattle.ob0_text.specs.declared.edits.Edit.{Edit}
 use Rattle.ob0_text.specs.declared.edits.Indent.{Indent}
@@ -85,3 +87,7 @@ pub record LiesIn (len : ℕ) (g : Site) : Type 0 where
 abbrev pub laid_len : Indent → ℕ → ℕ → List Site → ℕ
 laid_len indent len at [] = len - at
 laid_len indent len at (g ∷ gs) = (g.start - at) + (length (gap_text indent g.gap) + laid_len indent len g.end gs)
+
+-- white space alone is in a gap of a text
+abbrev pub IsWhite : List ℕ → Site → Type 0
+IsWhite text g = AllPass is_space (slice_range text g.start g.end)

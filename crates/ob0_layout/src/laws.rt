@@ -1,15 +1,18 @@
 //! Laws of the layout: each is the contract of a function that does nothing.
 
 ghost use Rattle.std.specs.Prelude.{◌≡◌, ℕ, List, length};
+ghost use Rattle.std.specs.List.{All, AllPass};
 ghost use Rattle.std.specs.Str.{IsUtf8};
+ghost use Rattle.ob0_scan.specs.Classes.{is_space};
 ghost use Rattle.ob0_scan.specs.Lexed.{Lexed};
 ghost use Rattle.ob0_scan.specs.Scanned.{Scanned, IsScan};
 ghost use Rattle.ob0_text.specs.declared.edits.Indent.{Indent};
 ghost use Rattle.ob0_tree.specs.Tree.{Tree, module_text};
 ghost use Rattle.ob0_tree.specs.Module.{ModuleOf};
 ghost use Rattle.ob0_layout.specs.Cuts.{made_of};
-ghost use Rattle.ob0_layout.specs.Layout.{solid, laid_out, layout};
-ghost use Rattle.ob0_layout.specs.Sites.{all_sites, changed_sites, laid_len};
+ghost use Rattle.ob0_layout.specs.declared.gap.Gap.{Gap};
+ghost use Rattle.ob0_layout.specs.Layout.{gap_text, solid, laid_out, layout};
+ghost use Rattle.ob0_layout.specs.Sites.{IsWhite, all_sites, changed_sites, laid_len};
 ghost use Rattle.ob0_layout.specs.Standings.{line_roles};
 
 /// The layout of a module's text is cut into the lexemes that are laid out, and its tokens and comments are those of the text.
@@ -37,4 +40,10 @@ pub fn gaps_make_the_layout()
         → made_of indent s.text (changed_sites indent s.text (all_sites (line_roles 0 tree) scan.lexemes)) ≡ layout indent tree scan.lexemes }
     ensures length { (indent : Indent) (s : Scanned) (scan : IsScan s) (tree : Tree (List ℕ) module_text)
         → laid_len indent (length s.text) 0 (all_sites (line_roles 0 tree) scan.lexemes) ≡ length (layout indent tree scan.lexemes) }
+{}
+
+/// The edits of a layout touch white space alone: nothing else is in the gaps of a text, and nothing else is put there.
+pub fn gaps_are_white_space()
+    ensures before { (s : Scanned) (scan : IsScan s) (tree : Tree (List ℕ) module_text) → All (IsWhite s.text) (all_sites (line_roles 0 tree) scan.lexemes) }
+    ensures after { (indent : Indent) (gap : Gap) → AllPass is_space (gap_text indent gap) }
 {}

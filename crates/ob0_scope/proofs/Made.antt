@@ -1,5 +1,5 @@
 -- A module that was gone through, with the table of its marks and its faults, is resolved.
-use Rattle.std.proofs.Common.{◌≡◌, ℕ, Bool, true, false, not, ◌||◌, Option, Some, None, List, [], ◌∷◌, ◌++◌, map, length, refl, sym, ap, ◌∙◌, subst, is_some, if◌then◌else◌, le_refl, replicate, ◌≤◌}
+use Rattle.std.proofs.Common.{◌≡◌, ℕ, Bool, true, false, not, ◌||◌, Option, Some, None, List, [], ◌∷◌, ◌++◌, map, length, refl, sym, ap, ◌∙◌, subst, is_some, if◌then◌else◌, le_refl, replicate, ◌≤◌, ◌==◌}
 use Rattle.std.proofs.lemmas.List.{length-replicate}
 use Rattle.std.proofs.lemmas.List.Folds.{list_any-append}
 use Rattle.std.specs.List.{filter, list_any}
@@ -14,14 +14,14 @@ use Rattle.ob0_tree.specs.Parsed.{Parsed, IsParsed, tree_of}
 use Rattle.ob0_tree.specs.Places.{text_at}
 use Rattle.ob0_scope_rules.specs.DeclaredTwice.{twice_in}
 use Rattle.ob0_scope_rules.specs.Names.{Name, as_names}
-use Rattle.ob0_scope_rules.specs.Resolution.{AreFaultsOf, IsNumbering, IsResolution, is_of_declarations, is_of_occurrences, is_unbound, label_at, ordinal_in, span_at, unbound_at, undeclared_at, with_ordinal}
+use Rattle.ob0_scope_rules.specs.Resolution.{AreFaultsOf, IsNumbering, IsResolution, is_of_declarations, is_of_occurrences, is_unbound, label_at, ordinal_in, span_at, unbound_at, unbound_in, undeclared_at, with_ordinal}
 use Rattle.ob0_scope_rules.specs.Scopes.{as_label}
 use Rattle.ob0_scope.specs.Marks.{with_marks}
 use Rattle.ob0_scope.specs.Marking.{Visit, started, visit_module}
 use Rattle.ob0_scope.specs.Written.{as_in}
 use Rattle.ob0_scope_rules.proofs.Bound.{bindings_by_table}
 use Rattle.ob0_scope.proofs.Passing.{HasMarks, module_passed}
-use Rattle.ob0_scope.proofs.Tables.{marks_stand}
+use Rattle.ob0_scope.proofs.Tables.{kept_elsewhere, marks_stand, none_at}
 use Rattle.ob0_scope.proofs.TwiceOnce.{twice_alone, twice_where}
 use Rattle.ob0_tree.specs.Order.{Ascending}
 use Rattle.ob0_tree.proofs.Leaves.{leaves_ascend}
@@ -54,17 +54,6 @@ all_occurrences : (source : Scanned) (ordinals : List (Option ℕ)) (is : List �
 all_occurrences source ordinals [] = refl
 all_occurrences source ordinals (i ∷ is) = occurrences_kept (ordinal_in ordinals i) (span_at source i) (undeclared_at source ordinals is) (all_occurrences source ordinals is)
 
-abbrev is_other : Fault → Bool
-is_other fault = not (is_of_declarations fault || is_of_occurrences fault)
-
-undeclared_known : (o : Option ℕ) (s : Span) (rest : List Fault) → list_any is_other rest ≡ false → list_any is_other (if is_some o then rest else record { code = code.Undeclared; span = s } ∷ rest) ≡ false
-undeclared_known None s rest e = e
-undeclared_known (Some k) s rest e = e
-
-undeclared_other : (source : Scanned) (ordinals : List (Option ℕ)) (is : List ℕ) → list_any is_other (undeclared_at source ordinals is) ≡ false
-undeclared_other source ordinals [] = refl
-undeclared_other source ordinals (i ∷ is) = undeclared_known (ordinal_in ordinals i) (span_at source i) (undeclared_at source ordinals is) (undeclared_other source ordinals is)
-
 both_false : (a b : Bool) → (a || b) ≡ false → (a ≡ false) × (b ≡ false)
 both_false true b e = absurd (cc)
 both_false false b e = (refl, e)
@@ -77,10 +66,6 @@ apart : (c : Code) (s : Span) → is_of_declarations (record { code = c; span = 
 apart code.Undeclared s e = absurd (cc)
 apart _ s e = refl
 
-neither : (a b c : Bool) → a ≡ false → b ≡ c → (a || b) ≡ c
-neither true b c e f = absurd (cc)
-neither false b c e f = f
-
 left_out : (b : Bool) (f : Fault) (fs gs : List Fault) → b ≡ false → fs ≡ gs → (if b then f ∷ fs else fs) ≡ gs
 left_out true f fs gs e h = absurd (cc)
 left_out false f fs gs e h = h
@@ -91,50 +76,21 @@ declarations_left_out (f ∷ fs) gs e =
     let h = both_false (not (is_of_declarations f)) (list_any (λ f. not (is_of_declarations f)) fs) e in
     left_out (is_of_occurrences f) f (filter is_of_occurrences (fs ++ gs)) (filter is_of_occurrences gs) (apart f.code f.span (not_false (is_of_declarations f) h.0)) (declarations_left_out fs gs h.1)
 
-known : (a b : Bool) → not a ≡ false → not (a || b) ≡ false
-known true b e = refl
-known false b e = absurd (cc)
-
-declarations_known : (fs : List Fault) → list_any (λ f. not (is_of_declarations f)) fs ≡ false → list_any is_other fs ≡ false
-declarations_known [] e = refl
-declarations_known (f ∷ fs) e =
-    let h = both_false (not (is_of_declarations f)) (list_any (λ f. not (is_of_declarations f)) fs) e in
-    neither (is_other f) (list_any is_other fs) false (known (is_of_declarations f) (is_of_occurrences f) h.0) (declarations_known fs h.1)
-
 no_more : (a b : Bool) → b ≡ false → (a || b) ≡ a
 no_more true b e = refl
 no_more false b e = e
 
-kept : (b : Bool) (f : Fault) (fs gs : List Fault) → b ≡ true → fs ≡ gs → (if b then f ∷ fs else fs) ≡ f ∷ gs
-kept true f fs gs e h = ap (λ z. f ∷ z) h
-kept false f fs gs e h = absurd (cc)
-
-none_of_declarations : (fs : List Fault) → list_any is_of_declarations fs ≡ false → filter is_of_declarations fs ≡ []
-none_of_declarations [] e = refl
-none_of_declarations (f ∷ fs) e =
-    let h = both_false (is_of_declarations f) (list_any is_of_declarations fs) e in left_out (is_of_declarations f) f (filter is_of_declarations fs) [] h.0 (none_of_declarations fs h.1)
-
-declarations_kept : (fs gs : List Fault) → list_any (λ f. not (is_of_declarations f)) fs ≡ false → filter is_of_declarations gs ≡ [] → filter is_of_declarations (fs ++ gs) ≡ fs
-declarations_kept [] gs e none = none
-declarations_kept (f ∷ fs) gs e none =
-    let h = both_false (not (is_of_declarations f)) (list_any (λ f. not (is_of_declarations f)) fs) e in
-    kept (is_of_declarations f) f (filter is_of_declarations (fs ++ gs)) fs (not_false (is_of_declarations f) h.0) (declarations_kept fs gs h.1 none)
-
--- the faults of declarations, and behind them those of occurrences
+-- the faults of declarations, and after them those of occurrences
 faults_told : (m : Parsed) (ordinals : List (Option ℕ)) → IsNumbering m ordinals → AreFaultsOf m (twice_in m ++ undeclared_at m.source ordinals (occurrences (tree_of m)))
 faults_told m ordinals numbering =
     let once = twice_in m in
-    let told = twice_where m in
-    let alone = twice_alone m in
     let unbound = undeclared_at m.source ordinals (occurrences (tree_of m)) in
+    let each : unbound ≡ unbound_in m = unbound_all m.source ordinals (occurrences (tree_of m)) ∙ ap (unbound_at m.source (occurrences (tree_of m))) (sym (bindings_by_table m ordinals numbering)) in
     record {
+      by_kind = ap (λ fs. once ++ fs) each;
       declared_twice = list_any-append is_of_declarations once unbound
-          ∙ (no_more (list_any is_of_declarations once) (list_any is_of_declarations unbound) (undeclared_declares m.source ordinals (occurrences (tree_of m))) ∙ told);
-      declarations = declarations_kept once unbound alone (none_of_declarations unbound (undeclared_declares m.source ordinals (occurrences (tree_of m))));
-      undeclared = declarations_left_out once unbound alone ∙ (all_occurrences m.source ordinals (occurrences (tree_of m)) ∙ (unbound_all m.source ordinals (occurrences (tree_of m))
-          ∙ ap (unbound_at m.source (occurrences (tree_of m))) (sym (bindings_by_table m ordinals numbering))));
-      no_other = list_any-append is_other once unbound
-          ∙ neither (list_any is_other once) (list_any is_other unbound) false (declarations_known once alone) (undeclared_other m.source ordinals (occurrences (tree_of m)));
+          ∙ (no_more (list_any is_of_declarations once) (list_any is_of_declarations unbound) (undeclared_declares m.source ordinals (occurrences (tree_of m))) ∙ twice_where m);
+      undeclared = declarations_left_out once unbound (twice_alone m) ∙ (all_occurrences m.source ordinals (occurrences (tree_of m)) ∙ each);
     }
 
 -- a module gone through, with the table of its marks and its faults, is resolved
@@ -152,10 +108,14 @@ resolution_made m v ordinals declarations uses once faults parsed gone tabled de
     let numbering : IsNumbering m ordinals = (numbered_so.agree stand).1 in
     let paired = module_passed (ordinal_in ordinals) with_ordinal (as_in m.source) (tree_of m) (started (as_in m.source)) (record { writing = refl; scope = refl; next = refl }) in
     let occurring : uses ≡ occurrences (tree_of m) = occurs ∙ (ap (λ (v : Visit). v.uses) gone ∙ (numbered_so.used ∙ looked_up-occurrences role.Declaring (λ n xs. refl) (tree_of m))) in
+    let nothing : List (Option ℕ) = replicate (length m.source.tokens) None in
     record {
       parsed = parsed;
       numbering = numbering;
       binding = (paired.agree stand).1;
+      names_alone = λ token e.
+          ap (λ (os : List (Option ℕ)). ordinal_in os token) table
+          ∙ (kept_elsewhere w.marks nothing token (ap (list_any (λ i. i == token)) numbered_so.tokens ∙ e) ∙ none_at (length m.source.tokens) token);
       declaring = declares ∙ (ap (λ (v : Visit). v.declarations) gone ∙ numbered_so.declared);
       occurring = occurring;
       told = subst (AreFaultsOf m) (sym (all ∙ (λ i. twice i ++ undeclared_at m.source ordinals (occurring i)))) (faults_told m ordinals numbering);

@@ -14,7 +14,7 @@ use Rattle.ob0_scope.specs.declared.newest.Entry.{Entry}
 use Rattle.ob0_scope.specs.Keys.{Key, compare_keys, compare_name, number_of}
 use Rattle.ob0_scope_rules.specs.Names.{Name, same_name}
 use Rattle.ob0_scope_rules.proofs.NameEquality.{same_name-comm, same_name-refl}
-use Rattle.ob0_scope.specs.NewestNames.{ArePlaces, IsRenewed, newest_in, place_of}
+use Rattle.ob0_scope.specs.NewestNames.{ArePlaces, IsAdded, IsRenewed, KeepsFirst, newest_in, place_of}
 
 -- names that are told apart: of the first, of a later one, of none
 first_place : (same : Bool) (o : Option ℕ) → (if same then Some zero else option_map suc o) ≡ Some zero → same ≡ true
@@ -99,7 +99,7 @@ renewed (e ∷ es) x (suc i) r named h = λ y.
     there_renewed (same_name x y) (same_name y e.name.now) r.newest e.newest (newest_in es y) (newest_in (set es i r) y)
     (apart x y e.name.now later.0) (renewed es x i r named later.1 y)
 
-place_renewed : (es : List Entry) (x : Name) (i : ℕ) (r : Entry) → r.name.now ≡ x → place_of es x ≡ Some i → (y : Name) → place_of (set es i r) y ≡ place_of es y
+pub place_renewed : (es : List Entry) (x : Name) (i : ℕ) (r : Entry) → r.name.now ≡ x → place_of es x ≡ Some i → (y : Name) → place_of (set es i r) y ≡ place_of es y
 place_renewed [] x i r named h y = absurd (cc)
 place_renewed (e ∷ es) x zero r named h y =
     let is : x ≡ e.name.now = (bytes_eq-Decides x e.name.now).0 (first_place (same_name x e.name.now) (place_of es x) h) in
@@ -115,7 +115,7 @@ added (e ∷ es) r h = λ y.
     there_renewed (same_name r.name.now y) (same_name y e.name.now) r.newest e.newest (newest_in es y) (newest_in (es ++ (r ∷ [])) y)
     (apart r.name.now y e.name.now n.0) (added es r n.1 y)
 
-place_added : (es : List Entry) (r : Entry) → place_of es r.name.now ≡ None → (y : Name) → place_of (es ++ (r ∷ [])) y ≡ (if same_name r.name.now y then Some (length es) else place_of es y)
+pub place_added : (es : List Entry) (r : Entry) → place_of es r.name.now ≡ None → (y : Name) → place_of (es ++ (r ∷ [])) y ≡ (if same_name r.name.now y then Some (length es) else place_of es y)
 place_added [] r h y = ap (λ b. if b then Some zero else None) (same_name-comm y r.name.now)
 place_added (e ∷ es) r h y =
     let n = no_place (same_name r.name.now e.name.now) (place_of es r.name.now) h in
@@ -199,3 +199,9 @@ places_added places next es r h renews w =
                 ∙ (place_added es r h r.name.now ∙ (if_true (same_name r.name.now r.name.now) (Some (length es)) (place_of es r.name.now) (same_name-refl r.name.now) ∙ ap (λ n. Some n) (sym last)))
           ];
     }
+
+-- a name that is added takes no name's place
+pub first_kept : (before after : List Entry) (x : Name) → place_of before x ≡ None → IsAdded before after x → KeepsFirst before after
+first_kept before after x none added = λ y first.
+    let other : same_name x y ≡ false = not_same (same_name x y) (λ e. some_apart (place_of before y) 0 first (ap (place_of before) (sym ((bytes_eq-Decides x y).0 e)) ∙ none)) in
+    added y ∙ (if_false (same_name x y) (Some (length before)) (place_of before y) other ∙ first)

@@ -8,7 +8,7 @@ use Rattle.ob0_tree.specs.Parsed.{IsParsed, Parsed, named_tree_of, tree_of}
 use Rattle.ob0_tree.specs.Places.{text_at, value_at}
 use Rattle.ob0_tree.specs.Tree.{mapped, occurrences}
 use Rattle.ob0_scope_rules.specs.Names.{Label, Name, as_names, as_written}
-use Rattle.ob0_scope_rules.specs.Occurrences.{bindings, first_difference, same_binding}
+use Rattle.ob0_scope_rules.specs.Occurrences.{bindings, first_difference, label_ordinal, same_binding}
 use Rattle.ob0_scope.specs.Renames.{IsRenumbering, is_bound_alike, renamed_in}
 use Rattle.ob0_scope_rules.specs.Resolution.{IsResolution, Resolution, bound_at, label_at, ordinal_in, with_ordinal}
 use Rattle.ob0_scope_rules.specs.Scopes.{as_label, numbered, renamed, same_ordinal}
@@ -59,6 +59,20 @@ renamed_bindings r d new ordinals is numbering =
     let m = r.module_read in
     let label : ℕ → Label = λ i. as_label as_names (ordinal_in ordinals i) (name_at (renamed_in r d new) i) in
     ap occurrences numbering ∙ (occurrences-mapped label (value_at m.source) (tree_of m) ∙ ap (map label) (sym is.occurring))
+
+ordinals_back : (written : ℕ → Name) (ordinals : List (Option ℕ)) (is : List ℕ) → map label_ordinal (map (λ i. as_label as_names (ordinal_in ordinals i) (written i)) is) ≡ map (ordinal_in ordinals) is
+ordinals_back written ordinals [] = refl
+ordinals_back written ordinals (i ∷ is) = λ j. back (ordinal_in ordinals i) (written i) j ∷ ordinals_back written ordinals is j
+  where
+    back : (o : Option ℕ) (x : Name) → label_ordinal (as_label as_names o x) ≡ o
+    back None x = refl
+    back (Some k) x = refl
+
+-- the ordinals to which the occurrences are bound in the renamed module
+pub ordinals_renamed : (r : Resolution) (d : ℕ) (new : Name) (ordinals : List (Option ℕ)) → IsResolution r → IsRenumbering r d new ordinals
+    → map (ordinal_in ordinals) r.uses ≡ map label_ordinal (bindings (renamed (named_tree_of r.module_read) d new))
+ordinals_renamed r d new ordinals is numbering =
+    sym (ap (map label_ordinal) (renamed_bindings r d new ordinals is numbering) ∙ ordinals_back (name_at (renamed_in r d new)) ordinals r.uses)
 
 alike : (d : ℕ) (new x : Name) (o old : Option ℕ) → same_binding (as_label as_names o (if same_ordinal old d then new else x)) (as_label as_names old x) ≡ is_bound_alike o old
 alike d new x None None = same_binding-refl (as_written x)

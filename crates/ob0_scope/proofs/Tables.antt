@@ -1,5 +1,9 @@
 -- A table made of marks at ascending tokens has each mark's ordinal at its token.
-use Rattle.std.proofs.Common.{◌≡◌, ◌≢◌, ℕ, ◌+◌, ◌<◌, ◌≤◌, Option, None, List, [], ◌∷◌, length, set, refl, sym, ◌∙◌, subst, arith, get_or-set_other, get_or-set_same}
+use Rattle.std.proofs.Common.{◌≡◌, ◌≢◌, ◌==◌, ◌||◌, ℕ, ◌+◌, ◌<◌, ◌≤◌, Bool, true, false, Option, None, List, [], ◌∷◌, length, replicate, set, refl, sym, ◌∙◌, subst, arith, get_or-set_other, get_or-set_same}
+use Rattle.std.proofs.Math.Dec.{ltb}
+use Rattle.std.proofs.lemmas.Bool.{eqb-false, ltb-false, ltb-true}
+use Rattle.std.proofs.lemmas.List.{get_or-replicate, get_or_past, length-replicate}
+use Rattle.std.specs.List.{list_any}
 use Rattle.std.proofs.Math.ListN.{length-set}
 use Rattle.ob0_tree.specs.Order.{Ascending}
 use Rattle.ob0_scope.specs.Marks.{Mark, with_marks}
@@ -27,3 +31,26 @@ marks_stand (m ∷ ms) table low high ascend within =
     let inside : m.token < length table = omega (arith, last, within) in
     let still : high ≤ length next = subst (λ n. high ≤ n) (sym (length-set table m.token m.ordinal)) within in
     (kept_below ms next (m.token + 1) high m.token ascend.1 here ∙ get_or-set_same table m.token m.ordinal None inside, marks_stand ms next (m.token + 1) high ascend.1 still)
+
+both_false : (a b : Bool) → (a || b) ≡ false → (a ≡ false) × (b ≡ false)
+both_false true b e = absurd (cc)
+both_false false b e = (refl, e)
+
+-- what stands at no mark's token stays
+pub kept_elsewhere : (ms : List Mark) (table : List (Option ℕ)) (i : ℕ) → list_any (λ j. j == i) (tokens_of ms) ≡ false → ordinal_in (with_marks table ms) i ≡ ordinal_in table i
+kept_elsewhere [] table i e = refl
+kept_elsewhere (m ∷ ms) table i e =
+    let h = both_false (m.token == i) (list_any (λ j. j == i) (tokens_of ms)) e in
+    let other : i ≢ m.token = λ same. eqb-false m.token i h.0 (sym same) in
+    kept_elsewhere ms (set table m.token m.ordinal) i h.1 ∙ get_or-set_other table m.token i m.ordinal None other
+
+-- a table of nothing has nothing at each token
+pub none_at : (n i : ℕ) → ordinal_in (replicate n None) i ≡ None
+none_at n i = at (ltb i n) refl
+  where
+    nothing : List (Option ℕ)
+    nothing = replicate n None
+
+    at : (b : Bool) → ltb i n ≡ b → ordinal_in nothing i ≡ None
+    at true e = get_or-replicate n i None None (ltb-true i n e)
+    at false e = get_or_past nothing i None (subst (λ k. k ≤ i) (sym (length-replicate n None)) (ltb-false i n e))

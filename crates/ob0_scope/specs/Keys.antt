@@ -1,12 +1,12 @@
 -- The keys of names in a map: before each name a number made of its last bytes, which tells most names apart.
-use Rattle.std.specs.Prelude.{ℕ, ◌+◌, ◌*◌, ◌%◌, ◌^◌, List, [], ◌∷◌}
+use Rattle.std.specs.Prelude.{ℕ, ◌+◌, ◌-◌, ◌*◌, ◌%◌, ◌^◌, List, [], ◌∷◌, drop, length}
 use Rattle.std.specs.Borrow.{Bor}
 use Rattle.std.specs.declared.cmp.Ordering.{Ordering}
 use Rattle.std.specs.Cmp.Lexicographic.{slice_cmp}
 use Rattle.std.specs.Ordering.{nat_cmp, ordering_then}
 use Rattle.ob0_scope_rules.specs.Names.{Name}
 
--- a byte behind others; of nine or more the last eight count
+-- a byte after others, each a digit of a number below 2 ^ 64
 abbrev pub with_byte : ℕ → ℕ → ℕ
 with_byte number byte = (number * 256 % 2 ^ 64 + byte) % 2 ^ 64
 
@@ -14,8 +14,9 @@ abbrev pub with_bytes : List ℕ → ℕ → ℕ
 with_bytes [] number = number
 with_bytes (byte ∷ bytes) number = with_bytes bytes (with_byte number byte)
 
+-- the last eight bytes count
 abbrev pub number_of : Name → ℕ
-number_of x = with_bytes x 0
+number_of x = with_bytes (drop (length x - 8) x) 0
 
 abbrev pub Key : Type 0
 Key = ℕ × Bor Name

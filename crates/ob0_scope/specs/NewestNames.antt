@@ -23,3 +23,15 @@ IsRenewed before after x newest = (y : Name) → newest_in after y ≡ (if same_
 pub record ArePlaces (places : BTreeMap Key ℕ) (entries : List Entry) : Type 0 where
   pub placed : (x : Name) → get_by (compare_name x) places ≡ place_of entries x
   pub distinct : (i : ℕ) (d : Entry) → i < length entries → place_of entries (slice_index_or entries i d).name.now ≡ Some i
+
+-- a name has the place after all others, and the others keep theirs
+abbrev pub IsAdded : List Entry → List Entry → Name → Type 0
+IsAdded before after x = (y : Name) → place_of after y ≡ (if same_name x y then Some (length before) else place_of before y)
+
+-- each name keeps its place
+abbrev pub KeepsPlaces : List Entry → List Entry → Type 0
+KeepsPlaces before after = (y : Name) → place_of after y ≡ place_of before y
+
+-- the name that has the first place keeps it
+abbrev pub KeepsFirst : List Entry → List Entry → Type 0
+KeepsFirst before after = (y : Name) → place_of before y ≡ Some 0 → place_of after y ≡ Some 0

@@ -2,7 +2,7 @@
 use Rattle.std.specs.Prelude.{◌≡◌, ℕ, List, [], ◌∷◌, Option, Some, None, if◌then◌else◌, map, length, reverse}
 use Rattle.ob0_scope.specs.declared.visible.Binding.{Binding}
 use Rattle.ob0_scope.specs.declared.newest.Entry.{Entry}
-use Rattle.ob0_scope.specs.NewestNames.{newest_in}
+use Rattle.ob0_scope.specs.NewestNames.{newest_in, place_of}
 use Rattle.ob0_scope_rules.specs.Names.{Name, same_name}
 use Rattle.ob0_scope_rules.specs.Scopes.{Scope}
 
@@ -24,3 +24,17 @@ AreHidden (b ∷ bs) = (b.hidden ≡ latest b.name.now bs) × AreHidden bs
 pub record IsNewest (newest : List Entry) (bindings : List Binding) : Type 0 where
   pub found : (x : Name) → newest_in newest x ≡ latest x (reverse bindings)
   pub hidden : AreHidden (reverse bindings)
+
+-- The names that are visible at a place, and the new name that a declaration has.
+pub record VisibleNames : Type 0 where
+  pub new_name : Name
+  pub scope : Scope Name
+
+-- other bindings, and the same new name
+abbrev pub with_scope : VisibleNames → Scope Name → VisibleNames
+with_scope v scope = record { new_name = v.new_name; scope = scope }
+
+-- What is kept of each name is the index of its newest binding, and the new name has the first place.
+pub record IsKept (new : Name) (newest : List Entry) (bindings : List Binding) : Type 0 where
+  pub is : IsNewest newest bindings
+  pub first : place_of newest new ≡ Some 0

@@ -65,7 +65,7 @@ fn first_capture(
 }
 
 /// The number of the first occurrence to which a table gives another ordinal.
-fn first_changed(names: &Resolved, ordinals: &[Option<u32>]) -> Option<usize>
+fn first_changed(names: &Resolved, ordinals: &[Option<usize>]) -> Option<usize>
     ensures { result ≡ position_from (λ token. not (is_bound_alike (ordinal_in ordinals.now token) (ordinal_in names.now.ordinals token))) 0 names.now.uses }
 {
     names.occurrences().iter().position(|token| !is_bound_alike(
@@ -108,7 +108,7 @@ fn namesake(
 #[derive(Drop)]
 struct Sought<'t> {
     tokens: &'t Tokens,
-    ordinals: &'t [Option<u32>],
+    ordinals: &'t [Option<usize>],
     declaration: usize,
     new: &'t str,
 }

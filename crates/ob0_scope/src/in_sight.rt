@@ -27,7 +27,7 @@ fn ordinals_in_place(
     alloc: Global,
     names: &Resolved,
     name: &str,
-) -> Result<Vec<Option<u32>>, AllocError>
+) -> Result<Vec<Option<usize>>, AllocError>
     ensures { IfOk result (λ ordinals. map (ordinal_in ordinals.items) names.now.uses ≡ ordinals_seen (named_tree_of names.now.module_read) name.now) }
 {
     let sought = occurring(alloc, names)?;
@@ -43,7 +43,7 @@ fn ordinals_in_place(
 }
 
 /// A table that has 0 at each occurrence, and nothing at the other tokens.
-fn occurring(alloc: Global, names: &Resolved) -> Result<Vec<Option<u32>>, AllocError>
+fn occurring(alloc: Global, names: &Resolved) -> Result<Vec<Option<usize>>, AllocError>
     ensures { IfOk result (λ t. t.items ≡ with_marks (replicate (length names.now.module_read.source.tokens) None) (map first_at names.now.uses)) }
 {
     let mut table = vec![in alloc; None; names.tokens().tokens().len()]?;

@@ -1,8 +1,9 @@
 //! The newest binding of each name.
 
 ghost use Rattle.std.specs.Prelude.{◌≡◌, ◌<◌, ◌∷◌, ◌++◌, [], IfOk, IfSome, IsSome, OnErr, OnOk, None, Some, length};
-ghost use Rattle.ob0_scope.specs.Keys.{number_of, with_byte};
-ghost use Rattle.ob0_scope.specs.NewestNames.{IsRenewed, newest_in, place_of};
+ghost use Rattle.ob0_scope.specs.Keys.{number_of, with_byte, with_bytes};
+ghost use Rattle.ob0_scope.specs.NewestNames.{IsAdded, IsRenewed, KeepsFirst, KeepsPlaces, newest_in, place_of};
+ghost use Rattle.ob0_scope_rules.specs.Names.{Name};
 
 use std::alloc::{AllocError, Global};
 use std::collections::BTreeMap;
@@ -21,9 +22,16 @@ fn key_of<'t>(name: &'t str) -> (u64, &'t str)
     (number_of(name.as_bytes()), name)
 }
 
-/// The number before a name.
+/// The number before a name: that of its last eight bytes. So a long name costs no more than a short one.
 fn number_of(bytes: &[u8]) -> u64
     ensures { result ≡ number_of bytes.now }
+{
+    number_of_all(&bytes[bytes.len().saturating_sub(8)..])
+}
+
+/// The number of some bytes, each a digit.
+fn number_of_all(bytes: &[u8]) -> u64
+    ensures { result ≡ with_bytes bytes.now 0 }
 {
     let mut number = 0;
     for byte in bytes {
@@ -32,7 +40,7 @@ fn number_of(bytes: &[u8]) -> u64
     number
 }
 
-/// The number with a byte behind it: the last eight count.
+/// The number with a byte after it.
 fn with_byte(number: u64, byte: u8) -> u64
     ensures { result ≡ with_byte number byte }
 {
@@ -73,7 +81,17 @@ impl<'t> Model for Newest<'t> {
 }
 
 impl<'t> Newest<'t> {
-    pub(crate) fn new(alloc: Global) -> Result<Newest<'t>, AllocError>
+    /// No bindings yet. The name `first` has the first place, where it is found without a look at its text.
+    pub(crate) fn new(alloc: Global, first: &'t str) -> Result<Newest<'t>, AllocError>
+        ensures none { IfOk result (λ t. (x : Name) → newest_in t x ≡ None) }
+        ensures first { IfOk result (λ t. place_of t first.now ≡ Some 0) }
+    {
+        let mut newest = Newest::with_no_names(alloc)?;
+        newest.add(first, None)?;
+        Ok(newest)
+    }
+
+    fn with_no_names(alloc: Global) -> Result<Newest<'t>, AllocError>
         ensures { IfOk result (λ t. t ≡ []) }
     {
         Ok(Newest {
@@ -81,6 +99,16 @@ impl<'t> Newest<'t> {
             places: BTreeMap::new(alloc),
             recent: vec![in alloc; 0; RECENT]?,
         })
+    }
+
+    /// The index of the newest binding of the name that has the first place.
+    pub(crate) fn first(&self) -> Option<usize>
+        ensures { (x : Name) → place_of self.now x ≡ Some 0 → result ≡ newest_in self.now x }
+    {
+        if self.entries.is_empty() {
+            return None;
+        }
+        self.entries[0].newest
     }
 
     /// The place of a name, where it is the one that is noted here.
@@ -129,6 +157,7 @@ impl<'t> Newest<'t> {
     fn add(&mut self, name: &'t str, newest: Option<usize>) -> Result<(), AllocError>
         requires { place_of self.old name.now ≡ None }
         ensures renewed { OnOk result (IsRenewed self.old self.new name.now newest) }
+        ensures added { OnOk result (IsAdded self.old self.new name.now) }
         ensures same { OnErr result (self.new ≡ self.old) }
     {
         self.entries.reserve(1)?;
@@ -140,7 +169,8 @@ impl<'t> Newest<'t> {
     /// Gives the name at a place another newest binding.
     fn renew(&mut self, place: usize, name: &'t str, newest: Option<usize>)
         requires { place_of self.old name.now ≡ Some place }
-        ensures { IsRenewed self.old self.new name.now newest }
+        ensures renewed { IsRenewed self.old self.new name.now newest }
+        ensures places { KeepsPlaces self.old self.new }
     {
         self.entries[place] = Entry { name, newest };
     }
@@ -161,6 +191,7 @@ impl<'t> Newest<'t> {
     pub(crate) fn put(&mut self, name: &'t str, index: usize) -> Result<Option<usize>, AllocError>
         ensures before { IfOk result (λ before. before ≡ newest_in self.old name.now) }
         ensures renewed { OnOk result (IsRenewed self.old self.new name.now (Some index)) }
+        ensures first { OnOk result (KeepsFirst self.old self.new) }
         ensures same { OnErr result (self.new ≡ self.old) }
     {
         match self.find(name) {
@@ -179,7 +210,8 @@ impl<'t> Newest<'t> {
     /// Gives a name that is bound back the binding before its newest one.
     pub(crate) fn put_back(&mut self, name: &'t str, before: Option<usize>)
         requires { IsSome (newest_in self.old name.now) }
-        ensures { IsRenewed self.old self.new name.now before }
+        ensures renewed { IsRenewed self.old self.new name.now before }
+        ensures places { KeepsPlaces self.old self.new }
     {
         let place = match self.find(name) {
             None => return,

@@ -1,17 +1,20 @@
 //! Goes through the declarations of a module in text order, and gives each identifier the ordinal of its declaration.
 
-ghost use Rattle.std.specs.Prelude.{◌≡◌, ◌+◌, [], OnOk, IfOk, length, map, Some, None};
+ghost use Rattle.std.specs.Prelude.{◌≡◌, ◌+◌, ◌<◌, ◌^◌, [], OnOk, IfOk, length, map, Some, None};
 ghost use Rattle.ob0_tree.specs.declared.tree.Role.TheVariants as roles;
 ghost use Rattle.ob0_tree.specs.Parsed.{tree_of};
 ghost use Rattle.ob0_tree.specs.View.{expression_of, body_of, type_of, names_of, constant_of, constants_of, type_declaration_of, types_of, variable_of, variables_of, section_of, formals_of, procedure_of, block_of};
 ghost use Rattle.ob0_scope_rules.specs.Names.{as_names};
 ghost use Rattle.ob0_scope_rules.specs.Parts.{names_listed};
-ghost use Rattle.ob0_scope_rules.specs.Scopes.{predeclared_scope};
+ghost use Rattle.ob0_scope_rules.specs.Resolution.{ordinal_in};
+ghost use Rattle.ob0_scope_rules.specs.Scopes.{ordinal_of, predeclared_scope};
+ghost use Rattle.ob0_scope.specs.Written.{is_renamed, name_at};
 ghost use Rattle.ob0_scope.specs.Tabling.{marked, numbered_at, numbered_all, shown, shown_from, left_to, found, found_all, used, visit_constant, visit_constant_section, visit_type, visit_type_section, visit_variable, visit_variable_section, visit_section, visit_formals, visit_procedure, visit_block, visit_module, started};
 
 use crate::visible::Visible;
-use crate::writing::Writing;
-use ob0_scope_rules::PREDECLARED;
+use crate::writing::{Writing, is_renamed, token_text};
+use ob0_scan::Tokens;
+use ob0_scope_rules::{PREDECLARED, ordinal_at};
 use ob0_tree::identifiers::Found;
 use ob0_tree::{
     Block, Constant, Expression, Module, Names, Procedure, Role, Section, Statement,
@@ -25,11 +28,13 @@ use std::mem::replace;
 #[derive(Drop)]
 pub(crate) struct Numbering<'t> {
     alloc: Global,
-    writing: Writing<'t>,
+    tokens: &'t Tokens,
+    ordinals: &'t [Option<usize>],
+    declaration: Option<usize>,
     visible: Visible<'t>,
     declarations: Vec<usize>,
     occurrences: Vec<usize>,
-    table: Vec<Option<u32>>,
+    table: Vec<Option<usize>>,
     found: Found,
 }
 
@@ -38,26 +43,22 @@ impl<'t> Model for Numbering<'t> {
 
     ghost Value = { Visit };
 
-    ghost view = { λ n. record { writing = n.writing; scope = n.visible; declarations = n.declarations.items; uses = n.occurrences.items; marks = n.table.items } };
+    ghost view = { λ n. record { writing = record { source = n.tokens.now; ordinals = n.ordinals.now; declaration = n.declaration; new = n.visible.new_name }; scope = n.visible.scope; declarations = n.declarations.items; uses = n.occurrences.items; marks = n.table.items } };
 }
 
-/// The ordinal of a declaration by its index. Ordinals are kept as `u32`, and a text has far fewer tokens; one that had more
-/// would be refused as too large for memory.
-fn ordinal_of(index: usize) -> Result<u32, AllocError>
-    ensures { IfOk result (λ ordinal. ordinal ≡ 7 + index) }
+/// The ordinal of a declaration by its index among the declarations of the text.
+fn ordinal_at_index(index: usize) -> usize
+    requires { index < 2 ^ 63 }
+    ensures { result ≡ 7 + index }
 {
-    if index <= u32::MAX as usize - PREDECLARED {
-        Ok((PREDECLARED + index) as u32)
-    } else {
-        Err(AllocError)
-    }
+    PREDECLARED + index
 }
 
-/// The predeclared names, visible.
-fn predeclared<'t>(alloc: Global) -> Result<Visible<'t>, AllocError>
-    ensures { IfOk result (λ v. v ≡ predeclared_scope as_names) }
+/// The predeclared names, visible, and the new name that a declaration has.
+fn predeclared<'t>(alloc: Global, new: &'t str) -> Result<Visible<'t>, AllocError>
+    ensures { IfOk result (λ v. v ≡ record { new_name = new.entry.now; scope = predeclared_scope as_names }) }
 {
-    let mut visible = Visible::new(alloc)?;
+    let mut visible = Visible::new(alloc, new)?;
     visible.declare("INTEGER", 0)?;
     visible.declare("BOOLEAN", 1)?;
     visible.declare("TRUE", 2)?;
@@ -79,8 +80,10 @@ pub(crate) fn number<'t>(
     let table = vec![in alloc; None; writing.tokens.tokens().len()]?;
     let mut numbering = Numbering {
         alloc,
-        writing,
-        visible: predeclared(alloc)?,
+        tokens: writing.tokens,
+        ordinals: writing.ordinals,
+        declaration: writing.declaration,
+        visible: predeclared(alloc, writing.new)?,
         declarations: Vec::new(alloc),
         occurrences: Vec::new(alloc),
         table,
@@ -94,14 +97,16 @@ pub(crate) fn number<'t>(
 
 impl<'t> Numbering<'t> {
     /// The declaring tokens, the tokens of the occurrences, and the table.
-    pub(crate) fn into_parts(self) -> (Vec<usize>, Vec<usize>, Vec<Option<u32>>)
+    pub(crate) fn into_parts(self) -> (Vec<usize>, Vec<usize>, Vec<Option<usize>>)
         ensures declarations { result.0.items ≡ self.entry.declarations }
         ensures uses { result.1.items ≡ self.entry.uses }
         ensures table { result.2.items ≡ self.entry.marks }
     {
         let Numbering {
             alloc: _,
-            writing: _,
+            tokens: _,
+            ordinals: _,
+            declaration: _,
             visible: _,
             declarations,
             occurrences,
@@ -125,7 +130,7 @@ impl<'t> Numbering<'t> {
         self.visible.len()
     }
 
-    fn mark(&mut self, token: usize, ordinal: Option<u32>)
+    fn mark(&mut self, token: usize, ordinal: Option<usize>)
         ensures { self.new ≡ marked token ordinal self.old }
     {
         if token < self.table.len() {
@@ -134,22 +139,26 @@ impl<'t> Numbering<'t> {
     }
 
     /// Gives a declaring name the next ordinal.
-    fn number(&mut self, token: usize) -> Result<u32, AllocError>
+    fn number(&mut self, token: usize) -> Result<usize, AllocError>
         ensures next { IfOk result (λ ordinal. ordinal ≡ 7 + length self.old.declarations) }
         ensures numbered { OnOk result (self.new ≡ numbered_at token self.old) }
     {
-        let ordinal = ordinal_of(self.declarations.len())?;
+        let ordinal = ordinal_at_index(self.declarations.len());
         self.declarations.push(token)?;
         self.mark(token, Some(ordinal));
         Ok(ordinal)
     }
 
     /// Makes the name of a declaration visible.
-    fn show(&mut self, token: usize, ordinal: u32) -> Result<(), AllocError>
+    fn show(&mut self, token: usize, ordinal: usize) -> Result<(), AllocError>
         ensures { OnOk result (self.new ≡ shown token ordinal self.old) }
     {
-        let name = self.writing.name(token);
-        self.visible.declare(name, ordinal)
+        if self.is_renamed(token) {
+            self.visible.declare_new(ordinal)
+        } else {
+            self.visible
+                .declare(token_text(self.tokens, token), ordinal)
+        }
     }
 
     /// Makes the names of the declarations from this one on visible.
@@ -158,7 +167,7 @@ impl<'t> Numbering<'t> {
     {
         for index in first..self.declarations.len() {
             let token = self.declarations[index];
-            self.show(token, ordinal_of(index)?)?;
+            self.show(token, ordinal_at_index(index))?;
         }
         Ok(())
     }
@@ -170,12 +179,30 @@ impl<'t> Numbering<'t> {
         self.visible.leave_to(len);
     }
 
+    /// Whether an identifier has the new name.
+    fn is_renamed(&self, token: usize) -> bool
+        ensures { result ≡ is_renamed self.now.writing.declaration (ordinal_in self.now.writing.ordinals token) }
+    {
+        is_renamed(self.declaration, ordinal_at(self.ordinals, token))
+    }
+
+    /// The ordinal of the declaration to which the name at a token is bound.
+    fn ordinal_bound(&mut self, token: usize) -> Option<usize>
+        ensures found { result ≡ ordinal_of as_names self.old.scope (name_at self.old.writing token) }
+        ensures same { self.new ≡ self.old }
+    {
+        if self.is_renamed(token) {
+            self.visible.look_up_new()
+        } else {
+            self.visible.look_up(token_text(self.tokens, token))
+        }
+    }
+
     /// Looks a name up.
     fn look_up(&mut self, token: usize) -> Result<(), AllocError>
         ensures { OnOk result (self.new ≡ found roles.LookedUp token self.old) }
     {
-        let name = self.writing.name(token);
-        let ordinal = self.visible.look_up(name);
+        let ordinal = self.ordinal_bound(token);
         self.occurrences.push(token)?;
         self.mark(token, ordinal);
         Ok(())

@@ -1,6 +1,9 @@
 //! What the names of a module are bound to once a declaration has another name.
 
 ghost use Rattle.std.specs.Prelude.{◌≡◌, IfOk, map};
+ghost use Rattle.ob0_tree.specs.Parsed.{named_tree_of};
+ghost use Rattle.ob0_scope_rules.specs.Occurrences.{bindings, label_ordinal};
+ghost use Rattle.ob0_scope_rules.specs.Scopes.{renamed};
 ghost use Rattle.ob0_scope.specs.Renames.{IsRenumbering};
 ghost use Rattle.ob0_scope_rules.specs.Resolution.{IsResolution, ordinal_in};
 
@@ -9,13 +12,28 @@ use crate::writing::Writing;
 use ob0_scope_rules::{Resolved, ordinal_at};
 use std::alloc::{AllocError, Global};
 
+/// For each occurrence of the module, in text order, the ordinal of the declaration to which it would be bound if the
+/// declaration with the ordinal `declaration`, its closing name and all names bound to it were written `new`. None where
+/// nothing would bind it.
+pub fn resolve_renamed(
+    alloc: Global,
+    names: &Resolved,
+    declaration: usize,
+    new: &str,
+) -> Result<Vec<Option<usize>>, AllocError>
+    ensures { IfOk result (λ bound. bound.items ≡ map label_ordinal (bindings (renamed (named_tree_of names.now.module_read) declaration new.now))) }
+{
+    let ordinals = renumber(alloc, names, declaration, new)?;
+    ordinals_of(alloc, &ordinals, names.occurrences())
+}
+
 /// The ordinal of each identifier, by its token, where a declaration has another name.
 pub(crate) fn renumber(
     alloc: Global,
     names: &Resolved,
     declaration: usize,
     new: &str,
-) -> Result<Vec<Option<u32>>, AllocError>
+) -> Result<Vec<Option<usize>>, AllocError>
     ensures renumbered { IfOk result (λ ordinals. IsRenumbering names.now declaration new.now ordinals.items) }
     ensures resolved { IsResolution names.now }
 {
@@ -33,7 +51,7 @@ pub(crate) fn renumber(
 /// The ordinals that a table has at these tokens.
 pub(crate) fn ordinals_of(
     alloc: Global,
-    ordinals: &[Option<u32>],
+    ordinals: &[Option<usize>],
     tokens: &[usize],
 ) -> Result<Vec<Option<usize>>, AllocError>
     ensures { IfOk result (λ found. found.items ≡ map (ordinal_in ordinals.now) tokens.now) }

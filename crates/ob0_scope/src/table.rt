@@ -11,7 +11,7 @@ use std::alloc::AllocError;
 pub(crate) fn undeclared(
     faults: &mut Vec<Fault>,
     tokens: &Tokens,
-    ordinals: &[Option<u32>],
+    ordinals: &[Option<usize>],
     occurrences: &[usize],
 ) -> Result<(), AllocError>
     ensures { OnOk result (faults.new.items ≡ faults.old.items ++ undeclared_at tokens.now ordinals.now occurrences.now) }

@@ -2,17 +2,16 @@
 
 ghost use Rattle.std.specs.Prelude.{◌≡◌};
 ghost use Rattle.ob0_tree.specs.Places.{text_at};
-ghost use Rattle.ob0_scope.specs.Written.{as_in, is_renamed, name_at};
+ghost use Rattle.ob0_scope.specs.Written.{as_in, is_renamed};
 
 use ob0_scan::Tokens;
-use ob0_scope_rules::ordinal_at;
 use std::marker::Model;
 
 /// A text, and a name that stands in place of each identifier of one declaration, if there is one.
 #[derive(Drop)]
 pub(crate) struct Writing<'t> {
     pub(crate) tokens: &'t Tokens,
-    pub(crate) ordinals: &'t [Option<u32>],
+    pub(crate) ordinals: &'t [Option<usize>],
     pub(crate) declaration: Option<usize>,
     pub(crate) new: &'t str,
 }
@@ -37,7 +36,7 @@ pub(crate) fn token_text<'t>(tokens: &'t Tokens, token: usize) -> &'t str
 }
 
 /// Whether an identifier of this ordinal has the new name.
-fn is_renamed(declaration: Option<usize>, ordinal: Option<usize>) -> bool
+pub(crate) fn is_renamed(declaration: Option<usize>, ordinal: Option<usize>) -> bool
     ensures { result ≡ is_renamed declaration ordinal }
 {
     match declaration {
@@ -59,17 +58,6 @@ impl<'t> Writing<'t> {
             ordinals: &[],
             declaration: None,
             new: "",
-        }
-    }
-
-    /// How an identifier is written.
-    pub(crate) fn name(&self, token: usize) -> &'t str
-        ensures { result.now ≡ name_at self.now token }
-    {
-        if is_renamed(self.declaration, ordinal_at(self.ordinals, token)) {
-            self.new
-        } else {
-            token_text(self.tokens, token)
         }
     }
 }

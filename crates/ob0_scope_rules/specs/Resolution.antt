@@ -1,5 +1,5 @@
 -- What is known of a module's names: to which declaration each is bound, and what is wrong with them.
-use Rattle.std.specs.Prelude.{◌≡◌, ℕ, ◌-◌, nat_lt, Bool, true, false, not, ◌||◌, List, [], ◌∷◌, Option, Some, None, slice_get, slice_index_or, if◌then◌else◌, is_some}
+use Rattle.std.specs.Prelude.{◌≡◌, ℕ, ◌-◌, nat_lt, Bool, true, false, not, ◌==◌, List, [], ◌∷◌, ◌++◌, Option, Some, None, slice_get, slice_index_or, if◌then◌else◌, is_some}
 use Rattle.std.specs.List.{filter, list_any}
 use Rattle.ob0_scan.specs.declared.fault.Code.TheVariants as code
 use Rattle.ob0_scan.specs.declared.fault.Fault.{Fault}
@@ -7,6 +7,7 @@ use Rattle.ob0_scan.specs.declared.lexeme.Span.{Span}
 use Rattle.ob0_scan.specs.Scanned.{Scanned}
 use Rattle.ob0_tree.specs.declared.tree.Role.{Role}
 use Rattle.ob0_tree.specs.declared.tree.Role.TheVariants as role
+use Rattle.ob0_tree.specs.Order.{leaves}
 use Rattle.ob0_tree.specs.Tree.{mapped, occurrences, identifiers}
 use Rattle.ob0_tree.specs.Parsed.{Parsed, IsParsed, tree_of, named_tree_of}
 use Rattle.ob0_tree.specs.Places.{text_at, value_at}
@@ -97,19 +98,27 @@ unbound_at source (token ∷ tokens) (label ∷ labels) =
 abbrev pub unbound_in : Parsed → List Fault
 unbound_in m = unbound_at m.source (occurrences (tree_of m)) (bindings (named_tree_of m))
 
--- The faults are those of names that are declared once more and of closing names that differ, one for each occurrence that no
--- declaration binds, in text order, and no others. There are some of the first exactly where a name is declared twice or closes
+-- The faults are those of names that are declared once more and of closing names that differ, and after these one for each
+-- occurrence that no declaration binds, in text order. There are some of the first exactly where a name is declared twice or closes
 -- what another name opened.
 pub record AreFaultsOf (m : Parsed) (faults : List Fault) : Type 0 where
+  pub by_kind : faults ≡ twice_in m ++ unbound_in m
   pub declared_twice : list_any is_of_declarations faults ≡ not (declared_once (named_tree_of m))
-  pub declarations : filter is_of_declarations faults ≡ twice_in m
   pub undeclared : filter is_of_occurrences faults ≡ unbound_in m
-  pub no_other : list_any (λ fault. not (is_of_declarations fault || is_of_occurrences fault)) faults ≡ false
+
+-- one of a module's identifiers is at this token
+abbrev pub is_identifier_of : Parsed → ℕ → Bool
+is_identifier_of m token = list_any (λ i. i == token) (leaves (tree_of m))
+
+-- a table has no ordinal at a token that is no identifier of the module
+abbrev pub NamesAlone : Parsed → List (Option ℕ) → Type 0
+NamesAlone m ordinals = (token : ℕ) → is_identifier_of m token ≡ false → ordinal_in ordinals token ≡ None
 
 pub record IsResolution (r : Resolution) : Type 0 where
   pub parsed : IsParsed r.module_read
   pub numbering : IsNumbering r.module_read r.ordinals
   pub binding : IsBinding r.module_read r.ordinals
+  pub names_alone : NamesAlone r.module_read r.ordinals
   pub declaring : r.declarations ≡ declaring_only (identifiers role.Declaring (tree_of r.module_read))
   pub occurring : r.uses ≡ occurrences (tree_of r.module_read)
   pub told : AreFaultsOf r.module_read r.faults

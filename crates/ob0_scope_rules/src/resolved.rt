@@ -18,14 +18,15 @@ pub const PREDECLARED: usize = 7;
 /// that declare, those of the occurrences, and the faults. It borrows nothing.
 #[derive(Drop)]
 pub struct Bindings {
-    pub ordinals: Vec<Option<u32>>,
+    pub ordinals: Vec<Option<usize>>,
     pub declarations: Vec<usize>,
     pub occurrences: Vec<usize>,
     pub faults: Vec<Fault>,
 }
 
 /// A module of which each name is bound to its declaration. Declarations go by ordinal: 0 to 6 are the predeclared
-/// names, from 7 on those of the text, in text order.
+/// names, from 7 on those of the text, in text order. What is said below of its parts is its invariant (`IsResolution`), which
+/// `module` gives as a clause.
 #[derive(Drop)]
 pub struct Resolved<'t> {
     module: &'t Module<'t>,
@@ -128,7 +129,7 @@ impl<'t> Resolved<'t> {
     }
 
     /// The ordinals by token.
-    pub fn ordinals(&self) -> &[Option<u32>]
+    pub fn ordinals(&self) -> &[Option<usize>]
         ensures { result.now ≡ self.now.ordinals }
     {
         self.bindings().ordinals.as_slice()
@@ -161,7 +162,7 @@ impl<'t> Resolved<'t> {
         self.bindings().occurrences.as_slice()
     }
 
-    /// Second declarations in a block or record and closing names that differ; behind these the names that no declaration
+    /// Second declarations in a block or record and closing names that differ; after these the names that no declaration
     /// binds, in text order.
     pub fn faults(&self) -> &[Fault]
         ensures { result.now ≡ self.now.faults }

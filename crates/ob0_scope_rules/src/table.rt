@@ -6,20 +6,11 @@ ghost use Rattle.ob0_scope_rules.specs.Resolution.{ordinal_in, span_at};
 use ob0_scan::{Span, Tokens};
 
 /// The ordinal that a table has at a token; None also where it has no such token.
-pub fn ordinal_at(ordinals: &[Option<u32>], token: usize) -> Option<usize>
+pub fn ordinal_at(ordinals: &[Option<usize>], token: usize) -> Option<usize>
     ensures { result ≡ ordinal_in ordinals.now token }
 {
     match ordinals.get(token) {
-        Some(ordinal) => widened(*ordinal),
-        None => None,
-    }
-}
-
-fn widened(ordinal: Option<u32>) -> Option<usize>
-    ensures { result ≡ ordinal }
-{
-    match ordinal {
-        Some(ordinal) => Some(ordinal as usize),
+        Some(ordinal) => *ordinal,
         None => None,
     }
 }

@@ -3,7 +3,7 @@ use Rattle.ob0_scope.specs.declared.newest.Entry.{Entry}
 use Rattle.ob0_scope.specs.Keys.{Key}
 use Rattle.ob0_scope_rules.specs.Names.{same_name}
 use Rattle.ob0_scope.specs.NewestNames.{ArePlaces, newest_in, place_of}
-use Rattle.ob0_scope.proofs.NewestNames.{Renews, added, places_added}
+use Rattle.ob0_scope.proofs.NewestNames.{Renews, added, place_added, places_added}
 use Rattle.ob0_scope.proofs.newest.Newest.add.Goals as goal
 
 pub invariant_of-self-2 : goal.invariant_of-self-2
@@ -25,3 +25,12 @@ returns-clause-renewed c =
     let absent : place_of items c.args.name.now ≡ None = ap (λ es. place_of es c.args.name.now) c.self.view_is ∙ c.requires in
     λ y. ap (λ es. newest_in es y) (c.push_reserved.ensures.items ∙ ap (λ (l : List Entry). l ++ (r ∷ [])) kept)
     ∙ (added items r absent y ∙ ap (λ es. if same_name c.args.name.now y then c.args.newest else newest_in es y) c.self.view_is)
+
+pub returns-clause-added : goal.returns-clause-added
+returns-clause-added c =
+    let items = c.self.inside.entries.items in
+    let r : Entry = record { name = c.args.name; newest = c.args.newest } in
+    let kept : c.reserve.new.self.items ≡ items = c.reserve.ensures.items in
+    let absent : place_of items c.args.name.now ≡ None = ap (λ es. place_of es c.args.name.now) c.self.view_is ∙ c.requires in
+    λ y. ap (λ es. place_of es y) (c.push_reserved.ensures.items ∙ ap (λ (l : List Entry). l ++ (r ∷ [])) kept)
+    ∙ (place_added items r absent y ∙ ap (λ es. if same_name c.args.name.now y then Some (length es) else place_of es y) c.self.view_is)

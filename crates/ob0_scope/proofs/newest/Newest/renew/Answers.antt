@@ -2,7 +2,7 @@ use Rattle.std.proofs.Common.{◌≡◌, if◌then◌else◌, Some, refl, ap, ar
 use Rattle.ob0_scope.specs.declared.newest.Entry.{Entry}
 use Rattle.ob0_scope_rules.specs.Names.{same_name}
 use Rattle.ob0_scope.specs.NewestNames.{newest_in, place_of}
-use Rattle.ob0_scope.proofs.NewestNames.{places_renewed, renewed, stands_at}
+use Rattle.ob0_scope.proofs.NewestNames.{place_renewed, places_renewed, renewed, stands_at}
 use Rattle.ob0_scope.proofs.newest.Newest.renew.Goals as goal
 
 pub index_mut-requires : goal.index_mut-requires
@@ -18,9 +18,15 @@ invariant_of-self c =
     let r : Entry = record { name = c.args.name; newest = c.args.newest } in
     places_renewed c.self.inside.places c.self.inside.entries.items c.args.name.now c.args.place r refl at c.self.invariant
 
-pub returns : goal.returns
-returns c =
+pub returns-clause-renewed : goal.returns-clause-renewed
+returns-clause-renewed c =
     let at : place_of c.self.inside.entries.items c.args.name.now ≡ Some c.args.place = ap (λ es. place_of es c.args.name.now) c.self.view_is ∙ c.requires in
     let r : Entry = record { name = c.args.name; newest = c.args.newest } in
     λ y. renewed c.self.inside.entries.items c.args.name.now c.args.place r refl at y
     ∙ ap (λ es. if same_name c.args.name.now y then c.args.newest else newest_in es y) c.self.view_is
+
+pub returns-clause-places : goal.returns-clause-places
+returns-clause-places c =
+    let at : place_of c.self.inside.entries.items c.args.name.now ≡ Some c.args.place = ap (λ es. place_of es c.args.name.now) c.self.view_is ∙ c.requires in
+    let r : Entry = record { name = c.args.name; newest = c.args.newest } in
+    λ y. place_renewed c.self.inside.entries.items c.args.name.now c.args.place r refl at y ∙ ap (λ es. place_of es y) c.self.view_is
