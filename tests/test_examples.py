@@ -2,8 +2,7 @@
 as the server lays it out. (What they print was written down by other means than this program.)"""
 import os
 
-from harness import TOP, Server, did_open, ends, holds, run, same, test
-from test_syntax_files import examples, text_of
+from harness import TOP, Server, did_open, ends, examples, holds, run, same, test, text_of
 
 
 def bytes_of(*path):

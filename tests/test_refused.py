@@ -1,7 +1,7 @@
 """Memory that is refused: each allocation of the program in turn, alone and with all behind it. `make faults` does the same in
 longer conversations, and in the tests of the crates that are made for it."""
+import conversations
 import failing
-import hostile
 from harness import test
 
 
@@ -11,5 +11,5 @@ def make(name, case):
         failing.refused(name, *case)
 
 
-for key, given in hostile.SHORT.items():
+for key, given in conversations.SHORT.items():
     make(key, given)

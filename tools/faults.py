@@ -1,7 +1,7 @@
 #!/usr/bin/env python3
 """What is done to the program beyond the end-to-end tests, since it takes long: memory refused at each allocation, of longer
 conversations and commands, and of the tests of the crates that are made for it (`a_refused_..`); one long conversation; many
-random modules, run by the program and by the language's second writing.
+random modules, run by the program and by the reference.
 
   tools/faults.py [WORD..]   what has one of these words in its name; with no word all of it
 
@@ -18,19 +18,21 @@ import common
 from common import TOP
 
 sys.dont_write_bytecode = True
-sys.path.insert(0, os.path.join(TOP, "tests"))
+sys.path.insert(0, os.path.join(TOP, "tests", "lib"))
 
-import failing  # noqa: E402
 import harness  # noqa: E402
-import hostile  # noqa: E402
-import long_talk  # noqa: E402
-import test_random  # noqa: E402
+import against_reference  # noqa: E402
+import conversations  # noqa: E402
+import failing  # noqa: E402
+import long_conversation  # noqa: E402
 from harness import holds, same  # noqa: E402
 
 CRATES = ("ob0_tests_low", "ob0_tests_language", "ob0_tests_top")
 WALK = int(os.environ.get("OB0_WALK", "10000"))
 LONG = int(os.environ.get("OB0_LONG", "100000"))
+TEXTS = int(os.environ.get("OB0_TEXTS", "20000"))
 RUNS = int(os.environ.get("OB0_RUNS", "20000"))
+SEED = int(os.environ.get("OB0_SEED", "0"))
 
 
 def tests_of(program):
@@ -73,13 +75,13 @@ def walk(program, test):
 
 
 def walked(key):
-    counts = failing.refused(key, *{**hostile.SHORT, **hostile.LONG}[key])
+    counts = failing.refused(key, *{**conversations.SHORT, **conversations.LONG}[key])
     return f"{sum(counts.values()):,} runs: {counts['refused']:,} ended with status 5, {counts['undisturbed']:,} as without refusal"
 
 
 def all_of_it():
     """Names, and what is done under each: it gives a line with figures."""
-    for key in (*hostile.SHORT, *hostile.LONG):
+    for key in (*conversations.SHORT, *conversations.LONG):
         yield f"refused memory: {key}", lambda key=key: walked(key)
     for crate in CRATES:
         program = os.path.join(TOP, "crates", crate, "out", f"{crate}_tests")
@@ -88,8 +90,9 @@ def all_of_it():
             continue
         for test in tests_of(program):
             yield f"refused memory: {crate}, {test}", lambda program=program, test=test: walk(program, test)
-    yield f"a long conversation: {LONG:,} messages", lambda: long_talk.converse(LONG)
-    yield f"random runs: {RUNS:,} modules", lambda: test_random.many_runs(RUNS, failing.PROCESSORS)
+    yield f"a long conversation: {LONG:,} messages", lambda: long_conversation.converse(LONG)
+    yield f"random texts: {TEXTS:,}", lambda: against_reference.many_texts(TEXTS, SEED, failing.PROCESSORS)
+    yield f"random runs: {RUNS:,} modules", lambda: against_reference.many_runs(RUNS, SEED, failing.PROCESSORS)
 
 
 def main(words):

@@ -1,14 +1,9 @@
 """The largest that is taken: texts of 1 MiB, long lists of faults, of changes and of messages, many documents. Each can be made in
 any size, so that bench/run.py can say how its cost grows."""
-import os
-import sys
-
-from harness import EXIT, MESSAGES, SHUTDOWN, TOP, answer, capabilities, did_change, did_open, error, extent, frames, initialize
+import corpus
+from harness import EXIT, MESSAGES, SHUTDOWN, answer, capabilities, did_change, did_open, error, extent, frames, initialize
 from harness import place, published, request, told
 
-sys.path.insert(0, os.path.join(TOP, "bench"))
-
-import corpus  # noqa: E402
 
 MIB = 1 << 20
 NO_MESSAGE = error(None, -32600, "not a message")

@@ -1,6 +1,8 @@
-"""What the end-to-end tests share: the table of tests, the program over a real pipe, and short words for messages."""
+"""What the end-to-end tests share: the table of tests, the program over a real pipe, and short words for messages. After it is
+imported the helpers, the inputs, the reference and the scripts of tools/ and bench/ can be imported too."""
 import array
 import fcntl
+import glob
 import json
 import os
 import select
@@ -11,8 +13,8 @@ import termios
 import threading
 import time
 
-TOP = os.path.dirname(os.path.dirname(os.path.abspath(__file__)))
-sys.path.insert(0, os.path.join(TOP, "tools"))
+TOP = os.path.dirname(os.path.dirname(os.path.dirname(os.path.abspath(__file__))))
+sys.path += [os.path.join(TOP, *it) for it in (["tests"], ["tests", "lib"], ["tests", "inputs"], ["tools"], ["bench"])]
 
 import editors  # noqa: E402
 
@@ -161,6 +163,12 @@ def published(diagnostics, uri="file:///m", version=1):
     if version is not None:
         params["version"] = version
     return compact(notice("textDocument/publishDiagnostics", params))
+
+
+def lines_of(diagnostics):
+    """Diagnostics as `check` prints them."""
+    starts = ((it["range"]["start"], it) for it in diagnostics)
+    return "".join(f"{at['line']}:{at['character']}: {it['code']}: {it['message']}\n" for at, it in starts).encode()
 
 
 SHUTDOWN = request(2, "shutdown")
@@ -377,3 +385,24 @@ def ends(found, out, status, err=""):
     """Holds a run of the program to what it must write and to its status."""
     wanted = tuple(it if isinstance(it, bytes) else it.encode() for it in (out, err))
     same((found.out, found.err, found.status), (*wanted, status), "standard output, standard error and the status")
+
+
+def edited(text, places, new):
+    """A text with a new name at these places, each on one line."""
+    lines = text.split("\n")
+    for it in reversed(places):
+        at = extent(it)
+        line, start, end = at["start"]["line"], at["start"]["character"], at["end"]["character"]
+        lines[line] = lines[line][:start] + new + lines[line][end:]
+    return "\n".join(lines)
+
+
+def text_of(*path):
+    """A file of the repository."""
+    with open(os.path.join(TOP, *path), encoding="utf-8") as file:
+        return file.read()
+
+
+def examples():
+    """The modules of examples/, by their paths from the top."""
+    return sorted(os.path.relpath(it, TOP) for it in glob.glob(os.path.join(TOP, "examples", "*.mod")))

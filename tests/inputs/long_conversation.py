@@ -1,18 +1,14 @@
 """One long conversation: random changes, each valid, and questions. What is published of each text is held against what a new
 `check` prints of it, and the memory of the server is watched."""
 import concurrent.futures
-import os
 import random
 import re
-import sys
 
+import corpus
 import failing
 import harness
-from harness import TOP, Server, did_change, did_close, did_open, holds, place, request, same
+from harness import Server, did_change, did_close, did_open, holds, lines_of, place, request, same
 
-sys.path.insert(0, os.path.join(TOP, "bench"))
-
-import corpus  # noqa: E402
 
 URI = "file:///m"
 PIECES = ["", " ", "\n", "\r\n", ";", "x", "1", "0", "END", "BEGIN x := 1", "(* é 😀 *)", "(*", "*)", "$", "é", "VAR y: INTEGER;", ":=", "2147483648"]
@@ -76,12 +72,6 @@ class Talk:
         found = self.server.take()
         same(found.get("id"), self.idents, f"the id of the answer to {method}")
         holds("result" in found or found["error"]["code"] == -32803, f"{method} of\n{self.text}\n    gave {found}")
-
-
-def lines_of(diagnostics):
-    """Diagnostics as `check` prints them."""
-    starts = ((it["range"]["start"], it) for it in diagnostics)
-    return "".join(f"{at['line']}:{at['character']}: {it['code']}: {it['message']}\n" for at, it in starts).encode()
 
 
 def checked(pair):

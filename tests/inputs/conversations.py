@@ -1,14 +1,9 @@
 """What is run with memory refused and devices that fail: conversations and commands, each with its input and file."""
-import os
-import sys
+import corpus
+from first_conversation import INPUT
+from harness import EXIT, SHUTDOWN, did_change, did_close, did_open, extent, frames, initialize, notice, place, request
+from modules import COUNTS, DIVIDES, FAULTY, LEAST, WRITES_A_GLOBAL
 
-from harness import EXIT, SHUTDOWN, TOP, did_change, did_close, did_open, extent, frames, initialize, notice, place, request
-from samples import FAULTY, WRITES_A_GLOBAL
-from test_stream import INPUT, OUTPUT
-
-sys.path.insert(0, os.path.join(TOP, "bench"))
-
-import corpus  # noqa: E402
 
 DOCUMENT = {"uri": "file:///m"}
 LITERALS = {"textDocument": {"codeAction": {"codeActionLiteralSupport": {}}}}
@@ -32,18 +27,7 @@ def talk(*contents, **capabilities):
     return frames([initialize(**capabilities), *contents, {**SHUTDOWN, "id": 99}, EXIT])
 
 
-COUNTS = """MODULE M;
-VAR n: INTEGER;
-PROCEDURE P; BEGIN Write(n) END P;
-BEGIN Read(n); WHILE n > 0 DO n := n - 1; WriteLn END; P END M.
-"""
-CONSTANT = """MODULE M;
-CONST c = -2147483647 - 1;
-VAR x: INTEGER;
-BEGIN x := 0 + c; Write(x) END M.
-"""
 ON_ONE_LINE = "MODULE M;VAR x:INTEGER;BEGIN x:=-1;IF x<0 THEN Write(x)(* a (* b *) c *)END;WriteLn END M.(* end *)"
-DIVIDES = "MODULE M; BEGIN Write(-7 DIV 3); Write((-7) DIV 3); Write((-7) MOD 3); Write(1 MOD 0) END M."
 LINE_ENDINGS = [
     {"range": extent("1:0-1:0"), "text": "\n"},
     {"range": extent("1:1-1:1"), "text": "\nc"},
@@ -109,7 +93,7 @@ LONG = {
         talk(did_open("a\r\n(* 😀 *) $"), did_change([{"range": extent("1:11-1:12"), "text": "$$"}]), general={"positionEncodings": ["utf-8"]}),
         None,
     ),
-    "a constant inlined": (["serve"], talk(did_open(CONSTANT), acted(3, 3, 15), acted(4, 1, 6), **LITERALS), None),
+    "a constant inlined": (["serve"], talk(did_open(LEAST), acted(3, 3, 15), acted(4, 1, 6), **LITERALS), None),
     "a layout": (["serve"], talk(did_open(ON_ONE_LINE), laid_out(3)), None),
     "200 variables, renamed and laid out": (
         ["serve"],
