@@ -42,6 +42,13 @@ class Skipped(Exception):
     """A test that is left out; the run says so by name."""
 
 
+def leave_out(why, is_required=False):
+    """Leaves this test out. In `make test` (the variable OB0_WHOLE) what is required fails instead."""
+    if is_required and os.environ.get("OB0_WHOLE"):
+        raise Failed(f"{why}, and the whole test requires it")
+    raise Skipped(why)
+
+
 def shown(value, most=600):
     text = value if isinstance(value, str) else repr(value)
     return text if len(text) <= most else f"{text[:most]}.. ({len(text)} in all)"
@@ -327,7 +334,7 @@ def want(*names):
     missing = [it for it in names if not editors.is_here(it)]
     MISSING.update({it: [editors.TOOLS[it][1]] for it in missing})
     if missing:
-        raise Skipped(f"{' and '.join(missing)} missing")
+        leave_out(f"{' and '.join(missing)} missing", any(it in editors.REQUIRED for it in missing))
 
 
 # Texts and files

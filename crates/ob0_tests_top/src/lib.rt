@@ -11,6 +11,8 @@ mod devices;
 #[cfg(test)]
 mod serving;
 #[cfg(test)]
+mod session;
+#[cfg(test)]
 mod stories;
 #[cfg(test)]
 mod world;

@@ -155,3 +155,24 @@ fn each_piece_is_flushed_at_its_end(rt: HostRuntime) {
     let count = count_well(rt.alloc());
     assert!(rt; count == ENDS.len(), "conversation {count}");
 }
+
+/// Whether a reader and a writer are passed on as they are, and the failure of either is kept.
+fn are_noted() -> bool {
+    let mut count = Count::new(1, 1);
+    let mut reader = Noted::new(Source {
+        bytes: b"ab",
+        most: 1,
+        calls_left: 1,
+    });
+    let mut writer = Noted::new(Counter { count: &mut count });
+    let mut piece = [0; 4];
+    let is_read = reader.read(&mut piece) == Ok(1) && piece[0] == b'a' && !reader.failed();
+    let is_written = writer.write(b"ab") == Ok(1) && writer.flush() == Ok(()) && !writer.failed();
+    let fails = reader.read(&mut piece).is_err() && writer.write(b"b").is_err();
+    is_read && is_written && fails && reader.failed() && writer.failed()
+}
+
+#[test]
+fn a_device_that_failed_is_noted(rt: HostRuntime) {
+    assert!(rt; are_noted());
+}

@@ -24,8 +24,14 @@ const FAULTY_TEXT: &str = "MODULE M; END M";
 
 const NAME: Act = Act::Rename(1, 4, "k");
 
+/// Of what has no other character than those of ASCII.
+const BOTH: &[Unit] = &[Unit::Utf16, Unit::Utf8];
+
 const LEAST: &str =
     "MODULE M;\nCONST c = -2147483647 - 1;\nVAR x: INTEGER;\nBEGIN x := 0 + c; Write(x) END M.\n";
+
+const INLINED_HERE: &str =
+    "MODULE M;\nCONST c = -2147483647 - 1;\nVAR x: INTEGER;\nBEGIN x := 0 + (-2147483647 - 1); Write(x) END M.\n";
 
 const INLINED_EVERYWHERE: &str =
     "MODULE M;\nCONST \nVAR x: INTEGER;\nBEGIN x := 0 + (-2147483647 - 1); Write(x) END M.\n";
@@ -56,7 +62,7 @@ pub fn stories() -> &'static [Story] {
 static STORIES: &[Story] = &[
     Story {
         name: "another name is applied",
-        unit: Unit::Utf16,
+        units: BOTH,
         moments: &[
             (Act::Open(COUNTS), Sight::Sent),
             (NAME, Sight::Sent),
@@ -88,7 +94,7 @@ static STORIES: &[Story] = &[
     },
     Story {
         name: "a layout is applied",
-        unit: Unit::Utf16,
+        units: BOTH,
         moments: &[
             (Act::Open(COUNTS), Sight::Sent),
             (Act::Format, Sight::Sent),
@@ -110,7 +116,7 @@ static STORIES: &[Story] = &[
     },
     Story {
         name: "a layout is applied, and another has nothing to change",
-        unit: Unit::Utf16,
+        units: BOTH,
         moments: &[
             (Act::Open(CROWDED), Sight::Sent),
             (Act::Format, Sight::Sent),
@@ -144,7 +150,7 @@ static STORIES: &[Story] = &[
     },
     Story {
         name: "an answer about an earlier opening is dropped",
-        unit: Unit::Utf16,
+        units: BOTH,
         moments: &[
             (Act::Open(COUNTS), Sight::Sent),
             (NAME, Sight::Sent),
@@ -176,8 +182,37 @@ static STORIES: &[Story] = &[
         ],
     },
     Story {
+        name: "a change with no changes raises the version, and the answer is dropped",
+        units: BOTH,
+        moments: &[
+            (Act::Open(COUNTS), Sight::Sent),
+            (NAME, Sight::Sent),
+            (Act::Touch, Sight::Sent),
+            (Act::Serve, Sight::Served(1)),
+            (Act::Serve, Sight::Served(1)),
+            (Act::Serve, Sight::Served(1)),
+            (Act::Take, Sight::Published(true)),
+            (Act::Take, Sight::Answered(1, true)),
+            (Act::Take, Sight::Published(true)),
+            (Act::Apply(1), Sight::Dropped(1)),
+        ],
+        applied: &[],
+        made: &[
+            Published {
+                version: 1,
+                text: COUNTS,
+                empty: true,
+            },
+            Published {
+                version: 2,
+                text: COUNTS,
+                empty: true,
+            },
+        ],
+    },
+    Story {
         name: "of two answers the second is dropped",
-        unit: Unit::Utf16,
+        units: BOTH,
         moments: &[
             (Act::Open(COUNTS), Sight::Sent),
             (NAME, Sight::Sent),
@@ -203,7 +238,7 @@ static STORIES: &[Story] = &[
     },
     Story {
         name: "nothing happens",
-        unit: Unit::Utf16,
+        units: BOTH,
         moments: &[
             (Act::Apply(7), Sight::Nothing),
             (Act::Discard(7), Sight::Nothing),
@@ -226,7 +261,7 @@ static STORIES: &[Story] = &[
     },
     Story {
         name: "an answer is let go",
-        unit: Unit::Utf16,
+        units: BOTH,
         moments: &[
             (Act::Open(COUNTS), Sight::Sent),
             (NAME, Sight::Sent),
@@ -247,7 +282,7 @@ static STORIES: &[Story] = &[
     },
     Story {
         name: "an answer about a closed document is dropped",
-        unit: Unit::Utf16,
+        units: BOTH,
         moments: &[
             (Act::Open(COUNTS), Sight::Sent),
             (NAME, Sight::Sent),
@@ -269,7 +304,7 @@ static STORIES: &[Story] = &[
     },
     Story {
         name: "of two documents each has its own text, version and diagnostics",
-        unit: Unit::Utf16,
+        units: BOTH,
         moments: &[
             (Act::Open(COUNTS), Sight::Sent),
             (Act::Other(&Act::Open(FAULTY_TEXT)), Sight::Sent),
@@ -313,8 +348,35 @@ static STORIES: &[Story] = &[
         ],
     },
     Story {
+        name: "a constant is inlined at one use",
+        units: BOTH,
+        moments: &[
+            (Act::Open(LEAST), Sight::Sent),
+            (Act::InlineHere(3, 15), Sight::Sent),
+            (Act::Serve, Sight::Served(1)),
+            (Act::Serve, Sight::Served(1)),
+            (Act::Take, Sight::Published(true)),
+            (Act::Take, Sight::Answered(1, true)),
+            (Act::Apply(1), Sight::Applied(1)),
+            (Act::Serve, Sight::Served(1)),
+            (Act::Take, Sight::Published(true)),
+        ],
+        applied: &[Edited {
+            before: LEAST,
+            after: INLINED_HERE,
+        }],
+        made: &[
+            LEAST_MADE,
+            Published {
+                version: 2,
+                text: INLINED_HERE,
+                empty: true,
+            },
+        ],
+    },
+    Story {
         name: "a constant is inlined everywhere, asked for at its declaration",
-        unit: Unit::Utf16,
+        units: BOTH,
         moments: &[
             (Act::Open(LEAST), Sight::Sent),
             (Act::InlineAll(1, 6), Sight::Sent),
@@ -341,7 +403,7 @@ static STORIES: &[Story] = &[
     },
     Story {
         name: "a value whose name is another's is not written",
-        unit: Unit::Utf16,
+        units: BOTH,
         moments: &[
             (Act::Open(SHADOWED), Sight::Sent),
             (Act::InlineHere(2, 46), Sight::Sent),
@@ -362,7 +424,7 @@ static STORIES: &[Story] = &[
     },
     Story {
         name: "another name, in UTF-16 units",
-        unit: Unit::Utf16,
+        units: &[Unit::Utf16],
         moments: &[
             (Act::Open(WIDE), Sight::Sent),
             (Act::Rename(1, 13, "k"), Sight::Sent),
@@ -384,7 +446,7 @@ static STORIES: &[Story] = &[
     },
     Story {
         name: "a change of a range, in UTF-16 units",
-        unit: Unit::Utf16,
+        units: &[Unit::Utf16],
         moments: &[
             (Act::Open(WIDE), Sight::Sent),
             (Act::Write(1, 13, 14, "k"), Sight::Sent),
@@ -409,7 +471,7 @@ static STORIES: &[Story] = &[
     },
     Story {
         name: "another name, in bytes",
-        unit: Unit::Utf8,
+        units: &[Unit::Utf8],
         moments: &[
             (Act::Open(WIDE), Sight::Sent),
             (Act::Rename(1, 15, "k"), Sight::Sent),
@@ -431,7 +493,7 @@ static STORIES: &[Story] = &[
     },
     Story {
         name: "a change of a range, in bytes",
-        unit: Unit::Utf8,
+        units: &[Unit::Utf8],
         moments: &[
             (Act::Open(WIDE), Sight::Sent),
             (Act::Write(1, 15, 16, "k"), Sight::Sent),
