@@ -192,3 +192,45 @@ def long_run():
     text = body("WHILE x < 1000 DO y := 0; WHILE y < 100 DO Write(y); y := y + 1 END; WriteLn; x := x + 1 END")
     line = "".join(f" {at}" for at in range(100)) + "\n"
     ran(text, line * 1000)
+
+
+@test("run: an array of 65,536 elements, up to its last and past it")
+def longest_array():
+    text = body("Read(x); a[65535] := 7; Write(a[65535]); Write(a[0]); Write(a[x])", "x: INTEGER; a: ARRAY 65536 OF INTEGER")
+    ran(text, " 7 0 7", "", "65535")
+    ran(text, " 7 0", "Index", "65536")
+    ran(text, " 7 0", "Index", "-1")
+
+
+@test("run: a procedure that would have 2^32 cells, and isn't called")
+def too_many_cells():
+    names = ",".join(f"v{at:x}" for at in range(65536))
+    ran(f"MODULE M; TYPE T = ARRAY 65536 OF INTEGER; PROCEDURE P; VAR {names}: T; BEGIN END P; BEGIN Write(1) END M.", " 1")
+    ran(f"MODULE M; TYPE T = ARRAY 65536 OF INTEGER; PROCEDURE P(b: INTEGER); VAR {names}: T; BEGIN Write(b) END P; BEGIN Write(1); P(2) END M.", " 1", "CallBound", calls=0)
+
+
+# what is repeated, how often, and what is written then: as long as a text of 1 MiB can hold, or 100,000 times
+CHAINS = {
+    "operands of +": (lambda count: body("Write(" + "+".join(["1"] * count) + ")"), 100000, " 100000"),
+    "operands of *": (lambda count: body("Write(" + "*".join(["1"] * count) + ")"), 100000, " 1"),
+    "operands of &": (lambda count: body("IF " + "&".join(["TRUE"] * count) + " THEN Write(1) END"), 100000, " 1"),
+    "operands of OR": (lambda count: body("IF " + " OR ".join(["b"] * count) + " OR TRUE THEN Write(1) END"), 100000, " 1"),
+    "ELSIF parts": (lambda count: body("IF b THEN " + "ELSIF b THEN " * count + "ELSE Write(1) END"), 80000, " 1"),
+    "statements": (lambda count: body("x:=x+1;" * count + "Write(x)"), 100000, " 100000"),
+    "empty statements": (lambda count: body(";" * count + "Write(1)"), 1000000, " 1"),
+    "calls": (lambda count: f"MODULE M; VAR x: INTEGER; PROCEDURE P; BEGIN x := x + 1 END P; BEGIN {'P;' * count}Write(x) END M.", 100000, " 100000"),
+    "selectors, 100 in each designator": (
+        lambda count: f"MODULE M; VAR x: INTEGER; a: {'ARRAY 1 OF ' * 100}INTEGER; BEGIN {('x:=a' + '[0]' * 100 + '+1;') * (count // 100)}Write(x) END M.",
+        100000,
+        " 1",
+    ),
+}
+
+
+@test("run: chains of 100,000 operands, ELSIF parts, statements, calls and selectors, under a stack of 4 MiB")
+def chains():
+    for name, (make, count, out) in CHAINS.items():
+        text = make(count)
+        same(len(text) <= 1048576, True, f"{name}: {len(text)} bytes fit")
+        found = on_file("run", text, stack=4096)
+        same((found.out, found.err, found.status), (out.encode(), b"", 0), name)
