@@ -21,3 +21,12 @@ def tests_apart():
     for path in glob.glob(os.path.join(TOP, "tests", "**", "*.py"), recursive=True):
         found = re.findall(r"^\s*(?:import|from) (test_\w+)", text_of(path), re.M)
         same(found, [], f"what {os.path.relpath(path, TOP)} imports of the tests")
+
+
+@test("sources: each script and test that a page names is there")
+def named_files():
+    pages = [it for it in ("README.md", "CONTRIBUTING.md", "Makefile") if os.path.exists(os.path.join(TOP, it))]
+    pages += [os.path.relpath(it, TOP) for it in glob.glob(os.path.join(TOP, "docs", "**", "*.md"), recursive=True)]
+    for page in pages:
+        found = re.findall(r"\b(?:tests|tools|bench)/[\w./]*\w", text_of(page))
+        same([it for it in found if not os.path.exists(os.path.join(TOP, it))], [], f"what {page} names and isn't there")

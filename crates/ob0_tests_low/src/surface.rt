@@ -27,7 +27,9 @@ fn a_stream_ends_between_messages(rt: HostRuntime) {
 fn has_text<T: TextStore>(alloc: Global, text: &str, unit: Unit) -> Result<bool, AllocError> {
     let store = T::from_str_in(alloc, text, unit)?;
     let copy = store.to_string(alloc)?;
-    Ok(store.unit() == unit && store.len() == text.len() && copy.as_str() == text)
+    let end = store.position(store.len());
+    let is_whole = copy.as_str() == text && store.len() == text.len();
+    Ok(is_whole && store.unit() == unit && store.offset(end) == text.len() && end.line == 1)
 }
 
 #[test]
