@@ -17,17 +17,15 @@ for key, given in conversations.SHORT.items():
     make(key, given)
 
 
-@test("refused memory: the tests of the framer and of texts")
-def framer():
-    found = refused_tests.tests_of("ob0_tests_low")
-    holds(any("::frame::" in f"::{it}" for it in found), f"no test of the framer is among {found}")
-    for it in found:
-        refused_tests.walk("ob0_tests_low", it, 10000)
+def make_of_crate(what, crate, module):
+    @test(f"refused memory: {what}")
+    def walk_tests():
+        found = list(refused_tests.checks(crate, 20000))
+        holds(any(f"::{module}::" in f"::{name}" for name, _ in found), f"no test of {module} is among {found}")
+        for _, does in found:
+            does()
 
 
-@test("refused memory: the tests of worlds and sessions")
-def worlds():
-    found = refused_tests.tests_of("ob0_tests_top")
-    holds(any("::world::" in f"::{it}" for it in found), f"no test of worlds is among {found}")
-    for it in found:
-        refused_tests.walk("ob0_tests_top", it, 20000)
+make_of_crate("the tests of the framer, of documents and of texts", "ob0_tests_low", "frame")
+make_of_crate("the tests of sessions", "ob0_tests_session", "session")
+make_of_crate("the tests of worlds of an editor and a server", "ob0_tests_top", "world")

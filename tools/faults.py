@@ -38,9 +38,9 @@ def walked(key):
     return f"{sum(counts.values()):,} runs: {counts['refused']:,} ended with status 5, {counts['undisturbed']:,} as without refusal"
 
 
-def tests_of(crate):
+def checks_of(crate):
     try:
-        return refused_tests.tests_of(crate)
+        return list(refused_tests.checks(crate, WALK))
     except harness.Skipped as why:
         print(f"left out {crate}: {why}", flush=True)
         return []
@@ -51,8 +51,8 @@ def all_of_it():
     for key in (*conversations.SHORT, *conversations.LONG):
         yield f"refused memory: {key}", lambda key=key: walked(key)
     for crate in refused_tests.CRATES:
-        for test in tests_of(crate):
-            yield f"refused memory: {crate}, {test}", lambda crate=crate, test=test: refused_tests.walk(crate, test, WALK)
+        for name, does in checks_of(crate):
+            yield f"refused memory: {crate}, {name}", does
     yield f"a long conversation: {LONG:,} messages", lambda: long_conversation.converse(LONG)
     yield f"random texts: {TEXTS:,}", lambda: against_reference.many_texts(TEXTS, SEED, failing.PROCESSORS)
     yield f"random runs: {RUNS:,} modules", lambda: against_reference.many_runs(RUNS, SEED, failing.PROCESSORS)

@@ -63,10 +63,10 @@ pub struct Published {
     pub empty: bool,
 }
 
-/// What happens, where both ends count positions in any of these units, and what has come of it in the end.
+/// What happens where both ends count positions in a unit, and what has come of it in the end.
 pub struct Story {
     pub name: &'static str,
-    pub units: &'static [Unit],
+    pub unit: Unit,
     /// Each event, and what is to be seen of it.
     pub moments: &'static [(Act, Sight)],
     pub applied: &'static [Edited],
@@ -252,8 +252,8 @@ fn way_on(way: Way, seen: Sight, wanted: Sight) -> Way {
 }
 
 /// How a story goes, event by event.
-pub fn way_of<T: TextStore>(alloc: Global, story: &Story, unit: Unit) -> Way {
-    let Ok(mut world) = begun_again::<T>(alloc, unit) else {
+pub fn way_of<T: TextStore>(alloc: Global, story: &Story) -> Way {
+    let Ok(mut world) = begun_again::<T>(alloc, story.unit) else {
         return Way::Otherwise;
     };
     let mut way = Way::AsTold;
@@ -346,10 +346,10 @@ fn counted(story: &Story, played: &Played) -> Option<(usize, usize)> {
 
 /// How many edits and publications a story leaves where it is played up to an event whose memory is refused, or to its end;
 /// None where they aren't the first that it is to leave.
-pub fn left(alloc: Global, story: &Story, unit: Unit) -> Option<(usize, usize)> {
+pub fn left(alloc: Global, story: &Story) -> Option<(usize, usize)> {
     let Ok(events) = events_again(alloc, story) else {
         return None;
     };
-    let played = played(alloc, unit, events);
+    let played = played(alloc, story.unit, events);
     counted(story, &played)
 }

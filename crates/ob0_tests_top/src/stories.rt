@@ -24,9 +24,6 @@ const FAULTY_TEXT: &str = "MODULE M; END M";
 
 const NAME: Act = Act::Rename(1, 4, "k");
 
-/// Of what has no other character than those of ASCII.
-const BOTH: &[Unit] = &[Unit::Utf16, Unit::Utf8];
-
 const LEAST: &str =
     "MODULE M;\nCONST c = -2147483647 - 1;\nVAR x: INTEGER;\nBEGIN x := 0 + c; Write(x) END M.\n";
 
@@ -53,6 +50,62 @@ const WIDE_RENAMED: &str = "MODULE M;\nVAR (* 😀 *) k: INTEGER;\nBEGIN (* 😀
 /// The first name written over: the second is that of nothing.
 const WIDE_WRITTEN: &str = "MODULE M;\nVAR (* 😀 *) k: INTEGER;\nBEGIN (* 😀 *) n := 1 END M.\n";
 
+const NAMED: &[(Act, Sight)] = &[
+    (Act::Open(COUNTS), Sight::Sent),
+    (NAME, Sight::Sent),
+    (Act::Serve, Sight::Served(1)),
+    (Act::Serve, Sight::Served(1)),
+    (Act::Take, Sight::Published(true)),
+    (Act::Take, Sight::Answered(1, true)),
+    (Act::Apply(1), Sight::Applied(1)),
+    (Act::Apply(1), Sight::Nothing),
+    (Act::Serve, Sight::Served(1)),
+    (Act::Take, Sight::Published(true)),
+];
+
+const NAMED_MADE: &[Published] = &[
+    Published {
+        version: 1,
+        text: COUNTS,
+        empty: true,
+    },
+    Published {
+        version: 2,
+        text: RENAMED,
+        empty: true,
+    },
+];
+
+const REOPENED: &[(Act, Sight)] = &[
+    (Act::Open(COUNTS), Sight::Sent),
+    (NAME, Sight::Sent),
+    (Act::Close, Sight::Sent),
+    (Act::Open(FAULTY_TEXT), Sight::Sent),
+    (Act::Serve, Sight::Served(1)),
+    (Act::Serve, Sight::Served(1)),
+    (Act::Serve, Sight::Served(1)),
+    (Act::Serve, Sight::Served(1)),
+    (Act::Take, Sight::Published(true)),
+    (Act::Take, Sight::Answered(1, true)),
+    (Act::Take, Sight::Published(true)),
+    (Act::Take, Sight::Published(false)),
+    (Act::Apply(1), Sight::Dropped(1)),
+    (Act::Apply(1), Sight::Nothing),
+];
+
+const REOPENED_MADE: &[Published] = &[
+    Published {
+        version: 1,
+        text: COUNTS,
+        empty: true,
+    },
+    Published {
+        version: 1,
+        text: FAULTY_TEXT,
+        empty: false,
+    },
+];
+
 /// All of them. (What names the table itself is as dear as the table is long.)
 pub fn stories() -> &'static [Story] {
     STORIES
@@ -62,39 +115,17 @@ pub fn stories() -> &'static [Story] {
 static STORIES: &[Story] = &[
     Story {
         name: "another name is applied",
-        units: BOTH,
-        moments: &[
-            (Act::Open(COUNTS), Sight::Sent),
-            (NAME, Sight::Sent),
-            (Act::Serve, Sight::Served(1)),
-            (Act::Serve, Sight::Served(1)),
-            (Act::Take, Sight::Published(true)),
-            (Act::Take, Sight::Answered(1, true)),
-            (Act::Apply(1), Sight::Applied(1)),
-            (Act::Apply(1), Sight::Nothing),
-            (Act::Serve, Sight::Served(1)),
-            (Act::Take, Sight::Published(true)),
-        ],
+        unit: Unit::Utf16,
+        moments: NAMED,
         applied: &[Edited {
             before: COUNTS,
             after: RENAMED,
         }],
-        made: &[
-            Published {
-                version: 1,
-                text: COUNTS,
-                empty: true,
-            },
-            Published {
-                version: 2,
-                text: RENAMED,
-                empty: true,
-            },
-        ],
+        made: NAMED_MADE,
     },
     Story {
         name: "a layout is applied",
-        units: BOTH,
+        unit: Unit::Utf16,
         moments: &[
             (Act::Open(COUNTS), Sight::Sent),
             (Act::Format, Sight::Sent),
@@ -116,7 +147,7 @@ static STORIES: &[Story] = &[
     },
     Story {
         name: "a layout is applied, and another has nothing to change",
-        units: BOTH,
+        unit: Unit::Utf16,
         moments: &[
             (Act::Open(CROWDED), Sight::Sent),
             (Act::Format, Sight::Sent),
@@ -150,40 +181,14 @@ static STORIES: &[Story] = &[
     },
     Story {
         name: "an answer about an earlier opening is dropped",
-        units: BOTH,
-        moments: &[
-            (Act::Open(COUNTS), Sight::Sent),
-            (NAME, Sight::Sent),
-            (Act::Close, Sight::Sent),
-            (Act::Open(FAULTY_TEXT), Sight::Sent),
-            (Act::Serve, Sight::Served(1)),
-            (Act::Serve, Sight::Served(1)),
-            (Act::Serve, Sight::Served(1)),
-            (Act::Serve, Sight::Served(1)),
-            (Act::Take, Sight::Published(true)),
-            (Act::Take, Sight::Answered(1, true)),
-            (Act::Take, Sight::Published(true)),
-            (Act::Take, Sight::Published(false)),
-            (Act::Apply(1), Sight::Dropped(1)),
-            (Act::Apply(1), Sight::Nothing),
-        ],
+        unit: Unit::Utf16,
+        moments: REOPENED,
         applied: &[],
-        made: &[
-            Published {
-                version: 1,
-                text: COUNTS,
-                empty: true,
-            },
-            Published {
-                version: 1,
-                text: FAULTY_TEXT,
-                empty: false,
-            },
-        ],
+        made: REOPENED_MADE,
     },
     Story {
         name: "a change with no changes raises the version, and the answer is dropped",
-        units: BOTH,
+        unit: Unit::Utf16,
         moments: &[
             (Act::Open(COUNTS), Sight::Sent),
             (NAME, Sight::Sent),
@@ -212,7 +217,7 @@ static STORIES: &[Story] = &[
     },
     Story {
         name: "of two answers the second is dropped",
-        units: BOTH,
+        unit: Unit::Utf16,
         moments: &[
             (Act::Open(COUNTS), Sight::Sent),
             (NAME, Sight::Sent),
@@ -238,7 +243,7 @@ static STORIES: &[Story] = &[
     },
     Story {
         name: "nothing happens",
-        units: BOTH,
+        unit: Unit::Utf16,
         moments: &[
             (Act::Apply(7), Sight::Nothing),
             (Act::Discard(7), Sight::Nothing),
@@ -261,7 +266,7 @@ static STORIES: &[Story] = &[
     },
     Story {
         name: "an answer is let go",
-        units: BOTH,
+        unit: Unit::Utf16,
         moments: &[
             (Act::Open(COUNTS), Sight::Sent),
             (NAME, Sight::Sent),
@@ -282,7 +287,7 @@ static STORIES: &[Story] = &[
     },
     Story {
         name: "an answer about a closed document is dropped",
-        units: BOTH,
+        unit: Unit::Utf16,
         moments: &[
             (Act::Open(COUNTS), Sight::Sent),
             (NAME, Sight::Sent),
@@ -304,7 +309,7 @@ static STORIES: &[Story] = &[
     },
     Story {
         name: "of two documents each has its own text, version and diagnostics",
-        units: BOTH,
+        unit: Unit::Utf16,
         moments: &[
             (Act::Open(COUNTS), Sight::Sent),
             (Act::Other(&Act::Open(FAULTY_TEXT)), Sight::Sent),
@@ -349,7 +354,7 @@ static STORIES: &[Story] = &[
     },
     Story {
         name: "a constant is inlined at one use",
-        units: BOTH,
+        unit: Unit::Utf16,
         moments: &[
             (Act::Open(LEAST), Sight::Sent),
             (Act::InlineHere(3, 15), Sight::Sent),
@@ -376,7 +381,7 @@ static STORIES: &[Story] = &[
     },
     Story {
         name: "a constant is inlined everywhere, asked for at its declaration",
-        units: BOTH,
+        unit: Unit::Utf16,
         moments: &[
             (Act::Open(LEAST), Sight::Sent),
             (Act::InlineAll(1, 6), Sight::Sent),
@@ -403,7 +408,7 @@ static STORIES: &[Story] = &[
     },
     Story {
         name: "a value whose name is another's is not written",
-        units: BOTH,
+        unit: Unit::Utf16,
         moments: &[
             (Act::Open(SHADOWED), Sight::Sent),
             (Act::InlineHere(2, 46), Sight::Sent),
@@ -424,7 +429,7 @@ static STORIES: &[Story] = &[
     },
     Story {
         name: "another name, in UTF-16 units",
-        units: &[Unit::Utf16],
+        unit: Unit::Utf16,
         moments: &[
             (Act::Open(WIDE), Sight::Sent),
             (Act::Rename(1, 13, "k"), Sight::Sent),
@@ -446,7 +451,7 @@ static STORIES: &[Story] = &[
     },
     Story {
         name: "a change of a range, in UTF-16 units",
-        units: &[Unit::Utf16],
+        unit: Unit::Utf16,
         moments: &[
             (Act::Open(WIDE), Sight::Sent),
             (Act::Write(1, 13, 14, "k"), Sight::Sent),
@@ -470,8 +475,25 @@ static STORIES: &[Story] = &[
         ],
     },
     Story {
+        name: "another name is applied, where both count bytes",
+        unit: Unit::Utf8,
+        moments: NAMED,
+        applied: &[Edited {
+            before: COUNTS,
+            after: RENAMED,
+        }],
+        made: NAMED_MADE,
+    },
+    Story {
+        name: "an answer about an earlier opening is dropped, where both count bytes",
+        unit: Unit::Utf8,
+        moments: REOPENED,
+        applied: &[],
+        made: REOPENED_MADE,
+    },
+    Story {
         name: "another name, in bytes",
-        units: &[Unit::Utf8],
+        unit: Unit::Utf8,
         moments: &[
             (Act::Open(WIDE), Sight::Sent),
             (Act::Rename(1, 15, "k"), Sight::Sent),
@@ -493,7 +515,7 @@ static STORIES: &[Story] = &[
     },
     Story {
         name: "a change of a range, in bytes",
-        units: &[Unit::Utf8],
+        unit: Unit::Utf8,
         moments: &[
             (Act::Open(WIDE), Sight::Sent),
             (Act::Write(1, 15, 16, "k"), Sight::Sent),

@@ -2,32 +2,22 @@
 
 use crate::acts::{Story, Way, left, way_of};
 use crate::stories::stories;
-use ob0_text::{Lines, Unit, Whole};
+use ob0_text::{Lines, Whole};
 use std::alloc::Global;
 use std::process::Abort;
 
 /// Whether a story leaves all that it is to leave.
-fn leaves_all(alloc: Global, story: &Story, unit: Unit) -> bool {
-    match left(alloc, story, unit) {
+fn leaves_all(alloc: Global, story: &Story) -> bool {
+    match left(alloc, story) {
         Some((applied, made)) => applied == story.applied.len() && made == story.made.len(),
         None => false,
     }
 }
 
-fn goes_in(alloc: Global, story: &Story, unit: Unit) -> bool {
-    way_of::<Lines>(alloc, story, unit) == Way::AsTold
-        && way_of::<Whole>(alloc, story, unit) == Way::AsTold
-        && leaves_all(alloc, story, unit)
-}
-
-/// Whether a story goes as it is told, in each of its units.
 fn goes_as_told(alloc: Global, story: &Story) -> bool {
-    for unit in story.units {
-        if !goes_in(alloc, story, *unit) {
-            return false;
-        }
-    }
-    true
+    way_of::<Lines>(alloc, story) == Way::AsTold
+        && way_of::<Whole>(alloc, story) == Way::AsTold
+        && leaves_all(alloc, story)
 }
 
 /// The name of the first story that doesn't go as it is told; of none the empty one.
@@ -46,18 +36,10 @@ fn worlds_go_as_they_are_told(rt: HostRuntime) {
     assert!(rt; name.is_empty(), "{name}");
 }
 
-/// Whether a story goes up to a refusal, in the first of its units.
-fn goes_astray(alloc: Global, story: &Story) -> bool {
-    match story.units.first() {
-        Some(unit) => way_of::<Lines>(alloc, story, *unit) == Way::Otherwise,
-        None => true,
-    }
-}
-
 /// The name of the first story that goes otherwise than up to a refusal; of none the empty one.
 fn first_astray(alloc: Global) -> &'static str {
     for story in stories() {
-        if goes_astray(alloc, story) {
+        if way_of::<Lines>(alloc, story) == Way::Otherwise {
             return story.name;
         }
     }
@@ -72,7 +54,7 @@ fn a_refused_event_ends_a_world(rt: HostRuntime) {
 
 fn first_left(alloc: Global) -> Option<(usize, usize)> {
     match stories().first() {
-        Some(story) => left(alloc, story, Unit::Utf16),
+        Some(story) => left(alloc, story),
         None => None,
     }
 }
