@@ -15,7 +15,7 @@ import time
 
 HERE = os.path.dirname(os.path.abspath(__file__))
 sys.dont_write_bytecode = True
-sys.path[:0] = [HERE, os.path.join(os.path.dirname(HERE), "tests")]
+sys.path[:0] = [HERE, os.path.join(os.path.dirname(HERE), "tests", "lib")]
 
 import corpus  # noqa: E402
 from harness import BINARY, EXIT, SHUTDOWN, did_change, did_open, extent, frame, frames, initialize, place, request  # noqa: E402
@@ -369,13 +369,13 @@ COUNTS, OF_A_FIELD = [17000, 170000], [12500, 125000]
 @measure("large: the largest that is taken, beside half of it")
 def largest():
     """A ratio of 1 is a cost that grows with the size; the start of the program is taken away."""
-    import large
+    import largest_inputs
 
     nothing = best(3, lambda: Timed([BINARY, "serve"], frames([initialize(), SHUTDOWN, EXIT]))).processor
-    for name, (size, make) in large.CASES.items():
+    for name, (size, make) in largest_inputs.CASES.items():
         taken = []
         for count in (size // 2, size):
-            given, wanted = large.conversation(make, count)
+            given, wanted = largest_inputs.conversation(make, count)
             found = best(3, lambda given=given: Timed([BINARY, "serve"], given))
             taken.append((max(found.processor - nothing, 1e-3), found.memory))
             if found.status or found.out != frames(wanted):

@@ -1,17 +1,13 @@
 """What the program does where memory runs out, or where a reader or writer fails, at each byte of the first conversation."""
 import os
 import subprocess
-import sys
 
+import conversations
+import corpus
 import failing
 import harness
-import hostile
-from harness import EXIT, SHUTDOWN, TOP, did_change, did_open, frame, frames, holds, initialize, same, serve, test
-from test_stream import BORDERS, INPUT, OUT, OUTPUT
-
-sys.path.insert(0, os.path.join(TOP, "bench"))
-
-import corpus  # noqa: E402
+from first_conversation import BORDERS, INPUT, OUT, OUTPUT
+from harness import EXIT, SHUTDOWN, did_change, did_open, frame, frames, holds, initialize, same, serve, test
 
 TALK = [initialize(), did_open(corpus.module(200000)), did_change("$"), SHUTDOWN, EXIT]
 
@@ -73,7 +69,7 @@ def failing_writer():
 @test("devices: a writer that fails behind each byte that a command prints")
 def failing_printer():
     for name, status in (("check a text with two faults", 1), ("run a module", 0), ("rename a variable", 0)):
-        words, given, text = hostile.SHORT[name]
+        words, given, text = conversations.SHORT[name]
         with failing.beside(text) as room:
             command = [harness.BINARY, *words]
             plain = failing.undisturbed(command, given, room)
@@ -85,13 +81,13 @@ def failing_printer():
 
 @test("devices: each read and each write fails, of a file, of the input or of an output")
 def failing_calls():
-    counts = [failing.broken(name, *it[:3]) for name, it in {**hostile.SHORT, **hostile.LONG}.items()]
+    counts = [failing.broken(name, *it[:3]) for name, it in {**conversations.SHORT, **conversations.LONG}.items()]
     holds(all(counts), f"nothing was read or written: {counts}")
 
 
 @test("devices: each read and each write moves one byte")
 def short_calls():
-    counts = [failing.shortened(name, *it[:3]) for name, it in {**hostile.SHORT, **hostile.LONG}.items()]
+    counts = [failing.shortened(name, *it[:3]) for name, it in {**conversations.SHORT, **conversations.LONG}.items()]
     holds(any(counts), "nothing of several bytes was read or written")
 
 
@@ -104,7 +100,7 @@ def pieces():
 
 @test("devices: an input that fails at each byte of what a run reads")
 def failing_input():
-    words, _, text = hostile.SHORT["run a module"]
+    words, _, text = conversations.SHORT["run a module"]
     with failing.beside(text) as room:
         for found in failing.walk([harness.BINARY, *words], b"1 2", room, "reads", range(1, 5)):
             ended(found, b"", 4, b"fault: Input\n", f"call {found.numbers[0]} fails")

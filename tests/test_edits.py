@@ -1,28 +1,11 @@
 """Rename, inlining and formatting, through `serve` and through the commands."""
 import json
 
-from harness import Server, did_change, did_open, ends, extent, frames, initialize, marked, on_file, place, request, run, same, serve, test
-from samples import WRITES_A_GLOBAL
+from harness import Server, did_change, did_open, edited, ends, extent, frames, initialize, marked, on_file, place, request, run, same, serve, test
+from modules import CALLS, FIVE, LEAST, NESTED, RECORDS, SHADOWED, WRITES_A_GLOBAL
 
 URI = "file:///m"
-NESTED = """MODULE M;
-VAR x: INTEGER;
-PROCEDURE P;
-VAR y: INTEGER;
-BEGIN y := 1; x := y END P;
-BEGIN P; Write(x) END M.
-"""
-CALLS = """MODULE M;
-PROCEDURE F(n: INTEGER);
-BEGIN IF n > 0 THEN Write(n); F(n - 1) END END F;
-BEGIN F(2) END M.
-"""
 ACCENTED = "MODULE M; VAR x: INTEGER; (* é *) BEGIN x := x END M."
-RECORDS = """MODULE M;
-TYPE R = RECORD a, b: INTEGER END;
-VAR r: R; s: RECORD a: INTEGER END; a: INTEGER;
-BEGIN r.a := 1; s.a := 2; a := r.a + s.a; Write(a) END M.
-"""
 
 # text, line, character, new name: the places that change, or the refusal
 RENAMES = [
@@ -96,16 +79,6 @@ BEGIN r.r.⟦r⟧ := 7; r.s := r.r.⟦r⟧ + 1; P(r.r.⟦r⟧); Write(r.s) END M
         ["s", "P", "TRUE"],
     ),
 ]
-
-
-def edited(text, places, new):
-    """A text with a new name at these places, each on one line."""
-    lines = text.split("\n")
-    for it in reversed(places):
-        at = extent(it)
-        line, start, end = at["start"]["line"], at["start"]["character"], at["end"]["character"]
-        lines[line] = lines[line][:start] + new + lines[line][end:]
-    return "\n".join(lines)
 
 
 def unmarked(text):
@@ -289,17 +262,6 @@ def lines():
 
 
 LITERALS = {"textDocument": {"codeAction": {"codeActionLiteralSupport": {}}}}
-LEAST = """MODULE M;
-CONST c = -2147483647 - 1;
-VAR x: INTEGER;
-BEGIN x := 0 + c; Write(x) END M.
-"""
-FIVE = "MODULE M; CONST c = -5; BEGIN Write(c DIV 3) END M."
-SHADOWED = """MODULE M;
-CONST on = TRUE;
-PROCEDURE P; VAR TRUE, b: BOOLEAN; BEGIN b := on END P;
-BEGIN P END M.
-"""
 
 
 def acting(line, character, context=None, end=None):

@@ -3,8 +3,7 @@ its file .err tells where it has one, and is laid out as the server lays it out.
 than this program.)"""
 import os
 
-from harness import TOP, Server, did_open, ends, holds, run, same, test
-from test_syntax_files import examples, text_of
+from harness import TOP, Server, did_open, ends, examples, holds, run, same, test, text_of
 
 
 def bytes_of(*path):

@@ -4,8 +4,7 @@ import subprocess
 
 import harness
 from harness import EXIT, SHUTDOWN, answer, did_close, did_open, error, frame, initialize, notice, published, request
-from harness import capabilities, holds, run, same, serve, test
-from test_syntax_files import text_of
+from harness import capabilities, holds, run, same, serve, test, text_of
 
 FIRST = answer(1, {"capabilities": capabilities()})
 SHUT = answer(2, None)

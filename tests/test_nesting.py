@@ -3,8 +3,8 @@ import json
 import os
 import random
 
-import nesting
-from harness import did_open, ends, frames, holds, initialize, on_file, place, same, serve, test, SHUTDOWN, EXIT
+import nested_modules
+from harness import did_open, ends, frames, initialize, on_file, place, same, serve, test, SHUTDOWN, EXIT
 
 MIXES = int(os.environ.get("OB0_MIXES", "400"))
 STACK = 4096  # kilobytes, half of what systems give
@@ -31,8 +31,8 @@ def told_too_deep(text, at):
 
 
 def texts(depth):
-    found = {f"{depth} of {it}": nesting.of_one(it, depth) for it in nesting.REPEATED}
-    found.update({f"mix {seed} of {depth}": nesting.mixed(seed, depth) for seed in range(MIXES)})
+    found = {f"{depth} of {it}": nested_modules.of_one(it, depth) for it in nested_modules.REPEATED}
+    found.update({f"mix {seed} of {depth}": nested_modules.mixed(seed, depth) for seed in range(MIXES)})
     return found
 
 
@@ -52,41 +52,41 @@ def hundred_and_one():
 
 @test("nesting: far past the limit, under a stack of 4 MiB")
 def far():
-    made = [nesting.of_one(it, 20000)[0] for it in nesting.REPEATED]
+    made = [nested_modules.of_one(it, 20000)[0] for it in nested_modules.REPEATED]
     for text, found in zip(made, diagnosed(made)):
         same([it["code"] for it in found], ["TooDeep"], text[:60])
 
 
 def chosen():
     """Ways to choose among the statements that hold another: each alone, and mixes."""
-    found = {it[0]: lambda it=it: it for it in nesting.ENTERED}
+    found = {it[0]: lambda it=it: it for it in nested_modules.ENTERED}
     for seed in range(MIXES // 40):
         chance = random.Random(f"calls {seed}")
-        found[f"mix {seed}"] = lambda chance=chance: chance.choice(nesting.ENTERED)
+        found[f"mix {seed}"] = lambda chance=chance: chance.choice(nested_modules.ENTERED)
     return found
 
 
 @test("nesting: 64 open calls, each inside 100 nested constructs, run under a stack of 4 MiB")
 def calls():
     for name, choose in chosen().items():
-        text, out = nesting.recursive(64, choose)
+        text, out = nested_modules.recursive(64, choose)
         ends(on_file("run", text, stack=STACK), out, 0)
         same(len(out.split()), 65, f"the numbers that are written: {name}")
-        text, out = nesting.recursive(65, choose)
+        text, out = nested_modules.recursive(65, choose)
         ends(on_file("run", text, stack=STACK), out.rsplit(" ", 2)[0], 1, "fault: CallBound\n")
 
 
 @test("nesting: 64 open calls of procedures inside one another, run under a stack of 4 MiB")
 def inward():
     for choose in chosen().values():
-        text, out = nesting.inward(64, choose)
+        text, out = nested_modules.inward(64, choose)
         ends(on_file("run", text, stack=STACK), out, 0)
 
 
 @test("nesting: calls inside 100 nested constructs are taken, inside 101 they are not")
 def calls_within():
-    choose = lambda: nesting.ENTERED[0]
-    for text, _ in (nesting.recursive(64, choose), nesting.inward(64, choose)):
+    choose = lambda: nested_modules.ENTERED[0]
+    for text, _ in (nested_modules.recursive(64, choose), nested_modules.inward(64, choose)):
         ends(on_file("check", text), "", 0)
         deeper = text.replace("BEGIN ", "BEGIN IF TRUE THEN ", 1).replace(" END P;", " END END P;").replace(" END p64;", " END END p64;")
         found = on_file("check", deeper)

@@ -1,12 +1,8 @@
 """Hover, definition, references and prepareRename through `serve`."""
 from harness import Server, answer, compact, did_open, extent, frames, initialize, place, request, same, serve, test
+from modules import CALLS
 
 URI = "file:///m"
-CALLS = """MODULE M;
-PROCEDURE F(n: INTEGER);
-BEGIN IF n > 0 THEN Write(n); F(n - 1) END END F;
-BEGIN F(2) END M.
-"""
 PLACES = ["1:10-1:11", "2:30-2:31", "2:47-2:48", "3:6-3:7"]
 
 

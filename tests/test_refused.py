@@ -1,8 +1,10 @@
-"""Memory that is refused: each allocation of the program in turn, alone and with all behind it. `make faults` does the same in
-longer conversations, and in the tests of the crates that are made for it."""
+"""Memory that is refused: each allocation of the program in turn, alone and with all after it, and each of the framer and of the
+worlds of an editor and a server in the tests of the crates. `make faults` does the same in longer conversations and in the other
+tests of the crates."""
+import conversations
 import failing
-import hostile
-from harness import test
+import refused_tests
+from harness import holds, test
 
 
 def make(name, case):
@@ -11,5 +13,19 @@ def make(name, case):
         failing.refused(name, *case)
 
 
-for key, given in hostile.SHORT.items():
+for key, given in conversations.SHORT.items():
     make(key, given)
+
+
+def make_of_crate(what, crate, module):
+    @test(f"refused memory: {what}")
+    def walk_tests():
+        found = list(refused_tests.checks(crate, 20000))
+        holds(any(f"::{module}::" in f"::{name}" for name, _ in found), f"no test of {module} is among {found}")
+        for _, does in found:
+            does()
+
+
+make_of_crate("the tests of the framer, of documents and of texts", "ob0_tests_low", "frame")
+make_of_crate("the tests of sessions", "ob0_tests_session", "session")
+make_of_crate("the tests of worlds of an editor and a server", "ob0_tests_top", "world")

@@ -2,21 +2,9 @@
 import os
 import tempfile
 
-from harness import ends, on_file, run, same, test
-from samples import WRITES_A_GLOBAL
-from test_edits import FIVE, LEAST, NESTED, RECORDS, SHADOWED, edited
+from harness import edited, ends, on_file, run, same, test
+from modules import CALLS, COUNTS, DIVIDES, FIVE, LEAST, NESTED, RECORDS, SHADOWED, WRITES_A_GLOBAL
 
-COUNT = """MODULE M;
-VAR n: INTEGER;
-PROCEDURE P; BEGIN Write(n) END P;
-BEGIN Read(n); WHILE n > 0 DO n := n - 1; WriteLn END; P END M.
-"""
-CALLS = """MODULE M;
-PROCEDURE F(n: INTEGER);
-BEGIN IF n > 0 THEN Write(n); F(n - 1) END END F;
-BEGIN F(2) END M.
-"""
-DIVISORS = "MODULE M; BEGIN Write(-7 DIV 3); Write((-7) DIV 3); Write((-7) MOD 3); Write(1 MOD 0) END M."
 ALIASES = """MODULE M;
 VAR a: ARRAY 2 OF INTEGER; i: INTEGER;
 PROCEDURE S(VAR p: INTEGER; q: INTEGER; VAR r: INTEGER);
@@ -47,7 +35,7 @@ def body(statements, variables="x, y: INTEGER; b: BOOLEAN"):
 
 
 def four_runs(text):
-    """Holds COUNT, or that text with other names, to its ends under four inputs and bounds."""
+    """Holds COUNTS, or that text with other names, to its ends under four inputs and bounds."""
     ran(text, "", "InputEnd")
     ran(text, "\n\n\n", "TurnBound", "7", 0, 3)
     ran(text, "\n\n", "CallBound", "2", 0, 3)
@@ -56,7 +44,7 @@ def four_runs(text):
 
 @test("run: input, turns and calls under bounds")
 def bounds():
-    four_runs(COUNT)
+    four_runs(COUNTS)
     ran(CALLS, " 2 1", "", "", 3)
     ran(CALLS, " 2 1", "CallBound", "", 2)
     ran(CALLS, " 2 1")
@@ -64,8 +52,8 @@ def bounds():
 
 @test("run: a module with a WHILE that `rename` gave another name has the same four runs")
 def renamed_runs():
-    found = on_file("rename", COUNT, "1", "4", "k")
-    ends(found, edited(COUNT, ["1:4-1:5", "2:25-2:26", "3:11-3:12", "3:21-3:22", "3:30-3:31", "3:35-3:36"], "k"), 0)
+    found = on_file("rename", COUNTS, "1", "4", "k")
+    ends(found, edited(COUNTS, ["1:4-1:5", "2:25-2:26", "3:11-3:12", "3:21-3:22", "3:30-3:31", "3:35-3:36"], "k"), 0)
     four_runs(found.out)
 
 
@@ -93,7 +81,7 @@ def aliases():
 
 @test("run: arithmetic of 32 bits, DIV and MOD")
 def arithmetic():
-    ran(DIVISORS, " -2 -3 2", "Divisor")
+    ran(DIVIDES, " -2 -3 2", "Divisor")
     ran(body("Write(2147483647 + 1)"), "", "Overflow")
     ran(body("Write(-(-2147483647 - 1))"), "", "Overflow")
     ran(body("Write(7 MOD (-2))"), "", "Divisor")
@@ -162,7 +150,7 @@ def inputs():
     ends(on_file("run", text, given=b"1 2 \xff"), "", 4, "fault: Input\n")
     ends(on_file("run", text, given=b"1 2".ljust(16777216)), " 3", 0)
     ends(on_file("run", text, given=b"1 2".ljust(16777217)), "", 4, "fault: Input\n")
-    ends(on_file("run", DIVISORS, given=b"1 x"), "", 4, "fault: Input\n")
+    ends(on_file("run", DIVIDES, given=b"1 x"), "", 4, "fault: Input\n")
 
 
 @test("run: a file that isn't well-typed is checked, and its input isn't read")
@@ -176,10 +164,10 @@ def ill_typed():
 @test("run: command lines")
 def lines():
     for words in (["--calls", "65"], ["--turns", "100001"], ["--calls", "-1"], ["--turns=-1"], ["--calls", "x"], ["--calls"], ["y"]):
-        found = on_file("run", DIVISORS, *words)
+        found = on_file("run", DIVIDES, *words)
         same((found.out, bool(found.err), found.status), (b"", True, 2), " ".join(words))
-    ran(DIVISORS, " -2 -3 2", "Divisor", "", 64, 100000)
-    ends(on_file("run", COUNT, "--turns=3", "--calls=0", given=b"2"), "\n\n", 1, "fault: CallBound\n")
+    ran(DIVIDES, " -2 -3 2", "Divisor", "", 64, 100000)
+    ends(on_file("run", COUNTS, "--turns=3", "--calls=0", given=b"2"), "\n\n", 1, "fault: CallBound\n")
     same(run(["run"]).status, 2)
 
 
@@ -187,7 +175,7 @@ def lines():
 def options():
     with tempfile.TemporaryDirectory() as room:
         with open(os.path.join(room, "m.mod"), "w", encoding="utf-8") as file:
-            file.write(COUNT)
+            file.write(COUNTS)
         for words in (["--calls", "1", "m.mod", "--turns=1"], ["--turns=1", "--calls=1", "m.mod"], ["m.mod", "--turns", "1", "--calls", "1"]):
             ends(run(["run", *words], b"2", cwd=room), "\n", 1, "fault: TurnBound\n")
 
@@ -204,3 +192,45 @@ def long_run():
     text = body("WHILE x < 1000 DO y := 0; WHILE y < 100 DO Write(y); y := y + 1 END; WriteLn; x := x + 1 END")
     line = "".join(f" {at}" for at in range(100)) + "\n"
     ran(text, line * 1000)
+
+
+@test("run: an array of 65,536 elements, up to its last and past it")
+def longest_array():
+    text = body("Read(x); a[65535] := 7; Write(a[65535]); Write(a[0]); Write(a[x])", "x: INTEGER; a: ARRAY 65536 OF INTEGER")
+    ran(text, " 7 0 7", "", "65535")
+    ran(text, " 7 0", "Index", "65536")
+    ran(text, " 7 0", "Index", "-1")
+
+
+@test("run: a procedure that would have 2^32 cells, and isn't called")
+def too_many_cells():
+    names = ",".join(f"v{at:x}" for at in range(65536))
+    ran(f"MODULE M; TYPE T = ARRAY 65536 OF INTEGER; PROCEDURE P; VAR {names}: T; BEGIN END P; BEGIN Write(1) END M.", " 1")
+    ran(f"MODULE M; TYPE T = ARRAY 65536 OF INTEGER; PROCEDURE P(b: INTEGER); VAR {names}: T; BEGIN Write(b) END P; BEGIN Write(1); P(2) END M.", " 1", "CallBound", calls=0)
+
+
+# what is repeated, how often, and what is written then: as long as a text of 1 MiB can hold, or 100,000 times
+CHAINS = {
+    "operands of +": (lambda count: body("Write(" + "+".join(["1"] * count) + ")"), 100000, " 100000"),
+    "operands of *": (lambda count: body("Write(" + "*".join(["1"] * count) + ")"), 100000, " 1"),
+    "operands of &": (lambda count: body("IF " + "&".join(["TRUE"] * count) + " THEN Write(1) END"), 100000, " 1"),
+    "operands of OR": (lambda count: body("IF " + " OR ".join(["b"] * count) + " OR TRUE THEN Write(1) END"), 100000, " 1"),
+    "ELSIF parts": (lambda count: body("IF b THEN " + "ELSIF b THEN " * count + "ELSE Write(1) END"), 80000, " 1"),
+    "statements": (lambda count: body("x:=x+1;" * count + "Write(x)"), 100000, " 100000"),
+    "empty statements": (lambda count: body(";" * count + "Write(1)"), 1000000, " 1"),
+    "calls": (lambda count: f"MODULE M; VAR x: INTEGER; PROCEDURE P; BEGIN x := x + 1 END P; BEGIN {'P;' * count}Write(x) END M.", 100000, " 100000"),
+    "selectors, 100 in each designator": (
+        lambda count: f"MODULE M; VAR x: INTEGER; a: {'ARRAY 1 OF ' * 100}INTEGER; BEGIN {('x:=a' + '[0]' * 100 + '+1;') * (count // 100)}Write(x) END M.",
+        100000,
+        " 1",
+    ),
+}
+
+
+@test("run: chains of 100,000 operands, ELSIF parts, statements, calls and selectors, under a stack of 4 MiB")
+def chains():
+    for name, (make, count, out) in CHAINS.items():
+        text = make(count)
+        same(len(text) <= 1048576, True, f"{name}: {len(text)} bytes fit")
+        found = on_file("run", text, stack=4096)
+        same((found.out, found.err, found.status), (out.encode(), b"", 0), name)

@@ -12,10 +12,9 @@ import time
 
 import common
 import harness
-from harness import TOP, Skipped, holds, run, same, test, want
+from harness import TOP, Skipped, holds, run, same, test, text_of, want
+from homes import at_home, run_plainly, write
 from snippets import fenced
-from test_editors import at_home, run_plainly, write
-from test_syntax_files import text_of
 
 SHARE = os.path.join(TOP, "share")
 COMMANDS = ["check", "rename", "run", "serve"]

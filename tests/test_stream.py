@@ -5,36 +5,11 @@ import random
 import subprocess
 
 import harness
-from harness import capabilities, compact, frame, frames, holds, initialize, run, same, serve, serve_in_pieces, test, unframed
+from first_conversation import BORDERS, FIRST, HEADS_IN, HEADS_OUT, IN, INPUT, OUT, OUTPUT
+from harness import frame, frames, holds, initialize, run, same, serve, serve_in_pieces, test, unframed
 from harness import SHUTDOWN, EXIT, request
 
 COUNT, SEED = int(os.environ.get("OB0_RANDOM", "300")), int(os.environ.get("OB0_SEED", "0"))
-
-IN = [
-    b'{"id":1,"jsonrpc":"2.0","method":"initialize","params":{"capabilities":{}}}',
-    b'{"jsonrpc":"2.0","method":"textDocument/didOpen","params":{"textDocument":{"languageId":"oberon-0",'
-    b'"text":"MODULE M; BEGIN WriteLn END M.","uri":"file:///m","version":1}}}',
-    b'{"id":2,"jsonrpc":"2.0","method":"shutdown"}',
-    b'{"jsonrpc":"2.0","method":"exit"}',
-]
-HEADS_IN = [75, 171, 44, 33]
-FIRST = b'{"id":1,"jsonrpc":"2.0","result":{"capabilities":%s}}' % compact(capabilities()).encode()
-OUT = [
-    FIRST,
-    b'{"jsonrpc":"2.0","method":"textDocument/publishDiagnostics","params":{"diagnostics":[],'
-    b'"uri":"file:///m","version":1}}',
-    b'{"id":2,"jsonrpc":"2.0","result":null}',
-]
-HEADS_OUT = [230, 118, 38]
-
-
-def spelled(lengths, contents):
-    """Frames with the lengths as they stand in the table above, not counted."""
-    return b"".join(b"Content-Length: %d\r\n\r\n%s" % it for it in zip(lengths, contents))
-
-
-INPUT, OUTPUT = spelled(HEADS_IN, IN), spelled(HEADS_OUT, OUT)
-BORDERS = [sum(len(frame(it)) for it in IN[:count]) for count in range(len(IN) + 1)]
 
 
 def ended(found, out, status, err=b""):

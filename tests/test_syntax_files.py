@@ -1,25 +1,18 @@
 """The files of editors/ that colour, detect and indent: each has the words of the scanner and of the language, and each is
 read by the tool that uses it, where that is here."""
 import functools
-import glob
 import json
 import os
 import re
-import subprocess
 import tempfile
 import xml.etree.ElementTree
 
 import snippets
-from harness import TOP, Failed, holds, same, test, want
-from test_editors import at_home, run_in_terminal, run_plainly, write
+from harness import TOP, examples, holds, same, test, text_of, want
+from homes import at_home, run_in_terminal, run_plainly, write
 
 PREDECLARED = {"INTEGER", "BOOLEAN", "TRUE", "FALSE", "Read", "Write", "WriteLn"}
 OF_LAYOUT = re.compile(r"[A-Z][A-Za-z]*")
-
-
-def text_of(*path):
-    with open(os.path.join(TOP, *path), encoding="utf-8") as file:
-        return file.read()
 
 
 @functools.lru_cache(None)
@@ -174,10 +167,6 @@ def in_vim():
 def in_neovim():
     want("Neovim")
     by_vim("neovim", ["nvim", "-n", "-i", "NONE", "-u", "RC"], "Neovim")
-
-
-def examples():
-    return sorted(os.path.relpath(it, TOP) for it in glob.glob(os.path.join(TOP, "examples", "*.mod")))
 
 
 @test("syntax files: Emacs's mode: file types, colours, indentation, index, check and run")

@@ -12,7 +12,7 @@ import time
 
 import common
 
-sys.path.insert(0, os.path.join(common.TOP, "tests"))
+sys.path.insert(0, os.path.join(common.TOP, "tests", "lib"))
 
 import harness  # noqa: E402
 from harness import EXIT, SHUTDOWN, did_change, did_close, did_open, notice, place, request  # noqa: E402

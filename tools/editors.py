@@ -1,6 +1,7 @@
 #!/usr/bin/env python3
 """Installs by apt-get what the tests want beside the program: the editors that editors/ has packages for, as far as
-Debian has them, the programs that read syntax files, completions and the manual page, and a C compiler.
+Debian has them, the programs that read syntax files, completions and the manual page, and a C compiler, without which
+`make test` doesn't pass.
 
   tools/editors.py          installs what is missing
   tools/editors.py --list   says what is here and what is missing
@@ -55,6 +56,9 @@ TOOLS = {
     "fish": (here("fish"), "fish"),
     "mandoc": (here("mandoc"), "mandoc"),
 }
+
+# what `make test` doesn't pass without; for lack of the others it leaves tests out
+REQUIRED = ["cc"]
 
 
 @functools.lru_cache(None)

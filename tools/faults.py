@@ -1,7 +1,7 @@
 #!/usr/bin/env python3
 """What is done to the program beyond the end-to-end tests, since it takes long: memory refused at each allocation, of longer
 conversations and commands, and of the tests of the crates that are made for it (`a_refused_..`); one long conversation; many
-random modules, run by the program and by the language's second writing.
+random modules, run by the program and by the reference.
 
   tools/faults.py [WORD..]   what has one of these words in its name; with no word all of it
 
@@ -10,7 +10,6 @@ crates/NAME/out. OB0_LONG is how many messages the long conversation has (100,00
 run (20,000), OB0_WALK about how many allocations of one test are refused (10,000): of more, each second, third and so on. The
 last line is 'N passed, M failed'."""
 import os
-import subprocess
 import sys
 import time
 
@@ -18,78 +17,45 @@ import common
 from common import TOP
 
 sys.dont_write_bytecode = True
-sys.path.insert(0, os.path.join(TOP, "tests"))
+sys.path.insert(0, os.path.join(TOP, "tests", "lib"))
 
-import failing  # noqa: E402
 import harness  # noqa: E402
-import hostile  # noqa: E402
-import long_talk  # noqa: E402
-import test_random  # noqa: E402
-from harness import holds, same  # noqa: E402
+import against_reference  # noqa: E402
+import conversations  # noqa: E402
+import failing  # noqa: E402
+import long_conversation  # noqa: E402
+import refused_tests  # noqa: E402
 
-CRATES = ("ob0_tests_low", "ob0_tests_language", "ob0_tests_top")
 WALK = int(os.environ.get("OB0_WALK", "10000"))
 LONG = int(os.environ.get("OB0_LONG", "100000"))
+TEXTS = int(os.environ.get("OB0_TEXTS", "20000"))
 RUNS = int(os.environ.get("OB0_RUNS", "20000"))
-
-
-def tests_of(program):
-    """The tests of a program of tests that are to be run with each allocation refused in turn."""
-    ran = subprocess.run([program, "--list"], stdout=subprocess.PIPE, check=True)
-    names = [line.partition(": test")[0] for line in ran.stdout.decode().splitlines()]
-    return [it for it in names if it.rpartition("::")[2].startswith("a_refused_")]
-
-
-def played(out):
-    """What a test prints of how much was played, as `played A B`."""
-    lines = [it for it in out.decode().splitlines() if it.startswith("played ")]
-    return [tuple(map(int, it.split()[1:])) for it in lines]
-
-
-def grows(test, found, whole):
-    """Holds what was played, by the number of the refused allocation, to growing from nothing on, up to a part of the whole:
-    the whole itself is played where what was refused isn't needed, or the test allocates it again."""
-    holds(whole, f"{test} doesn't print what was played")
-    parts = [it for it in found if it != whole]
-    holds(all(a <= b for one, two in zip(parts, parts[1:]) for row, other in zip(one, two) for a, b in zip(row, other)), f"{test}: less was played later on")
-    nothing = [(0,) * len(it) for it in whole]
-    holds(parts and parts[0] == nothing and parts[-1] != nothing, f"{test}: {parts[:1]} was played at first, {parts[-1:]} at last")
-
-
-def walk(program, test):
-    """Runs a test with each of its allocations refused in turn. Returns how many runs that were."""
-    plain = failing.undisturbed([program, test])
-    calls = plain.calls["memory"]
-    holds(plain.status == 0 and calls, f"{test} fails where nothing is refused, or takes no memory")
-    numbers, found = range(1, calls + 1, max(1, calls // WALK)), []
-    for it in failing.walk([program, test], b"", None, "memory", numbers):
-        where = f"{test}, allocation {it.numbers[0]} of {calls}"
-        holds(it.is_touched, f"{where} wasn't refused")
-        same((it.status, it.out.endswith(b"test result: ok\n")), (0, True), f"{where}: {it.err.decode(errors='replace')}")
-        found.append(played(it.out))
-    if "played" in test:
-        grows(test, found, played(plain.out))
-    return f"{len(numbers):,} of {calls:,} allocations refused"
+SEED = int(os.environ.get("OB0_SEED", "0"))
 
 
 def walked(key):
-    counts = failing.refused(key, *{**hostile.SHORT, **hostile.LONG}[key])
+    counts = failing.refused(key, *{**conversations.SHORT, **conversations.LONG}[key])
     return f"{sum(counts.values()):,} runs: {counts['refused']:,} ended with status 5, {counts['undisturbed']:,} as without refusal"
+
+
+def checks_of(crate):
+    try:
+        return list(refused_tests.checks(crate, WALK))
+    except harness.Skipped as why:
+        print(f"left out {crate}: {why}", flush=True)
+        return []
 
 
 def all_of_it():
     """Names, and what is done under each: it gives a line with figures."""
-    for key in (*hostile.SHORT, *hostile.LONG):
+    for key in (*conversations.SHORT, *conversations.LONG):
         yield f"refused memory: {key}", lambda key=key: walked(key)
-    for crate in CRATES:
-        program = os.path.join(TOP, "crates", crate, "out", f"{crate}_tests")
-        if not os.access(program, os.X_OK):
-            yield f"refused memory: tests of {crate}", None
-            continue
-        for test in tests_of(program):
-            yield f"refused memory: {crate}, {test}", lambda program=program, test=test: walk(program, test)
-    yield f"a long conversation: {LONG:,} messages", lambda: long_talk.converse(LONG)
-    yield f"random runs: {RUNS:,} modules", lambda: test_random.many_runs(RUNS, failing.PROCESSORS)
+    for crate in refused_tests.CRATES:
+        for name, does in checks_of(crate):
+            yield f"refused memory: {crate}, {name}", does
+    yield f"a long conversation: {LONG:,} messages", lambda: long_conversation.converse(LONG)
+    yield f"random texts: {TEXTS:,}", lambda: against_reference.many_texts(TEXTS, SEED, failing.PROCESSORS)
+    yield f"random runs: {RUNS:,} modules", lambda: against_reference.many_runs(RUNS, SEED, failing.PROCESSORS)
 
 
 def main(words):
@@ -98,9 +64,6 @@ def main(words):
         if words and not any(it in name for it in words):
             continue
         start = time.monotonic()
-        if does is None:
-            print(f"left out {name}: its program isn't here (`make test`, or `rt test` in its folder, makes it)", flush=True)
-            continue
         try:
             found = does()
         except harness.Skipped as why:

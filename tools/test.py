@@ -39,14 +39,15 @@ def stream(words, timer, **named):
     return passed, failed
 
 
-def at_once():
-    """How many checks the gate makes side by side: one more than there are processors, and one for each 3.5 GB of memory. A
-    check takes 1 to 3 GB; left to itself `rt ci` reckons up to 5, and lets large crates wait for each other's edits. (It
-    would give a check several jobs where few are ready, but it counts a crate's tests and edits among these, also where there
-    are none, and so gives one.) The one more is for what `rt` does between two checks: its sums over sources are made by one
-    process, so of two checks that are summed up at a time one waits."""
+def jobs():
+    """RT_JOBS for the gate, by which it makes that many checks side by side, of one job each: up to four processors their number,
+    and no more than one for each 3.5 GB of memory (a check takes 1 to 3 GB; left to itself `rt ci` reserves up to 5). With more
+    processors it is left unset, since `rt ci` then gives what is idle to the checks that run."""
+    processors = len(os.sched_getaffinity(0))
     memory = os.sysconf("SC_PAGE_SIZE") * os.sysconf("SC_PHYS_PAGES")
-    return max(1, min(len(os.sched_getaffinity(0)) + 1, memory // 3_500_000_000))
+    if "RT_JOBS" in os.environ or processors > 4:
+        return {}
+    return {"RT_JOBS": str(max(1, min(processors, memory // 3_500_000_000)))}
 
 
 def gate(timer):
@@ -55,7 +56,7 @@ def gate(timer):
     for old in (linked, common.BINARY):
         if os.path.exists(old):
             os.remove(old)
-    counts = stream(["rt", "ci"], timer, RT_JOBS=os.environ.get("RT_JOBS") or str(at_once()))
+    counts = stream(["rt", "ci"], timer, **jobs())
     if os.path.isfile(linked):
         common.keep(linked)
     return counts
@@ -68,10 +69,14 @@ def spent():
 
 
 def say_missing():
-    """Says at once which tests will be left out, for lack of which editors and tools, and how to get them."""
+    """Says at once what is missing, how to get it, and which tests fail or are left out without it."""
     missing = [it for it in editors.TOOLS if not editors.is_here(it)]
-    if missing:
-        print(f"missing: {', '.join(missing)}. `make editors` installs them; without, the tests that want them are left out, by name", flush=True)
+    required = [it for it in missing if it in editors.REQUIRED]
+    others = [it for it in missing if it not in required]
+    if required:
+        print(f"missing: {', '.join(required)}. `make editors` installs it; without it tests fail, and this run doesn't pass", flush=True)
+    if others:
+        print(f"missing: {', '.join(others)}. `make editors` installs them; without, the tests that want them are left out, by name", flush=True)
 
 
 def main():
@@ -88,7 +93,7 @@ def main():
     print(f"== the gate: {passed} passed, {failed} failed, {timer}, of the processors {common.clock(spent())}", flush=True)
     print("== end to end", flush=True)
     if os.path.isfile(common.BINARY):
-        more, wrong = stream([sys.executable, os.path.join("tests", "run.py")], timer)
+        more, wrong = stream([sys.executable, os.path.join("tests", "run.py")], timer, OB0_WHOLE="1")
         passed, failed = passed + more, failed + wrong
     else:
         print("the gate built no program, so no end-to-end test ran", flush=True)

@@ -6,7 +6,7 @@ use crate::asking::{said, told};
 use ob0_analysis::{Asked, Question};
 use ob0_inline::{inline_all, inline_here};
 use ob0_layout::format;
-use ob0_rename::rename_in;
+use ob0_rename::{rename, rename_in};
 use ob0_text::{Edit, EditRefusal, Indent, PatchFault, Position, TextStore, Whole, patch};
 use ob0_types::WellTyped;
 use std::alloc::{AllocError, Global};
@@ -139,6 +139,36 @@ fn renamed(alloc: Global, text: &str, place: Position, new: &str) -> Result<Stri
     }
 }
 
+/// The text with another name, or why it has none.
+#[derive(Drop)]
+struct Renamed {
+    place: Position,
+    new: &'static str,
+}
+
+impl Question for Renamed {
+    type Answer = String;
+
+    ghost answers = { λ _ _ _. ⊤ };
+
+    fn answer(&self, alloc: Global, module: &WellTyped<'_, '_>) -> Result<String, AllocError> {
+        let store = Whole::from_str(alloc, module.resolved().tokens().text())?;
+        let edits = rename(alloc, &store, module, self.place, self.new);
+        made(alloc, &store, edits)
+    }
+}
+
+#[test]
+fn a_well_typed_module_is_renamed_alike(rt: HostRuntime) -> Result<(), Fail> {
+    for row in RENAMED {
+        let (text, line, character, new, wanted) = *row;
+        let place = Position { line, character };
+        let found = said(rt.alloc(), text, &Renamed { place, new })?;
+        assert!(rt; found.as_str() == wanted, "{found} by {new} at {line}:{character}");
+    }
+    Ok(())
+}
+
 #[test]
 fn names_and_fields_are_renamed(rt: HostRuntime) -> Result<(), Fail> {
     for row in RENAMED {
@@ -185,6 +215,10 @@ const COMMENTED: &str = "MODULE M; CONST c (* five *) = 5; (* on *) BEGIN Write(
 
 const SEVERAL: &str =
     "MODULE M; CONST a = 9; c = -5; d = c; BEGIN Write(a - c); Write(c DIV 3) END M.";
+
+/// The value is written in parentheses, one level too many.
+const DEEP: &str =
+    "MODULE M; CONST c = -1; VAR x: INTEGER; BEGIN x := ((((((((((((((((((((((((((((((((((((((((((((((((((((((((((((((((((((((((((((((((((((((((((((((((((((c)))))))))))))))))))))))))))))))))))))))))))))))))))))))))))))))))))))))))))))))))))))))))))))))))))) END M.";
 
 /// A text, a place, whether everywhere, and the text then.
 static INLINED: &[(&str, u64, u64, bool, &str)] = &[
@@ -235,6 +269,15 @@ static INLINED: &[(&str, u64, u64, bool, &str)] = &[
         true,
         "Shadowed",
     ),
+    (
+        "MODULE M; CONST TRUE = 1 = 1; VAR b: BOOLEAN; BEGIN b := TRUE END M.",
+        0,
+        58,
+        false,
+        "Shadowed",
+    ),
+    (DEEP, 0, 151, false, "TooDeep"),
+    (DEEP, 0, 151, true, "TooDeep"),
     (COMMENTED, 0, 16, true, "CommentInside"),
     (
         COMMENTED,

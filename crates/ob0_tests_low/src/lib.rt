@@ -14,6 +14,8 @@ mod rpc;
 #[cfg(test)]
 mod scan;
 #[cfg(test)]
+mod surface;
+#[cfg(test)]
 mod text;
 #[cfg(test)]
 mod values;

@@ -27,6 +27,9 @@ const NAME: Act = Act::Rename(1, 4, "k");
 const LEAST: &str =
     "MODULE M;\nCONST c = -2147483647 - 1;\nVAR x: INTEGER;\nBEGIN x := 0 + c; Write(x) END M.\n";
 
+const INLINED_HERE: &str =
+    "MODULE M;\nCONST c = -2147483647 - 1;\nVAR x: INTEGER;\nBEGIN x := 0 + (-2147483647 - 1); Write(x) END M.\n";
+
 const INLINED_EVERYWHERE: &str =
     "MODULE M;\nCONST \nVAR x: INTEGER;\nBEGIN x := 0 + (-2147483647 - 1); Write(x) END M.\n";
 
@@ -47,6 +50,62 @@ const WIDE_RENAMED: &str = "MODULE M;\nVAR (* 😀 *) k: INTEGER;\nBEGIN (* 😀
 /// The first name written over: the second is that of nothing.
 const WIDE_WRITTEN: &str = "MODULE M;\nVAR (* 😀 *) k: INTEGER;\nBEGIN (* 😀 *) n := 1 END M.\n";
 
+const NAMED: &[(Act, Sight)] = &[
+    (Act::Open(COUNTS), Sight::Sent),
+    (NAME, Sight::Sent),
+    (Act::Serve, Sight::Served(1)),
+    (Act::Serve, Sight::Served(1)),
+    (Act::Take, Sight::Published(true)),
+    (Act::Take, Sight::Answered(1, true)),
+    (Act::Apply(1), Sight::Applied(1)),
+    (Act::Apply(1), Sight::Nothing),
+    (Act::Serve, Sight::Served(1)),
+    (Act::Take, Sight::Published(true)),
+];
+
+const NAMED_MADE: &[Published] = &[
+    Published {
+        version: 1,
+        text: COUNTS,
+        empty: true,
+    },
+    Published {
+        version: 2,
+        text: RENAMED,
+        empty: true,
+    },
+];
+
+const REOPENED: &[(Act, Sight)] = &[
+    (Act::Open(COUNTS), Sight::Sent),
+    (NAME, Sight::Sent),
+    (Act::Close, Sight::Sent),
+    (Act::Open(FAULTY_TEXT), Sight::Sent),
+    (Act::Serve, Sight::Served(1)),
+    (Act::Serve, Sight::Served(1)),
+    (Act::Serve, Sight::Served(1)),
+    (Act::Serve, Sight::Served(1)),
+    (Act::Take, Sight::Published(true)),
+    (Act::Take, Sight::Answered(1, true)),
+    (Act::Take, Sight::Published(true)),
+    (Act::Take, Sight::Published(false)),
+    (Act::Apply(1), Sight::Dropped(1)),
+    (Act::Apply(1), Sight::Nothing),
+];
+
+const REOPENED_MADE: &[Published] = &[
+    Published {
+        version: 1,
+        text: COUNTS,
+        empty: true,
+    },
+    Published {
+        version: 1,
+        text: FAULTY_TEXT,
+        empty: false,
+    },
+];
+
 /// All of them. (What names the table itself is as dear as the table is long.)
 pub fn stories() -> &'static [Story] {
     STORIES
@@ -57,34 +116,12 @@ static STORIES: &[Story] = &[
     Story {
         name: "another name is applied",
         unit: Unit::Utf16,
-        moments: &[
-            (Act::Open(COUNTS), Sight::Sent),
-            (NAME, Sight::Sent),
-            (Act::Serve, Sight::Served(1)),
-            (Act::Serve, Sight::Served(1)),
-            (Act::Take, Sight::Published(true)),
-            (Act::Take, Sight::Answered(1, true)),
-            (Act::Apply(1), Sight::Applied(1)),
-            (Act::Apply(1), Sight::Nothing),
-            (Act::Serve, Sight::Served(1)),
-            (Act::Take, Sight::Published(true)),
-        ],
+        moments: NAMED,
         applied: &[Edited {
             before: COUNTS,
             after: RENAMED,
         }],
-        made: &[
-            Published {
-                version: 1,
-                text: COUNTS,
-                empty: true,
-            },
-            Published {
-                version: 2,
-                text: RENAMED,
-                empty: true,
-            },
-        ],
+        made: NAMED_MADE,
     },
     Story {
         name: "a layout is applied",
@@ -145,21 +182,24 @@ static STORIES: &[Story] = &[
     Story {
         name: "an answer about an earlier opening is dropped",
         unit: Unit::Utf16,
+        moments: REOPENED,
+        applied: &[],
+        made: REOPENED_MADE,
+    },
+    Story {
+        name: "a change with no changes raises the version, and the answer is dropped",
+        unit: Unit::Utf16,
         moments: &[
             (Act::Open(COUNTS), Sight::Sent),
             (NAME, Sight::Sent),
-            (Act::Close, Sight::Sent),
-            (Act::Open(FAULTY_TEXT), Sight::Sent),
-            (Act::Serve, Sight::Served(1)),
+            (Act::Touch, Sight::Sent),
             (Act::Serve, Sight::Served(1)),
             (Act::Serve, Sight::Served(1)),
             (Act::Serve, Sight::Served(1)),
             (Act::Take, Sight::Published(true)),
             (Act::Take, Sight::Answered(1, true)),
             (Act::Take, Sight::Published(true)),
-            (Act::Take, Sight::Published(false)),
             (Act::Apply(1), Sight::Dropped(1)),
-            (Act::Apply(1), Sight::Nothing),
         ],
         applied: &[],
         made: &[
@@ -169,9 +209,9 @@ static STORIES: &[Story] = &[
                 empty: true,
             },
             Published {
-                version: 1,
-                text: FAULTY_TEXT,
-                empty: false,
+                version: 2,
+                text: COUNTS,
+                empty: true,
             },
         ],
     },
@@ -313,6 +353,33 @@ static STORIES: &[Story] = &[
         ],
     },
     Story {
+        name: "a constant is inlined at one use",
+        unit: Unit::Utf16,
+        moments: &[
+            (Act::Open(LEAST), Sight::Sent),
+            (Act::InlineHere(3, 15), Sight::Sent),
+            (Act::Serve, Sight::Served(1)),
+            (Act::Serve, Sight::Served(1)),
+            (Act::Take, Sight::Published(true)),
+            (Act::Take, Sight::Answered(1, true)),
+            (Act::Apply(1), Sight::Applied(1)),
+            (Act::Serve, Sight::Served(1)),
+            (Act::Take, Sight::Published(true)),
+        ],
+        applied: &[Edited {
+            before: LEAST,
+            after: INLINED_HERE,
+        }],
+        made: &[
+            LEAST_MADE,
+            Published {
+                version: 2,
+                text: INLINED_HERE,
+                empty: true,
+            },
+        ],
+    },
+    Story {
         name: "a constant is inlined everywhere, asked for at its declaration",
         unit: Unit::Utf16,
         moments: &[
@@ -406,6 +473,23 @@ static STORIES: &[Story] = &[
                 empty: false,
             },
         ],
+    },
+    Story {
+        name: "another name is applied, where both count bytes",
+        unit: Unit::Utf8,
+        moments: NAMED,
+        applied: &[Edited {
+            before: COUNTS,
+            after: RENAMED,
+        }],
+        made: NAMED_MADE,
+    },
+    Story {
+        name: "an answer about an earlier opening is dropped, where both count bytes",
+        unit: Unit::Utf8,
+        moments: REOPENED,
+        applied: &[],
+        made: REOPENED_MADE,
     },
     Story {
         name: "another name, in bytes",

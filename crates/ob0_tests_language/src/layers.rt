@@ -1,0 +1,86 @@
+//! A module through the layers one by one, each call by its own path.
+
+use ob0_parse::parse;
+use ob0_scan::scan;
+use ob0_scope::resolve;
+use ob0_tree::Module;
+use ob0_types::check;
+use ob0_values::Scalar;
+use std::alloc::Global;
+use std::process::Abort;
+
+const TEXT: &str =
+    "MODULE M; CONST c = 3; VAR x: INTEGER; BEGIN x := c; IF x = c THEN Write(x) END END M.";
+
+/// The ordinals of the declarations of INTEGER, x, c, x, c, Write and x.
+static BOUND: &[Option<usize>] = &[
+    Some(0),
+    Some(8),
+    Some(7),
+    Some(8),
+    Some(7),
+    Some(5),
+    Some(8),
+    None,
+];
+
+/// Whether the names of the module are bound to their declarations.
+fn is_bound(alloc: Global, module: &Module<'_>) -> bool {
+    let Ok(names) = resolve(alloc, module) else {
+        return false;
+    };
+    for occurrence in 0..BOUND.len() {
+        if names.declaration_of(occurrence) != BOUND[occurrence] {
+            return false;
+        }
+    }
+    names.faults().is_empty() && names.tokens().text() == names.module().tokens().text()
+}
+
+/// Whether the module is well-typed, with the value of its constant and a type for its variable alone.
+fn is_well_typed(alloc: Global, module: &Module<'_>) -> bool {
+    let Ok(names) = resolve(alloc, module) else {
+        return false;
+    };
+    let Ok(checked) = check(alloc, &names) else {
+        return false;
+    };
+    let is_clean = checked.faults().is_empty() && checked.resolved().faults().is_empty();
+    match checked.well_typed() {
+        Some(typed) => {
+            is_clean
+                && typed.constant(7) == Some(Scalar::Number(3))
+                && typed.constant(8) == None
+                && typed.shape(8).is_some()
+                && typed.shape(9).is_none()
+        }
+        None => false,
+    }
+}
+
+/// Whether the module has this nesting and so many identifiers.
+fn is_shaped(alloc: Global, module: &Module<'_>, nesting: u32, count: usize) -> bool {
+    match module.identifiers(alloc) {
+        Ok(identifiers) => module.nesting() == nesting && identifiers.len() == count,
+        Err(_refused) => false,
+    }
+}
+
+fn goes_through(alloc: Global) -> bool {
+    let Ok(tokens) = scan(alloc, TEXT) else {
+        return false;
+    };
+    match parse(alloc, &tokens) {
+        Ok(module) => {
+            is_shaped(alloc, &module, 1, 11)
+                && is_bound(alloc, &module)
+                && is_well_typed(alloc, &module)
+        }
+        Err(_refusal) => false,
+    }
+}
+
+#[test]
+fn a_module_goes_through_the_layers(rt: HostRuntime) {
+    assert!(rt; goes_through(rt.alloc()));
+}

@@ -1,0 +1,12 @@
+//! Tests of the session, of `serve`, of the commands and of command lines. They ask what no contract says, and examples with known
+//! answers; what the built program shows is asked by the end-to-end tests.
+#![tactic(auto)]
+
+#[cfg(test)]
+mod commands;
+#[cfg(test)]
+mod devices;
+#[cfg(test)]
+mod serving;
+#[cfg(test)]
+mod session;

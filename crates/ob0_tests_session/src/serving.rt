@@ -1,0 +1,178 @@
+//! Conversations over devices that fail, and a writer that hands on what it is given only where it is flushed.
+
+use crate::devices::{Count, Counter, Source};
+use ob0_session::{Noted, ServeFault, serve};
+use std::alloc::Global;
+use std::process::Abort;
+
+/// The first conversation.
+const INPUT: &[u8] =
+    b"Content-Length: 75\r\n\r\n{\"id\":1,\"jsonrpc\":\"2.0\",\"method\":\"initialize\",\"params\":{\"capabilities\":{}}}Content-Length: 171\r\n\r\n{\"jsonrpc\":\"2.0\",\"method\":\"textDocument/didOpen\",\"params\":{\"textDocument\":{\"languageId\":\"oberon-0\",\"text\":\"MODULE M; BEGIN WriteLn END M.\",\"uri\":\"file:///m\",\"version\":1}}}Content-Length: 44\r\n\r\n{\"id\":2,\"jsonrpc\":\"2.0\",\"method\":\"shutdown\"}Content-Length: 33\r\n\r\n{\"jsonrpc\":\"2.0\",\"method\":\"exit\"}";
+
+/// The first message, and a head that is bad.
+const BAD_HEAD: &[u8] =
+    b"Content-Length: 75\r\n\r\n{\"id\":1,\"jsonrpc\":\"2.0\",\"method\":\"initialize\",\"params\":{\"capabilities\":{}}}Content-Length: x\r\n\r\n";
+
+/// A conversation that ends somehow: its bytes up to a length, by pieces of a size, read so often, with room for so many bytes
+/// and with so many flushes.
+struct End {
+    bytes: &'static [u8],
+    len: usize,
+    given: usize,
+    reads: u32,
+    room: usize,
+    flushes: u32,
+    result: Result<u8, ServeFault>,
+}
+
+static ENDS: &[End] = &[
+    End {
+        bytes: INPUT,
+        len: 412,
+        given: 8192,
+        reads: u32::MAX,
+        room: 512,
+        flushes: 1,
+        result: Ok(0),
+    },
+    End {
+        bytes: INPUT,
+        len: 412,
+        given: 40,
+        reads: u32::MAX,
+        room: 512,
+        flushes: 11,
+        result: Ok(0),
+    },
+    End {
+        bytes: INPUT,
+        len: 291,
+        given: 40,
+        reads: u32::MAX,
+        room: 512,
+        flushes: 8,
+        result: Ok(1),
+    },
+    End {
+        bytes: INPUT,
+        len: 300,
+        given: 8192,
+        reads: u32::MAX,
+        room: 512,
+        flushes: 1,
+        result: Err(ServeFault::Truncated),
+    },
+    End {
+        bytes: INPUT,
+        len: 412,
+        given: 40,
+        reads: 5,
+        room: 512,
+        flushes: 5,
+        result: Err(ServeFault::Read),
+    },
+    End {
+        bytes: INPUT,
+        len: 412,
+        given: 8192,
+        reads: u32::MAX,
+        room: 300,
+        flushes: 1,
+        result: Err(ServeFault::Write),
+    },
+    End {
+        bytes: BAD_HEAD,
+        len: 118,
+        given: 8192,
+        reads: u32::MAX,
+        room: 512,
+        flushes: 1,
+        result: Err(ServeFault::BadHead),
+    },
+    End {
+        bytes: BAD_HEAD,
+        len: 118,
+        given: 40,
+        reads: u32::MAX,
+        room: 512,
+        flushes: 3,
+        result: Err(ServeFault::BadHead),
+    },
+];
+
+/// How a conversation ends over this writer, and whether the devices know afterwards that all was flushed and which of them
+/// failed.
+fn conversed(alloc: Global, end: &End, count: &mut Count) -> (Result<u8, ServeFault>, bool) {
+    let mut reader = Noted::new(Source {
+        bytes: &end.bytes[..end.len.min(end.bytes.len())],
+        most: end.given,
+        calls_left: end.reads,
+    });
+    let mut writer = Noted::new(Counter { count });
+    let result = serve(alloc, &mut reader, &mut writer);
+    let is_told = reader.failed() == (result == Err(ServeFault::Read))
+        && writer.failed() == (result == Err(ServeFault::Write));
+    (result, is_told && writer.flushed())
+}
+
+/// Whether a conversation ends by a write that failed, where only so many flushes succeed.
+fn breaks_off(alloc: Global, end: &End, flushes: u32) -> bool {
+    let mut count = Count::new(end.room, flushes);
+    let (result, _flushed) = conversed(alloc, end, &mut count);
+    result == Err(ServeFault::Write)
+}
+
+/// Whether a conversation ends as it is to end, with all that was written handed on, where just so many flushes succeed.
+fn ends_flushed(alloc: Global, end: &End) -> bool {
+    let mut count = Count::new(end.room, end.flushes);
+    conversed(alloc, end, &mut count) == (end.result, true) && count.handed_on == count.written
+}
+
+/// Whether a conversation needs each of its flushes.
+fn needs_each_flush(alloc: Global, end: &End) -> bool {
+    for flushes in 0..end.flushes {
+        if !breaks_off(alloc, end, flushes) {
+            return false;
+        }
+    }
+    ends_flushed(alloc, end)
+}
+
+/// The number of conversations before the first that goes otherwise.
+fn count_well(alloc: Global) -> usize {
+    let mut count: usize = 0;
+    for end in ENDS {
+        if !needs_each_flush(alloc, end) {
+            return count;
+        }
+        count = count.saturating_add(1);
+    }
+    count
+}
+
+#[test]
+fn each_piece_is_flushed_at_its_end(rt: HostRuntime) {
+    let count = count_well(rt.alloc());
+    assert!(rt; count == ENDS.len(), "conversation {count}");
+}
+
+/// Whether a reader and a writer are passed on as they are, and the failure of either is kept.
+fn are_noted() -> bool {
+    let mut count = Count::new(1, 1);
+    let mut reader = Noted::new(Source {
+        bytes: b"ab",
+        most: 1,
+        calls_left: 1,
+    });
+    let mut writer = Noted::new(Counter { count: &mut count });
+    let mut piece = [0; 4];
+    let is_read = reader.read(&mut piece) == Ok(1) && piece[0] == b'a' && !reader.failed();
+    let is_written = writer.write(b"ab") == Ok(1) && writer.flush() == Ok(()) && !writer.failed();
+    let fails = reader.read(&mut piece).is_err() && writer.write(b"b").is_err();
+    is_read && is_written && fails && reader.failed() && writer.failed()
+}
+
+#[test]
+fn a_device_that_failed_is_noted(rt: HostRuntime) {
+    assert!(rt; are_noted());
+}

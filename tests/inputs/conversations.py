@@ -1,0 +1,114 @@
+"""What is run with memory refused and devices that fail: conversations and commands, each with its input and file."""
+import corpus
+from first_conversation import INPUT
+from harness import EXIT, SHUTDOWN, did_change, did_close, did_open, extent, frames, initialize, notice, place, request
+from modules import COUNTS, DIVIDES, FAULTY, LEAST, WRITES_A_GLOBAL
+
+
+DOCUMENT = {"uri": "file:///m"}
+LITERALS = {"textDocument": {"codeAction": {"codeActionLiteralSupport": {}}}}
+
+
+def asked(ident, method, line, character, **params):
+    return request(ident, f"textDocument/{method}", {"position": place(line, character), "textDocument": DOCUMENT, **params})
+
+
+def acted(ident, line, character):
+    where = {"end": place(line, character), "start": place(line, character)}
+    return request(ident, "textDocument/codeAction", {"context": {}, "range": where, "textDocument": DOCUMENT})
+
+
+def laid_out(ident):
+    return request(ident, "textDocument/formatting", {"options": {"insertSpaces": True, "tabSize": 2}, "textDocument": DOCUMENT})
+
+
+def talk(*contents, **capabilities):
+    """A conversation with these between its beginning and its end."""
+    return frames([initialize(**capabilities), *contents, {**SHUTDOWN, "id": 99}, EXIT])
+
+
+ON_ONE_LINE = "MODULE M;VAR x:INTEGER;BEGIN x:=-1;IF x<0 THEN Write(x)(* a (* b *) c *)END;WriteLn END M.(* end *)"
+LINE_ENDINGS = [
+    {"range": extent("1:0-1:0"), "text": "\n"},
+    {"range": extent("1:1-1:1"), "text": "\nc"},
+    {"range": extent("2:0-2:1"), "text": "d"},
+]
+MANY = "MODULE M; VAR v0" + "".join(f",v{at}" for at in range(1, 200)) + ": INTEGER; BEGIN" + "".join(
+    f" v{at} := v{at + 1};" for at in range(199)
+) + " WriteLn END M."
+
+BYTE_BY_BYTE = 1 << 40  # (the call that fails: there are never so many)
+
+# name: the words, standard input, the file m.mod; and for a reader of one byte a call, the call that fails
+SHORT = {
+    "the first conversation": (["serve"], INPUT, None),
+    "the first conversation, byte by byte": (["serve"], INPUT, None, BYTE_BY_BYTE),
+    "line endings that join": (["serve"], talk(did_open("a\rb"), did_change(LINE_ENDINGS)), None),
+    "check a module": (["check", "m.mod"], b"", COUNTS),
+    "check a text with two faults": (["check", "m.mod"], b"", "12ab $"),
+    "run a module": (["run", "m.mod"], b"2", COUNTS),
+    "run to a fault": (["run", "m.mod"], b"", DIVIDES),
+    "rename a variable": (["rename", "m.mod", "1", "4", "k"], b"", COUNTS),
+    "rename refused": (["rename", "m.mod", "1", "4", "P"], b"", COUNTS),
+}
+LONG = {
+    "faults of every kind, changed": (
+        ["serve"],
+        talk(
+            did_open(FAULTY),
+            did_change([{"range": extent("4:0-4:0"), "text": "$ "}]),
+            did_change([], version=3),
+            did_change([{"range": extent("1:0-4:0"), "text": ""}], version=4),
+            notice("textDocument/didChange", {"textDocument": {**DOCUMENT, "version": 5}}),
+            asked(3, "hover", 0, 0),
+            did_close(),
+            asked(4, "hover", 0, 0),
+            "[]",
+            "x",
+            request(5, "x"),
+            request(6, "textDocument/rename", {}),
+        ),
+        None,
+    ),
+    "questions about names": (
+        ["serve"],
+        talk(
+            did_open(WRITES_A_GLOBAL),
+            asked(3, "hover", 4, 10),
+            asked(4, "definition", 5, 9),
+            asked(5, "references", 4, 10, context={"includeDeclaration": True}),
+            asked(6, "prepareRename", 4, 10),
+            asked(7, "rename", 4, 10, newName="Q"),
+            asked(8, "rename", 4, 10, newName="P"),
+        ),
+        None,
+    ),
+    "a name edited, with the version": (
+        ["serve"],
+        talk(did_open(WRITES_A_GLOBAL, version=-7), asked(3, "rename", 4, 10, newName="B"), workspace={"workspaceEdit": {"documentChanges": True}}),
+        None,
+    ),
+    "positions in bytes": (
+        ["serve"],
+        talk(did_open("a\r\n(* 😀 *) $"), did_change([{"range": extent("1:11-1:12"), "text": "$$"}]), general={"positionEncodings": ["utf-8"]}),
+        None,
+    ),
+    "a constant inlined": (["serve"], talk(did_open(LEAST), acted(3, 3, 15), acted(4, 1, 6), **LITERALS), None),
+    "a layout": (["serve"], talk(did_open(ON_ONE_LINE), laid_out(3)), None),
+    "200 variables, renamed and laid out": (
+        ["serve"],
+        talk(did_open(MANY), asked(3, "rename", 0, 14, newName="w"), laid_out(4), **LITERALS),
+        None,
+    ),
+    "check a module of 5,000 bytes": (["check", "m.mod"], b"", corpus.module(5000)),
+    "check a text that is too long": (["check", "m.mod"], b"", "$" * 1048577),
+    "check an ill-typed module": (["check", "m.mod"], b"", FAULTY),
+    "check no file": (["check", "none.mod"], b"", COUNTS),
+    "check a text that isn't UTF-8": (["check", "m.mod"], b"", b"MODULE \xff"),
+    "run on bad input": (["run", "m.mod"], b"1 x", COUNTS),
+    "run out of input": (["run", "m.mod"], b"", COUNTS),
+    "run with many calls": (["run", "m.mod", "--calls", "3"], b"", WRITES_A_GLOBAL),
+    "rename in 200 variables": (["rename", "m.mod", "0", "14", "w"], b"", MANY),
+    "a refused command line": (["check", "m.mod", "x"], b"", COUNTS),
+    "help": (["--help"], b"", None),
+}

@@ -1,0 +1,121 @@
+"""The largest that is taken: texts of 1 MiB, long lists of faults, of changes and of messages, many documents. Each can be made in
+any size, so that bench/run.py can say how its cost grows."""
+import corpus
+from harness import EXIT, MESSAGES, SHUTDOWN, answer, capabilities, did_change, did_open, error, extent, frames, initialize
+from harness import place, published, request, told
+
+
+MIB = 1 << 20
+NO_MESSAGE = error(None, -32600, "not a message")
+FIRST, LAST = answer(1, {"capabilities": capabilities()}), answer(2, None)
+
+
+def filled(before, middle, after=""):
+    """A text of so many bytes: a middle as often as there is room for it, and blanks."""
+    return lambda size: (before + middle * ((size - len(before) - len(after)) // len(middle)) + after).ljust(size)
+
+
+def nested_comments(size):
+    depth = (size - len("MODULE M;  END M.")) // 4
+    return ("MODULE M; " + "(*" * depth + "*)" * depth + " END M.").ljust(size)
+
+
+def long_name(size):
+    name = "a" * ((size - len("MODULE ; END .")) // 2)
+    return f"MODULE {name}; END {name}.".ljust(size)
+
+
+def faults(code, first, apart, length=1):
+    """The first 100 faults of a list of them on one line."""
+    starts = range(first, first + 100 * apart, apart)
+    return lambda size: [told(code, MESSAGES[code], f"0:{at}-0:{at + length}") for at in starts]
+
+
+def one(code, where, message=None):
+    return lambda size: [told(code, message or MESSAGES[code], where.format(size=size))]
+
+
+def none(_size):
+    return []
+
+
+# name: its size, the text of a size, what is told of it
+TEXTS = {
+    "semicolons in a module": (MIB, filled("MODULE M; BEGIN", ";", " END M."), none),
+    "semicolons alone": (MIB, filled("", ";"), one("Syntax", "0:0-0:1", "expected MODULE")),
+    "opening parentheses": (MIB, filled("MODULE M; VAR x: INTEGER; BEGIN x := ", "("), one("TooDeep", "0:137-0:138")),
+    "nested comments": (MIB, nested_comments, none),
+    "comments that aren't closed": (MIB, filled("", "(*"), one("OpenComment", "0:0-0:2")),
+    "empty fields of a record": (MIB, filled("MODULE M; VAR r: RECORD ", ";", " END; END M."), none),
+    "a record's end that is missing": (MIB, filled("MODULE M; VAR r: RECORD ", ";"), one("Syntax", "0:{size}-0:{size}", "expected END")),
+    "one identifier": (MIB, long_name, none),
+    "leading zeros of a number": (MIB, filled("MODULE M; CONST c = ", "0", "1; END M."), none),
+    "digits of a number that is too large": (MIB, filled("", "7"), one("NumberTooLarge", "0:0-0:{size}")),
+    "declarations of one name": (170000, lambda size: "MODULE M; VAR x" + ",x" * (size - 1) + ": INTEGER; END M.", faults("Duplicate", 16, 2)),
+    "characters that are bad": (100000, lambda size: "$" * size, faults("BadChar", 0, 1)),
+    "bad characters behind 1 MiB of comment": (MIB, lambda size: ("(*" + " " * (size - 104) + "*)").ljust(size - 100) + "$" * 100, lambda size: faults("BadChar", size - 100, 1)(size)),
+    "names that aren't declared": (100000, lambda size: "MODULE M; BEGIN " + "a:=1;" * size + " END M.", faults("Undeclared", 16, 5)),
+    "wrong types": (60000, lambda size: "MODULE M; VAR b: BOOLEAN; BEGIN " + "b:=1;" * size + " END M.", faults("TypeMismatch", 35, 5)),
+}
+
+
+def opened(count):
+    text = corpus.module(10000)
+    return [did_open(text, uri=f"file:///{at}") for at in range(count)], [published([], uri=f"file:///{at}") for at in range(count)]
+
+
+def changed_in_one_note(count):
+    blank = {"range": extent("0:9-0:9"), "text": " "}
+    return [did_open("MODULE M; END M."), did_change([blank] * count)], [published([]), published([], version=2)]
+
+
+def whole_texts_in_one_note(count):
+    text = corpus.module(MIB // 2)
+    return [did_open("$"), did_change([{"text": text}] * count)], [published([told("BadChar", "bad character", "0:0-0:1")]), published([], version=2)]
+
+
+def asked_at_once(count):
+    hover = lambda at: request(at + 9, "textDocument/hover", {"position": place(0, 0), "textDocument": {"uri": "file:///m"}})
+    return [hover(at) for at in range(count)], [error(at + 9, -32803, "unopened") for at in range(count)]
+
+
+def blanks_in_a_message(size):
+    return [b"[" + b" " * (size - 2) + b"]"], [NO_MESSAGE]
+
+
+def objects_in_a_message(size):
+    return [b"[" + b"{}," * ((size - 4) // 3) + b"{}]"], [NO_MESSAGE]
+
+
+def text_in_a_message(size):
+    opening = did_open("")
+    opening["params"]["textDocument"]["text"] = "$" * (size - len(frames([opening])) + len(b"Content-Length: 000\r\n\r\n"))
+    return [opening], [published([told("TooLong", "text too long", "0:0-0:0")])]
+
+
+# name: its size, the messages of a size, what is sent for them
+TALKS = {
+    "documents of 10,000 bytes, all open": (1000, opened),
+    "changes in one note": (10000, changed_in_one_note),
+    "texts of 0.5 MiB in one note": (30, whole_texts_in_one_note),
+    "requests, all there from the start": (10000, asked_at_once),
+    "bytes of a message, blanks": (16777216, blanks_in_a_message),
+    "bytes of a message, empty objects": (16777216, objects_in_a_message),
+    "bytes of a message, a text": (16777216, text_in_a_message),
+}
+
+
+def of_text(make, wanted):
+    return lambda size: ([did_open(make(size))], [published(wanted(size))])
+
+
+CASES = {
+    **{f"a text of {name}": (size, of_text(make, wanted)) for name, (size, make, wanted) in TEXTS.items()},
+    **TALKS,
+}
+
+
+def conversation(make, size):
+    """The bytes of a conversation of a size, and all that is sent."""
+    messages, wanted = make(size)
+    return frames([initialize(), *messages, SHUTDOWN, EXIT]), [FIRST, *wanted, LAST]

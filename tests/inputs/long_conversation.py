@@ -1,0 +1,115 @@
+"""One long conversation: random changes, each valid, and questions. What is published of each text is held against what a new
+`check` prints of it, and the memory of the server is watched."""
+import concurrent.futures
+import random
+import re
+
+import corpus
+import failing
+import harness
+from harness import Server, did_change, did_close, did_open, holds, lines_of, place, request, same
+
+
+URI = "file:///m"
+PIECES = ["", " ", "\n", "\r\n", ";", "x", "1", "0", "END", "BEGIN x := 1", "(* é 😀 *)", "(*", "*)", "$", "é", "VAR y: INTEGER;", ":=", "2147483648"]
+QUESTIONS = ["hover", "definition", "references", "prepareRename", "rename", "codeAction", "formatting"]
+LITERALS = {"textDocument": {"codeAction": {"codeActionLiteralSupport": {}}}}
+
+
+def position_of(text, at):
+    """Line and UTF-16 unit of a place in a text, which is at no place between CR and LF."""
+    before = re.split("\r\n|\r|\n", text[:at])
+    return place(len(before) - 1, len(before[-1].encode("utf-16-le")) // 2)
+
+
+class Talk:
+    """The conversation, from the client's side."""
+
+    def __init__(self, server, chance):
+        self.server, self.chance, self.version, self.idents = server, chance, 0, 1000
+        self.text = self.good = None
+
+    def begin(self):
+        """A module without a fault is opened, after a close or in the place of what is open."""
+        if self.text is not None and self.chance.random() < 0.3:
+            self.server.tell(did_close(URI))
+        self.text = self.good = corpus.module(self.chance.choice([300, 900, 2000]), self.chance.randrange(1000))
+        self.version += 1
+        return self.text, self.server.tell(did_open(self.text, URI, self.version))
+
+    def change(self):
+        """One to three changes in one note: other words at a place, or what was there before."""
+        changes = []
+        for _ in range(self.chance.choice([1, 1, 2, 3])):
+            if self.text != self.good and self.chance.random() < 0.4:
+                self.text = self.good
+                changes.append({"text": self.text})
+                continue
+            start = self.chance.randrange(len(self.text) + 1)
+            end = min(len(self.text), start + self.chance.choice([0, 0, 1, 1, 5, 20]))
+            # (between CR and LF there is no position)
+            start, end = (it - 1 if self.text[it - 1 : it + 1] == "\r\n" else it for it in (start, end))
+            new = self.chance.choice(PIECES)
+            changes.append({"range": {"start": position_of(self.text, start), "end": position_of(self.text, end)}, "text": new})
+            self.text = self.text[:start] + new + self.text[end:]
+        if len(self.text) > 4000:
+            self.text = self.good
+            changes.append({"text": self.text})
+        self.version += 1
+        return self.text, self.server.tell(did_change(changes, URI, self.version))
+
+    def ask(self):
+        """Some question at some place, which is answered under its own number."""
+        method = self.chance.choice(QUESTIONS)
+        where = position_of(self.text, self.chance.randrange(len(self.text) + 1))
+        params = {"position": where, "textDocument": {"uri": URI}, "context": {"includeDeclaration": True}, "newName": "k"}
+        if method == "codeAction":
+            params = {"context": {}, "range": {"end": where, "start": where}, "textDocument": {"uri": URI}}
+        if method == "formatting":
+            params = {"options": {"insertSpaces": True, "tabSize": 2}, "textDocument": {"uri": URI}}
+        self.idents += 1
+        self.server.send(request(self.idents, f"textDocument/{method}", params))
+        found = self.server.take()
+        same(found.get("id"), self.idents, f"the id of the answer to {method}")
+        holds("result" in found or found["error"]["code"] == -32803, f"{method} of\n{self.text}\n    gave {found}")
+
+
+def checked(pair):
+    text, diagnostics = pair
+    found = harness.run(["check", "/dev/stdin"], text.encode())
+    wanted = lines_of(diagnostics)
+    same((found.out, found.err, found.status), (wanted, b"", 1 if wanted else 0), f"`check` after it was published so, of\n{text}\n")
+    return not diagnostics
+
+
+def resident(server):
+    """The memory of the server that is in use, in KiB."""
+    with open(f"/proc/{server.process.pid}/status", encoding="ascii", errors="replace") as file:
+        return int(re.search(r"VmRSS:\s+(\d+)", file.read())[1])
+
+
+def converse(count, seed=0):
+    """A conversation of so many changes and questions. Returns a line with figures."""
+    chance = random.Random(seed)
+    published, empty, early = 0, 0, None
+    with Server(capabilities=LITERALS) as server, concurrent.futures.ThreadPoolExecutor(failing.PROCESSORS) as pool:
+        talk, pairs = Talk(server, chance), []
+        for number in range(count):
+            way = chance.random()
+            if number == 0 or way < 0.02:
+                pairs.append(talk.begin())
+            elif way < 0.7:
+                pairs.append(talk.change())
+            else:
+                talk.ask()
+            if len(pairs) == 500 or number == count - 1:
+                published, empty = published + len(pairs), empty + sum(pool.map(checked, pairs))
+                pairs = []
+            if number == count // 4:
+                early = resident(server)
+        late = resident(server)
+        # (a quarter of the messages has shown what they need)
+        holds(late <= early * 1.1 + 256, f"{early} KiB after a quarter of the messages, {late} KiB at the end")
+        same(server.end(), 0, "the status")
+    holds(published and empty and empty < published, f"{published} publications, {empty} of them empty")
+    return f"{published:,} publications, {empty:,} of them empty, each as `check` has it; {early:,} KiB after a quarter, {late:,} KiB at the end"

@@ -1,0 +1,96 @@
+"""The program held to the reference (tests/reference): its diagnostics of a text, and its runs."""
+import collections
+import concurrent.futures
+
+import faulty_modules
+import random_texts
+from harness import MESSAGES, Server, did_open, on_file, same, told
+from reference.runs import Run
+from reference.text import Text
+from reference.values import Ends
+
+LONG = "ended here, since it takes long"
+
+
+def diagnostics_of(text):
+    """The diagnostics of a text by the reference."""
+    found = Text(text)
+    return [
+        told(code, message or MESSAGES[code], "{}:{}-{}:{}".format(*found.position(start), *found.position(end)))
+        for code, start, end, message in found.faults
+    ]
+
+
+def same_diagnostics(server, text, seed):
+    """Holds what the server publishes of a text to the reference."""
+    same(server.tell(did_open(text)), diagnostics_of(text), f"seed {seed}, of the text\n{text}\n")
+
+
+MAKERS = {
+    "lexemes changed": lambda seed: random_texts.changed_module(seed, False),
+    "names and operators changed": lambda seed: random_texts.changed_module(seed, True),
+    "few names": faulty_modules.module,
+    "few characters": random_texts.characters,
+}
+
+
+def compare(seeds):
+    """Holds texts to the reference: of each seed one, the kinds in turn. Returns how many had a fault."""
+    makers, faulty = list(MAKERS.values()), 0
+    with Server() as server:
+        for seed in seeds:
+            text = makers[seed % len(makers)](seed)
+            same_diagnostics(server, text, seed)
+            faulty += bool(Text(text).faults)
+    return faulty
+
+
+def many_texts(count, first, processes):
+    """So many texts, by some processes. Returns a line with figures."""
+    size = 200
+    parts = [range(at, min(at + size, first + count)) for at in range(first, first + count, size)]
+    with concurrent.futures.ProcessPoolExecutor(processes) as pool:
+        faulty = sum(pool.map(compare, parts))
+    return f"{count:,} texts, {faulty:,} of them with faults, each with the diagnostics of the reference"
+
+
+class Short(Run):
+    """A run that ends where it takes long."""
+
+    steps = 0
+
+    def statement(self, node, frame):
+        self.steps += 1
+        if self.steps > 20000:
+            raise Ends(LONG)
+        return super().statement(node, frame)
+
+
+def run_of(make, seed):
+    """Holds a run to that by the reference, and gives how it ends."""
+    text, given, calls, turns = make(seed)
+    found = Short(text, given, calls, turns)
+    if found.end == LONG:
+        return LONG
+    got = on_file("run", text, "--calls", str(calls), "--turns", str(turns), given=" ".join(map(str, given)).encode())
+    err = "" if found.end == "Done" else f"fault: {found.end}\n"
+    result = (found.output(), err, 1 if err else 0)
+    same((got.out.decode(), got.err.decode(), got.status), result, f"seed {seed}, input {given}, {calls} calls, {turns} turns, of\n{text}\n")
+    return found.end
+
+
+def counted(found):
+    """How often each end came, as a line."""
+    counts = collections.Counter(found)
+    return ", ".join(f"{name} {counts[name]:,}" for name in sorted(counts))
+
+
+def of_either(seed):
+    return run_of(random_texts.aliased if seed % 2 else random_texts.program, seed)
+
+
+def many_runs(count, first, processes):
+    """So many runs, half of them with arrays and records that are passed and copied, by some processes. Returns a line with figures."""
+    with concurrent.futures.ProcessPoolExecutor(processes) as pool:
+        ends = list(pool.map(of_either, range(first, first + count), chunksize=50))
+    return f"{len(ends) - ends.count(LONG):,} runs, each as by the reference: {counted(ends)}"

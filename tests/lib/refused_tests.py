@@ -1,0 +1,82 @@
+"""Tests of the crates whose names begin with `a_refused_`: each is run with each of its allocations refused in turn. Their
+programs are those that `rt ci` and `rt test` leave in crates/NAME/out."""
+import itertools
+import os
+import subprocess
+
+import failing
+from harness import TOP, holds, leave_out, same
+
+CRATES = ("ob0_tests_low", "ob0_tests_language", "ob0_tests_session", "ob0_tests_top")
+
+
+def program_of(crate):
+    """The program of a crate's tests; without it the test is left out."""
+    program = os.path.join(TOP, "crates", crate, "out", f"{crate}_tests")
+    if not os.access(program, os.X_OK):
+        leave_out(f"the program of the tests of {crate} isn't here (`make test`, or `rt test` in its folder, makes it)", is_required=True)
+    return program
+
+
+def tests_of(crate):
+    """The tests of a crate that are to be run so."""
+    ran = subprocess.run([program_of(crate), "--list"], stdout=subprocess.PIPE, check=True)
+    names = [line.partition(": test")[0] for line in ran.stdout.decode().splitlines()]
+    return [it for it in names if it.rpartition("::")[2].startswith("a_refused_")]
+
+
+def played(out):
+    """The numbers that a test prints after `played`, a line each time: the events that were made, and what came of them."""
+    lines = [it for it in out.decode().splitlines() if it.startswith("played ")]
+    return [tuple(map(int, it.split()[1:])) for it in lines]
+
+
+# the events that `play` has played, and those that were made one by one, up to the one whose allocation fails
+PLAYED, STEPPED = "world::a_refused_event_leaves_what_was_played_before", "world::a_refused_step_ends_what_was_played"
+
+
+def refusals(crate, test):
+    """What a test prints of what was played, with each of its allocations refused in turn, and at last with none."""
+    words = [program_of(crate), test]
+    plain = failing.undisturbed(words)
+    numbers = range(1, plain.calls["memory"] + 1)
+    found = [played(it.out) for it in failing.walk(words, b"", None, "memory", numbers) for _ in it.numbers]
+    holds(all(found), f"{test} doesn't print what was played")
+    return [*found, played(plain.out)]
+
+
+def plays_exactly(crate):
+    """Compares what was played to what was made one by one, with the same allocation refused: it is the same, by the number
+    of events and what came of them. Returns a line with figures."""
+    ones, others = refusals(crate, PLAYED), refusals(crate, STEPPED)
+    whole = others[-1]
+    same(ones[-1], whole, "what is played where nothing is refused")
+    # (the first test plays what it has played once more)
+    for number, (one, other) in enumerate(itertools.zip_longest(ones, others, fillvalue=whole), 1):
+        same(one, other, f"what was played with allocation {number} refused")
+    holds(len({it[0][0] for it in others}) > whole[0][0] // 2, "hardly any event was refused")
+    return f"{len(others):,} allocations refused"
+
+
+def walk(crate, test, most):
+    """Runs a test with its allocations refused in turn: all of them, or of more than so many each second, third and so on.
+    Returns a line with figures."""
+    words = [program_of(crate), test]
+    plain = failing.undisturbed(words)
+    calls = plain.calls["memory"]
+    holds(plain.status == 0 and calls, f"{test} fails where nothing is refused, or takes no memory")
+    numbers = range(1, calls + 1, max(1, calls // most))
+    for it in failing.walk(words, b"", None, "memory", numbers):
+        where = f"{test}, allocation {it.numbers[0]} of {calls}"
+        holds(it.is_touched, f"{where} wasn't refused")
+        same((it.status, it.out.endswith(b"test result: ok\n")), (0, True), f"{where}: {it.err.decode(errors='replace')}")
+    return f"{len(numbers):,} of {calls:,} allocations refused"
+
+
+def checks(crate, most):
+    """What is done with a crate's tests: names, each with what does it."""
+    found = tests_of(crate)
+    for test in found:
+        yield test, lambda test=test: walk(crate, test, most)
+    if STEPPED in found:
+        yield "what was played, exactly", lambda: plays_exactly(crate)

@@ -1,0 +1,253 @@
+"""The grammar, by docs/LANGUAGE.md: the tree of a text, or the first fault of its syntax."""
+from reference.scanner import Token
+
+
+class Refused(Exception):
+    """The parser's fault: a code, a token and a message."""
+
+
+class Node:
+    """A part of the tree, from one token to another."""
+
+    def __init__(self, kind, first, **parts):
+        self.kind, self.first, self.last = kind, first, first
+        self.__dict__.update(parts)
+
+
+RELATIONS = ("=", "#", "<", "<=", ">", ">=")
+
+
+class Parser:
+    """By descent, one function for each production."""
+
+    def __init__(self, text, tokens):
+        end = Token("end", "", len(text))
+        self.tokens, self.at = [*(it for it in tokens if it.kind != "comment"), end], 0
+        # what the layout asks for: signs, and parentheses that open parameters or arguments
+        self.signs, self.opening = set(), set()
+
+    @property
+    def kind(self):
+        return self.tokens[self.at].kind
+
+    def refuse(self, expected):
+        raise Refused("Syntax", self.tokens[self.at], f"expected {expected}")
+
+    def need(self, kind):
+        """Takes a token of this kind and gives it."""
+        if self.kind != kind:
+            self.refuse({"ident": "identifier", "end": "end of text"}.get(kind, kind))
+        self.at += 1
+        return self.tokens[self.at - 1]
+
+    def has(self, *kinds):
+        """Takes a token of one of these kinds, if it is there."""
+        if self.kind not in kinds:
+            return None
+        self.at += 1
+        return self.tokens[self.at - 1]
+
+    def deeper(self, depth):
+        """The nesting of what the next token opens."""
+        if depth == 100:
+            raise Refused("TooDeep", self.tokens[self.at], "nested too deep")
+        return depth + 1
+
+    def close(self, node):
+        node.last = self.tokens[self.at - 1]
+        return node
+
+    def module(self):
+        node = Node("module", self.need("MODULE"), name=self.need("ident"))
+        self.need(";")
+        self.block(node, 0)
+        self.need(".")
+        self.need("end")
+        return self.close(node)
+
+    def block(self, node, depth):
+        """Declarations, a body, END and the closing name."""
+        node.constants, node.types, node.variables, node.procedures, node.body = [], [], [], [], []
+        first = self.at
+        if self.has("CONST"):
+            while self.kind == "ident":
+                name = self.need("ident")
+                self.need("=")
+                node.constants.append((name, self.expression(depth)))
+                self.need(";")
+        if self.has("TYPE"):
+            while self.kind == "ident":
+                name = self.need("ident")
+                self.need("=")
+                node.types.append((name, self.type(depth)))
+                self.need(";")
+        if self.has("VAR"):
+            while self.kind == "ident":
+                names = self.names()
+                self.need(":")
+                node.variables.append((names, self.type(depth)))
+                self.need(";")
+        while self.kind == "PROCEDURE":
+            node.procedures.append(self.procedure(depth))
+            self.need(";")
+        start = self.at
+        if self.has("BEGIN"):
+            node.body = self.sequence(depth)
+        own = [it for it in self.tokens[first:start] if it.kind in ("CONST", "TYPE", "VAR")] if not node.procedures else [
+            it for it in self.tokens[first:start] if it.kind in ("CONST", "TYPE", "VAR") and it.start < node.procedures[0].first.start
+        ]
+        node.words = [*own, *([self.tokens[start]] if self.tokens[start].kind == "BEGIN" else []), self.need("END")]
+        node.closing = self.need("ident")
+
+    def names(self):
+        found = [self.need("ident")]
+        while self.has(","):
+            found.append(self.need("ident"))
+        return found
+
+    def procedure(self, depth):
+        depth = self.deeper(depth)
+        node = Node("procedure", self.need("PROCEDURE"), name=self.need("ident"), formals=[])
+        if self.kind == "(":
+            self.opening.add(self.need("("))
+            if self.kind in ("VAR", "ident"):
+                node.formals.append(self.section(depth))
+                while self.has(";"):
+                    node.formals.append(self.section(depth))
+            self.need(")")
+        self.need(";")
+        self.block(node, depth)
+        return self.close(node)
+
+    def section(self, depth):
+        by_place = bool(self.has("VAR"))
+        names = self.names()
+        self.need(":")
+        return by_place, names, self.type(depth)
+
+    def type(self, depth):
+        if self.kind == "ident":
+            return self.close(Node("named", self.need("ident")))
+        if self.kind == "ARRAY":
+            depth = self.deeper(depth)
+            node = Node("array", self.need("ARRAY"), length=self.expression(depth))
+            self.need("OF")
+            node.element = self.type(depth)
+            return self.close(node)
+        if self.kind == "RECORD":
+            depth = self.deeper(depth)
+            node = Node("record", self.need("RECORD"), fields=[])
+            while True:
+                if self.kind == "ident":
+                    names = self.names()
+                    self.need(":")
+                    node.fields.append((names, self.type(depth)))
+                if not self.has(";"):
+                    break
+            self.need("END")
+            return self.close(node)
+        return self.refuse("type")
+
+    def sequence(self, depth):
+        found = [self.statement(depth)]
+        while self.has(";"):
+            found.append(self.statement(depth))
+        return [it for it in found if it]
+
+    def statement(self, depth):
+        if self.kind == "ident":
+            return self.assignment_or_call(depth)
+        if self.kind not in ("IF", "WHILE", "REPEAT"):
+            return None
+        depth = self.deeper(depth)
+        node = Node(self.kind, self.need(self.kind), words=[])
+        if node.kind == "REPEAT":
+            node.body = self.sequence(depth)
+            node.words.append(self.need("UNTIL"))
+            node.condition = self.expression(depth)
+            return self.close(node)
+        if node.kind == "WHILE":
+            node.condition = self.expression(depth)
+            self.need("DO")
+            node.body = self.sequence(depth)
+        else:
+            node.parts, node.other = [self.guarded(depth)], []
+            while self.kind == "ELSIF":
+                node.words.append(self.need("ELSIF"))
+                node.parts.append(self.guarded(depth))
+            if self.kind == "ELSE":
+                node.words.append(self.need("ELSE"))
+                node.other = self.sequence(depth)
+        node.words.append(self.need("END"))
+        return self.close(node)
+
+    def guarded(self, depth):
+        condition = self.expression(depth)
+        self.need("THEN")
+        return condition, self.sequence(depth)
+
+    def assignment_or_call(self, depth):
+        target = self.designator(depth)
+        if target.selectors or self.kind == ":=":
+            self.need(":=")
+            return self.close(Node("assign", target.first, target=target, right=self.expression(depth)))
+        node = Node("call", target.first, name=target.first, arguments=[])
+        if self.kind == "(":
+            self.opening.add(self.need("("))
+            if self.kind in ("ident", "integer", "(", "~", "+", "-"):
+                node.arguments.append(self.expression(depth))
+                while self.has(","):
+                    node.arguments.append(self.expression(depth))
+            self.need(")")
+        return self.close(node)
+
+    def designator(self, depth):
+        node = Node("designator", self.need("ident"), selectors=[])
+        while self.kind in (".", "["):
+            if self.kind == ".":
+                node.selectors.append((self.need("."), self.need("ident")))
+            else:
+                inner = self.deeper(depth)
+                node.selectors.append((self.need("["), self.expression(inner)))
+                self.need("]")
+        return self.close(node)
+
+    def expression(self, depth):
+        left = self.simple(depth)
+        operator = self.has(*RELATIONS)
+        if not operator:
+            return left
+        return self.close(Node("binary", left.first, operator=operator.kind, left=left, right=self.simple(depth)))
+
+    def simple(self, depth):
+        sign = self.has("+", "-")
+        left = self.term(depth)
+        if sign:
+            self.signs.add(sign)
+            left = self.close(Node("sign", sign, operator=sign.kind, operand=left))
+        while self.kind in ("+", "-", "OR"):
+            operator = self.has(self.kind).kind
+            left = self.close(Node("binary", left.first, operator=operator, left=left, right=self.term(depth)))
+        return left
+
+    def term(self, depth):
+        left = self.factor(depth)
+        while self.kind in ("*", "DIV", "MOD", "&"):
+            operator = self.has(self.kind).kind
+            left = self.close(Node("binary", left.first, operator=operator, left=left, right=self.factor(depth)))
+        return left
+
+    def factor(self, depth):
+        if self.kind == "ident":
+            return self.designator(depth)
+        if self.kind == "integer":
+            return Node("integer", self.need("integer"))
+        if self.kind == "(":
+            depth = self.deeper(depth)
+            node = Node("parens", self.need("("), inside=self.expression(depth))
+            self.need(")")
+            return self.close(node)
+        if self.kind == "~":
+            depth = self.deeper(depth)
+            return self.close(Node("not", self.need("~"), operand=self.factor(depth)))
+        return self.refuse("expression")

@@ -1,0 +1,44 @@
+"""What is at a place, by docs/PROTOCOL.md and docs/LANGUAGE.md: the hover text, the declaration, and every use."""
+from reference.types import BOOLEAN, INTEGER
+
+
+def type_text(type_):
+    if type_ in (INTEGER, BOOLEAN):
+        return "INTEGER" if type_ is INTEGER else "BOOLEAN"
+    if type_.form == "array":
+        return f"ARRAY {type_.length} OF {type_text(type_.element)}"
+    return f"RECORD with {len(type_.fields)} fields"
+
+
+def name_text(name, declared):
+    if declared.is_predeclared:
+        return f"predeclared {name}"
+    if declared.kind == "const":
+        return f"CONST {name} = {str(declared.value).upper()}"
+    if declared.kind == "type":
+        return f"TYPE {name} = {type_text(declared.type)}"
+    if declared.kind == "var":
+        return f"VAR {name}: {type_text(declared.type)}"
+    names = [it for _, names, _ in declared.node.formals for it in names]
+    listed = [f"{'VAR ' if by_place else ''}{it.text}: {type_text(type_)}" for (by_place, type_), it in zip(declared.formals, names)]
+    return f"PROCEDURE {name}({'; '.join(listed)})"
+
+
+def on(token, at):
+    return token.start <= at <= token.end
+
+
+def at_place(found, at):
+    """At a place of a well-typed text: the span of the name or field there, what is shown of it, the span of what
+    declares it, and all its places, that one too. None where there is none."""
+    span = lambda it: (it.start, it.end)
+    for token, declared in found.bound.items():
+        if on(token, at):
+            declaring = None if declared.is_predeclared else span(declared.token)
+            return span(token), name_text(token.text, declared), declaring, found.places(declared)
+    for token, declaring, record in found.fields:
+        if on(token, at):
+            type_ = next(it for _, it, name in record.fields if name is declaring)
+            places = sorted(span(it) for it, other, _ in found.fields if other is declaring)
+            return span(token), f"FIELD {token.text}: {type_text(type_)}", span(declaring), places
+    return None

@@ -1,0 +1,161 @@
+"""Runs of a well-typed module, by docs/LANGUAGE.md: what is written, and how the run ends."""
+import copy
+
+from reference.text import Text
+from reference.types import INTEGER
+from reference.values import Ends, apply, whole
+
+
+class Run:
+    """A run of a well-typed module."""
+
+    def __init__(self, text, given=(), calls=64, turns=100000):
+        self.given, self.calls, self.turns, self.open, self.out = list(given), calls, turns, 0, []
+        found = Text(text)
+        self.bound = found.bound
+        frame = {}
+        try:
+            self.enter(found.module, frame)
+            self.end = "Done"
+        except Ends as why:
+            self.end = why.args[0]
+
+    def output(self):
+        return "".join(it if it == "\n" else f" {it}" for it in self.out)
+
+    def enter(self, node, frame):
+        """Runs a body with new variables in an activation. An activation maps each variable to a cell, and each
+        procedure to the activation in which it was declared."""
+        for names, _ in node.variables:
+            for it in names:
+                declared = self.bound[it]
+                frame[declared] = [zero(declared.type)]
+        for it in node.procedures:
+            frame[it.declared] = frame
+        self.sequence(node.body, frame)
+
+    def sequence(self, body, frame):
+        for it in body:
+            self.statement(it, frame)
+
+    def statement(self, node, frame):
+        if node.kind == "assign":
+            put(*self.place(node.target, frame), copy.deepcopy(self.value(node.right, frame)))
+        elif node.kind == "call":
+            self.call(node, frame)
+        elif node.kind == "IF":
+            for condition, body in node.parts:
+                if self.value(condition, frame):
+                    return self.sequence(body, frame)
+            self.sequence(node.other, frame)
+        elif node.kind == "WHILE":
+            turns = 0
+            while self.value(node.condition, frame):
+                if turns >= self.turns:
+                    raise Ends("TurnBound")
+                turns += 1
+                self.sequence(node.body, frame)
+        else:
+            turns = 0
+            while True:
+                self.sequence(node.body, frame)
+                turns += 1
+                if self.value(node.condition, frame):
+                    return None
+                if turns >= self.turns:
+                    raise Ends("TurnBound")
+        return None
+
+    def call(self, node, frame):
+        found = self.bound[node.name]
+        cells = []
+        for (by_place, _), it in zip(found.formals, node.arguments):
+            cells.append(self.place(it, frame) if by_place else ([copy.deepcopy(self.value(it, frame))], 0))
+        if found.is_predeclared:
+            return self.predeclared(found.name, cells)
+        if self.open >= self.calls:
+            raise Ends("CallBound")
+        inner = Frame(frame[found])
+        names = [it for _, names, _ in found.node.formals for it in names]
+        for token, cell in zip(names, cells):
+            inner[self.bound[token]] = cell
+        self.open += 1
+        self.enter(found.node, inner)
+        self.open -= 1
+        return None
+
+    def predeclared(self, name, cells):
+        if name == "Read":
+            if not self.given:
+                raise Ends("InputEnd")
+            holder, key = cells[0]
+            holder[key] = self.given.pop(0)
+        elif name == "Write":
+            self.out.append(cells[0][0][0])
+        else:
+            self.out.append("\n")
+
+    def place(self, node, frame):
+        """A place: a holder and a key in it."""
+        cell = frame[self.bound[node.first]]
+        holder, key = cell if isinstance(cell, tuple) else (cell, 0)
+        for token, part in node.selectors:
+            holder = holder[key]
+            if token.kind == "[":
+                key = self.value(part, frame)
+                if not 0 <= key < len(holder):
+                    raise Ends("Index")
+            else:
+                key = part.text
+        return holder, key
+
+    def value(self, node, frame):
+        if node.kind == "integer":
+            return int(node.first.text)
+        if node.kind == "parens":
+            return self.value(node.inside, frame)
+        if node.kind == "not":
+            return not self.value(node.operand, frame)
+        if node.kind == "sign":
+            value = self.value(node.operand, frame)
+            return whole(-value if node.operator == "-" else value)
+        if node.kind == "designator":
+            found = self.bound[node.first]
+            if found.kind == "const":
+                return found.value
+            holder, key = self.place(node, frame)
+            return holder[key]
+        left = self.value(node.left, frame)
+        if node.operator == "&" and not left or node.operator == "OR" and left:
+            return left
+        right = self.value(node.right, frame)
+        return right if node.operator in ("&", "OR") else apply(node.operator, left, right)
+
+
+def put(holder, key, value):
+    """Gives a place another value. Of an array or a record each part stays where it is, as other places lead to it."""
+    if isinstance(value, (list, dict)):
+        for it in value if isinstance(value, dict) else range(len(value)):
+            put(holder[key], it, value[it])
+    else:
+        holder[key] = value
+
+
+class Frame(dict):
+    """An activation: what isn't found here is found in the one round it."""
+
+    def __init__(self, outer):
+        super().__init__()
+        self.outer = outer
+
+    def __missing__(self, declared):
+        return self.outer[declared]
+
+
+def zero(type_):
+    """The first value of a variable."""
+    if type_.form == "array":
+        return [zero(type_.element) for _ in range(type_.length)]
+    if type_.form == "record":
+        return {name: zero(it) for name, it, _ in type_.fields}
+    return 0 if type_ is INTEGER else False

@@ -1,0 +1,57 @@
+"""A text with everything that the rules say of it, layer by layer: a layer is asked only where those before it found no fault."""
+import re
+import sys
+
+from reference import types
+from reference.names import Scopes
+from reference.parser import Parser, Refused
+from reference.scanner import scan
+
+CODES = (
+    "TooLong BadChar OpenComment NumberTooLarge NumberJoinsLetter Syntax TooDeep Duplicate Undeclared EndName WrongKind "
+    "TypeMismatch NotConstant ConstFault ArrayLength TypeTooLarge ArgumentCount NotVariable NoField NotArray NotRecord"
+).split()
+MOST_FAULTS = 100
+
+sys.setrecursionlimit(20000)
+
+
+class Text:
+    """`faults` has a code, a start, an end and, of the parser's, a message for each. `bound` and `fields` are those of Scopes
+    and Types; without a tree both are empty."""
+
+    def __init__(self, text):
+        self.text, self.module, self.bound, self.fields = text, None, {}, []
+        self.lexemes, scanning = scan(text)
+        self.faults = [(*it, None) for it in scanning[:MOST_FAULTS]]
+        if self.faults:
+            return
+        self.parser = Parser(text, self.lexemes)
+        try:
+            self.module = self.parser.module()
+        except Refused as why:
+            code, token, message = why.args
+            self.faults = [(code, token.start, token.end, message)]
+            return
+        scopes = Scopes(self.module, types.PREDECLARED)
+        checked = types.Types(self.module, scopes.bound)
+        self.bound, self.fields = scopes.bound, checked.fields
+        found = sorted(scopes.faults | checked.faults, key=lambda it: (it[0], it[1], CODES.index(it[2])))
+        self.faults = [(code, start, end, None) for start, end, code in found[:MOST_FAULTS]]
+
+    @property
+    def is_well_typed(self):
+        return not self.faults
+
+    def position(self, at, utf8=False):
+        """Line and character of an offset."""
+        before = re.split(r"\r\n|\r|\n", self.text[:at])
+        # (between CR and LF is the end of the line)
+        if self.text[at - 1 : at + 1] == "\r\n":
+            before = re.split(r"\r\n|\r|\n", self.text[: at - 1])
+        line = before[-1]
+        return len(before) - 1, len(line.encode()) if utf8 else len(line.encode("utf-16-le")) // 2
+
+    def places(self, declared):
+        """Where a declaration is declared, used and closed, in order."""
+        return sorted((token.start, token.end) for token, it in self.bound.items() if it is declared)

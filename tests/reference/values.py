@@ -1,0 +1,43 @@
+"""Values: what an operator gives, and what a constant expression is, by docs/LANGUAGE.md."""
+LEAST, MOST = -2147483648, 2147483647
+
+
+class Ends(Exception):
+    """The end of a run, or of an evaluation."""
+
+
+def whole(number):
+    if not LEAST <= number <= MOST:
+        raise Ends("Overflow")
+    return number
+
+
+def apply(operator, left, right):
+    """The value of an operation on two values, & and OR aside."""
+    if operator in ("DIV", "MOD"):
+        if right < 1:
+            raise Ends("Divisor")
+        return whole(left // right if operator == "DIV" else left % right)
+    if operator in "+-*":
+        return whole({"+": left + right, "-": left - right, "*": left * right}[operator])
+    return {"=": left == right, "#": left != right, "<": left < right, "<=": left <= right, ">": left > right, ">=": left >= right}[operator]
+
+
+def value_of(node, constant_of):
+    """The value of a constant expression."""
+    if node.kind == "integer":
+        return int(node.first.text)
+    if node.kind == "parens":
+        return value_of(node.inside, constant_of)
+    if node.kind == "not":
+        return not value_of(node.operand, constant_of)
+    if node.kind == "sign":
+        value = value_of(node.operand, constant_of)
+        return whole(-value if node.operator == "-" else value)
+    if node.kind == "designator":
+        return constant_of(node)
+    left = value_of(node.left, constant_of)
+    if node.operator == "&" and not left or node.operator == "OR" and left:
+        return left
+    right = value_of(node.right, constant_of)
+    return right if node.operator in ("&", "OR") else apply(node.operator, left, right)
