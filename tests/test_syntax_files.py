@@ -137,6 +137,26 @@ COLOURS = [
 ]
 
 
+RECORD = """MODULE R;
+TYPE
+  T = RECORD
+    a: INTEGER;
+    b: RECORD
+      c: INTEGER
+    END
+  END;
+VAR
+  t: T;
+  PROCEDURE P;
+  BEGIN
+    t.a := 1
+  END P;
+BEGIN
+  t.b.c := 2
+END R.
+"""
+
+
 def by_vim(editor, words, name):
     """Vim's files, in Vim or Neovim: file types, colours, :make, indentation."""
     with tempfile.TemporaryDirectory() as room:
@@ -148,6 +168,7 @@ def by_vim(editor, words, name):
             write(os.path.join(work, file), text)
         write(os.path.join(work, "sample.mod"), SAMPLE)
         write(os.path.join(work, "faulty.ob0"), "MODULE M;\nBEGIN x := 1 END M.\n")
+        write(os.path.join(work, "record.mod"), RECORD)
         for it in examples():
             write(os.path.join(work, os.path.basename(it)), text_of(it))
         report = os.path.join(room, "report")
@@ -162,6 +183,12 @@ def by_vim(editor, words, name):
     same(found["faults"], [[2, 7, "Undeclared: not declared"]], "what :make finds")
     same(found["indented"], [], "examples that are indented in another way than the server lays them out")
     same(found["commented"], "(* x := 1 *)", "a comment by 'commentstring'")
+    same(found["new"], [False, True], "whether a new file is Oberon-0, before and after it is saved")
+    same(found["ran"], "42", "what :Ob0Run shows of a text that isn't saved yet")
+    same(found["lacking"], "There is no program no-such-program; g:ob0_program names another", "what :Ob0Run says without it")
+    same(found["terminal"], [1, 1], "whether :Ob0Run says how input ends, and runs in a terminal")
+    same(found["record"], [], "a record over several lines")
+    same(found["matched"], 1, "the line that % on the module's END leads to")
 
 
 @test("syntax files: Vim's file types, colours, :make and indentation, in Vim")
@@ -187,6 +214,7 @@ def in_emacs():
         own = at_home(room, "emacs")
         own.update(OB0_TOP=TOP, OB0_EXAMPLES=json.dumps([os.path.join(TOP, it) for it in examples()]))
         own["OB0_FILES"] = json.dumps([[it[0], it[1], it[2]] for it in FILES])
+        own["OB0_RECORD"] = json.dumps(RECORD)
         words = ["emacs", "--batch", "-L", os.path.join(room, ".emacs.d", "lisp"), "-l", "ob0-mode"]
         status, said = run_plainly([*words, "-l", os.path.join(TOP, "tests", "editors", "mode.el"), "-f", "ert-run-tests-batch-and-exit"], own, room)
         same(status, 0, said[-3000:])
@@ -215,6 +243,9 @@ def in_kakoune():
         same(types, [it[2] for it in FILES], f"what Kakoune takes as Oberon-0: {said}")
         holds("2|error: Undeclared: not declared(col 7)" in text_of(report, "faulty"), "lint: " + text_of(report, "faulty"))
         holds("Undeclared" not in text_of(report, "mended"), "lint: " + text_of(report, "mended"))
+        same(text_of(report, "unsaved"), "", "the type of a new file")
+        same(text_of(report, "saved"), "ob0", "the type of a new file once it is saved")
+        same(text_of(report, "commented"), "MODULE N; END N.\n", "the text after :comment-line")
 
 
 @test("syntax files: settings of Kate, Helix, kak-lsp and VS Code name the server and what is there")

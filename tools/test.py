@@ -57,7 +57,7 @@ def gate(timer):
             os.remove(old)
     counts = stream(["rt", "ci"], timer, RT_JOBS=os.environ.get("RT_JOBS") or str(at_once()))
     if os.path.isfile(linked):
-        common.keep(linked)
+        common.keep(linked, f"{counts[0]} passed, {counts[1]} failed")
     return counts
 
 
