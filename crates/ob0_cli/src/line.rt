@@ -40,9 +40,9 @@ Exit status:
   5  out of memory";
 
 const CHECK_NOTES: &str = "\
-A line `LINE:COLUMN: CODE: MESSAGE` is printed for each of at most 100 faults, and
-nothing for a correct module. Lines and columns count from 0, columns in UTF-16
-units; the lines and columns that an editor shows count from 1.
+A line `LINE:COLUMN: CODE: MESSAGE` is printed for each of at most 100 faults,
+and nothing for a correct module. Lines and columns count from 0, columns in
+UTF-16 units; the lines and columns that an editor shows count from 1.
 
 Exit status:
   0  the module is correct
@@ -77,11 +77,11 @@ Exit status:
 
 const RENAME_NOTES: &str = "\
 LINE and COLUMN are a place in the name or at its end. They count from 0, COLUMN
-in UTF-16 units; the lines and columns that an editor shows count from 1. The new
-text is printed, and the file stays as it is (so don't print into that file: a
-shell empties it first). A name that would change what the module does is refused,
-with `refused: REASON` on standard error. In a module with faults nothing is
-renamed: they are printed as `ob0 check` prints them.
+in UTF-16 units; the lines and columns that an editor shows count from 1.
+The new text is printed, and the file stays as it is (so don't print into that
+file: a shell empties it first). A name that would change what the module does
+is refused, with `refused: REASON` on standard error. In a module with faults
+nothing is renamed: they are printed as `ob0 check` prints them.
 
 Exit status:
   0  the new text was printed
