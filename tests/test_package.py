@@ -1,11 +1,8 @@
 """The package: what `make package` makes, unpacked and installed, with editors and shells that find it in an empty home."""
 import gzip
 import os
-import pty
 import re
-import select
 import shutil
-import signal
 import subprocess
 import tarfile
 import tempfile
@@ -13,7 +10,8 @@ import time
 
 import common
 import harness
-from harness import TOP, Failed, Skipped, holds, same, test, want
+from harness import TOP, Skipped, holds, same, test, want
+from screen import Screen
 from test_editors import run_plainly, write
 from test_syntax_files import text_of
 
@@ -57,44 +55,6 @@ def own(room, usr):
     path = os.path.join(usr, "bin") + os.pathsep + os.environ["PATH"]
     data = os.path.join(usr, "share") + ":/usr/local/share:/usr/share"
     return {**kept, "HOME": home, "PATH": path, "XDG_DATA_DIRS": data, "XDG_RUNTIME_DIR": home, "TERM": "xterm", "LC_ALL": "C.UTF-8"}
-
-
-class Screen:
-    """A program in a terminal: keys go to it, and what it draws is waited for."""
-
-    def __init__(self, words, environment, cwd):
-        self.drawn = b""
-        self.process, self.terminal = pty.fork()
-        if self.process == 0:
-            os.chdir(cwd)
-            os.execvpe(words[0], words, environment)
-
-    def __enter__(self):
-        return self
-
-    def __exit__(self, *why):
-        os.kill(self.process, signal.SIGKILL)
-        os.close(self.terminal)
-        os.waitpid(self.process, 0)
-
-    def read(self, seconds):
-        if select.select([self.terminal], [], [], seconds)[0]:
-            try:
-                self.drawn += os.read(self.terminal, 1 << 16)
-            except OSError:
-                time.sleep(seconds)
-
-    def shows(self, pattern, what, seconds=60):
-        """Waits until what was drawn since the last keys has this."""
-        end = time.monotonic() + seconds
-        while not re.search(pattern, self.drawn):
-            if time.monotonic() > end:
-                raise Failed(f"{what}: {pattern!r} was waited for in vain: {self.drawn[-800:]!r}")
-            self.read(0.2)
-
-    def keys(self, keys):
-        self.drawn = b""
-        os.write(self.terminal, keys)
 
 
 def packages():

@@ -11,6 +11,7 @@ import xml.etree.ElementTree
 
 import snippets
 from harness import TOP, Failed, holds, same, test, want
+from screen import Screen
 from test_editors import at_home, run_in_terminal, run_plainly, write
 
 PREDECLARED = {"INTEGER", "BOOLEAN", "TRUE", "FALSE", "Read", "Write", "WriteLn"}
@@ -63,7 +64,26 @@ def kakoune_words():
     return [word for it in re.findall(r"regex \\b\(([A-Za-z|]+)\)\\b", text_of("editors", "kakoune", "ob0.kak")) for word in it.split("|")]
 
 
-for name, words in ("Vim", vim_words), ("Emacs", emacs_words), ("Kate", kate_words), ("TextMate", textmate_words), ("Kakoune", kakoune_words):
+def gtksourceview_words():
+    tree = xml.etree.ElementTree.fromstring(text_of("editors", "gtksourceview", "oberon0.lang"))
+    return [it.text for it in tree.iter("keyword")]
+
+
+def nano_words():
+    found = re.findall(r'"\\<\(([A-Za-z|]+)\)\\>"', text_of("editors", "nano", "oberon0.nanorc"))
+    return [word for it in found for word in it.split("|")]
+
+
+OF_EDITORS = {
+    "Vim": vim_words,
+    "Emacs": emacs_words,
+    "Kate": kate_words,
+    "TextMate": textmate_words,
+    "Kakoune": kakoune_words,
+    "GtkSourceView": gtksourceview_words,
+    "nano": nano_words,
+}
+for name, words in OF_EDITORS.items():
     test(f"syntax files: the words of {name}'s are the language's, each once")(
         lambda words=words: same(sorted(words()), sorted([*reserved(), *PREDECLARED]))
     )
@@ -88,6 +108,43 @@ def kate():
             same(status, 0, said)
             for it in "Keyword", "Comment", "Type", "OperatorWord", "Builtin", "Number", "Error":
                 holds(it in said, f"no {it} in what was shown of {file}: {said}")
+
+
+@test("syntax files: GtkSourceView's, by the library")
+def gtksourceview():
+    want("GtkSourceView", "PyGObject")
+    with tempfile.TemporaryDirectory() as room:
+        own = at_home(room, "gtksourceview")
+        file = os.path.join(room, "sample.Mod")
+        write(file, SAMPLE)
+        words = ["/usr/bin/python3", os.path.join(TOP, "tests", "editors", "gtksourceview.py"), file]
+        status, said = run_plainly(words, own, room)
+        same(status, 0, said[-1500:])
+        found = json.loads(said.splitlines()[-1])
+    same(found["language"], "oberon0", "the language of a .Mod file")
+    styles = found["styles"]
+    for it in ("nested", "still", "open"):
+        holds("comment" in styles[it], f"{it}: {styles[it]}")
+    colour = lambda word: [it for it in styles[word] if it.startswith("rgb")]
+    same([len(colour(it)) for it in ("BEGIN", "INTEGER", "12", "Write", "Begin", "4x")], [1, 1, 1, 1, 0, 0], f"colours: {styles}")
+    same(colour("BEGIN"), colour("DIV"), "the colour of reserved words")
+
+
+@test("syntax files: nano's colours")
+def nano():
+    want("nano")
+    with tempfile.TemporaryDirectory() as room:
+        own = at_home(room, "nano")
+        write(os.path.join(room, "sample.mod"), SAMPLE)
+        own["LC_ALL"] = "C.UTF-8"
+        # (for root nano takes the home of the table of users)
+        settings = os.path.join(room, "nanorc")
+        write(settings, text_of(room, ".nanorc").replace("~", room))
+        with Screen(["nano", f"--rcfile={settings}", "sample.mod"], own, room) as screen:
+            # (what is coloured begins with the terminal's word for a colour)
+            for it in (b"MODULE", b"INTEGER", b"12", b"DIV", b"Write", b"4x"):
+                screen.shows(rb"\x1b\[[0-9;]*m(\x1b\(B)?" + it, f"the colour of {it.decode()}")
+            holds(not re.search(rb"m(\x1b\(B)?Begin", screen.drawn.replace(b"\x1b[39;49m", b"").replace(b"\x1b(B\x1b[m", b"")), "a plain name has a colour")
 
 
 @test("syntax files: TextMate's, by the regular expressions of its kind")
