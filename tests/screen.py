@@ -34,7 +34,7 @@ class Screen:
             except OSError:
                 time.sleep(seconds)
 
-    def shows(self, pattern, what, seconds=60):
+    def shows(self, pattern, what, seconds=180):
         """Waits until what was drawn since the last keys has this."""
         end = time.monotonic() + seconds
         while not re.search(pattern, self.drawn):

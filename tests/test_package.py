@@ -166,13 +166,13 @@ def in_shells():
                 screen.shows(b"ready", f"{shell} starts")
                 screen.read(0.5)
                 screen.keys(b"ob0 ch\t")
-                screen.shows(b"eck ", f"Tab behind `ob0 ch` in {shell}")
+                screen.shows(b"eck", f"Tab after `ob0 ch` in {shell}")
                 screen.keys(b"N\t")
-                screen.shows(rb"ew\.mod", f"Tab behind `ob0 check N` in {shell}")
+                screen.shows(rb"ew\.mod", f"Tab after `ob0 check N` in {shell}")
                 screen.keys(b"\n")
                 screen.shows(b"1:6: Undeclared", f"the line that was completed in {shell}")
                 screen.keys(b"ob0 run < N\t")
-                screen.shows(rb"ew\.mod", f"Tab behind `ob0 run < N` in {shell}")
+                screen.shows(rb"ew\.mod", f"Tab after `ob0 run < N` in {shell}")
 
 
 def seen_by_vim(words, environment, work, name):
@@ -246,7 +246,7 @@ def in_kakoune():
         usr = placed(room)
         environment, work = own(room, usr), os.path.join(room, "work")
         os.makedirs(work)
-        # (Kakoune reads the files beside its own, in /usr/share/kak/autoload: a runtime folder with both stands for that)
+        # (Kakoune reads the files beside its own, in /usr/share/kak/rc: a runtime folder with both stands for that)
         runtime = os.path.join(room, "runtime")
         shutil.copytree("/usr/share/kak", runtime, symlinks=True, ignore=shutil.ignore_patterns("doc"))
         shutil.copytree(os.path.join(usr, "share", "kak"), runtime, dirs_exist_ok=True)
@@ -273,5 +273,5 @@ def others():
             write(os.path.join(work, "go.mod"), "module example.com/x\n")
             kinds = [run_plainly(["gio", "info", "-a", "standard::content-type", it], environment, work)[1].split()[-1] for it in ("New.mod", "go.mod")]
             same(kinds[0], "text/x-oberon0", "the type of a module")
-            holds(kinds[1] != "text/x-oberon0", f"the type of go.mod: {kinds[1]}")
+            same(kinds[1], "text/plain", "the type of go.mod, which is Go's")
         same(gzip.decompress(open(os.path.join(usr, "share/man/man1/ob0.1.gz"), "rb").read()).decode(), text_of("share", "ob0.1"), "the manual page")

@@ -38,7 +38,7 @@ COPIED = {
     "share/emacs/ob0-mode-autoloads.el": f"{EMACS}/ob0-mode-autoloads.el",
     "share/emacs/ob0-mode-pkg.el": f"{EMACS}/ob0-mode-pkg.el",
     "editors/kate/oberon0.xml": "share/org.kde.syntax-highlighting/syntax/oberon0.xml",
-    "editors/kakoune/ob0.kak": "share/kak/autoload/filetype/ob0.kak",
+    "editors/kakoune/ob0.kak": "share/kak/rc/filetype/ob0.kak",
     "editors/gtksourceview/oberon0.lang": "share/gtksourceview-5/language-specs/oberon0.lang",
     "editors/nano/oberon0.nanorc": "share/nano/oberon0.nanorc",
     "editors/mime/ob0.xml": "share/mime/packages/ob0.xml",

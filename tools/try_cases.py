@@ -6,7 +6,8 @@ proofs, and runs it on each case.
 
 The cases are those of the end-to-end tests: what these would run is noted, all of it is run at once, and then the tests are
 played with what came. A test that wants something else than these commands on a small file (a conversation, a device, a file
-that isn't there, what an earlier run printed) is left out, by name. The last line is 'N passed, M failed'."""
+that isn't there, what an earlier run printed) is left out, by name. Whether an output ends with a line feed isn't seen. The last
+line is 'N passed, M failed'."""
 import os
 import re
 import subprocess
@@ -24,7 +25,8 @@ import harness  # noqa: E402
 
 WORDS = ("check:", "run:", "rename", "messages:", "program: help", "examples")
 LARGEST = 1_100_000  # bytes of a file or an input; what is longer is left to bin/ob0
-STEP = 15
+COMMANDS = ("check", "run", "rename")
+STEP = 15  # seconds between two lines while the program is compiled
 
 
 class Unknown(Exception):
@@ -39,17 +41,17 @@ class Cases:
 
     def run(self, words, given=b"", stack=None, cwd=None):
         """In place of `harness.run`: the words, the input and the files that they name."""
-        files = [os.path.join(cwd or ".", it) for it in words[1:2] if words[0] in ("check", "run", "rename")]
-        texts = []
-        for it in files:
-            if not os.path.isfile(it) or os.path.getsize(it) > LARGEST:
-                raise Unknown(f"a file such as {it}")
-            with open(it, "rb") as file:
+        plain, texts = list(words), []
+        if words and words[0] in COMMANDS and "--help" not in words:
+            at = next((at for at, it in enumerate(words) if at and os.path.isfile(os.path.join(cwd or ".", it))), None)
+            if at is None or os.path.getsize(os.path.join(cwd or ".", words[at])) > LARGEST:
+                raise Unknown("a file that isn't there, or a long one")
+            with open(os.path.join(cwd or ".", words[at]), "rb") as file:
                 texts.append(file.read())
+            plain[at] = "FILE"
         if stack or len(given) > LARGEST or words[:1] == ["serve"] or any("\n" in it or not it for it in words):
             raise Unknown("a conversation, a long input or other words")
-        plain = tuple(words[:1] + ["FILE"] * len(files) + list(words[1 + len(files) :]))
-        key = (plain, *texts, bytes(given))
+        key = (tuple(plain), *texts, bytes(given))
         if self.noting:
             self.wanted[key] = None
             return harness.Ended(b"", b"", 0)
@@ -130,7 +132,8 @@ def main(words):
     # (the tests take these names from the harness when they are loaded)
     harness.run = cases.run
     harness.same, harness.holds = cases.unless_noting(harness.same), cases.unless_noting(harness.holds)
-    harness.Server = harness.serve = harness.serve_in_pieces = refuse
+    harness.ends = without_last_line_feed
+    harness.Server = harness.serve = harness.serve_in_pieces = Conversation
     import run as tests  # pylint: disable=import-outside-toplevel
 
     tests.load()
@@ -144,8 +147,18 @@ def main(words):
     return judge(chosen)
 
 
-def refuse(*_, **__):
-    raise Unknown("a conversation")
+def without_last_line_feed(found, out, status, err=""):
+    """In place of `harness.ends`: `rt try` shows an output that lacks its last line feed with one."""
+    plain = lambda it: (it if isinstance(it, bytes) else it.encode()).rstrip(b"\n")
+    got, wanted = (plain(found.out), found.err, found.status), (plain(out), err.encode(), status)
+    harness.same(got, wanted, "standard output, standard error and the status")
+
+
+class Conversation:
+    """In place of `harness.Server`, and of what else speaks with a server."""
+
+    def __init__(self, *_, **__):
+        raise Unknown("a conversation")
 
 
 def judge(chosen):
