@@ -6,6 +6,7 @@
 #   make install PREFIX=.. copies that tree to PREFIX: the program, manual page, completions, editor files, pages and examples
 #   make uninstall PREFIX=.. removes what was installed there
 #   make test              the gate (every proof from nothing) and the end-to-end tests
+#   make help              prints these lines
 # (where bin/ob0 is there and up to date, build, package, install and demo need no toolchain)
 # and beside them:
 #   make editors           installs the editors and tools that the end-to-end tests want, by apt-get
@@ -18,10 +19,13 @@
 PREFIX ?= /usr/local
 PYTHON ?= python3
 
-.PHONY: demo test build editors try end-to-end faults wrong-bodies surface bench package install uninstall python
+.PHONY: demo help test build editors try end-to-end faults wrong-bodies surface bench package install uninstall python
 
 demo: python
 	@$(PYTHON) tools/demo.py
+
+help:
+	@sed -n '/^#/!q; s/^# \{0,1\}//p' Makefile
 
 test: python
 	@$(PYTHON) tools/test.py

@@ -219,9 +219,9 @@ def conversations():
 @test("messages: each error of the protocol is on the page, with its code")
 def protocol():
     listed = {CODE.fullmatch(message)[1]: int(code) for message, code, _ in rows("Messages in an editor")}
-    told = dict(conversations())
-    same(list(listed), list(told), "the messages")
-    for message, said in told.items():
+    talks = dict(conversations())
+    same(list(listed), list(talks), "the messages")
+    for message, said in talks.items():
         found = [it for it in serve([*said, EXIT]).contents() if '"error"' in it]
         same(len(found), 1, f"errors of {message}")
         holds(f'"error":{{"code":{listed[message]},"message":"{message}"}}' in found[0], f"{message}: {found[0]}")

@@ -31,7 +31,7 @@ def made(*words):
 
 
 def placed(room):
-    """Installs the tree of the package: the folder that stands for /usr."""
+    """Installs the tree of the package: the folder that is used as /usr."""
     want_proved()
     usr = os.path.join(room, "usr")
     status, said = run_plainly(["python3", "-B", os.path.join(TOP, "tools", "package.py"), "install", usr, ""], dict(os.environ), TOP)
@@ -132,8 +132,8 @@ def stamped():
         program, stamp = os.path.join(room, "ob0"), os.path.join(room, "ob0.stamp")
         shutil.copy(common.BINARY, program)
         shutil.copy(common.STAMP, stamp)
-        told = "import sys; sys.path.insert(0, sys.argv[1]); import common; common.BINARY, common.STAMP = sys.argv[2:]; print(common.is_current())"
-        asked = lambda: run_plainly(["python3", "-B", "-c", told, os.path.join(TOP, "tools"), program, stamp], dict(os.environ), room)[1].strip()
+        script = "import sys; sys.path.insert(0, sys.argv[1]); import common; common.BINARY, common.STAMP = sys.argv[2:]; print(common.is_current())"
+        asked = lambda: run_plainly(["python3", "-B", "-c", script, os.path.join(TOP, "tools"), program, stamp], dict(os.environ), room)[1].strip()
         same(asked(), "True", "the proved program")
         with open(program, "ab") as file:
             file.write(b"\0")
@@ -212,7 +212,7 @@ def in_vim():
         usr = placed(room)
         environment, work = own(room, usr), os.path.join(room, "work")
         os.makedirs(work)
-        # (Debian's Vim reads /usr/share/vim/vimfiles, for which the tree's folder stands here)
+        # (Debian's Vim reads /usr/share/vim/vimfiles, and the tree's folder is given instead)
         words = ["vim.nox", "-i", "NONE", "-n", "--cmd", f"set packpath^={usr}/share/vim/vimfiles"]
         same(seen_by_vim(words, environment, work, "Vim"), '["ob0","ob0",2,2]')
 
@@ -229,7 +229,7 @@ def in_emacs():
           (find-file "new.mod") (insert "MODULE N;\\nBEGIN x := 1 END N.\\n") (save-buffer) (push major-mode r)
           (find-file "{TOP}/examples/Gcd.mod") (push major-mode r)
           (write-region (prin1-to-string (nreverse r)) nil "{report}"))"""
-        # (Emacs looks for packages below each site-lisp of its load path: the tree's stands for that of the system)
+        # (Emacs looks for packages below each site-lisp of its load path: the tree's is put there)
         environment["EMACSLOADPATH"] = os.path.join(usr, "share", "emacs", "site-lisp") + ":"
         with Screen(["emacs", "-nw", "--eval", steps], environment, work) as screen:
             end = time.monotonic() + 60
@@ -246,7 +246,7 @@ def in_kakoune():
         usr = placed(room)
         environment, work = own(room, usr), os.path.join(room, "work")
         os.makedirs(work)
-        # (Kakoune reads the files beside its own, in /usr/share/kak/rc: a runtime folder with both stands for that)
+        # (Kakoune reads the files beside its own, in /usr/share/kak/rc: a runtime folder has both)
         runtime = os.path.join(room, "runtime")
         shutil.copytree("/usr/share/kak", runtime, symlinks=True, ignore=shutil.ignore_patterns("doc"))
         shutil.copytree(os.path.join(usr, "share", "kak"), runtime, dirs_exist_ok=True)

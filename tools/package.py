@@ -312,7 +312,7 @@ def uninstall(room):
 
 def main(words):
     command, *places = words
-    # (a prefix is below DESTDIR, which stands for the root of another system)
+    # (a prefix is below DESTDIR, the root of another system)
     room = places and os.path.join(places[1], os.path.expanduser(places[0]).lstrip("/")) if len(places) > 1 and places[1] else places and places[0]
     if command == "uninstall":
         return uninstall(room)

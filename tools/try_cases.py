@@ -82,8 +82,8 @@ class Cases:
 
     def take(self, out, err, names):
         """Takes what `rt try` printed: the output of each case after a line with its name, and lines on each."""
-        shown = re.split(rb"^== (case\d{4})\n", out, flags=re.M)
-        printed = dict(zip((it.decode() for it in shown[1::2]), shown[2::2]))
+        cut = re.split(rb"^== (case\d{4})\n", out, flags=re.M)
+        printed = dict(zip((it.decode() for it in cut[1::2]), cut[2::2]))
         before = 0
         for it in re.finditer(rb"^case=(case\d{4}) run=(\w+)(?: status=(\d+))?[^\n]*\n", err, re.M):
             name, how, status = it[1].decode(), it[2], it[3]
@@ -99,14 +99,14 @@ def compiled(cases):
             os.mkdir(os.path.join(room, it))
         names, flags = cases.write(room)
         words = ["rt", "try", *flags, "--cases", os.path.join(room, "cases")]
-        timer, told = common.Timer(), time.monotonic()
+        timer, shown = common.Timer(), time.monotonic()
         with tempfile.TemporaryFile() as out, tempfile.TemporaryFile() as err:
             how = {"cwd": os.path.join(common.TOP, "crates", "ob0"), "stdin": subprocess.DEVNULL, "stdout": out, "stderr": err}
             with subprocess.Popen(words, **how) as process:
                 while process.poll() is None:
                     time.sleep(0.2)
-                    if time.monotonic() - told > STEP:
-                        told = time.monotonic()
+                    if time.monotonic() - shown > STEP:
+                        shown = time.monotonic()
                         print(f"[{timer}] compiling, and running {len(names)} cases", flush=True)
             for it in (out, err):
                 it.seek(0)
