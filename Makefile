@@ -2,10 +2,15 @@
 #   make demo              plays a conversation with the server: with bin/ob0 where that is proved and up to date, else with
 #                          the program compiled without its proofs, in a minute or two
 #   make build             proves and builds the program, bin/ob0
-#   make install PREFIX=.. copies the proved program, its manual page and its completions to PREFIX
+#   make package           packs the proved program: a Debian package and a .tar.gz with the same tree, in bin/
+#   make install PREFIX=.. copies that tree to PREFIX: the program, manual page, completions, editor files, pages and examples
+#   make uninstall PREFIX=.. removes what was installed there
 #   make test              the gate (every proof from nothing) and the end-to-end tests
+#   make help              prints these lines
+# (where bin/ob0 is there and up to date, build, package, install and demo need no toolchain)
 # and beside them:
 #   make editors           installs the editors and tools that the end-to-end tests want, by apt-get
+#   make try               the tables of check, run and rename, with the program compiled without its proofs, in two minutes
 #   make end-to-end        the end-to-end tests alone, on bin/ob0
 #   make faults            what takes longer: memory refused at each allocation, one long conversation, many random runs; WORDS=".." names some
 #   make wrong-bodies      tries each crate's wrong bodies, all at once where that can be; CRATE="NAME.." names some
@@ -14,10 +19,13 @@
 PREFIX ?= /usr/local
 PYTHON ?= python3
 
-.PHONY: demo test build editors end-to-end faults wrong-bodies surface bench install python
+.PHONY: demo help test build editors try end-to-end faults wrong-bodies surface bench package install uninstall python
 
 demo: python
 	@$(PYTHON) tools/demo.py
+
+help:
+	@sed -n '/^#/!q; s/^# \{0,1\}//p' Makefile
 
 test: python
 	@$(PYTHON) tools/test.py
@@ -27,6 +35,9 @@ build: python
 
 editors: python
 	@$(PYTHON) tools/editors.py
+
+try: python
+	@$(PYTHON) tools/try_cases.py $(WORDS)
 
 end-to-end: build
 	@$(PYTHON) tests/run.py
@@ -43,15 +54,14 @@ surface: python
 bench: build
 	@$(PYTHON) bench/run.py
 
+package: build
+	@$(PYTHON) tools/package.py package
+
 install: build
-	@mkdir -p "$(DESTDIR)$(PREFIX)/bin" "$(DESTDIR)$(PREFIX)/share/man/man1"
-	@install -m 755 bin/ob0 "$(DESTDIR)$(PREFIX)/bin/ob0"
-	@install -m 644 share/ob0.1 "$(DESTDIR)$(PREFIX)/share/man/man1/ob0.1"
-	@mkdir -p "$(DESTDIR)$(PREFIX)/share/bash-completion/completions" "$(DESTDIR)$(PREFIX)/share/zsh/site-functions" "$(DESTDIR)$(PREFIX)/share/fish/vendor_completions.d"
-	@install -m 644 share/ob0.bash "$(DESTDIR)$(PREFIX)/share/bash-completion/completions/ob0"
-	@install -m 644 share/_ob0 "$(DESTDIR)$(PREFIX)/share/zsh/site-functions/_ob0"
-	@install -m 644 share/ob0.fish "$(DESTDIR)$(PREFIX)/share/fish/vendor_completions.d/ob0.fish"
-	@echo "installed $(DESTDIR)$(PREFIX)/bin/ob0, its manual page and its completions for bash, zsh and fish"
+	@$(PYTHON) tools/package.py install "$(PREFIX)" "$(DESTDIR)"
+
+uninstall: python
+	@$(PYTHON) tools/package.py uninstall "$(PREFIX)" "$(DESTDIR)"
 
 python:
 	@command -v $(PYTHON) >/dev/null || { echo "$(PYTHON) is missing: install Python 3.8 or later (on Debian: apt-get install python3)" >&2; exit 2; }

@@ -1,17 +1,38 @@
 # Completion of ob0 for fish.
+
+# The modules and folders that the word at the cursor can become: fish's own completion of files knows ~, variables and quotes.
 function __ob0_modules
-    set -l found (commandline -ct)*.{ob0,mod,Mod} (commandline -ct)*/
-    string join \n $found
+    complete -C "'' "(commandline -ct) | string match -r -- '.*(?:\.ob0|\.mod|\.Mod|/)(?:\t.*)?$'
 end
+
+# Whether the command is one of these and has no file yet.
+function __ob0_wants_file
+    set -l words (commandline -opc)
+    set -l plain
+    set -l skipped no
+    for word in $words[2..-1]
+        if test $skipped = yes
+            set skipped no
+        else if contains -- $word --calls --turns
+            set skipped yes
+        else if not string match -q -- '-*' $word
+            set -a plain $word
+        end
+    end
+    test (count $plain) = 1; and contains -- $plain[1] $argv
+end
+
 complete -c ob0 -f
-complete -c ob0 -n __fish_use_subcommand -a serve -d 'Serve one conversation over standard input and output'
+complete -c ob0 -n __fish_use_subcommand -a serve -d 'Serve one conversation with an editor over standard input and output'
 complete -c ob0 -n __fish_use_subcommand -a check -d 'Print what is wrong with a module'
 complete -c ob0 -n __fish_use_subcommand -a run -d 'Run a module on the numbers of standard input'
 complete -c ob0 -n __fish_use_subcommand -a rename -d 'Print a module with another name for one of its names'
 complete -c ob0 -n __fish_use_subcommand -a help -d 'Print how ob0 or one of its commands is used'
-complete -c ob0 -n '__fish_seen_subcommand_from help' -a 'serve check run rename'
-complete -c ob0 -n '__fish_seen_subcommand_from check run rename; and not __fish_seen_subcommand_from help' -a '(__ob0_modules)'
+complete -c ob0 -n '__ob0_wants_file help' -a 'serve check run rename'
+complete -c ob0 -n '__ob0_wants_file check run rename' -a '(__ob0_modules)'
 complete -c ob0 -n '__fish_seen_subcommand_from run' -l calls -x -d 'How many calls may be open at a time, 0 to 64'
-complete -c ob0 -n '__fish_seen_subcommand_from run' -l turns -x -d 'How many turns a loop may make, 0 to 100000'
+complete -c ob0 -n '__fish_seen_subcommand_from run' -l turns -x -d 'How many iterations a loop may make, 0 to 100000'
+complete -c ob0 -n '__fish_seen_subcommand_from serve' -l stdio -d 'Changes nothing: serve always uses standard input and output'
+complete -c ob0 -n '__fish_seen_subcommand_from serve' -l clientProcessId -x -d 'Changes nothing: the client is not watched'
 complete -c ob0 -s h -l help -d 'Print help'
 complete -c ob0 -n __fish_use_subcommand -s V -l version -d 'Print the version'

@@ -215,6 +215,22 @@ def neovim_looking():
         same(in_neovim("looking", text, places=[it[0] for it in seen]), [*looked(seen), ("ended", ENDED)])
 
 
+@test("Neovim: a program that isn't there is said in one line")
+def neovim_without():
+    want("Neovim")
+    with tempfile.TemporaryDirectory() as room:
+        own, file = at_home(room, "neovim"), os.path.join(room, "m.ob0")
+        write(file, GOOD)
+        words = ["nvim", "--headless", "-n", "-i", "NONE", "--cmd", "let g:ob0_program = 'no-such-program'", file, "+qall!"]
+        status, said = run_plainly(words, own, room)
+    same((status, said.strip()), (0, "There is no program no-such-program; vim.g.ob0_program names another"))
+
+
+@test("Emacs: the index of procedures, while eglot is on")
+def emacs_index():
+    same(in_emacs("index", CALLS), [("opened", []), ("index", ["*Rescan*", "F"]), ("ended", 0)])
+
+
 @test("Emacs: what its own hover, list of references and go to definition show")
 def emacs_looking():
     for text, seen in ((CALLS, CALLS_SEEN), (RECORDS, RECORDS_SEEN)):
@@ -459,17 +475,13 @@ def in_kate(steps, text, **given):
     return play("kate", words, steps, text, given, set_up, more=own)
 
 
-# (Kate lays out by four spaces)
-KATE_LAID_OUT = re.sub(r"(?m)^ +", lambda spaces: spaces[0] * 2, LAID_OUT)
-
-
 @test("Kate: diagnostics, what is known of a name, a rename and a layout, by its keys")
 def kate_names():
     steps = [("opened", []), ("typed", ["BadChar"]), ("undone", []), ("shown", "PROCEDURE F(n: INTEGER)")]
     steps += [("listed", [[1, 10], [2, 30], [2, 47], [3, 6]]), ("jumped", [1, 10])]
-    steps += [("renamed", []), ("text", edited(CALLS, PLACES, "G")), ("laid out", []), ("text", KATE_LAID_OUT)]
+    steps += [("renamed", []), ("text", edited(CALLS, PLACES, "G")), ("laid out", []), ("text", LAID_OUT)]
     same(in_kate("names", CALLS, place=[3, 7]), steps)
-    keeps_the_run(CALLS, KATE_LAID_OUT, " 2 1")
+    keeps_the_run(CALLS, LAID_OUT, " 2 1")
 
 
 @test("Kate: a constant is inlined, by its keys")

@@ -1,6 +1,8 @@
 """The order of checks and the table of errors: JSON, shape, lifecycle, method, params; the command line itself."""
+import os
 import re
 import subprocess
+import tempfile
 
 import harness
 from harness import EXIT, SHUTDOWN, answer, did_close, did_open, error, frame, initialize, notice, published, request
@@ -162,15 +164,57 @@ def helped():
             same(run([*words, flag]).out, found.out, f"ob0 {' '.join(words)} {flag}")
 
 
-@test("program: help says from where lines and columns count, what the statuses are, and names values in capitals")
+# what the help of a command has, and its statuses
+HELP = {
+    "": ("012345", ["serve ", "check ", "run ", "rename ", "help COMMAND"]),
+    "serve": ("012345", ["--stdio", "--clientProcessId <N>", "UTF-16 units"]),
+    "check": ("01245", ["<FILE>", "count from 0", "UTF-16", "LINE:COLUMN: CODE: MESSAGE"]),
+    "run": ("01245", ["<FILE>", "--calls <N>", "--turns <N>", "0 to 64", "0 to 100000", "to the end of standard input", "Ctrl-D", "-2147483648", "fault: END"]),
+    "rename": ("01245", ["<FILE> <LINE> <COLUMN> <NAME>", "count from 0", "in UTF-16 units", "refused: REASON"]),
+}
+
+
+@test("program: help of each command says what it needs, what it prints and its statuses, in lines of a terminal's width")
 def explained():
-    values = {"check": ["<FILE>"], "run": ["<FILE>", "--calls <N>", "--turns <N>"], "rename": ["<FILE> <LINE> <COLUMN> <NAME>"]}
-    for command in (None, "serve", *values):
-        said = run([command, "--help"] if command else ["--help"]).out.decode()
-        holds("Lines and columns count from 0, columns in UTF-16 units." in said, f"{command}: from where is not said: {said}")
-        same(re.findall(r"^  (\d)  \S", said.partition("Exit status:")[2], re.M), list("012345"), f"the statuses of {command}")
-        for it in values.get(command, []):
-            holds(it in said, f"{command}: no {it}: {said}")
+    for command, (statuses, parts) in HELP.items():
+        said = run([*command.split(), "--help"]).out.decode()
+        same("".join(re.findall(r"^  (\d)  \S", said.partition("Exit status:")[2], re.M)), statuses, f"the statuses of {command}")
+        for it in parts:
+            holds(it in said.replace("\n", " "), f"{command}: no {it}: {said}")
+        wide = [it for it in said.partition("Options:")[2].partition("\n\n")[2].splitlines() if len(it) > 80]
+        same(wide, [], f"lines of {command} that are too wide")
+
+
+@test("program: `serve` takes the options that clients add, any number of times, and speaks as without them")
+def options_of_serve():
+    given = frame(initialize()) + frame(SHUTDOWN) + frame(EXIT)
+    wanted = run(["serve"], given).out
+    for words in (["--stdio"], ["--clientProcessId=1"], ["--clientProcessId", "x"], ["--stdio", "--clientProcessId=4242", "--stdio", "--clientProcessId=7"]):
+        found = run(["serve", *words], given)
+        same((found.out, found.err, found.status), (wanted, b"", 0), " ".join(words))
+    for words in (["--stdio=x"], ["--clientProcessId"], ["--socket=1"], ["--pipe", "x"]):
+        found = run(["serve", *words], given)
+        same((found.out, bool(found.err), found.status), (b"", True, 2), " ".join(words))
+    same(run(["run", "--stdio", "x"]).status, 2, "the status of another command with it")
+
+
+@test("program: `run` says on standard error how input ends, where that is a terminal and there is something to run")
+def prompted():
+    def at_terminal(text):
+        with tempfile.TemporaryDirectory() as room:
+            with open(os.path.join(room, "m.mod"), "w", encoding="utf-8") as file:
+                file.write(text)
+            keys, terminal = os.openpty()
+            os.write(keys, b"20 22\n\x04")
+            how = {"stdin": terminal, "capture_output": True, "timeout": harness.SECONDS, "cwd": room}
+            ran = subprocess.run([harness.BINARY, "run", "m.mod"], check=False, **how)
+            os.close(keys)
+            os.close(terminal)
+        return ran.stdout, ran.stderr, ran.returncode
+
+    said = b"ob0: reading numbers to the end of input (Ctrl-D at the start of a line)\n"
+    same(at_terminal("MODULE M; VAR x, y: INTEGER; BEGIN Read(x); Read(y); Write(x + y) END M."), (b" 42", said, 0))
+    same(at_terminal("MODULE M; BEGIN x := 1 END M."), (b"0:16: Undeclared: not declared\n", b"", 1))
 
 
 @test("program: the version is told on standard output, status 0, and is that of CHANGELOG.md and of the manual page")

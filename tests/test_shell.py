@@ -1,19 +1,17 @@
-"""What belongs to the program in a shell: completions for bash, zsh and fish, the manual page, `make install`, and the commands
+"""What belongs to the program in a shell: completions for bash, zsh and fish, the manual page, and the commands
 in README.md and the pages of the editors."""
 import os
 import pty
 import re
 import select
 import shlex
-import shutil
-import subprocess
 import tempfile
 import time
 
 import common
-import harness
-from harness import TOP, Skipped, holds, run, same, test, text_of, want
+from harness import TOP, holds, run, same, test, text_of, want
 from homes import at_home, run_plainly, write
+from proved import want_proved
 from snippets import fenced
 
 SHARE = os.path.join(TOP, "share")
@@ -30,6 +28,7 @@ OFFERED = [
     ("check ", MODULES),
     ("run ", MODULES),
     ("run --", ["--calls", "--help", "--turns"]),
+    ("serve --", ["--clientProcessId", "--help", "--stdio"]),
     ("rename ", MODULES),
     ("rename a", ["a.ob0"]),
 ]
@@ -55,7 +54,7 @@ def commands():
     for it in COMMANDS:
         holds(re.search(rf'^\.(B|BI) "?{it}\b', page, re.M), f"the manual page has no {it}")
     for it in ["", *COMMANDS]:
-        options = set(re.findall(r"--\w+", run([*it.split(), "--help"]).out.decode()))
+        options = set(re.findall(r"^ .*?(--\w+)", run([*it.split(), "--help"]).out.decode(), re.M))
         holds(all(option.replace("-", "\\-") in page for option in options), f"options of {it}: {options}")
 
 
@@ -88,6 +87,9 @@ def in_fish():
     for typed, wanted in OFFERED:
         found = in_folder(lambda room, typed=typed: offered(room, typed))
         same([it for it in found if it in [*wanted, *COMMANDS, "help", *FILES]], sorted(wanted), f"behind `ob0 {typed}`")
+    # (words that fish expands, and what comes after the file)
+    for typed, wanted in (("check ~/a", ["~/a.ob0"]), ("check $HOME/a", ["$HOME/a.ob0"]), ("check 'b", ["b.mod"]), ("rename a.ob0 ", [])):
+        same(in_folder(lambda room, typed=typed: offered(room, typed)), wanted, f"after `ob0 {typed}`")
 
 
 @test("shell: completion in zsh")
@@ -125,7 +127,7 @@ def in_zsh():
         return shown
 
     for (typed, wanted), shown in zip(OFFERED, in_folder(all_offered)):
-        for it in [*COMMANDS, *FILES, "--calls", "--turns", "--help", "--version"]:
+        for it in [*COMMANDS, *FILES, "--calls", "--turns", "--stdio", "--clientProcessId", "--help", "--version"]:
             if it in wanted:
                 holds(it in shown, f"{it} is not offered behind `ob0 {typed}`: {shown!r}")
             elif it not in typed and (it in FILES or typed in ("", "r")):
@@ -137,32 +139,6 @@ def manual():
     want("mandoc")
     status, said = run_plainly(["mandoc", "-Tlint", "-W", "warning", os.path.join(SHARE, "ob0.1")], dict(os.environ), TOP)
     same((status, said), (0, ""), "mandoc -Tlint")
-
-
-def want_proved():
-    """Leaves a test out where the program isn't bin/ob0, or that isn't the proved program of these sources."""
-    if os.path.abspath(harness.BINARY) != common.BINARY or not shutil.which("rt") or not common.is_current():
-        raise Skipped("bin/ob0 is not the proved program of these sources")
-
-
-@test("shell: `make install` installs the proved program, its manual page and its completions")
-def installed():
-    want_proved()
-    with tempfile.TemporaryDirectory() as room:
-        words = ["make", "--silent", "install", f"DESTDIR={room}", "PREFIX=/usr"]
-        status, said = run_plainly(words, dict(os.environ), TOP)
-        same(status, 0, said)
-        found = sorted(os.path.relpath(os.path.join(at, it), room) for at, _, files in os.walk(room) for it in files)
-        share = "usr/share"
-        wanted = [
-            "usr/bin/ob0",
-            f"{share}/bash-completion/completions/ob0",
-            f"{share}/fish/vendor_completions.d/ob0.fish",
-            f"{share}/man/man1/ob0.1",
-            f"{share}/zsh/site-functions/_ob0",
-        ]
-        same(found, wanted)
-        same(subprocess.run([os.path.join(room, wanted[0]), "--help"], capture_output=True, check=False).returncode, 0, "the status")
 
 
 PAGES = ["README.md", "examples/README.md"]

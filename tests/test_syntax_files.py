@@ -10,6 +10,7 @@ import xml.etree.ElementTree
 import snippets
 from harness import TOP, examples, holds, same, test, text_of, want
 from homes import at_home, run_in_terminal, run_plainly, write
+from screen import Screen
 
 PREDECLARED = {"INTEGER", "BOOLEAN", "TRUE", "FALSE", "Read", "Write", "WriteLn"}
 OF_LAYOUT = re.compile(r"[A-Z][A-Za-z]*")
@@ -56,7 +57,26 @@ def kakoune_words():
     return [word for it in re.findall(r"regex \\b\(([A-Za-z|]+)\)\\b", text_of("editors", "kakoune", "ob0.kak")) for word in it.split("|")]
 
 
-for name, words in ("Vim", vim_words), ("Emacs", emacs_words), ("Kate", kate_words), ("TextMate", textmate_words), ("Kakoune", kakoune_words):
+def gtksourceview_words():
+    tree = xml.etree.ElementTree.fromstring(text_of("editors", "gtksourceview", "oberon0.lang"))
+    return [it.text for it in tree.iter("keyword")]
+
+
+def nano_words():
+    found = re.findall(r'"\\<\(([A-Za-z|]+)\)\\>"', text_of("editors", "nano", "oberon0.nanorc"))
+    return [word for it in found for word in it.split("|")]
+
+
+OF_EDITORS = {
+    "Vim": vim_words,
+    "Emacs": emacs_words,
+    "Kate": kate_words,
+    "TextMate": textmate_words,
+    "Kakoune": kakoune_words,
+    "GtkSourceView": gtksourceview_words,
+    "nano": nano_words,
+}
+for name, words in OF_EDITORS.items():
     test(f"syntax files: the words of {name}'s are the language's, each once")(
         lambda words=words: same(sorted(words()), sorted([*reserved(), *PREDECLARED]))
     )
@@ -81,6 +101,43 @@ def kate():
             same(status, 0, said)
             for it in "Keyword", "Comment", "Type", "OperatorWord", "Builtin", "Number", "Error":
                 holds(it in said, f"no {it} in what was shown of {file}: {said}")
+
+
+@test("syntax files: GtkSourceView's, by the library")
+def gtksourceview():
+    want("GtkSourceView", "PyGObject")
+    with tempfile.TemporaryDirectory() as room:
+        own = at_home(room, "gtksourceview")
+        file = os.path.join(room, "sample.Mod")
+        write(file, SAMPLE)
+        words = ["/usr/bin/python3", os.path.join(TOP, "tests", "editors", "gtksourceview.py"), file]
+        status, said = run_plainly(words, own, room)
+        same(status, 0, said[-1500:])
+        found = json.loads(said.splitlines()[-1])
+    same(found["language"], "oberon0", "the language of a .Mod file")
+    styles = found["styles"]
+    for it in ("nested", "still", "open"):
+        holds("comment" in styles[it], f"{it}: {styles[it]}")
+    colour = lambda word: [it for it in styles[word] if it.startswith("rgb")]
+    same([len(colour(it)) for it in ("BEGIN", "INTEGER", "12", "Write", "Begin", "4x")], [1, 1, 1, 1, 0, 0], f"colours: {styles}")
+    same(colour("BEGIN"), colour("DIV"), "the colour of reserved words")
+
+
+@test("syntax files: nano's colours")
+def nano():
+    want("nano")
+    with tempfile.TemporaryDirectory() as room:
+        own = at_home(room, "nano")
+        write(os.path.join(room, "sample.mod"), SAMPLE)
+        own["LC_ALL"] = "C.UTF-8"
+        # (for root nano takes the home of the table of users)
+        settings = os.path.join(room, "nanorc")
+        write(settings, text_of(room, ".nanorc").replace("~", room))
+        with Screen(["nano", f"--rcfile={settings}", "sample.mod"], own, room) as screen:
+            # (what is coloured begins with the terminal's word for a colour)
+            for it in (b"MODULE", b"INTEGER", b"12", b"DIV", b"Write", b"4x"):
+                screen.shows(rb"\x1b\[[0-9;]*m(\x1b\(B)?" + it, f"the colour of {it.decode()}")
+            holds(not re.search(rb"m(\x1b\(B)?Begin", screen.drawn.replace(b"\x1b[39;49m", b"").replace(b"\x1b(B\x1b[m", b"")), "a plain name has a colour")
 
 
 @test("syntax files: TextMate's, by the regular expressions of its kind")
@@ -130,6 +187,26 @@ COLOURS = [
 ]
 
 
+RECORD = """MODULE R;
+TYPE
+  T = RECORD
+    a: INTEGER;
+    b: RECORD
+      c: INTEGER
+    END
+  END;
+VAR
+  t: T;
+  PROCEDURE P;
+  BEGIN
+    t.a := 1
+  END P;
+BEGIN
+  t.b.c := 2
+END R.
+"""
+
+
 def by_vim(editor, words, name):
     """Vim's files, in Vim or Neovim: file types, colours, :make, indentation."""
     with tempfile.TemporaryDirectory() as room:
@@ -141,6 +218,7 @@ def by_vim(editor, words, name):
             write(os.path.join(work, file), text)
         write(os.path.join(work, "sample.mod"), SAMPLE)
         write(os.path.join(work, "faulty.ob0"), "MODULE M;\nBEGIN x := 1 END M.\n")
+        write(os.path.join(work, "record.mod"), RECORD)
         for it in examples():
             write(os.path.join(work, os.path.basename(it)), text_of(it))
         report = os.path.join(room, "report")
@@ -155,6 +233,12 @@ def by_vim(editor, words, name):
     same(found["faults"], [[2, 7, "Undeclared: not declared"]], "what :make finds")
     same(found["indented"], [], "examples that are indented in another way than the server lays them out")
     same(found["commented"], "(* x := 1 *)", "a comment by 'commentstring'")
+    same(found["new"], [False, True], "whether a new file is Oberon-0, before and after it is saved")
+    same(found["ran"], "42", "what :Ob0Run shows of a text that isn't saved yet")
+    same(found["lacking"], "There is no program no-such-program; g:ob0_program names another", "what :Ob0Run says without it")
+    same(found["terminal"], [1, 1], "whether :Ob0Run says how input ends, and runs in a terminal")
+    same(found["record"], [], "a record over several lines")
+    same(found["matched"], 1, "the line that % on the module's END leads to")
 
 
 @test("syntax files: Vim's file types, colours, :make and indentation, in Vim")
@@ -176,6 +260,7 @@ def in_emacs():
         own = at_home(room, "emacs")
         own.update(OB0_TOP=TOP, OB0_EXAMPLES=json.dumps([os.path.join(TOP, it) for it in examples()]))
         own["OB0_FILES"] = json.dumps([[it[0], it[1], it[2]] for it in FILES])
+        own["OB0_RECORD"] = json.dumps(RECORD)
         words = ["emacs", "--batch", "-L", os.path.join(room, ".emacs.d", "lisp"), "-l", "ob0-mode"]
         status, said = run_plainly([*words, "-l", os.path.join(TOP, "tests", "editors", "mode.el"), "-f", "ert-run-tests-batch-and-exit"], own, room)
         same(status, 0, said[-3000:])
@@ -204,6 +289,9 @@ def in_kakoune():
         same(types, [it[2] for it in FILES], f"what Kakoune takes as Oberon-0: {said}")
         holds("2|error: Undeclared: not declared(col 7)" in text_of(report, "faulty"), "lint: " + text_of(report, "faulty"))
         holds("Undeclared" not in text_of(report, "mended"), "lint: " + text_of(report, "mended"))
+        same(text_of(report, "unsaved"), "", "the type of a new file")
+        same(text_of(report, "saved"), "ob0", "the type of a new file once it is saved")
+        same(text_of(report, "commented"), "MODULE N; END N.\n", "the text after :comment-line")
 
 
 @test("syntax files: settings of Kate, Helix, kak-lsp and VS Code name the server and what is there")

@@ -91,34 +91,58 @@ def sources(names):
     return files
 
 
-def fingerprint():
-    """A sum over the toolchain's identity and all that the program is made of."""
+def sum_of(files):
+    """A sum over files: their paths and their bytes."""
     total = hashlib.sha256()
-    ran = subprocess.run(["rt", "version"], stdout=subprocess.PIPE, stderr=subprocess.DEVNULL, stdin=subprocess.DEVNULL)
-    total.update(ran.stdout)
-    for file in sources(below("ob0")):
+    for file in files:
         total.update(os.path.relpath(file, TOP).encode() + b"\0")
         with open(file, "rb") as it:
             total.update(it.read() + b"\0")
     return total.hexdigest()
 
 
-def is_current():
-    """Whether bin/ob0 was made from what stands here."""
-    if not os.access(BINARY, os.X_OK):
-        return False
+def file_sum(path):
+    with open(path, "rb") as file:
+        return hashlib.sha256(file.read()).hexdigest()
+
+
+def kit():
+    """The toolchain's line, or None where it isn't here."""
+    if not shutil.which("rt"):
+        return None
+    how = {"stdout": subprocess.PIPE, "stderr": subprocess.DEVNULL, "stdin": subprocess.DEVNULL}
+    return subprocess.run(["rt", "version"], check=False, **how).stdout.decode(errors="replace").strip()
+
+
+def stamp():
+    """What bin/ob0.stamp says of bin/ob0: the toolchain that proved it, the sums of its sources and of the program, and the
+    gate's last line where the gate built it."""
     try:
         with open(STAMP, encoding="utf-8") as file:
-            return file.read().strip() == fingerprint()
+            return dict(line.rstrip("\n").split(" ", 1) for line in file if " " in line)
     except OSError:
+        return {}
+
+
+def is_current():
+    """Whether bin/ob0 is the program that was proved and built from the present sources, by the toolchain that is here (by any,
+    where none is here)."""
+    if not os.access(BINARY, os.X_OK):
         return False
+    found, here = stamp(), kit()
+    return (
+        found.get("program") == file_sum(BINARY)
+        and found.get("sources") == sum_of(sources(below("ob0")))
+        and (here is None or found.get("kit") == here)
+    )
 
 
-def keep(linked):
-    """Copies a linked program to bin/ob0."""
+def keep(linked, gate=None):
+    """Copies a linked program to bin/ob0, with a stamp: the gate's last line too, where the gate built it."""
     os.makedirs(os.path.dirname(BINARY), exist_ok=True)
     shutil.copyfile(linked, BINARY + ".new")
     os.chmod(BINARY + ".new", 0o755)
     os.replace(BINARY + ".new", BINARY)
+    lines = {"kit": kit(), "sources": sum_of(sources(below("ob0"))), "program": file_sum(BINARY), "gate": gate}
     with open(STAMP, "w", encoding="utf-8") as file:
-        file.write(fingerprint() + "\n")
+        file.writelines(f"{name} {value}\n" for name, value in lines.items() if value)

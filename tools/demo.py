@@ -159,10 +159,10 @@ def play(server):
 
 
 def main():
-    common.need("rt")
     if common.is_current():
         print("The program is bin/ob0, which is proved.", flush=True)
         return play(Live())
+    common.need("rt")
     print("The program is compiled by `rt try` and NOT PROVED: nothing checks its proofs here. This takes a minute or two.", flush=True)
     status = play(Recorded())
     say("that was the program without its proofs")

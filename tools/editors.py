@@ -27,6 +27,15 @@ def in_emacs(library):
     return lambda: bool(shutil.which("emacs")) and not subprocess.run(words, check=False, **how).returncode
 
 
+def with_gobject():
+    words = ["/usr/bin/python3", "-c", "import gi"]
+    return os.path.exists(words[0]) and not subprocess.run(words, stderr=subprocess.DEVNULL, check=False).returncode
+
+
+def with_gtksourceview():
+    return bool(glob.glob("/usr/lib/*/girepository-1.0/GtkSource-4.typelib"))
+
+
 def folder(pattern):
     return lambda: bool(glob.glob(pattern))
 
@@ -50,6 +59,13 @@ TOOLS = {
     "kate-syntax-highlighter": (here("kate-syntax-highlighter"), "libkf5syntaxhighlighting-tools"),
     "Ruby": (here("ruby"), "ruby"),
     "Node": (here("node"), "nodejs"),
+    "nano": (here("nano"), "nano"),
+    "GtkSourceView": (with_gtksourceview, "gir1.2-gtksource-4"),
+    "PyGObject": (with_gobject, "python3-gi"),
+    "MIME types": (here("update-mime-database"), "shared-mime-info"),
+    "gio": (here("gio"), "libglib2.0-bin"),
+    "lintian": (here("lintian"), "lintian"),
+    "man": (here("man"), "man-db"),
     "cc": (here("cc"), "gcc"),
     "bash": (here("bash"), "bash"),
     "zsh": (here("zsh"), "zsh"),

@@ -58,7 +58,7 @@ def gate(timer):
             os.remove(old)
     counts = stream(["rt", "ci"], timer, **jobs())
     if os.path.isfile(linked):
-        common.keep(linked)
+        common.keep(linked, f"{counts[0]} passed, {counts[1]} failed")
     return counts
 
 

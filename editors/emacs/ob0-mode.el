@@ -75,23 +75,36 @@
   "What is wrong with a file."
   (setq-local compilation-error-regexp-alist '(ob0)))
 
+(defun ob0--program ()
+  "The program, or an error that says how to name another."
+  (or (executable-find ob0-program)
+      (user-error "There is no program %s; the option `ob0-program' names another" ob0-program)))
+
+(defun ob0--saved-file ()
+  "The file of this buffer, with what the buffer has."
+  (let ((file (or (buffer-file-name) (user-error "This buffer has no file: save it first"))))
+    (when (buffer-modified-p) (save-buffer))
+    file))
+
 (defun ob0-check ()
-  "Check the file of this buffer, and list what is wrong with it."
+  "Save the file of this buffer, check it, and list what is wrong with it."
   (interactive)
-  (let ((file (or (buffer-file-name) (user-error "This buffer has no file"))))
+  (let ((program (ob0--program))
+        (file (ob0--saved-file)))
     (with-current-buffer
-        (compilation-start (format "%s check %s" (shell-quote-argument ob0-program) (shell-quote-argument file))
+        (compilation-start (format "%s check %s" (shell-quote-argument program) (shell-quote-argument file))
                            #'ob0-check-mode)
       (setq ob0--checked file))))
 
 (defun ob0-run (numbers)
-  "Run the module of this buffer's file on NUMBERS, and show what it prints."
-  (interactive "sNumbers that it reads: ")
-  (let ((file (or (buffer-file-name) (user-error "This buffer has no file"))))
+  "Save this buffer's file, run its module on NUMBERS, and show what it prints."
+  (interactive "sNumbers that it reads (RET ends them): ")
+  (let ((program (ob0--program))
+        (file (ob0--saved-file)))
     (with-current-buffer (get-buffer-create "*ob0-run*")
       (erase-buffer)
       (insert numbers)
-      (call-process-region (point-min) (point-max) ob0-program t t nil "run" file)
+      (call-process-region (point-min) (point-max) program t t nil "run" file)
       (display-buffer (current-buffer)))))
 
 ;;; Indentation
@@ -113,13 +126,14 @@
            t))))
 
 (defun ob0--inside (stack)
-  "The level of what is inside the innermost block or statement of STACK."
+  "The level of what is inside the innermost block or statement of STACK.
+A record is neither."
   (let ((found (assq-delete-all 'record (copy-alist stack))))
     (if found (1+ (cdar found)) 0)))
 
 (defun ob0--level (start)
   "The level of the line that begins at START."
-  (let ((stack nil) (parens 0) (fresh t) (case-fold-search nil) (next ""))
+  (let ((stack nil) (parens 0) (fresh t) (case-fold-search nil) (next "") (records 0))
     (save-excursion
       (goto-char (point-min))
       (while (and (< (point) start) (re-search-forward ob0--deciding start t))
@@ -140,10 +154,13 @@
       (goto-char start)
       (forward-comment (buffer-size))
       (when (looking-at ob0--deciding) (setq next (match-string 0))))
+    (dolist (it stack) (when (eq (car it) 'record) (setq records (1+ records))))
     (cond ((null stack) 0)
           ((or (and (<= parens 0) (eq (caar stack) 'block) (member next '("CONST" "TYPE" "VAR" "BEGIN")))
                (and (not (eq (caar stack) 'record)) (member next '("END" "ELSIF" "ELSE" "UNTIL"))))
            (cdar stack))
+          ;; (fields are one level further in than the name of their record's declaration, and END is below that name)
+          ((> records 0) (+ (ob0--inside stack) records (if (equal next "END") -1 0)))
           (t (+ (ob0--inside stack) (if (or fresh (equal next "PROCEDURE")) 0 1))))))
 
 (defun ob0-indent-line ()
@@ -160,6 +177,9 @@
 
 ;;; The mode
 
+;; (the server has no index: imenu goes by `imenu-generic-expression', also where eglot 1.9 would ask the server)
+(defvar eglot-stay-out-of)
+
 ;;;###autoload
 (define-derived-mode ob0-mode prog-mode "Oberon-0"
   "Major mode for Oberon-0."
@@ -172,6 +192,7 @@
               indent-tabs-mode nil
               tab-width ob0-indent-offset
               standard-indent ob0-indent-offset
+              eglot-stay-out-of (cons 'imenu (bound-and-true-p eglot-stay-out-of))
               imenu-generic-expression '((nil "^\\s-*PROCEDURE\\s-+\\([A-Za-z][A-Za-z0-9]*\\)" 1))))
 
 (defun ob0-begins-with-module ()
@@ -192,6 +213,18 @@
       (set-auto-mode))))
 
 ;;;###autoload
+(defun ob0-maybe-mode-once-saved ()
+  "Take `ob0-mode' for a file that is looked into and begins with MODULE now.
+A new file has no first word when it is opened."
+  (when (and buffer-file-name
+             (not (derived-mode-p 'ob0-mode))
+             (let ((case-fold-search nil)) (string-match-p "\\.[Mm]od\\'" buffer-file-name))
+             (ob0-begins-with-module))
+    (ob0-mode)))
+
+;;;###autoload
+(add-hook 'after-save-hook #'ob0-maybe-mode-once-saved)
+;;;###autoload
 (add-to-list 'auto-mode-alist '("\\.ob0\\'" . ob0-mode))
 ;;;###autoload
 (add-to-list 'auto-mode-alist '("\\.[Mm]od\\'" . ob0-maybe-mode))
@@ -201,7 +234,7 @@
 (defvar eglot-server-programs)
 (with-eval-after-load 'eglot
   (add-to-list 'eglot-server-programs
-               (cons 'ob0-mode (lambda (&rest _) (list ob0-program "serve")))))
+               (cons 'ob0-mode (lambda (&rest _) (list (ob0--program) "serve")))))
 
 (defvar lsp-language-id-configuration)
 (defvar lsp--formatting-indent-alist)
@@ -213,7 +246,8 @@
   ;; (the width of a level that lsp-mode sends when it asks for a layout)
   (add-to-list 'lsp--formatting-indent-alist '(ob0-mode . ob0-indent-offset))
   (lsp-register-client
-   (make-lsp-client :new-connection (lsp-stdio-connection (lambda () (list ob0-program "serve")))
+   (make-lsp-client :new-connection (lsp-stdio-connection (lambda () (list ob0-program "serve"))
+                                                          (lambda () (executable-find ob0-program)))
                     :major-modes '(ob0-mode)
                     :server-id 'ob0)))
 

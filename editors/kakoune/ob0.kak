@@ -2,16 +2,21 @@
 declare-option -docstring 'the program ob0: its name, or the path of its file' str ob0_program ob0
 
 hook global BufCreate .*\.ob0 %{ set-option buffer filetype ob0 }
-# (the endings .mod and .Mod belong to others too: such a file is taken only if its first word is MODULE, behind comments)
-hook global BufCreate .*\.(mod|Mod) %{ try %{
+# (the endings .mod and .Mod belong to others too: such a file is taken only if its first word is MODULE, after comments; a new
+# file has no first word yet, so it is looked at when it is saved too)
+define-command -hidden ob0-detect %{ try %{
     evaluate-commands -draft %{
         execute-keys '%s\A(?:\s|\(\*(?:.|\n)*?\*\)|\*\))*MODULE\s+[A-Za-z]<ret>'
         set-option buffer filetype ob0
     }
 } }
+hook global BufCreate .*\.(mod|Mod) ob0-detect
+hook global BufWritePost .*\.(mod|Mod) %{ evaluate-commands %sh{ [ "$kak_opt_filetype" = ob0 ] || echo ob0-detect } }
 
 hook global WinSetOption filetype=ob0 %{
     require-module ob0
+    # (there is no comment that ends with its line)
+    set-option window comment_line ''
     set-option window comment_block_begin '(*'
     set-option window comment_block_end '*)'
     set-option window indentwidth 2

@@ -104,6 +104,10 @@
     (xref-find-definitions "LSP identifier at point.")
     (ob0-tell "jumped" (vector (1- (line-number-at-pos)) (current-column)))))
 
+(defun ob0-index ()
+  "The index of procedures, while the server runs."
+  (ob0-tell "index" (vconcat (mapcar #'car (imenu--make-index-alist t)))))
+
 (defun ob0-text ()
   "The text of the buffer."
   (buffer-substring-no-properties (point-min) (point-max)))

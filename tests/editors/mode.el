@@ -1,5 +1,5 @@
 ;;; Tests of ob0-mode without a server.  -*- lexical-binding: t -*-
-;; OB0_FILES, OB0_EXAMPLES: what is looked at, as JSON.
+;; OB0_FILES, OB0_EXAMPLES, OB0_RECORD: what is looked at, as JSON.
 (require 'ert)
 (require 'imenu)
 (require 'json)
@@ -47,6 +47,20 @@
         (let ((inhibit-message t)) (indent-region (point-min) (point-max)))
         (should (equal (buffer-string) text))))))
 
+(ert-deftest indents-records ()
+  (let ((text (given "OB0_RECORD")))
+    (with-text text
+      (while (not (eobp)) (delete-horizontal-space) (forward-line))
+      (let ((inhibit-message t)) (indent-region (point-min) (point-max)))
+      (should (equal (buffer-string) text)))))
+
+(ert-deftest new-file ()
+  (with-current-buffer (find-file-noselect (expand-file-name "new.mod" (make-temp-file "n" t)))
+    (should-not (derived-mode-p 'ob0-mode))
+    (insert "MODULE N; END N.\n")
+    (let ((inhibit-message t)) (save-buffer))
+    (should (derived-mode-p 'ob0-mode))))
+
 (ert-deftest comments ()
   (with-text "x := 1"
     (comment-region (point-min) (point-max))
@@ -74,4 +88,19 @@
   (let ((file (make-temp-file "r" nil ".mod" "MODULE M; VAR x: INTEGER; BEGIN Read(x); Write(x + x) END M.\n")))
     (with-current-buffer (find-file-noselect file)
       (save-window-excursion (ob0-run "21"))
-      (with-current-buffer "*ob0-run*" (should (equal (buffer-string) " 42"))))))
+      (with-current-buffer "*ob0-run*" (should (equal (buffer-string) " 42")))
+      ;; (what runs is what the buffer has, saved or not)
+      (goto-char (point-min))
+      (search-forward "x + x")
+      (replace-match "x + 1")
+      (let ((inhibit-message t)) (save-window-excursion (ob0-run "21")))
+      (with-current-buffer "*ob0-run*" (should (equal (buffer-string) " 22"))))))
+
+(ert-deftest no-program ()
+  (with-temp-buffer
+    (ob0-mode)
+    (setq buffer-file-name "/tmp/m.mod")
+    (let* ((ob0-program "no-such-program")
+           (said (list (should-error (ob0-run "") :type 'user-error) (should-error (ob0-check) :type 'user-error))))
+      (setq buffer-file-name nil)
+      (dolist (it said) (should (string-match-p "no program no-such-program" (cadr it)))))))

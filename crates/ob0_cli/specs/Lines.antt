@@ -1,7 +1,7 @@
 -- The command line of `ob0`, as clap's definition of a simple command sees it.
 use Rattle.std.specs.Prelude.{[], ◌∷◌, pos, true, Some, codes}
 use Rattle.clap.specs.Words.{App, Rule, Text, new_app, new_rule, with_rule, with_subcommand}
-use Rattle.clap.specs.declared.builder.ArgAction.TheVariants.{Set}
+use Rattle.clap.specs.declared.builder.ArgAction.TheVariants.{Set, SetTrue}
 use Rattle.clap.specs.declared.builder.value_parser.ValueParser.TheVariants.{Signed, Unsigned}
 
 -- a word that must stand there; help has a name for its value, as for each value
@@ -30,9 +30,21 @@ turns_rule = record (new_rule (codes "turns")) {
   defaults = codes "100000" ∷ [];
 }
 
--- `serve` takes no words
+-- LSP 3.17, implementation considerations: the transport, which is standard input and output in any case
+abbrev pub stdio_rule : Rule
+stdio_rule = record (new_rule (codes "stdio")) { long = Some (codes "stdio"); action = Some SetTrue }
+
+-- the same section: the process of the client. Any word is taken, and nothing depends on it
+abbrev pub client_rule : Rule
+client_rule = record (new_rule (codes "client")) { long = Some (codes "clientProcessId"); value_names = 1 }
+
+-- each option of `serve` may be given several times, since clients add them to what their users wrote
+abbrev pub serve_alone : App
+serve_alone = record (new_app (codes "serve")) { top = record (new_app (codes "serve")).top { args_override_self = true } }
+
+-- `serve` takes no words but these options
 abbrev pub serve : App
-serve = new_app (codes "serve")
+serve = with_rule (with_rule serve_alone stdio_rule) client_rule
 
 abbrev pub check : App
 check = with_rule (new_app (codes "check")) (word_rule (codes "file"))

@@ -3,7 +3,7 @@
 ghost use Rattle.std.specs.Prelude.{◌≡◌, ◌≤◌, Some, false, IfOk, IfErr, codes, map};
 ghost use Rattle.clap.specs.Words.{app_of, first_of, found_of, new_app, rows_of, rule_of, subcommand_rows_of};
 ghost use Rattle.ob0_cli.specs.Given.{Gives, HasNeeded, HasBounded, HasPlace, HasText, HoldsValues, IsNumber, IsReadFrom, NeedsAt, Refuses, most_of};
-ghost use Rattle.ob0_cli.specs.Lines.{ob0_alone, ob0_app, calls_rule, check as check_lines, number_rule, rename as rename_lines, run as run_lines, turns_rule, word_rule};
+ghost use Rattle.ob0_cli.specs.Lines.{client_rule, ob0_alone, ob0_app, calls_rule, check as check_lines, number_rule, rename as rename_lines, run as run_lines, serve as serve_lines, serve_alone as serve_lines_alone, stdio_rule, turns_rule, word_rule};
 
 use clap::error::ErrorKind;
 use clap::{Arg, ArgAction, ArgMatches, Command, Error, value_parser};
@@ -12,11 +12,8 @@ use std::alloc::{AllocError, Global};
 
 const VERSION: &str = "0.1.0";
 
-/// What stands below each help.
-const NOTES: &str = "\
-Lines and columns count from 0, columns in UTF-16 units.
-Where its client offers UTF-8, serve counts columns in bytes of it.
-
+/// The statuses of all commands, after the program's own help.
+const STATUSES: &str = "\
 Exit status:
   0  all went well
   1  the module is wrong, its run ends with a fault or the edit is refused;
@@ -25,6 +22,72 @@ Exit status:
   3  of serve: the stream of messages is damaged
   4  something can't be read or written, a file isn't UTF-8,
      or the input of run is no list of numbers
+  5  out of memory
+
+`ob0 help COMMAND` says what a command reads and prints.";
+
+const SERVE_NOTES: &str = "\
+An editor starts this. Columns are counted in UTF-16 units, or in bytes of UTF-8
+where the client offers that. A fault is printed to standard error as
+`fault: NAME`.
+
+Exit status:
+  0  the client sent exit after shutdown
+  1  exit without shutdown, or the input ends between messages
+  2  the command line is refused
+  3  the stream of messages is damaged
+  4  a message can't be read or written
+  5  out of memory";
+
+const CHECK_NOTES: &str = "\
+A line `LINE:COLUMN: CODE: MESSAGE` is printed for each of at most 100 faults,
+and nothing for a correct module. Lines and columns count from 0, columns in
+UTF-16 units; the lines and columns that an editor shows count from 1.
+
+Exit status:
+  0  the module is correct
+  1  it has faults
+  2  the command line is refused
+  4  the file can't be read or isn't UTF-8, or the output can't be written
+  5  out of memory";
+
+const RUN_NOTES: &str = "\
+The numbers are read first, to the end of standard input, and then the module
+runs, also one that reads none. They are whole numbers from -2147483648 to
+2147483647 between spaces or line ends. In a terminal Ctrl-D at the start of a
+line ends them; `< /dev/null` gives none, `< FILE` gives those of a file.
+A module with faults isn't run: they are printed as `ob0 check` prints them.
+
+A run ends in one of seven ways. Done, the end of the module's body, prints
+nothing; the others print `fault: END` to standard error:
+  Overflow   a result is below -2147483648 or above 2147483647
+  Divisor    DIV or MOD by a number below 1
+  Index      an index is outside its array
+  InputEnd   Read comes after the last number
+  CallBound  one call more is open than --calls allows
+  TurnBound  a loop goes on after as many iterations as --turns allows
+
+Exit status:
+  0  the run ended with Done
+  1  it ended in another way, or the module has faults
+  2  the command line is refused
+  4  `fault: Input`: the input can't be read or is no list of numbers;
+     the file can't be read or isn't UTF-8, or the output can't be written
+  5  out of memory";
+
+const RENAME_NOTES: &str = "\
+LINE and COLUMN are a place in the name or at its end. They count from 0, COLUMN
+in UTF-16 units; the lines and columns that an editor shows count from 1.
+The new text is printed, and the file stays as it is (so don't print into that
+file: a shell empties it first). A name that would change what the module does
+is refused, with `refused: REASON` on standard error. In a module with faults
+nothing is renamed: they are printed as `ob0 check` prints them.
+
+Exit status:
+  0  the new text was printed
+  1  the edit is refused, or the module has faults
+  2  the command line is refused
+  4  the file can't be read or isn't UTF-8, or the output can't be written
   5  out of memory";
 
 /// What a command line asks for.
@@ -154,11 +217,7 @@ fn definition<'a>(alloc: Global) -> Result<Command<'a>, AllocError>
     ensures { IfOk result (λ c. app_of c ≡ ob0_app) }
 {
     let alone = program(alloc);
-    let serve = bare(
-        alloc,
-        "serve",
-        "Serves one conversation over standard input and output",
-    );
+    let serve = serve_definition(alloc)?;
     let with_serve = alone.subcommand(serve)?;
     let check = check_definition(alloc)?;
     let with_check = with_serve.subcommand(check)?;
@@ -172,23 +231,73 @@ fn definition<'a>(alloc: Global) -> Result<Command<'a>, AllocError>
 fn program<'a>(alloc: Global) -> Command<'a>
     ensures { app_of result ≡ ob0_alone }
 {
-    bare(alloc, "ob0", "A language server for Oberon-0")
+    bare(alloc, "ob0", "A language server for Oberon-0", STATUSES)
         .version(VERSION)
         .subcommand_required(true)
 }
 
-/// A command that takes no words yet, and what help says of it.
-fn bare<'a>(alloc: Global, name: &'a str, about: &'a str) -> Command<'a>
+/// A command that takes no words yet, and what help says of it, before and after its words.
+fn bare<'a>(alloc: Global, name: &'a str, about: &'a str, notes: &'a str) -> Command<'a>
     ensures { app_of result ≡ new_app name.entry.now }
 {
-    Command::new(alloc, name).about(about).after_help(NOTES)
+    Command::new(alloc, name).about(about).after_help(notes)
+}
+
+/// `serve` takes the options that LSP 3.17 recommends, and none of them changes what it does.
+fn serve_definition<'a>(alloc: Global) -> Result<Command<'a>, AllocError>
+    ensures { IfOk result (λ c. app_of c ≡ serve_lines) }
+{
+    let alone = serve_alone(alloc);
+    let stdio = stdio_argument(alloc);
+    let with_stdio = alone.arg(stdio)?;
+    let client = client_argument(alloc);
+    with_stdio.arg(client)
+}
+
+/// `serve`, as yet without its options, each of which may be given several times.
+fn serve_alone<'a>(alloc: Global) -> Command<'a>
+    ensures { app_of result ≡ serve_lines_alone }
+{
+    bare(
+        alloc,
+        "serve",
+        "Serve one conversation with an editor over standard input and output",
+        SERVE_NOTES,
+    )
+    .args_override_self(true)
+}
+
+fn stdio_argument<'a>(alloc: Global) -> Arg<'a>
+    ensures rule { rule_of result ≡ stdio_rule }
+    ensures own { result.global ≡ false }
+{
+    Arg::new(alloc, "stdio")
+        .long("stdio")
+        .action(ArgAction::SetTrue)
+        .help("Changes nothing: serve always uses standard input and output")
+}
+
+fn client_argument<'a>(alloc: Global) -> Arg<'a>
+    ensures rule { rule_of result ≡ client_rule }
+    ensures own { result.global ≡ false }
+{
+    Arg::new(alloc, "client")
+        .long("clientProcessId")
+        .value_name("N")
+        .help("Changes nothing: the client's process isn't watched")
 }
 
 fn check_definition<'a>(alloc: Global) -> Result<Command<'a>, AllocError>
     ensures { IfOk result (λ c. app_of c ≡ check_lines) }
 {
     let file = word(alloc, "file", "FILE", "The file with the module");
-    bare(alloc, "check", "Prints what is wrong with a module").arg(file)
+    bare(
+        alloc,
+        "check",
+        "Print what is wrong with a module",
+        CHECK_NOTES,
+    )
+    .arg(file)
 }
 
 fn run_definition<'a>(alloc: Global) -> Result<Command<'a>, AllocError>
@@ -198,7 +307,8 @@ fn run_definition<'a>(alloc: Global) -> Result<Command<'a>, AllocError>
     let alone = bare(
         alloc,
         "run",
-        "Runs a module on the numbers of standard input",
+        "Run a module on the numbers of standard input",
+        RUN_NOTES,
     );
     let with_file = alone.arg(file)?;
     let calls = calls_argument(alloc);
@@ -214,7 +324,8 @@ fn rename_definition<'a>(alloc: Global) -> Result<Command<'a>, AllocError>
     let alone = bare(
         alloc,
         "rename",
-        "Prints a module with another name for one of its names",
+        "Print a module with another name for one of its names",
+        RENAME_NOTES,
     );
     let with_file = alone.arg(file)?;
     let line = number(
@@ -276,5 +387,5 @@ fn turns_argument<'a>(alloc: Global) -> Arg<'a>
         .value_parser(value_parser!(u32).range(0..100001))
         .default_value("100000")
         .value_name("N")
-        .help("How many turns a loop may make, 0 to 100000")
+        .help("How many iterations a loop may make, 0 to 100000")
 }

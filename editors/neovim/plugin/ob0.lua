@@ -7,8 +7,16 @@ if vim.lsp.enable then -- Neovim 0.11 and later: by lsp/ob0.lua
 end
 
 local running = nil -- the client's number, for Neovim 0.7, which has no vim.lsp.start
+local warned = false
 
 local function attach(buffer)
+  if vim.fn.executable(program) == 0 then
+    if not warned then
+      vim.notify("There is no program " .. program .. "; vim.g.ob0_program names another", vim.log.levels.WARN)
+      warned = true
+    end
+    return
+  end
   local file = vim.api.nvim_buf_get_name(buffer)
   local settings = {
     name = "ob0",
@@ -23,7 +31,9 @@ local function attach(buffer)
     return
   end
   running = running or vim.lsp.start_client(settings)
-  vim.lsp.buf_attach_client(buffer, running)
+  if running then
+    vim.lsp.buf_attach_client(buffer, running)
+  end
 end
 
 vim.api.nvim_create_autocmd("FileType", {

@@ -1,5 +1,6 @@
 " Oberon-0. The endings .mod and .Mod belong to others too, so such a file is taken only if its first word is MODULE;
 " let g:ob0_mod = 0 leaves them alone. Vim's own rule for them uses setf, which keeps an earlier choice: hence setlocal.
+" A new file has no first word yet, so it is looked at when it is saved too.
 function! s:BeginsWithModule() abort
   let l:text = join(getline(1, 100), "\n")
   let l:at = 0
@@ -23,5 +24,5 @@ endfunction
 
 augroup filetypedetect
   autocmd BufNewFile,BufRead *.ob0 setlocal filetype=ob0
-  autocmd BufNewFile,BufRead *.mod,*.Mod if get(g:, 'ob0_mod', 1) && s:BeginsWithModule() | setlocal filetype=ob0 | endif
+  autocmd BufNewFile,BufRead,BufWritePost *.mod,*.Mod if &filetype !=# 'ob0' && get(g:, 'ob0_mod', 1) && s:BeginsWithModule() | setlocal filetype=ob0 | endif
 augroup END

@@ -4,20 +4,35 @@ let b:did_ftplugin = 1
 
 setlocal commentstring=(*\ %s\ *) comments=s1:(*,mb:*,ex:*) iskeyword=a-z,A-Z,48-57 suffixesadd=.ob0,.mod,.Mod
 setlocal expandtab shiftwidth=2 softtabstop=2
-let b:match_words = '\<\%(PROCEDURE\|IF\|WHILE\|RECORD\)\>:\<\%(BEGIN\|THEN\|ELSIF\|ELSE\|DO\)\>:\<END\>,\<REPEAT\>:\<UNTIL\>'
+let b:match_words = '\<\%(MODULE\|PROCEDURE\|IF\|WHILE\|RECORD\)\>:\<\%(BEGIN\|THEN\|ELSIF\|ELSE\|DO\)\>:\<END\>,\<REPEAT\>:\<UNTIL\>'
 compiler ob0
 
-" :Ob0Run [FILE] runs the module in a terminal, where its numbers can be typed (Ctrl-D ends them), or on a file of numbers
+" :Ob0Run [FILE] saves the buffer and runs its module: in a terminal, where its numbers can be typed (Ctrl-D at the start of a
+" line ends them), or on a file of numbers
 function! s:Run(input) abort
-  let l:words = [get(g:, 'ob0_program', 'ob0'), 'run', expand('%:p')]
+  let l:program = get(g:, 'ob0_program', 'ob0')
+  if !executable(l:program)
+    echohl ErrorMsg | echomsg 'There is no program ' . l:program . '; g:ob0_program names another' | echohl None
+    return
+  endif
+  if expand('%') ==# ''
+    echohl ErrorMsg | echomsg 'This buffer has no file: save it first' | echohl None
+    return
+  endif
+  silent update
+  let l:words = [l:program, 'run', expand('%:p')]
   if a:input !=# ''
     echo system(join(map(l:words, 'shellescape(v:val)')) . ' < ' . shellescape(a:input))
-  elseif has('nvim')
+    return
+  endif
+  if has('nvim')
     new
     call termopen(l:words)
+    startinsert
   else
     call term_start(l:words)
   endif
+  echo 'Type numbers; Ctrl-D at the start of a line ends them'
 endfunction
 command! -buffer -nargs=? -complete=file Ob0Run call s:Run(<q-args>)
 

@@ -25,7 +25,7 @@ function! s:Tokens(text) abort
   endwhile
 endfunction
 
-" The level of what is inside the innermost block or statement.
+" The level of what is inside the innermost block or statement; a record is neither.
 function! s:Inside(stack) abort
   for l:it in reverse(copy(a:stack))
     if l:it[0] !=# 'record' | return l:it[1] + 1 | endif
@@ -59,9 +59,13 @@ function! Ob0Indent() abort
   if empty(l:stack) | return 0 | endif
   let l:next = get(s:Tokens(join(getline(v:lnum, v:lnum + 50), "\n")), 0, '')
   let l:top = l:stack[-1]
+  let l:records = len(filter(copy(l:stack), 'v:val[0] ==# "record"'))
   if l:parens <= 0 && l:top[0] ==# 'block' && l:next =~# '^\%(CONST\|TYPE\|VAR\|BEGIN\)$'
         \ || l:top[0] !=# 'record' && l:next =~# '^\%(END\|ELSIF\|ELSE\|UNTIL\)$'
     let l:level = l:top[1]
+  elseif l:records
+    " (fields are one level further in than the name of their record's declaration, and END is below that name)
+    let l:level = s:Inside(l:stack) + l:records - (l:next ==# 'END' ? 1 : 0)
   else
     let l:level = s:Inside(l:stack) + (l:fresh || l:next ==# 'PROCEDURE' ? 0 : 1)
   endif

@@ -7,7 +7,7 @@ use Rattle.ob0_cli.proofs.line.definition.Goals as goal
 
 pub returns : goal.returns
 returns c =
-    let serve_is : app_of c.bare-serve.result ≡ lines.serve = c.bare-serve.ensures in
+    let serve_is : app_of c.in_ok-serve.serve ≡ lines.serve = c.in_ok-serve.ensures in
     let alone_is : app_of c.program-alone.result ≡ lines.ob0_alone = c.program-alone.ensures in
     let check_is : app_of c.in_ok-check.check ≡ lines.check = c.in_ok-check.ensures in
     let run_is : app_of c.in_ok-run.run' ≡ lines.run = c.in_ok-run.ensures in

@@ -1,0 +1,235 @@
+"""docs/MESSAGES.md: each row is what the program says."""
+import os
+import re
+import subprocess
+import tempfile
+
+import harness
+from harness import (
+    EXIT,
+    SHUTDOWN,
+    Server,
+    did_open,
+    ends,
+    holds,
+    initialize,
+    notice,
+    on_file,
+    place,
+    request,
+    run,
+    same,
+    serve,
+    test,
+)
+from snippets import FENCED
+from test_syntax_files import text_of
+
+PAGE = text_of("docs", "MESSAGES.md")
+CODE = re.compile(r"`([^`]*)`")
+DEEP = "x := " + "(" * 101 + "1" + ")" * 101
+LONGEST = 1048576
+
+
+def section(title):
+    """The part of the page under a heading, up to the next one of its level or above."""
+    level = re.search(rf"^(#+) {re.escape(title)}$", PAGE, re.M)
+    holds(level, f"the page has no section {title}")
+    rest = PAGE[level.end() :]
+    return re.split(rf"^#{{1,{len(level[1])}}} ", rest, maxsplit=1, flags=re.M)[0]
+
+
+def rows(title):
+    """The cells of the rows of a section's table, without its head."""
+    lines = [it for it in section(title).splitlines() if it.startswith("|")][2:]
+    return [[cell.strip().replace(r"\|", "|") for cell in re.split(r"(?<!\\)\|", it)[1:-1]] for it in lines]
+
+
+def module_of(title):
+    """The module of a section."""
+    return FENCED.search(section(title))[2]
+
+
+STATEMENTS, DECLARATIONS = module_of("Statements"), module_of("Declarations")
+
+
+def filled(module, snippet):
+    return module.replace("...", snippet.replace(" ⏎ ", "\n  "))
+
+
+def reported(text):
+    """What `check` reports of a text: codes, messages and what is at their places."""
+    found = on_file("check", text)
+    lines, said = text.split("\n"), []
+    for it in found.out.decode().splitlines():
+        line, column, rest = it.split(":", 2)
+        code, _, message = rest.strip().partition(": ")
+        said.append((code, message, lines[int(line)][int(column) :]))
+    return said
+
+
+def first(snippet, module):
+    """What is reported first of a snippet in a module."""
+    text = filled(module, snippet) if module else snippet
+    return (reported(text) or [("", "nothing", "")])[0]
+
+
+def mistakes(title, module):
+    wanted = [(CODE.fullmatch(written)[1], *CODE.findall(what)) for written, what, _ in rows(title)]
+    for (snippet, message, at), (_, said, rest) in zip(wanted, [first(it[0], module) for it in wanted]):
+        same((said, rest[: len(at)]), (message, at), f"what is reported of {snippet}")
+
+
+@test("messages: what beginners write in statements, declarations and whole texts is reported as the page says")
+def beginners():
+    mistakes("Statements", STATEMENTS)
+    mistakes("Declarations", DECLARATIONS)
+    mistakes("Whole texts", None)
+    for module, snippet in ((STATEMENTS, "x := 1"), (DECLARATIONS, "VAR x: INTEGER;")):
+        same(reported(filled(module, snippet)), [], "what is reported of a module without a mistake")
+    same(first("\ufeffMODULE M; END M.", None)[:2], ("BadChar", "bad character"), "a byte order mark")
+
+
+@test("messages: each diagnostic is on the page, with its message and an example")
+def diagnostics():
+    listed = rows("Diagnostics")
+    same(sorted(CODE.fullmatch(it[0])[1] for it in listed), sorted([*harness.MESSAGES, "Syntax"]), "the codes")
+    others = {"TooLong": "x".ljust(LONGEST + 1), "TooDeep": filled(STATEMENTS, DEEP)}
+    for code, message, _, example, at in listed:
+        name, said = CODE.fullmatch(code)[1], CODE.fullmatch(message)[1]
+        if name in others:
+            same(first(others[name], None)[:2], (name, said), name)
+            continue
+        snippet = CODE.fullmatch(example)[1]
+        module = DECLARATIONS if re.match("(CONST|TYPE|VAR|PROCEDURE)", snippet) else STATEMENTS
+        found, where = first(snippet, module), CODE.fullmatch(at)[1]
+        same((found[0], found[1], found[2][: len(where)]), (name, said, where), f"what is reported of {snippet}")
+
+
+@test("messages: each end of a run is on the page, with an example")
+def run_ends():
+    names = []
+    for end, _, _, body, numbers in rows("Ends of a run"):
+        name = CODE.fullmatch(end)[1]
+        names.append(name)
+        text = filled(STATEMENTS, CODE.fullmatch(body)[1]) if body.startswith("`") else "MODULE M; PROCEDURE P; BEGIN P END P; BEGIN P END M."
+        given = CODE.fullmatch(numbers)[1].encode() if numbers else b""
+        ends(on_file("run", text, given=given), "", 0 if name == "Done" else 1, "" if name == "Done" else f"fault: {name}\n")
+    listed = re.findall(r"^\| (\w+) \|", text_of("docs", "LANGUAGE.md").partition("| End | Because |")[2].partition("\n\n")[0], re.M)
+    same(names, [it for it in listed if it != "End"], "the ends")
+    said = run(["help", "run"]).out.decode()
+    holds(all(it in said for it in names), f"`ob0 help run` has all of {names}")
+
+
+TITLES = ["Inline here", "Inline everywhere"]
+
+
+def offered(text, at):
+    """The code actions that are offered at a place."""
+    with Server(capabilities={"textDocument": {"codeAction": {"codeActionLiteralSupport": {}}}}) as server:
+        same(server.tell(did_open(text)), [], "the diagnostics")
+        params = {"textDocument": {"uri": "file:///m"}, "range": {"start": at, "end": at}, "context": {"diagnostics": []}}
+        return [it["title"] for it in server.ask("textDocument/codeAction", params)["result"]]
+
+
+def refused_inlinings():
+    """What isn't offered for the reasons that an inlining alone can have."""
+    deep = "MODULE M;\nCONST c = -1;\nBEGIN Write(" + "(" * 100 + "c" + ")" * 100 + ") END M.\n"
+    same(offered(deep, place(2, 112)), [], "an inlining that nests too deep")
+    shadowed = "MODULE M;\nCONST c = TRUE;\nPROCEDURE P;\nVAR TRUE: BOOLEAN;\nBEGIN TRUE := c\nEND P;\nEND M.\n"
+    same(offered(shadowed, place(4, 14)), [], "an inlining of TRUE where that is a variable")
+    inside = "MODULE M;\nCONST c (* one *) = 1;\nBEGIN Write(c) END M.\n"
+    same(offered(inside, place(2, 12)), TITLES[:1], "an inlining of a declaration with a comment")
+
+
+@test("messages: each refusal is on the page, with an example")
+def refusals():
+    title = "Refusals of a rename or an inlining"
+    module, listed = module_of(title), rows(title)
+    defined = re.findall(r"^\| `(\w+)", text_of("docs", "PROTOCOL.md").partition("## Refusals of edits")[2].partition("\n## ")[0], re.M)
+    same([CODE.fullmatch(it[0])[1].split()[0] for it in listed], defined, "the refusals")
+    for reason, _, example in listed:
+        if example.startswith("`"):
+            words = CODE.fullmatch(example)[1].split()
+            same(words[:3], ["ob0", "rename", "m.mod"], "the command")
+            ends(on_file("rename", module, *words[3:]), "", 1, f"refused: {CODE.fullmatch(reason)[1]}\n")
+    longest = module.replace("END M.", "END M." + " " * (LONGEST - len(module)))
+    ends(on_file("rename", longest, "2", "4", "longer"), "", 1, "refused: TooLong\n")
+    refused_inlinings()
+
+
+def faults_of_files():
+    """The faults of the commands on files, each as it is had."""
+    good = "MODULE M; VAR x: INTEGER; BEGIN Read(x); Write(x) END M.\n"
+    yield "File", run(["check", "/nowhere/m.mod"])
+    yield "Utf8", on_file("check", good.encode("utf-16"))
+    for given in (b"a", b"1.5", b"1,2", b"+1", b"2147483648", b"1".ljust(16777217)):
+        yield "Input", on_file("run", good, given=given)
+    with tempfile.TemporaryDirectory() as room, open("/dev/full", "wb") as device:
+        file = os.path.join(room, "m.mod")
+        with open(file, "w", encoding="utf-8") as it:
+            it.write("MODULE M; BEGIN WriteLn END M.")
+        yield "Write", run_into(device, ["run", file])
+    yield "BadHead", serve(b"hello\n\n")
+    yield "Truncated", serve(b"Content-Length: 10\r\n\r\n{")
+
+
+def run_into(device, words):
+    """A run of the program whose standard output is this device."""
+    how = {"stdin": subprocess.DEVNULL, "stdout": device, "stderr": subprocess.PIPE}
+    ran = subprocess.run([harness.BINARY, *words], timeout=harness.SECONDS, check=False, **how)
+    return harness.Ended(b"", ran.stderr, ran.returncode)
+
+
+@test("messages: each fault of the program is on the page, with its status")
+def faults():
+    listed = {CODE.fullmatch(name)[1]: int(status) for name, status, _ in rows("Faults of the program")}
+    # (a read that fails, one of 2^40 reads and a machine without memory are for the tests of devices)
+    same(sorted(listed), sorted("File Utf8 Input Write Read BadHead Truncated TooManyReads Memory".split()), "the faults")
+    for name, found in faults_of_files():
+        same((found.err, found.status), (f"fault: {name}\n".encode(), listed[name]), name)
+    page = text_of("docs", "PROTOCOL.md").partition("## The program")[2]
+    for it in listed:
+        holds(f"`{it}`" in page, f"docs/PROTOCOL.md has no fault {it}")
+    found = run(["chekc"])
+    same((found.err[:6], found.status), (b"error:", 2), "a command line that is refused")
+
+
+FAULTY = "MODULE M; BEGIN x := 1 END M."
+ASKED = {"textDocument": {"uri": "file:///m"}, "position": place(0, 7)}
+
+
+def conversations():
+    """A conversation for each error of the protocol, and the one that is to come in it."""
+    hover = request(2, "textDocument/hover", ASKED)
+    opened = [initialize(), did_open(FAULTY)]
+    yield "ill-typed", [*opened, request(2, "textDocument/rename", {**ASKED, "newName": "N"})]
+    yield "unopened", [initialize(), hover]
+    changed = notice("textDocument/didChange", {"textDocument": {"uri": "file:///m", "version": 2}, "contentChanges": 1})
+    yield "out of step", [*opened, changed, hover]
+    yield "unknown method", [initialize(), request(2, "textDocument/completion", ASKED)]
+    yield "bad params", [initialize(), request(2, "textDocument/hover", {})]
+    yield "not initialized", [hover]
+    yield "already initialized", [initialize(), initialize(2)]
+    yield "shut down", [initialize(), {**SHUTDOWN, "id": 9}, hover]
+    yield "not JSON", [initialize(), "{"]
+    yield "not a message", [initialize(), "[]"]
+
+
+@test("messages: each error of the protocol is on the page, with its code")
+def protocol():
+    listed = {CODE.fullmatch(message)[1]: int(code) for message, code, _ in rows("Messages in an editor")}
+    talks = dict(conversations())
+    same(list(listed), list(talks), "the messages")
+    for message, said in talks.items():
+        found = [it for it in serve([*said, EXIT]).contents() if '"error"' in it]
+        same(len(found), 1, f"errors of {message}")
+        holds(f'"error":{{"code":{listed[message]},"message":"{message}"}}' in found[0], f"{message}: {found[0]}")
+
+
+@test("messages: the manual page has each code, end, refusal and fault")
+def manual():
+    page = re.sub(r"\\f.", "", text_of("share", "ob0.1").replace("\\-", "-"))
+    names = [*harness.MESSAGES, "Syntax", *(CODE.match(it[0])[1].split()[0] for title in ("Ends of a run", "Refusals of a rename or an inlining", "Faults of the program") for it in rows(title))]
+    for it in names:
+        holds(re.search(rf"\b{it}\b", page), f"the manual page has no {it}")
