@@ -21,9 +21,9 @@ from harness import (
     same,
     serve,
     test,
+    text_of,
 )
 from snippets import FENCED
-from test_syntax_files import text_of
 
 PAGE = text_of("docs", "MESSAGES.md")
 CODE = re.compile(r"`([^`]*)`")
