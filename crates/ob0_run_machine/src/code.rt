@@ -37,6 +37,7 @@ pub struct Element {
     pub stride: usize,
 }
 
+/// An expression whose value is a number of 32 bits.
 #[cycle(numbers)]
 #[derive(Drop)]
 pub enum Number {
@@ -48,6 +49,7 @@ pub enum Number {
     Chain(Box<Chain>),
 }
 
+/// The two operands of an operator or a relation.
 #[cycle(numbers)]
 #[derive(Drop)]
 pub struct Operands {
@@ -55,6 +57,7 @@ pub struct Operands {
     pub right: Number,
 }
 
+/// A first operand, and operators with theirs, from left to right.
 #[cycle(numbers)]
 #[derive(Drop)]
 pub struct Chain {
@@ -81,6 +84,7 @@ pub enum Relation {
     GreaterEqual,
 }
 
+/// An expression whose value is a truth value.
 #[cycle(truths)]
 #[derive(Drop)]
 pub enum Truth {
@@ -98,6 +102,7 @@ pub enum Truth {
     Different(Box<Truths>),
 }
 
+/// Two truth values that are compared or joined.
 #[cycle(truths)]
 #[derive(Drop)]
 pub struct Truths {
@@ -105,6 +110,7 @@ pub struct Truths {
     pub right: Truth,
 }
 
+/// Many truth values in a row, from left to right.
 #[cycle(truths)]
 #[derive(Drop)]
 pub struct Several {
@@ -122,6 +128,7 @@ pub enum Argument {
     Block(Place, usize),
 }
 
+/// A statement. An empty statement has no code.
 #[cycle(statements)]
 #[derive(Drop)]
 pub enum Statement {
@@ -146,6 +153,7 @@ pub struct If {
     pub otherwise: Vec<Statement>,
 }
 
+/// A condition, and the statements that are run where it is TRUE.
 #[cycle(statements)]
 #[derive(Drop)]
 pub struct Branch {
@@ -153,6 +161,7 @@ pub struct Branch {
     pub body: Vec<Statement>,
 }
 
+/// A WHILE: its condition and its statements.
 #[cycle(statements)]
 #[derive(Drop)]
 pub struct While {
@@ -160,6 +169,7 @@ pub struct While {
     pub body: Vec<Statement>,
 }
 
+/// A REPEAT: its statements and the condition that ends it.
 #[cycle(statements)]
 #[derive(Drop)]
 pub struct Repeat {

@@ -55,6 +55,7 @@ fn element(e: &Element, level: &Level<'_>, cells: &[i32]) -> Result<usize, Endin
     element_at(a, e.length, e.stride, i)
 }
 
+/// The value of a number; the end of the run where it has none.
 #[cycle(evaluation)]
 pub fn number(n: &Number, level: &Level<'_>, cells: &[i32]) -> Result<i32, Ending>
     ensures { outcome_of_result result ≡ number (levels_of level.now) cells.now (number_of n.now) }

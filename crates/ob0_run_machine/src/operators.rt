@@ -41,6 +41,7 @@ fn modulo(left: i32, right: i32) -> Result<i32, Ending>
     Ok(left.rem_euclid(right))
 }
 
+/// The result of an operator on two numbers; the end Overflow or Divisor where it has none.
 #[inline(always)]
 pub fn operate(operator: Operator, left: i32, right: i32) -> Result<i32, Ending>
     ensures { outcome_of_result result ≡ operate (operator_of operator) left right }
@@ -54,6 +55,7 @@ pub fn operate(operator: Operator, left: i32, right: i32) -> Result<i32, Ending>
     }
 }
 
+/// The number with the other sign; the end Overflow for the least one.
 #[inline(always)]
 pub fn negative(number: i32) -> Result<i32, Ending>
     ensures { outcome_of_result result ≡ in_range (neg_ℤ number) }
@@ -61,6 +63,7 @@ pub fn negative(number: i32) -> Result<i32, Ending>
     in_range(number.checked_neg())
 }
 
+/// Whether two numbers are in a relation.
 #[inline(always)]
 pub fn compare(relation: Relation, left: i32, right: i32) -> bool
     ensures { result ≡ compare (relation_of relation) left right }
@@ -75,6 +78,7 @@ pub fn compare(relation: Relation, left: i32, right: i32) -> bool
     }
 }
 
+/// Whether two truth values are the same.
 #[inline(always)]
 pub fn alike(left: bool, right: bool) -> bool
     ensures { result ≡ alike left right }
@@ -82,6 +86,7 @@ pub fn alike(left: bool, right: bool) -> bool
     left == right
 }
 
+/// The truth value that a cell has: TRUE is any number but 0.
 #[inline(always)]
 pub fn is_true(number: i32) -> bool
     ensures { result ≡ is_true number }
@@ -89,6 +94,7 @@ pub fn is_true(number: i32) -> bool
     number != 0
 }
 
+/// A truth value as a cell: 1 for TRUE, 0 for FALSE.
 #[inline(always)]
 pub fn as_cell(truth: bool) -> i32
     ensures { result ≡ as_cell truth }
