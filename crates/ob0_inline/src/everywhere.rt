@@ -109,6 +109,7 @@ fn edits_everywhere<T: TextStore>(
 fn uses_of(alloc: Global, names: &Resolved, constant: usize) -> Result<Vec<usize>, AllocError>
     ensures { IfOk result (λ uses. uses.items ≡ uses_of names.now.module_read constant) }
 {
+    // For the proof: what the contract of this call says.
     let _module = names.module();
     let mut uses = Vec::new(alloc);
     for token in names.occurrences() {

@@ -56,5 +56,6 @@ pub(crate) fn is_scalar(value: Scalar)
 fn fits(number: i32)
     ensures { IsTrue (fits number) }
 {
+    // For the proof: what is known of this value.
     let _ = number;
 }

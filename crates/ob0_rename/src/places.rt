@@ -37,6 +37,7 @@ pub(crate) fn tokens_renamed(
 fn is_declared_as(names: &Resolved, declaration: usize, name: &str) -> bool
     ensures { result ≡ is_declared_as names.now.module_read declaration name.now }
 {
+    // For the proof: what the contract of this call says.
     let _module = names.module();
     match names.declaring_token(declaration) {
         Some(token) => is_written(names.tokens(), token, name),

@@ -1,5 +1,5 @@
-//! Tests of the session, of the commands and of worlds of an editor and a server. They ask what no contract says, and
-//! examples with known answers; what the built program shows is asked by the end-to-end tests.
+//! Tests of the session, of the commands and of worlds of an editor and a server. They test what no contract says, and
+//! examples with known answers; what the built program shows is tested end to end.
 #![tactic(auto)]
 
 #[cfg(test)]

@@ -1,4 +1,4 @@
-// The walk over the identifiers of a module.
+//! The walk over the identifiers of a module.
 
 ghost use Rattle.std.specs.Prelude.{◌≡◌, ◌++◌, ◌∷◌, [], IfOk};
 ghost use Rattle.ob0_tree.specs.declared.tree.Role.TheVariants as roles;

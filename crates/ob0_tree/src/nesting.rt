@@ -1,4 +1,4 @@
-// How deep the constructs of a module stand in one another.
+//! How deep the constructs of a module stand in one another.
 
 ghost use Rattle.std.specs.Prelude.{◌≡◌, ◌+◌};
 ghost use Rattle.ob0_tree.specs.Tree.{nesting};
@@ -18,6 +18,7 @@ impl<'t> Module<'t> {
     pub fn nesting(&self) -> u32
         ensures { result ≡ nesting (tree_of self.now) }
     {
+        // For the proof: what the contract of this call says.
         let _parsed = self.tokens();
         block(self.block())
     }

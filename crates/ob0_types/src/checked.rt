@@ -88,6 +88,7 @@ pub fn check<'t>(alloc: Global, resolved: &'t Resolved<'t>) -> Result<Checked<'t
 {
     fits_by_ordinal();
     modules_fit();
+    // For the proof: what the contract of this call says.
     let _module = resolved.module();
     let known = decide(alloc, resolved)?;
     let fields = known_fields(alloc, resolved, &known)?;
@@ -106,6 +107,7 @@ pub fn faults_in<'t>(alloc: Global, resolved: &'t Resolved<'t>) -> Result<Vec<Fa
 {
     fits_by_ordinal();
     modules_fit();
+    // For the proof: what the contract of this call says.
     let _module = resolved.module();
     let known = decide(alloc, resolved)?;
     let found = faults_of(alloc, resolved, known.is_some())?;
@@ -254,6 +256,7 @@ impl<'c, 't> WellTyped<'c, 't> {
     pub fn constant(&self, declaration: usize) -> Option<Scalar>
         ensures { option_map scalar_value result ≡ value_of_constant (named_tree_of self.now.module_read) declaration }
     {
+        // For the proof: what the contract of this call says.
         let _module = self.resolved();
         let value = self.known().constant(declaration);
         if declaration < PREDECLARED {

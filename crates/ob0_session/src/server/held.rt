@@ -1,4 +1,4 @@
-// The documents of a server.
+//! The documents of a server.
 ghost use Rattle.std.specs.Prelude.{◌≡◌};
 
 use super::Server;
