@@ -1,4 +1,5 @@
 -- The walk over declarations: what is in sight at each place of a module is what its environment there says.
+-- Rule: none; for contracts of the walk over declarations.
 use Rattle.std.specs.Prelude.{◌≡◌, ℕ, ◌+◌, ◌≤◌, Bool, List, ◌++◌, map, length, IfSome, is_some, Some, None, Option, option_map}
 use Rattle.ob0_tree.specs.Tree.{Tree, further_section, item, items, procedure, section}
 use Rattle.ob0_scope_rules.specs.Names.{Label, as_labels, declared}

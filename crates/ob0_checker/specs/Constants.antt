@@ -1,4 +1,5 @@
 -- What labels stand for, everywhere or in constant expressions alone, and the steps of a constant's evaluation.
+-- Rule: none; for contracts: docs/LANGUAGE.md, Types 6, is stated by ConstantValues of ob0_types_rules.
 use Rattle.std.specs.Prelude.{Bool, true, false, [], Option, option_map}
 use Rattle.ob0_tree.specs.Tree.{Tree, addend, adds, item, multiplier, multiplies}
 use Rattle.ob0_scope_rules.specs.Names.{Label, label_text}

@@ -1,4 +1,5 @@
 -- What the checker makes of a type's text: a type in its table, which has grown by shapes alone.
+-- Rule: none; for contracts of the checker's table.
 use Rattle.std.specs.Prelude.{◌≡◌, ℕ, ◌+◌, ◌<◌, ◌≤◌, List, ◌++◌, map, length, All, IfSome, Option, Some, None}
 use Rattle.ob0_tree.specs.declared.tree.ArrayType.{ArrayType}
 use Rattle.ob0_tree.specs.Tree.{Tree, array_type, written_type}

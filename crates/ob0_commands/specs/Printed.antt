@@ -1,4 +1,5 @@
 -- What the commands print, in bytes of UTF-8.
+-- Rule: docs/PROTOCOL.md, The program 1 to 4.
 use Rattle.std.specs.Prelude.{◌⊎◌, ◌<◌, ℕ, List, [], ◌∷◌, ◌++◌, Option, Some, None, length, codes, decimal}
 use Rattle.std.specs.Fmt.{signed_decimal}
 use Rattle.std.specs.Io.KnownBytes.{Appends}

@@ -1,4 +1,5 @@
 -- What is printed of a file's text with another name.
+-- Rule: docs/PROTOCOL.md, The program 3.
 use Rattle.std.specs.Prelude.{◌≡◌, ◌⊎◌, ⊤, ℕ, List, Option, Some, Result, Ok, Err, Vec}
 use Rattle.std.specs.declared.alloc.Global.{Global}
 use Rattle.std.specs.Io.KnownBytes.{Appends}

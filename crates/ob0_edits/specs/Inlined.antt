@@ -1,4 +1,5 @@
 -- Factors in the place of names: what inlining makes of a tree.
+-- Rule: docs/PROTOCOL.md, Requests on documents 9.
 use Rattle.std.specs.Prelude.{◌≡◌, ℕ, Option, Some, None, List, [], ◌∷◌}
 use Rattle.std.specs.List.{flat_map}
 use Rattle.ob0_tree.specs.Lexeme.{Lexeme, Name, Number, Mark, EndOfText}

@@ -1,4 +1,5 @@
 -- What the words of a text and a tree over their numbers have to do with one another.
+-- Rule: none; for contracts of edit makers.
 use Rattle.std.specs.Prelude.{◌≡◌, ℕ, suc, if◌then◌else◌, Option, Some, None, List, [], ◌∷◌, map, slice_index_or}
 use Rattle.ob0_scan.specs.Scanned.{Word, Scanned}
 use Rattle.ob0_tree.specs.Lexeme.{Lexeme}

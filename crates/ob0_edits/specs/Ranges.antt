@@ -1,4 +1,5 @@
 -- Spans of a text as ranges of positions.
+-- Rule: docs/PROTOCOL.md, Positions; LSP 3.17, Range.
 use Rattle.std.specs.Prelude.{ℕ, List}
 use Rattle.ob0_scan.specs.declared.lexeme.Span.{Span}
 use Rattle.ob0_text.specs.declared.positions.Range.{Range}

@@ -1,4 +1,5 @@
 -- A constant that a place names, what inlining it everywhere makes of the module, and what refuses it.
+-- Rule: docs/PROTOCOL.md, Requests on documents 9, Refusals of edits.
 use Rattle.std.specs.Prelude.{◌≡◌, ◌≢◌, ◌⊎◌, ℕ, Bool, not, nat_lt, ◌&&◌, if◌then◌else◌, List, [], ◌∷◌, Option, Some, None, Result, Ok, Err, Vec, drop, length, map}
 use Rattle.std.specs.List.{All, filter, list_any, position_from, range_with_len, zip}
 use Rattle.std.specs.declared.alloc.Global.{Global}

@@ -1,4 +1,5 @@
 -- A module with a value in the place of some of its identifiers, and the edits that make its text.
+-- Rule: docs/PROTOCOL.md, Requests on documents 9, 10.
 use Rattle.std.specs.Prelude.{◌≡◌, ℕ, List, Some}
 use Rattle.std.specs.Str.{chars}
 use Rattle.ob0_scan.specs.Scanned.{Scanned, IsScan}

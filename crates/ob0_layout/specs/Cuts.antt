@@ -1,4 +1,5 @@
 -- Gaps as cuts of the text's bytes.
+-- Rule: none; for private contracts: gaps as cuts of bytes.
 use Rattle.std.specs.Prelude.{ℕ, List, map}
 use Rattle.ob0_text.specs.declared.edits.Indent.{Indent}
 use Rattle.ob0_text.specs.Patches.{Cut, pieced}

@@ -1,4 +1,5 @@
 -- The gaps of a text: before, between and behind its tokens and comments.
+-- Rule: docs/PROTOCOL.md, Requests on documents 8.
 use Rattle.std.specs.Prelude.{◌≤◌, ℕ, ◌+◌, ◌-◌, Bool, true, false, ◌||◌, not, if◌then◌else◌, nat_lt, bytes_eq, Option, Some, None, List, [], ◌∷◌, length, drop, filter, slice_range, string_bytes}
 use Rattle.ob0_scan.specs.declared.lexeme.LexemeKind.{LexemeKind}
 use Rattle.ob0_scan.specs.declared.lexeme.LexemeKind.TheVariants as lexeme

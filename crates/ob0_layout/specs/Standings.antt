@@ -1,4 +1,5 @@
 -- How the tokens of a tree stand in lines.
+-- Rule: docs/LANGUAGE.md, Layout 2 to 4.
 use Rattle.std.specs.Prelude.{ℕ, ◌+◌, min, Bool, true, false, Option, Some, None, List, [], ◌∷◌, ◌++◌}
 use Rattle.ob0_tree.specs.declared.tree.Sign.{Sign}
 use Rattle.ob0_tree.specs.Tree.{Sort, Tree, none, one, end, more, compares, relates, sum, adds, product, multiplies, designator, integer, parenthesised, negation, field, index, empty, assigns, calls, branches, while_loop, repeat_loop, no_arguments, some_arguments, then_argument, runs, then_statement, elsif_branch, else_branch, listed, then_name, named_type, array_type, record_type, no_fields, some_fields, then_fields, no_formals, some_formals, value_section, variable_section, then_section, declares_constant, declares_constants, declares_type, declares_types, declares_variable, declares_variables, declares_procedure, declares, begins, has_body, is_module}

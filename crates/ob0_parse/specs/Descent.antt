@@ -1,6 +1,7 @@
 -- The descent: how a text is read, from left to right, by the productions of the grammar. What a construct is made of
 -- is chosen by its next token, or its next two. So the token at which the descent stops, and what it expects there,
 -- hang on the tokens alone.
+-- Rule: docs/LANGUAGE.md, Grammar 1, Nesting and limits 1, Syntax faults.
 use Rattle.std.specs.Prelude.{◌≡◌, ◌==◌, ℕ, zero, suc, ◌+◌, List, [], ◌∷◌, ◌++◌, Option, Some, None, Bool, true, false, drop, if◌then◌else◌}
 use Rattle.ob0_scan.specs.declared.lexeme.TokenKind.{TokenKind}
 use Rattle.ob0_scan.specs.declared.lexeme.TokenKind.TheVariants as kind

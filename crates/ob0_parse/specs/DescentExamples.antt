@@ -1,4 +1,5 @@
 -- Texts, by the kinds of their tokens, and where the descent stops in them.
+-- Rule: docs/LANGUAGE.md, Syntax faults (its examples).
 use Rattle.std.specs.Prelude.{ℕ, zero, suc, ◌+◌, List, [], ◌∷◌, ◌++◌}
 use Rattle.ob0_scan.specs.declared.lexeme.TokenKind.{TokenKind}
 use Rattle.ob0_scan.specs.declared.lexeme.TokenKind.TheVariants as kind

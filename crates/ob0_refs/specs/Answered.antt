@@ -1,4 +1,5 @@
 -- What is answered of a name: where it stands, and what it is a name of.
+-- Rule: docs/PROTOCOL.md, Requests on documents 3, 4.
 use Rattle.std.specs.Prelude.{ℕ, nat_lt, if◌then◌else◌}
 use Rattle.ob0_tree.specs.Parsed.{Parsed}
 use Rattle.ob0_scope_rules.specs.Resolution.{span_at}

@@ -1,4 +1,5 @@
 -- What the code's values stand for.
+-- Rule: none; for contracts: what values of the code mean.
 use Rattle.std.specs.Prelude.{List, map, Option}
 use Rattle.ob0_types_table.specs.declared.known.Formal as formal
 use Rattle.ob0_types_table.specs.declared.known.Object as declaration

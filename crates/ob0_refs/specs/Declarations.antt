@@ -1,4 +1,5 @@
 -- What is shown of a name, by what its declaration binds it to.
+-- Rule: docs/PROTOCOL.md, JSON shapes 3.
 use Rattle.std.specs.Prelude.{ℕ, ◌+◌, ◌-◌, Bool, true, false, List, [], ◌∷◌, drop, map, nat_lt, if◌then◌else◌, Option, Some, None, option_and_then}
 use Rattle.ob0_tree.specs.declared.tree.Role.TheVariants as role
 use Rattle.ob0_tree.specs.Parsed.{Parsed, tree_of}

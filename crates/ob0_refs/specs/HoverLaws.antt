@@ -1,4 +1,5 @@
 -- Laws of what is shown of procedures.
+-- Rule: none; laws of hover texts.
 use Rattle.std.specs.Prelude.{◌≡◌, ℕ, List, [], ◌++◌, ◌∷◌, Some, length, map, take}
 use Rattle.std.specs.List.{All}
 use Rattle.ob0_tree.specs.declared.tree.Role.TheVariants as role

@@ -1,4 +1,5 @@
 -- What is shown of a name: its declaration, or that it is predeclared. Names and types are given by their texts.
+-- Rule: docs/PROTOCOL.md, JSON shapes 3.
 use Rattle.std.specs.Prelude.{ℕ, ◌+◌, Bool, true, false, List, [], ◌∷◌, ◌++◌, codes, decimal}
 use Rattle.std.specs.Fmt.{signed_decimal}
 use Rattle.ob0_values.specs.Values.{FieldShapes, Shape, array_shape, boolean_shape, integer_shape, next_field_shape, no_field_shape, record_shape}

@@ -1,4 +1,5 @@
 -- Laws of what is answered at a place that is on a field.
+-- Rule: none; laws of what is answered at fields.
 use Rattle.std.specs.Prelude.{◌≡◌, ℕ, true, Some, None, map, is_some}
 use Rattle.std.specs.List.{Contains}
 use Rattle.ob0_scan.specs.declared.lexeme.Span.{Span}

@@ -1,4 +1,5 @@
 -- What the code's parameters stand for.
+-- Rule: none; for contracts: what values of the code mean.
 use Rattle.std.specs.Prelude.{string_bytes}
 use Rattle.ob0_refs.specs.Hovers as shown
 use Rattle.ob0_refs.specs.declared.hovers.Parameter.{Parameter}

@@ -1,4 +1,5 @@
 -- What is answered of a place: of the name that stands there, or else of the field.
+-- Rule: docs/PROTOCOL.md, Requests on documents 3 to 5.
 use Rattle.std.specs.Prelude.{◌≡◌, ◌==◌, ℕ, Bool, true, false, not, List, [], ◌∷◌, if◌then◌else◌, map, Option, Some, None, option_map, option_and_then, unwrap_or}
 use Rattle.std.specs.List.{filter}
 use Rattle.ob0_scan.specs.Scanned.{Scanned}

@@ -1,4 +1,5 @@
 -- What is answered where a declaration or a field is to have another name: edits, or a refusal.
+-- Rule: docs/PROTOCOL.md, Requests on documents 6, Refusals of edits.
 use Rattle.std.specs.Prelude.{◌≡◌, ◌⊎◌, ℕ, ◌<◌, ◌≤◌, List, Some, Result, Ok, Err, IfErr, Vec, length, map, true}
 use Rattle.std.specs.Str.{chars}
 use Rattle.std.specs.declared.alloc.Global.{Global}

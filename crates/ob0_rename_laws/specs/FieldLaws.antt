@@ -1,4 +1,5 @@
 -- Laws of fields: under other names, kept apart in each record, they keep a module's types and runs.
+-- Rule: none; laws of fields under other names.
 use Rattle.std.specs.Prelude.{◌≡◌, ℕ, Some}
 use Rattle.ob0_tree.specs.Tree.{Tree, module_text}
 use Rattle.ob0_scope_rules.specs.Names.{Name, as_names, same_name}

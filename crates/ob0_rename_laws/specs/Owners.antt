@@ -1,4 +1,5 @@
 -- Which identifiers of a text are fields, and of which record: by token.
+-- Rule: none; for contracts: which record a field's token belongs to.
 use Rattle.std.specs.Prelude.{◌≡◌, ℕ, Bool, ◌&&◌, List, Option, Some, None, if◌then◌else◌}
 use Rattle.ob0_scan.specs.Scanned.{Scanned}
 use Rattle.ob0_tree.specs.Tree.{mapped}

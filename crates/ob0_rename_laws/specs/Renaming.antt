@@ -1,4 +1,5 @@
 -- The renaming of a record's field.
+-- Rule: docs/PROTOCOL.md, Requests on documents 6.
 use Rattle.std.specs.Prelude.{◌≡◌, ℕ, suc, ◌+◌, Bool, false, not, ◌&&◌, List, [], ◌∷◌, ◌++◌, if◌then◌else◌, ◌==◌}
 use Rattle.std.specs.List.{list_any}
 use Rattle.ob0_tree.specs.Tree.{Tree, array_type, block, declares_procedure, declares_type, declares_variable, end, fields, further_fields, further_section, has_body, declares, item, items, module_text, more, named_type, no_fields, procedure, record_type, some_fields, then_fields, then_section, type_name, variable, written_type}

@@ -1,4 +1,5 @@
 -- JSON values that are written as text, behind what stands there.
+-- Rule: none; for contracts of writers.
 use Rattle.std.specs.Prelude.{◌≡◌, ◌++◌, ℕ, List, [], ◌∷◌, Bool, true, Some, ⊤}
 use Rattle.std.specs.Str.{IsUtf8}
 use Rattle.json.specs.Tree.{HasNumbers}

@@ -1,4 +1,5 @@
 -- How a fault of a message is told (JSON-RPC 2.0, error objects).
+-- Rule: docs/PROTOCOL.md, Order of checks, and errors; JSON-RPC 2.0, error object.
 use Rattle.std.specs.Prelude.{◌-◌, ℕ, ℤ, negsuc, List, codes}
 use Rattle.ob0_rpc.specs.declared.incoming.RpcFault.{RpcFault}
 use Rattle.ob0_rpc.specs.declared.incoming.RpcFault.TheVariants.{NotJson, NotAMessage, UnknownMethod, BadParams, Memory}

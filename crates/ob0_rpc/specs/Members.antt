@@ -1,4 +1,5 @@
 -- What the members of params hold.
+-- Rule: docs/PROTOCOL.md, Contents 4, 5, JSON shapes 4.
 use Rattle.std.specs.Prelude.{ℕ, ℤ, List, Bool, true, false, Option, Some, None, option_map, option_and_then, codes}
 use Rattle.std.specs.Str.{chars}
 use Rattle.serde_json.specs.Data.{Data, null, boolean, number, string, array, object}

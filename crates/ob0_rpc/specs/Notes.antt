@@ -1,4 +1,5 @@
 -- What notifications tell, by their method and params (LSP 3.17, text document synchronization).
+-- Rule: docs/PROTOCOL.md, Documents, JSON shapes 4; LSP 3.17, text document synchronization.
 use Rattle.std.specs.Prelude.{ℕ, ℤ, List, [], ◌∷◌, Option, Some, None, if◌then◌else◌, option_map, option_and_then, codes}
 use Rattle.std.specs.Str.{bytes_eq, chars}
 use Rattle.serde_json.specs.Data.{Data, Items, no_items, item}

@@ -1,4 +1,5 @@
 -- What the values of the code stand for.
+-- Rule: none; for contracts: what values of the code mean.
 use Rattle.std.specs.Prelude.{◌≡◌, ℕ, List, Option, Some, None, Result, Ok, Err, string_bytes, String, Vec, map, option_map}
 use Rattle.std.specs.Str.{chars}
 use Rattle.std.specs.declared.alloc.Global.{Global}

@@ -1,4 +1,5 @@
 -- What an outcome says of a run.
+-- Rule: none; for contracts: what values of the code mean.
 use Rattle.ob0_values.specs.Values as values
 use Rattle.ob0_run.specs.declared.running.End.{End}
 use Rattle.ob0_run.specs.declared.running.End.TheVariants as end

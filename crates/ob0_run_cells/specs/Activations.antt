@@ -1,4 +1,5 @@
 -- Where lowered code finds what names stand for, and what it means that a table of procedures is lowered from a module's blocks.
+-- Rule: none; for contracts of lowering, against docs/LANGUAGE.md, Runs 6.
 use Rattle.std.specs.Prelude.{◌≡◌, ℕ, suc, ◌+◌, ◌≤◌, true, false, List, [], ◌∷◌, drop, slice_get, Some, Option, option_and_then}
 use Rattle.ob0_tree.specs.Tree.{Tree, begins, block, body, declares, declares_procedure, declares_variable, end, has_body, item, items, maybe, module_text, more, none, one, procedure, variable}
 use Rattle.ob0_scope_rules.specs.Names.{Naming}

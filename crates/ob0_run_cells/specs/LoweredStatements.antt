@@ -1,4 +1,5 @@
 -- What lowered statements mean: they do to cells, input and output what the statements of a module do.
+-- Rule: none; for contracts of lowering, against docs/LANGUAGE.md, Runs 5 to 9.
 use Rattle.std.specs.Prelude.{◌≡◌, ℕ, ◌^◌, ◌<◌, true, List, [], ◌∷◌, ◌++◌, length, map, ℤ, Some}
 use Rattle.ob0_tree.specs.Tree.{Tree, else_part, elsif_part, expression, further_statement, items, maybe, selector, sequence, statement}
 use Rattle.ob0_types_rules.specs.Expressions.{Meanings, a_procedure, a_variable}

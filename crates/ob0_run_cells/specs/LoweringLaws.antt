@@ -1,4 +1,5 @@
 -- Lowering is right for each production of designators and expressions: what its parts mean makes what the whole means.
+-- Rule: none; laws of lowered expressions.
 use Rattle.std.specs.Prelude.{◌≡◌, ℕ, Bool, true, ℤ, pos, Some, None}
 use Rattle.ob0_tree.specs.declared.tree.Relation.{Relation}
 use Rattle.ob0_tree.specs.declared.tree.Relation.TheVariants as relation

@@ -1,4 +1,5 @@
 -- The code of values by their types: of what stands at a place, of an operation on two, of a part.
+-- Rule: none; for contracts of lowering.
 use Rattle.std.specs.Prelude.{◌≡◌, ℕ, Some, None, Option, option_map}
 use Rattle.ob0_tree.specs.declared.tree.Relation.{Relation}
 use Rattle.ob0_tree.specs.declared.tree.Relation.TheVariants as relation

@@ -1,4 +1,5 @@
 -- How many cells types have, and where the fields of records are, as a table.
+-- Rule: none; for contracts of lowering.
 use Rattle.std.specs.Prelude.{◌≡◌, ℕ, ◌+◌, List, [], ◌∷◌, Some, None, Option}
 use Rattle.std.specs.Borrow.{Bor}
 use Rattle.ob0_types_table.specs.Tables.{no_shape}

@@ -1,5 +1,6 @@
 -- What the lowered code of statements means in a scene: for whatever is checked, and whatever slots and targets, the scene sees,
 -- the code of statements that fit does what they do.
+-- Rule: none; for contracts of lowering.
 use Rattle.std.specs.Prelude.{◌≡◌, ◌&&◌, Bool, List, [], IsTrue, Option, Some, None}
 use Rattle.std.specs.declared.alloc.Global.{Global}
 use Rattle.std.specs.declared.vec.Vec.{Vec}

@@ -1,4 +1,5 @@
 -- What the code of expressions, designators and arguments means, wherever a scene is right.
+-- Rule: none; for contracts of lowering.
 use Rattle.std.specs.Prelude.{◌≡◌, ℕ, true, List, Some}
 use Rattle.ob0_tree.specs.Tree.{Tree, expression, items, selector}
 use Rattle.ob0_scope_rules.specs.Names.{Label}

@@ -1,4 +1,5 @@
 -- What is taken of the code of an expression, where it is what was asked for.
+-- Rule: none; for contracts of lowering.
 use Rattle.std.specs.Prelude.{◌≡◌, Option, Some, None}
 use Rattle.ob0_run_machine.specs.declared.code.Argument.{Argument}
 use Rattle.ob0_run_machine.specs.declared.code.Argument.TheVariants as argument

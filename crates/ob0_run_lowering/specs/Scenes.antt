@@ -1,4 +1,5 @@
 -- Where lowering stands: what declarations are, where each of them is, and how deep the running activation is.
+-- Rule: none; for contracts of lowering.
 use Rattle.std.specs.Prelude.{◌≡◌, ℕ, ◌-◌, List, slice_index_or, Some, None, Option, true, ℤ, pos}
 use Rattle.ob0_tree.specs.Places.{value_at}
 use Rattle.ob0_run_machine.specs.Evaluation as machine

@@ -1,5 +1,6 @@
 -- Runs of lowered code, by big steps: statements, calls and whole programs, over the activations that are seen, the cells, the
 -- rest of the input, and bounds c on open calls and t on the turns of a loop.
+-- Rule: none; for contracts of the machine: what lowered statements mean, by the rules of docs/LANGUAGE.md, Runs 5 to 10.
 use Rattle.std.specs.Prelude.{ℕ, zero, suc, ◌+◌, ◌-◌, Bool, true, false, ◌&&◌, List, [], ◌∷◌, ◌++◌, length, take, drop, replicate, ℤ, pos, Some, None, Option, if◌then◌else◌, nat_le, slice_get, slice_set}
 use Rattle.ob0_run_machine.specs.Lowered.{Argument, by_place, by_number, by_truth, by_block, Statement, stores_number, stores_truth, copies, reads, writes, writes_line, chooses, while_loop, repeat_loop, calls, Statements, no_statement, before, Branches, no_branch, branch, Procedure, Program}
 use Rattle.ob0_run_machine.specs.Evaluation.{CallBound, Done, End, InputEnd, Outcome, Levels, TurnBound, address, as_cell, ends, gives, innermost, number, truth, ◌>>=◌}

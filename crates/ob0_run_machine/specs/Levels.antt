@@ -1,4 +1,5 @@
 -- The activations that an activation sees, itself first, and where VAR parameters lead.
+-- Rule: none; for contracts of the machine.
 use Rattle.std.specs.Prelude.{ℕ, List, Option, Some, None, [], ◌∷◌}
 use denote.Ref.{Bor}
 use Rattle.ob0_run_machine.specs.declared.addresses.Addresses.{Addresses}

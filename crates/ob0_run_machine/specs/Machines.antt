@@ -1,4 +1,5 @@
 -- What the machine stands for, and what a step of it says of the run.
+-- Rule: none; for contracts of the machine.
 use Rattle.std.specs.Prelude.{◌≡◌, ℕ, ℤ, List, map, Ok, Err, Option, Result}
 use denote.MutBor.{MutBor}
 use denote.Ref.{Bor}

@@ -1,4 +1,5 @@
 -- What the code's outcome of a run stands for.
+-- Rule: none; for contracts: what values of the code mean.
 use Rattle.std.specs.Prelude.{ℕ}
 use Rattle.ob0_run_machine.specs.declared.running.End as code_end
 use Rattle.ob0_run_machine.specs.declared.running.End.TheVariants as code

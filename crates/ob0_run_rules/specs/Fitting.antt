@@ -1,4 +1,5 @@
 -- Values, places and what names stand for, by the types that a checked module gives them.
+-- Rule: docs/LANGUAGE.md, Runs 11.
 use Rattle.std.specs.Prelude.{◌≡◌, true, List, [], ◌∷◌, map, if◌then◌else◌, nat_lt, slice_get, Some, None, Option, option_and_then}
 use Rattle.ob0_scope_rules.specs.Names.{Naming}
 use Rattle.ob0_scope_rules.specs.Parts.{procedure_formals}

@@ -1,4 +1,5 @@
 -- Runs, by big steps: statements, calls and whole modules, over names, an environment, a store, the rest of the input, and bounds c on open calls and t on the turns of a loop.
+-- Rule: docs/LANGUAGE.md, Runs 1 to 10.
 use Rattle.std.specs.Prelude.{ℕ, zero, suc, ◌+◌, ◌-◌, true, false, List, [], ◌∷◌, ◌++◌, map, length, ℤ, Some, None, Option, option_map, option_and_then}
 use Rattle.ob0_tree.specs.Tree.{Tree, assigns, begins, block, body, branches, calls, declares_variable, else_branch, else_part, elsif_branch, elsif_part, empty, end, expression, further_section, further_statement, item, items, maybe, module_text, more, none, one, procedure, repeat_loop, runs, sequence, statement, then_section, then_statement, variable, while_loop}
 use Rattle.ob0_scope_rules.specs.Names.{Label, Name, Naming, as_labels, as_names}

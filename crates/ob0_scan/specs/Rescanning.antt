@@ -1,4 +1,5 @@
 -- A scan of a changed text that is under way.
+-- Rule: none; for private contracts of the scanner.
 use Rattle.std.specs.Prelude.{◌≡◌, ℕ, ◌+◌, ◌-◌, ◌<◌, ◌≤◌, ◌^◌, ◌==◌, ◌||◌, ◌⊎◌, Bool, false, List, [], ◌∷◌, ◌++◌, Option, Some, None, IsTrue, length, map, take, drop, max}
 use Rattle.std.specs.List.{All, slice_get}
 use Rattle.ob0_scan.specs.declared.lexeme.Span.{Span}

@@ -1,4 +1,5 @@
 -- What a scan of a changed text takes over from the scan of the text before.
+-- Rule: none; for contracts of `rescan`.
 use Rattle.std.specs.Prelude.{◌≡◌, ◌≢◌, ℕ, ◌+◌, ◌-◌, ◌≤◌, List, ◌++◌, length, map, take, drop, nat_lt}
 use Rattle.std.specs.List.{All, prefix_len}
 use Rattle.ob0_scan.specs.declared.lexeme.Span.{Span}

@@ -1,4 +1,5 @@
 -- The identifiers of a module by a table of ordinals.
+-- Rule: none; for contracts: identifiers by a table of ordinals.
 use Rattle.std.specs.Prelude.{ℕ, Bool, true, false, not, ◌&&◌, ◌||◌, List, Option, map}
 use Rattle.std.specs.List.{filter}
 use Rattle.ob0_scan.specs.declared.lexeme.Token.{Token}

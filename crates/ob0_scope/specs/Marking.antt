@@ -1,4 +1,5 @@
 -- A module's identifiers, gone through in text order, and listed with their ordinals.
+-- Rule: none; for private contracts of the walk over identifiers.
 use Rattle.std.specs.Prelude.{ℕ, List, [], ◌∷◌, ◌++◌, Option}
 use Rattle.ob0_scope.specs.Marks.{Mark}
 use Rattle.ob0_tree.specs.declared.tree.Role.{Role}

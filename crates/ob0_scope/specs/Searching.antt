@@ -1,4 +1,5 @@
 -- The search for another declaration of a block that has a name, over indexes of tokens.
+-- Rule: none; for private contracts: the search for another declaration.
 use Rattle.std.specs.Prelude.{ℕ, Bool, not, ◌&&◌, if◌then◌else◌, List, [], ◌∷◌, ◌++◌, Option, None}
 use Rattle.std.specs.List.{list_any}
 use Rattle.std.specs.Option.{option_or}

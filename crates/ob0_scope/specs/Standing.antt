@@ -1,4 +1,5 @@
 -- The names at the places of a module's text, by what its identifiers are bound to.
+-- Rule: docs/PROTOCOL.md, Requests on documents 3 to 6.
 use Rattle.std.specs.Prelude.{ℕ, Bool, true, false, not, ◌&&◌, ◌||◌, ◌==◌, ◌≡◌, if◌then◌else◌, List, [], ◌∷◌, Option, map, option_map, option_and_then}
 use Rattle.std.specs.List.{filter, find, zip}
 use Rattle.ob0_tree.specs.declared.tree.Role.{Role}

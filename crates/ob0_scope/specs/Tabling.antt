@@ -1,4 +1,5 @@
 -- A module's identifiers, gone through in text order, with a table of their ordinals by token.
+-- Rule: none; for private contracts of the walk over identifiers.
 use Rattle.std.specs.Prelude.{ℕ, List, [], Option, None, length, replicate, slice_set}
 use Rattle.ob0_tree.specs.declared.tree.Role.{Role}
 use Rattle.ob0_tree.specs.Tree.{Sort, Tree, block, constant, constants, formals, further_section, item, items, maybe, module_text, procedure, section, type_name, type_names, variable, variables}

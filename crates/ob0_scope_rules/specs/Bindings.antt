@@ -1,4 +1,5 @@
 -- What the names of a module are bound to, joined to the module.
+-- Rule: docs/LANGUAGE.md, Scopes 2 to 4.
 use Rattle.ob0_tree.specs.Parsed.{Parsed}
 use Rattle.ob0_scope_rules.specs.Resolution.{Resolution}
 use Rattle.ob0_scope_rules.specs.declared.resolved.Bindings.{Bindings}

@@ -1,4 +1,5 @@
 -- Names declared once: no second declaration in a block or record, and no wrong closing name.
+-- Rule: docs/LANGUAGE.md, Scopes 5 to 7.
 use Rattle.std.specs.Prelude.{Bool, true, false, not, ◌&&◌, ◌||◌, List, [], ◌∷◌, ◌++◌}
 use Rattle.ob0_tree.specs.Tree.{Tree, array_type, block, declares, declares_procedure, declares_type, declares_variable, end, fields, further_fields, further_section, has_body, is_module, item, items, module_text, more, named_type, no_fields, procedure, record_type, some_fields, then_fields, then_section, type_name, variable, written_type}
 use Rattle.ob0_scope_rules.specs.Names.{Name, same_name}

@@ -1,5 +1,6 @@
 -- The faults of names that are declared once more, and of closing names that differ, in the order in which they are told. The names
 -- of these trees are tokens.
+-- Rule: docs/LANGUAGE.md, Faults of scopes and types, `Duplicate`, `EndName`.
 use Rattle.std.specs.Prelude.{ℕ, Bool, not, List, [], ◌∷◌, ◌++◌, if◌then◌else◌}
 use Rattle.ob0_scan.specs.declared.fault.Code.TheVariants as code
 use Rattle.ob0_scan.specs.declared.fault.Fault.{Fault}

@@ -1,4 +1,5 @@
 -- What each occurrence of a name is bound to, and which new names for a declaration are free.
+-- Rule: docs/LANGUAGE.md, Scopes 2 to 4; docs/PROTOCOL.md, Refusals of edits (Duplicate, Captures).
 use Rattle.std.specs.Prelude.{◌≡◌, ℕ, suc, Bool, false, not, ◌&&◌, List, [], ◌∷◌, ◌++◌, if◌then◌else◌, ◌==◌, slice_get, Some, None, Option, option_map, option_and_then}
 use Rattle.ob0_tree.specs.Tree.{Tree, block, declares, declares_procedure, end, has_body, item, items, module_text, more, occurrences, procedure}
 use Rattle.ob0_scope_rules.specs.Names.{Label, Name, as_written, declared, same_label, same_name}

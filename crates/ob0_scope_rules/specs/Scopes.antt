@@ -1,4 +1,5 @@
 -- Scopes: which declaration each name is bound to, and trees with their names replaced by what these are bound to.
+-- Rule: docs/LANGUAGE.md, Scopes 1 to 6.
 use Rattle.std.specs.Prelude.{ℕ, suc, Bool, true, false, List, [], ◌∷◌, map, if◌then◌else◌, ◌==◌, Some, None, Option}
 use Rattle.ob0_tree.specs.Tree.{Sort, Tree, block, constant, constants, declares, declares_constant, declares_constants, declares_procedure, declares_type, declares_types, declares_variable, declares_variables, end, formals, further_name, further_section, has_body, is_module, item, items, listed, maybe, module_text, more, names, no_formals, none, one, procedure, section, some_formals, then_name, then_section, type_name, type_names, value_section, variable, variable_section, variables}
 use Rattle.ob0_scope_rules.specs.Mapping.{with_names}

@@ -1,4 +1,5 @@
 -- What another name would be bound to in the place of an occurrence.
+-- Rule: docs/PROTOCOL.md, Refusals of edits (Shadowed).
 use Rattle.std.specs.Prelude.{List, Option, map, option_and_then, slice_get, ℕ}
 use Rattle.ob0_tree.specs.Tree.{Tree, module_text, occurrences}
 use Rattle.ob0_scope_rules.specs.Names.{Name, Naming, predeclared_name, same_name}

@@ -1,4 +1,5 @@
 -- Where tokens stand.
+-- Rule: none; for contracts: places of tokens.
 use Rattle.std.specs.Prelude.{ℕ, Bool, nat_le, ◌&&◌, Option, Some, None, slice_get}
 use Rattle.ob0_scan.specs.declared.lexeme.Span.{Span}
 use Rattle.ob0_scan.specs.declared.lexeme.Token.{Token}

@@ -1,4 +1,5 @@
 -- What the walk over the declarations keeps.
+-- Rule: none; for private contracts of a walk.
 use Rattle.std.specs.Prelude.{ℕ, List, map, Option, option_map}
 use Rattle.ob0_selections.specs.declared.selecting.Selection.{Selection}
 use Rattle.ob0_selections.specs.declared.declaring.Declaring.{Declaring}

@@ -1,5 +1,6 @@
 -- The fields that a module declares, each with its type. A RECORD stands in the declaration of a type, a variable or a
 -- parameter; by what this declares it is known what type the RECORD is, and its field is what the field's name selects.
+-- Rule: docs/PROTOCOL.md, Requests on documents 4 (a field with its type, where it is declared).
 use Rattle.std.specs.Prelude.{ℕ, List, [], ◌∷◌, ◌++◌, Option, Some, None, option_and_then}
 use Rattle.ob0_scope_rules.specs.Parts.{names_listed}
 use Rattle.ob0_selections.specs.Selections.{Selected, noted}

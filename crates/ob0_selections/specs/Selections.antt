@@ -1,4 +1,5 @@
 -- Which field of which record each selector selects.
+-- Rule: docs/PROTOCOL.md, Requests on documents 4 (a field with its type, where it is selected).
 use Rattle.std.specs.Prelude.{ℕ, List, [], ◌∷◌, ◌++◌, Some, None, Option, option_and_then}
 use Rattle.ob0_scope_rules.specs.Resolution.{Resolution, ordinal_in}
 use Rattle.ob0_tree.specs.Places.{text_at}

@@ -1,4 +1,5 @@
 -- Code actions on request: a constant is inlined, here or everywhere.
+-- Rule: docs/PROTOCOL.md, Requests on documents 7.
 use Rattle.std.specs.Prelude.{◌≡◌, ◌⊎◌, ℕ, ℤ, List, [], ◌∷◌, ◌++◌, Bool, true, false, ◌&&◌, ◌||◌, min, Option, Some, None, Result, Ok, Err, Vec, codes}
 use Rattle.std.specs.List.{list_any}
 use Rattle.std.specs.Str.{bytes_eq}

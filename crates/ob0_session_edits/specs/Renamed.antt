@@ -1,4 +1,5 @@
 -- Renaming on request: the edits, and the answer.
+-- Rule: docs/PROTOCOL.md, Requests on documents 6.
 use Rattle.std.specs.Prelude.{◌≡◌, ◌⊎◌, ℕ, ℤ, List, codes}
 use Rattle.serde_json.specs.Data.{Data}
 use Rattle.ob0_rpc.specs.Asks.{At}

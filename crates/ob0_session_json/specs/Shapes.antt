@@ -1,4 +1,5 @@
 -- The messages that a server writes, as JSON values. Members stand in byte order of their names.
+-- Rule: docs/PROTOCOL.md, JSON shapes 2, Capabilities.
 use Rattle.std.specs.Prelude.{◌≡◌, ℕ, ℤ, List, true, Bool, Option, Some, None, if◌then◌else◌, codes, map, string_bytes}
 use Rattle.serde_json.specs.Data.{Data, boolean, number, array, object, unsigned, Members, member, no_members, item, no_items}
 use Rattle.serde_json.specs.View.{items_view, items_of}

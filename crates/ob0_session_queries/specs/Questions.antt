@@ -1,4 +1,5 @@
 -- Questions about the name or field at a position: what is answered of a document's text.
+-- Rule: docs/PROTOCOL.md, Requests on documents 2 to 5.
 use Rattle.std.specs.Prelude.{◌≡◌, ◌⊎◌, ℕ, List, Bool, Option, Some, None, map, option_map, option_and_then}
 use Rattle.serde_json.specs.Data.{Data, null, array, no_items}
 use Rattle.serde_json.specs.View.{items_of}

@@ -1,4 +1,5 @@
 -- Where the lines of a text start, in bytes.
+-- Rule: docs/PROTOCOL.md, Positions 2 (by bytes, for the table of lines).
 use Rattle.std.specs.Prelude.{ℕ, suc, ◌+◌, ◌<◌, ◌≤◌, if◌then◌else◌, List, [], ◌∷◌, ◌++◌, length, slice_index, refl}
 use Rattle.std.specs.Coded.{Coded, code_by, coded×, coded_list, coded_ℕ}
 use Rattle.ob0_text.specs.declared.positions.Unit.{Unit}

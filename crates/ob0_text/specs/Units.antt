@@ -1,4 +1,5 @@
 -- How many units a character has.
+-- Rule: docs/PROTOCOL.md, Positions 1.
 use Rattle.std.specs.Prelude.{ℕ, Bool, true, false, refl}
 use Rattle.std.specs.Char.{len_utf8}
 use Rattle.std.specs.Coded.{Coded, code_by, coded_bool}

@@ -1,4 +1,5 @@
 -- Levels of nesting as the code counts them: a number of 32 bits, which stays at its largest.
+-- Rule: none; for contracts: nesting as the code counts it.
 use Rattle.std.specs.Prelude.{ℕ, min}
 
 abbrev pub capped : ℕ → ℕ

@@ -1,4 +1,5 @@
 -- The identifiers of a tree by their places among a text's tokens.
+-- Rule: none; for contracts: identifiers by their places.
 use Rattle.std.specs.Prelude.{◌≡◌, ℕ, ◌+◌, ◌≤◌, ◌<◌, List, [], ◌∷◌, ◌++◌, map, length}
 use Rattle.std.specs.List.{HoldsAt}
 use Rattle.ob0_scan.specs.declared.lexeme.TokenKind.{TokenKind}

@@ -1,4 +1,5 @@
 -- Trees over the indexes of a text's tokens: each identifier and integer is the index of its token.
+-- Rule: none; for contracts: trees over indexes of tokens.
 use Rattle.std.specs.Prelude.{ℕ, ◌+◌, Option, Some, None, List, [], ◌∷◌, slice_get}
 use Rattle.ob0_scan.specs.declared.lexeme.TokenKind.{TokenKind}
 use Rattle.ob0_scan.specs.declared.lexeme.TokenKind.TheVariants as kind

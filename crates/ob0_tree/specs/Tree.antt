@@ -1,4 +1,5 @@
 -- The syntax trees of the language: one family of trees, with a sort for each nonterminal.
+-- Rule: docs/LANGUAGE.md, Grammar 1, Nesting and limits 1.
 use Rattle.std.specs.Prelude.{ℕ, ◌+◌, Option, List, [], ◌∷◌, ◌++◌, max}
 use Rattle.ob0_scan.specs.declared.lexeme.TokenKind.{TokenKind}
 use Rattle.ob0_scan.specs.declared.lexeme.TokenKind.TheVariants as kind

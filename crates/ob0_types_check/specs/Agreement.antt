@@ -1,4 +1,5 @@
 -- What is known while faults are told, and what names and types are by the definitions of types: where they agree.
+-- Rule: none; for laws: what is known against what names and types are.
 use Rattle.std.specs.Prelude.{◌≡◌, ℕ, true, List, [], ◌∷◌, Option, Some, None, option_map, option_and_then, is_some, slice_get}
 use Rattle.ob0_scope_rules.specs.Names.{Name}
 use Rattle.ob0_types_table.specs.declared.types.TypeId.{TypeId}

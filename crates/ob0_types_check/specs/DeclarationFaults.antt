@@ -1,5 +1,6 @@
 -- The faults of a module's declarations and bodies in the order in which they are told: in text order, each declaration known
 -- behind its text.
+-- Rule: docs/LANGUAGE.md, Faults of scopes and types 2 to 11.
 use Rattle.std.specs.Prelude.{ℕ, Bool, true, false, List, [], ◌++◌, map}
 use Rattle.std.specs.List.{filter}
 use Rattle.ob0_scan.specs.declared.fault.Fault.{Fault}

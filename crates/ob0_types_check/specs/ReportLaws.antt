@@ -1,4 +1,5 @@
 -- Laws of what is told: expressions and statements of which nothing is told fit. N stands for names.
+-- Rule: none; laws of reported faults.
 use Rattle.std.specs.Prelude.{◌≡◌, ℕ, Bool, true, false, List, [], Option, Some, is_some}
 use Rattle.ob0_tree.specs.Places.{value_at}
 use Rattle.ob0_tree.specs.Tree.{Tree, expression, mapped, sequence}

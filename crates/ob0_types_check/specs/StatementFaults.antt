@@ -1,4 +1,5 @@
 -- The faults of statements in the order in which they are told: those of each part from left to right, statement by statement.
+-- Rule: docs/LANGUAGE.md, Types 2, 5, Faults of scopes and types 5, 7 to 9.
 use Rattle.std.specs.Prelude.{ℕ, nat_eq, ◌&&◌, not, List, [], ◌∷◌, ◌++◌, length, Option, Some, None, if◌then◌else◌}
 use Rattle.ob0_scan.specs.declared.fault.Code.TheVariants as code
 use Rattle.ob0_scan.specs.declared.fault.Fault.{Fault}

@@ -1,4 +1,5 @@
 -- The faults of types as they are written and of constants, and what is known of them.
+-- Rule: docs/LANGUAGE.md, Faults of scopes and types 4, 6, `ConstFault`, `ArrayLength`.
 use Rattle.std.specs.Prelude.{ℕ, Option, Some, None, if◌then◌else◌}
 use Rattle.ob0_scan.specs.declared.fault.Code.TheVariants as code
 use Rattle.ob0_tree.specs.Tree.{Tree, expression}

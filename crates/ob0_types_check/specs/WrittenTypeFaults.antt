@@ -1,5 +1,6 @@
 -- The faults of types as they are written, in the order in which they are told: those of the parts from left to right, then
 -- that the whole is too large.
+-- Rule: docs/LANGUAGE.md, Faults of scopes and types 2, 4, 10, `TypeTooLarge`.
 use Rattle.std.specs.Prelude.{ℕ, ◌+◌, ◌*◌, max, true, false, List, [], ◌∷◌, if◌then◌else◌, is_some, Option, Some, None}
 use Rattle.ob0_scope_rules.specs.Names.{Name, same_name}
 use Rattle.ob0_scope_rules.specs.Parts.{names_listed}

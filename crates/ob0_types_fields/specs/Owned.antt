@@ -1,4 +1,5 @@
 -- Each identifier of a text with the ordinal of the record whose field it is, in text order. The names of these trees are tokens.
+-- Rule: docs/LANGUAGE.md, Scopes 7.
 use Rattle.std.specs.Prelude.{◌≡◌, ℕ, suc, ◌+◌, List, [], ◌∷◌, ◌++◌, map, Some, None, Option, option_and_then, option_map, length, replicate, set}
 use Rattle.ob0_tree.specs.declared.tree.Role.{Role}
 use Rattle.ob0_tree.specs.declared.tree.Role.TheVariants as role

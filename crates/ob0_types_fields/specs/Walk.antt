@@ -1,4 +1,5 @@
 -- What the walk over a module keeps.
+-- Rule: none; for private contracts of a walk.
 use Rattle.std.specs.Prelude.{ℕ, List, Option}
 use Rattle.ob0_tree.specs.Tree.{Tree, field, index, item, selector}
 use Rattle.ob0_types_rules.specs.Expressions.{Meanings}

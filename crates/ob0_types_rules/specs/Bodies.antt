@@ -1,4 +1,5 @@
 -- The bodies of a module, each with the environment in which its statements are checked.
+-- Rule: docs/LANGUAGE.md, Scopes 2.
 use Rattle.std.specs.Prelude.{◌≡◌, ℕ, ◌+◌, List, [], ◌∷◌, ◌++◌, Some, All}
 use Rattle.ob0_tree.specs.Tree.{Tree, block, body, declares, declares_procedure, end, has_body, item, items, maybe, module_text, more, procedure}
 use Rattle.ob0_scope_rules.specs.Names.{Name, Naming, as_labels}

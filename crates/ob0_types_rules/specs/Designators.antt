@@ -1,4 +1,5 @@
 -- Designators and lists of expressions in labels, and which expressions are a designator alone.
+-- Rule: none; for contracts: trees with labels.
 use Rattle.std.specs.Prelude.{ℕ, List, map, Some, None, Option}
 use Rattle.ob0_tree.specs.Tree.{Tree, designator, end, expression, factor, items, product, selector, simple, sum, term}
 use Rattle.ob0_tree.specs.View.{expression_of}

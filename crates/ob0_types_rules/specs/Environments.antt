@@ -1,4 +1,5 @@
 -- Environments: what each visible name is bound to.
+-- Rule: docs/LANGUAGE.md, Scopes 4.
 use Rattle.std.specs.Prelude.{true, false, List, [], ◌∷◌, Some, None, Option}
 use Rattle.ob0_scope_rules.specs.Names.{Naming}
 use Rattle.ob0_types_rules.specs.Expressions.{Meanings, Object, a_constant, a_standard, a_type, reads, writes, writes_line}

@@ -1,4 +1,5 @@
 -- Trees with labels in place of their tokens.
+-- Rule: none; for contracts: trees with labels.
 use Rattle.std.specs.Prelude.{ℕ}
 use Rattle.ob0_tree.specs.Tree.{Sort, Tree, mapped}
 use Rattle.ob0_tree.specs.Places.{value_at}

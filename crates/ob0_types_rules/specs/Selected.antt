@@ -1,4 +1,5 @@
 -- Steps of chains: one operand, one selector.
+-- Rule: none; for contracts: steps of chains.
 use Rattle.std.specs.Prelude.{ℕ, Option, option_and_then}
 use Rattle.ob0_tree.specs.Tree.{Tree, addend, adds, multiplier, multiplies, field, index, item, items, selector}
 use Rattle.ob0_tree.specs.View.{items_of, selector_of}

@@ -1,4 +1,5 @@
 -- Types: what a type's text denotes, the types of expressions, the values of constant expressions, and which statements fit.
+-- Rule: docs/LANGUAGE.md, Types 1 to 7, Nesting and limits 2.
 use Rattle.std.specs.Prelude.{ℕ, suc, ◌+◌, ◌*◌, max, ◌&&◌, List, [], ◌∷◌, map, pos, if◌then◌else◌, nat_lt, nat_le, Some, None, Option, option_map, option_and_then}
 use Rattle.ob0_tree.specs.declared.tree.Relation.{Relation}
 use Rattle.ob0_tree.specs.declared.tree.Relation.TheVariants as relation

@@ -1,4 +1,5 @@
 -- Well-typed modules: typing judgements over names and environments.
+-- Rule: docs/LANGUAGE.md, Types 8.
 use Rattle.std.specs.Prelude.{ℕ, ◌+◌, Bool, true, false, ◌&&◌, List, [], ◌∷◌, ◌++◌, map, IsTrue, ◌==◌, Some, None, Option}
 use Rattle.ob0_tree.specs.Tree.{Tree, assigns, begins, block, body, branches, calls, declares, declares_procedure, declares_variable, else_branch, else_part, elsif_branch, elsif_part, empty, end, expression, further_section, further_statement, has_body, item, items, maybe, module_text, more, none, one, procedure, repeat_loop, runs, section, selector, sequence, statement, then_section, then_statement, value_section, variable, variable_section, while_loop}
 use Rattle.ob0_scope_rules.specs.DeclaredOnce.{declared_once}

@@ -1,4 +1,5 @@
 -- What is written for a constant's value.
+-- Rule: docs/PROTOCOL.md, Requests on documents 9.
 use Rattle.std.specs.Prelude.{suc, true, false, ℤ, pos, negsuc, if◌then◌else◌, nat_lt, Some, None, codes, Option}
 use Rattle.ob0_tree.specs.declared.tree.Sign.TheVariants as sign
 use Rattle.ob0_tree.specs.declared.tree.AddOperator.TheVariants as add_operator

@@ -1,4 +1,5 @@
 -- The first field of each name of a record, as it is kept.
+-- Rule: none; for contracts: the index of a record's fields.
 use Rattle.std.specs.Prelude.{◌≡◌, ℕ, suc, List, [], ◌∷◌, Option, Some, None, if◌then◌else◌}
 use Rattle.std.specs.Borrow.{Bor}
 use Rattle.std.specs.BTreeMap.{BTreeMap, get_by}

@@ -1,4 +1,5 @@
 -- The tables of the checker: the shapes made so far, and the declarations so far.
+-- Rule: none; for contracts of the checker's tables.
 use Rattle.std.specs.Prelude.{ℕ, ◌<◌, IfSome, true, false, ◌==◌, List, [], ◌∷◌, length, All, slice_get, if◌then◌else◌, Some, None, Option, option_and_then}
 use Rattle.ob0_values.specs.Values.{Shape}
 use Rattle.ob0_types_table.specs.declared.known.Shape as code

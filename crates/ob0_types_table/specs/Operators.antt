@@ -1,4 +1,5 @@
 -- The steps of a constant's evaluation.
+-- Rule: none; for contracts: steps of docs/LANGUAGE.md, Types 6.
 use Rattle.std.specs.Prelude.{cond, Some, Option, option_and_then}
 use Rattle.ob0_tree.specs.declared.tree.AddOperator.{AddOperator}
 use Rattle.ob0_tree.specs.declared.tree.MultiplyOperator.{MultiplyOperator}

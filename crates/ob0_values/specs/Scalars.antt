@@ -1,4 +1,5 @@
 -- What the code's numbers and truths stand for, and what an operation's result says.
+-- Rule: none; for contracts: what values of the code mean.
 use Rattle.std.specs.Prelude.{ℤ, Some, None, Ok, Err, Option, Result}
 use Rattle.ob0_values.specs.declared.scalar.Fault.{Fault}
 use Rattle.ob0_values.specs.declared.scalar.Fault.TheVariants as fault

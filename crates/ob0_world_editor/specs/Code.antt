@@ -1,4 +1,5 @@
 -- What the values of the code stand for.
+-- Rule: none; for contracts: what values of the code mean.
 use Rattle.std.specs.Prelude.{string_bytes}
 use Rattle.std.specs.Str.{chars}
 use Rattle.ob0_world_editor.specs.declared.asks.Ask as ask

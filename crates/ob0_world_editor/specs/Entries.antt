@@ -1,4 +1,5 @@
 -- What the stored documents stand for.
+-- Rule: none; for contracts: what values of the code mean.
 use Rattle.std.specs.Prelude.{ℕ, List, map, string_bytes, String, refl}
 use Rattle.std.specs.Str.{chars}
 use Rattle.std.specs.FinMap as map_of

@@ -1,4 +1,5 @@
 -- What a content tells the server, in the words of the protocol's reader.
+-- Rule: docs/PROTOCOL.md, Contents, JSON shapes 4.
 use Rattle.std.specs.Prelude.{◌≡◌, ⊤, ℕ, List, Option, Some, None, Ok, option_and_then, option_map, if◌then◌else◌}
 use Rattle.std.specs.Str.{is_utf8}
 use Rattle.serde_json.specs.Data.{Data, null, boolean, number, string, array, object, unsigned, negative, float}

@@ -1,4 +1,5 @@
 -- What a call of the editor did.
+-- Rule: none; for contracts: what a call of the editor did.
 use Rattle.std.specs.Prelude.{◌≡◌, ◌<◌, ◌-◌, ◌^◌, ℕ, pos, List, [], ◌∷◌, Vec, Option, Some, None, length, map, option_map, slice_get}
 use Rattle.std.specs.List.{remove}
 use Rattle.std.specs.FinMap as map_of

@@ -1,4 +1,5 @@
 -- What an editor may ask for.
+-- Rule: docs/PROTOCOL.md, Requests on documents 6 to 8.
 use Rattle.std.specs.Prelude.{ℕ, List, max, min}
 use Rattle.ob0_text.specs.declared.positions.Position.{Position}
 use Rattle.ob0_text.specs.declared.edits.Indent.{Indent}

@@ -1,4 +1,5 @@
 -- What edits and changes make of a text.
+-- Rule: LSP 3.17, TextEdit[].
 use Rattle.std.specs.Prelude.{◌≡◌, ℕ, List, map, fold, Option, None, string_bytes}
 use Rattle.std.specs.Str.{chars}
 use Rattle.ob0_text.specs.declared.edits.Edit.{Edit}

@@ -1,4 +1,5 @@
 -- What the editor does at each event, and what it sends.
+-- Rule: LSP 3.17, versioned documents: a model of a client.
 use Rattle.std.specs.Prelude.{ℕ, suc, ◌+◌, pos, List, [], ◌∷◌, ◌++◌, Bool, true, false, ◌&&◌, ◌==◌, length, Option, Some, None, if◌then◌else◌}
 use Rattle.std.specs.FinMap as map_of
 use Rattle.ob0_text.specs.OpenDocuments.{TextChange, Opened, Changed, Closed}

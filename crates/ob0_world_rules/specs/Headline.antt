@@ -1,4 +1,5 @@
 -- What holds after every list of events.
+-- Rule: docs/PROMISES.md, the two ends.
 use Rattle.std.specs.Prelude.{◌↔◌, IsTrue, ◌≡◌, ℕ, ℤ, pos, List, [], ◌∷◌, All, Option, Some, None, if◌then◌else◌}
 use Rattle.std.specs.Str.{bytes_eq}
 use Rattle.ob0_text.specs.declared.positions.Unit.{Unit}

@@ -1,4 +1,5 @@
 -- What comes of a list of events, in its one run from the beginning.
+-- Rule: docs/PROMISES.md, the two ends.
 use Rattle.std.specs.Prelude.{◌≡◌, ⊤, ℕ, ℤ, pos, List, [], ◌∷◌, ◌++◌, map, All, Option, Some, None}
 use Rattle.ob0_text.specs.declared.positions.Unit.{Unit}
 use Rattle.ob0_text.specs.OpenDocuments.{Opened, Changed, Lost, Closed}
