@@ -5,11 +5,11 @@ use Rattle.clap.specs.Words.{App, Rule, Text, new_app, new_rule, with_rule, with
 use Rattle.clap.specs.declared.builder.ArgAction.TheVariants.{Set}
 use Rattle.clap.specs.declared.builder.value_parser.ValueParser.TheVariants.{Signed, Unsigned}
 
--- a word that must stand there; help has a name for its value, as for each value
+-- a word that must be there; help has a name for its value, as for each value
 abbrev pub word_rule : Text → Rule
 word_rule id = record (new_rule id) { action = Some Set; value_names = 1; required = true }
 
--- a number of 64 bits that must stand there
+-- a number of 64 bits that must be there
 abbrev pub number_rule : Text → Rule
 number_rule id = record (word_rule id) { parser = Some (Unsigned 0 18446744073709551615) }
 

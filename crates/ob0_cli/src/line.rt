@@ -12,7 +12,7 @@ use std::alloc::{AllocError, Global};
 
 const VERSION: &str = "0.1.0";
 
-/// What stands below each help.
+/// What is below each help.
 const NOTES: &str = "\
 Lines and columns count from 0, columns in UTF-16 units.
 Where its client offers UTF-8, serve counts columns in bytes of it.
@@ -42,7 +42,7 @@ pub enum CommandLine<'a> {
         calls: u32,
         turns: u32,
     },
-    /// A file's text with another name for the one that stands at a position.
+    /// A file's text with another name for the one that is at a position.
     Rename {
         file: &'a str,
         position: Position,
@@ -233,7 +233,7 @@ fn rename_definition<'a>(alloc: Global) -> Result<Command<'a>, AllocError>
     with_column.arg(name)
 }
 
-/// A word that must stand there, and what help calls it.
+/// A word that must be there, and what help calls it.
 fn word<'a>(alloc: Global, id: &'a str, shown: &'a str, help: &'a str) -> Arg<'a>
     ensures rule { rule_of result ≡ word_rule id.entry.now }
     ensures own { result.global ≡ false }
@@ -245,7 +245,7 @@ fn word<'a>(alloc: Global, id: &'a str, shown: &'a str, help: &'a str) -> Arg<'a
         .help(help)
 }
 
-/// A number that must stand there, and what help calls it.
+/// A number that must be there, and what help calls it.
 fn number<'a>(alloc: Global, id: &'a str, shown: &'a str, help: &'a str) -> Arg<'a>
     ensures rule { rule_of result ≡ number_rule id.entry.now }
     ensures own { result.global ≡ false }

@@ -1,4 +1,4 @@
-//! The edits that put one text in the place of several identifiers.
+//! The edits that put one text in place of several identifiers.
 
 ghost use Rattle.std.specs.Prelude.{◌≡◌, ◌⊎◌, ◌+◌, ◌++◌, ◌∷◌, [], suc, OnOk, ◌≤◌, ◌<◌, nat_lt, List, length, map, IfOk, IfErr, IsErrOf};
 ghost use Rattle.std.specs.Str.{chars};

@@ -1,4 +1,4 @@
--- The declaration that is taken out: its last token, and what stands inside it.
+-- The declaration that is taken out: its last token, and what is inside it.
 -- Rule: docs/PROTOCOL.md, Requests on documents 9.
 use Rattle.std.specs.Prelude.{Bool, true, false, nat_le, ◌&&◌}
 use Rattle.ob0_scan.specs.declared.lexeme.Span.{Span}

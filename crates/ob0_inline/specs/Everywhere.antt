@@ -33,7 +33,7 @@ use Rattle.ob0_inline.specs.Inlined.{LeavesModule}
 use Rattle.ob0_inline.specs.Uses.{is_shown}
 use Rattle.ob0_inline.specs.Values.{value_factor, value_text}
 
--- A constant of a CONST section: its ordinal and value, the token that declares it, and the first `;` behind that.
+-- A constant of a CONST section: its ordinal and value, the token that declares it, and the first `;` after that.
 pub record IsConstant (m : Parsed) (c : Constant) : Type 0 where
   pub worth : value_of_constant (named_tree_of m) c.ordinal ≡ Some (scalar_value c.value)
   pub begins : token_declaring (declaring_only (identifiers role.Declaring (tree_of m))) c.ordinal ≡ Some c.first
@@ -53,11 +53,11 @@ NoConstantAt m offset = (n : named.Named) → name_on m offset ≡ Some n → va
 abbrev pub uses_of : Parsed → ℕ → List ℕ
 uses_of m d = map (λ u. u.0) (filter (λ u. same_label u.1 (declared d)) (zip (occurrences (tree_of m)) (bindings (named_tree_of m))))
 
--- none of the names of d stands elsewhere than alone as a factor
+-- none of the names of d is elsewhere than alone as a factor
 abbrev pub StandsAlone : Parsed → ℕ → Type 0
 StandsAlone m d = All (λ l. l ≢ declared d) (names_elsewhere (numbered (named_tree_of m)))
 
--- the module with the value in the place of all uses, without the declaration
+-- the module with the value in place of all uses, without the declaration
 abbrev pub inlined_all : Parsed → Constant → Tree Name module_text
 inlined_all m c = inlined_everywhere (named_tree_of m) c.ordinal (value_factor c.value)
 
@@ -72,7 +72,7 @@ is_hidden m c k = same_ordinal (binds m k) c.ordinal && not (is_shown m k c.valu
 abbrev pub any_hidden : Tree Name module_text → Constant → Bool
 any_hidden m c = list_any (is_hidden m c) (range_with_len 0 (length (bindings m)))
 
--- a comment stands between the declaration's name and its `;`
+-- a comment is between the declaration's name and its `;`
 abbrev pub has_comment : Parsed → Constant → Bool
 has_comment m c = list_any (is_inside (span_over m.source.tokens c.first c.last)) m.source.comments
 
@@ -85,7 +85,7 @@ refusal_everywhere m c =
     else if has_comment m c then Some CommentInside
     else None
 
--- These edits take the declaration out, from its name to its `;`, write the value in the place of each use, and touch no
+-- These edits take the declaration out, from its name to its `;`, write the value in place of each use, and touch no
 -- other character. They leave the text of the inlined module, which is well-typed and has the same runs.
 pub record InlinesEverywhere (unit : counting.Unit) (text : List ℕ) (m : Parsed) (c : Constant) (edits : List Edit) : Type 0 where
   pub everywhere : map parts edits ≡ (range_of (width_of unit) text (span_over m.source.tokens c.first c.last), []) ∷ map (edit_at unit text m.source.tokens (value_text c.value)) (uses_of m c.ordinal)

@@ -20,7 +20,7 @@ const TRUE: usize = 2;
 
 const FALSE: usize = 3;
 
-/// Whether the name that would be written for a value in the place of an occurrence is the predeclared one. A number has
+/// Whether the name that would be written for a value in place of an occurrence is the predeclared one. A number has
 /// none.
 pub(crate) fn is_shown(
     alloc: Global,
@@ -37,7 +37,7 @@ pub(crate) fn is_shown(
     }
 }
 
-/// Whether a name would be bound to this declaration in the place of an occurrence.
+/// Whether a name would be bound to this declaration in place of an occurrence.
 fn is_seen(
     alloc: Global,
     names: &Resolved,
@@ -85,7 +85,7 @@ pub(crate) fn any_hidden(
     }
 }
 
-/// Whether a name would be bound to another declaration than this in the place of a use of a constant.
+/// Whether a name would be bound to another declaration than this in place of a use of a constant.
 fn is_hidden(
     alloc: Global,
     names: &Resolved,

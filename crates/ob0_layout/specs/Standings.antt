@@ -1,4 +1,4 @@
--- How the tokens of a tree stand in lines.
+-- The roles of a tree's tokens in their lines.
 -- Rule: docs/LANGUAGE.md, Layout 2 to 4.
 use Rattle.std.specs.Prelude.{ℕ, ◌+◌, min, Bool, true, false, Option, Some, None, List, [], ◌∷◌, ◌++◌}
 use Rattle.ob0_tree.specs.declared.tree.Sign.{Sign}
@@ -20,14 +20,14 @@ abbrev pub sign_role : Option Sign → List LineRole
 sign_role None = []
 sign_role (Some s) = Joining ∷ []
 
--- what stands before an item of a list
+-- what precedes an item of a list
 abbrev pub separated : Bool → List LineRole
 separated true = []
 separated false = Plain ∷ []
 
--- How each token that a tree spells stands, in the order in which it spells them. The level is that of the block, and in a
+-- The role of each token that a tree spells, in the order in which it spells them. The level is that of the block, and in a
 -- sequence that of its statements. The module has level 0, and a procedure one level more than the block that declares it. The
--- statements of a body have one level more than its block, and those inside a statement one more than that statement. What stands
+-- statements of a body have one level more than its block, and those inside a statement one more than that statement. What is
 -- within a line has no level: 0 is said there.
 abbrev pub line_roles : {N : Type 0} {s : Sort} → ℕ → Tree N s → List LineRole
 line_roles k none = []

@@ -62,7 +62,7 @@ is_section_next (Name n ∷ tokens) = true
 is_section_next (Mark (kind.Reserved reserved.Var) ∷ tokens) = true
 is_section_next tokens = false
 
--- Behind its identifier an assignment goes on with `:=`, or with a selector.
+-- After its identifier an assignment goes on with `:=`, or with a selector.
 abbrev pub is_assigned : List (Lexeme ℕ) → Bool
 is_assigned (Mark (kind.Symbol symbol.Becomes) ∷ tokens) = true
 is_assigned tokens = is_next selector tokens

@@ -1,5 +1,5 @@
 -- Another name for what is named at a place of a text, a declaration or a record's field: where it is to be written, and what
--- stands against it.
+-- conflicts with it.
 -- Rule: docs/PROTOCOL.md, Requests on documents 6, Refusals of edits.
 use Rattle.std.specs.Prelude.{◌≡◌, ℕ, Bool, true, false, nat_lt, if◌then◌else◌, List, [], ◌∷◌, Option, Some, None, option_and_then, option_map, slice_get}
 use Rattle.ob0_scan.specs.Scanned.{Scanned}
@@ -95,7 +95,7 @@ field_tokens_renamed names k f new = if same_name new f then [] else field_token
 abbrev pub text_with : Renaming → List ℕ → List ℕ
 text_with r tokens = with_text_at (module_of r).source tokens r.new
 
--- ---- what stands against it
+-- ---- what conflicts with it
 
 abbrev pub token_range : Renaming → ℕ → Range
 token_range r token = range_of (width_of r.unit) r.text (span_at (module_of r).source token)

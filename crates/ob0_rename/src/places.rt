@@ -74,7 +74,7 @@ fn span_range<T: TextStore>(store: &T, span: Span) -> Range
     }
 }
 
-/// Where a token stands; the text's start where there is no such token.
+/// Where a token is; the text's start where there is no such token.
 pub(crate) fn span_of(tokens: &Tokens, token: usize) -> Span
     ensures { result ≡ span_at tokens.now token }
 {

@@ -15,7 +15,7 @@ use Rattle.ob0_values.specs.Values.{Shape, array_shape, boolean_shape, integer_s
 abbrev pub FieldNames : Type 0
 FieldNames = Option ℕ → Name → Name
 
--- the record of which a selector behind this type selects a field
+-- the record of which a selector after this type selects a field
 abbrev pub record_of : Option Shape → Option ℕ
 record_of None = None
 record_of (Some integer_shape) = None
@@ -23,7 +23,7 @@ record_of (Some boolean_shape) = None
 record_of (Some (array_shape k n s)) = None
 record_of (Some (record_shape k fs)) = Some k
 
--- the type behind one more selector
+-- the type after one more selector
 abbrev pub behind : {i : Item} → Option Shape → Tree Name (item i) → Option Shape
 behind s (field x) = option_and_then (λ t. field_type t x) s
 behind s (index e) = option_and_then (λ t. element_type t integer_shape) s
@@ -105,14 +105,14 @@ refield_formals l k none = none
 refield_formals l k (one no_formals) = one no_formals
 refield_formals l k (one (some_formals f fs)) = one (some_formals (refield_section l k f) (refield_sections l (k + constructors (section_type f)) fs))
 
--- what names stand for behind the constants, types and variables of a block; where these don't fit, the module isn't well-typed
+-- what names mean after the constants, types and variables of a block; where these don't fit, the module isn't well-typed
 abbrev pub behind_variables : TypeEnvironment Name → ℕ → Tree Name block → TypeEnvironment Name
 behind_variables env k b = unwrap_or (option_and_then (declare_typed as_names (after_types k b) (block_variables b)) (declare_first as_names env k b)) env
 
 abbrev pub parameters_of : TypeEnvironment Name → ℕ → Tree Name (item procedure) → List (TypedParameter Name)
 parameters_of env k p = unwrap_or (typed_parameters as_names env k (procedure_formals p)) []
 
--- behind a procedure's heading, and behind those of a block's procedures
+-- after a procedure's heading, and after those of a block's procedures
 abbrev pub behind_heading : TypeEnvironment Name → ℕ → Tree Name (item procedure) → TypeEnvironment Name
 behind_heading env k p = heading (procedure_name p) (parameters_of env k p) env
 
@@ -140,6 +140,6 @@ abbrev mutual
   refield_procedure l env k (declares_procedure x fs b closing) =
       declares_procedure x (refield_formals l k fs) (refield_block l env (after_formals k (declares_procedure x fs b closing)) b) closing
 
--- a module with its fields written anew
+-- a module with its fields under other names
 abbrev pub refielded : FieldNames → Tree Name module_text → Tree Name module_text
 refielded l (is_module x b closing) = is_module x (refield_block l (outermost as_names) 0 b) closing

@@ -18,7 +18,7 @@ abbrev pub comment_end : Option Span → ℕ
 comment_end None = 0
 comment_end (Some c) = c.end
 
--- behind which byte the last of the tokens and comments ends
+-- after which byte the last of the tokens and comments ends
 abbrev pub last_end : List Token → List Span → ℕ
 last_end tokens comments = max (token_end (slice_get tokens (length tokens - 1))) (comment_end (slice_get comments (length comments - 1)))
 
@@ -31,7 +31,7 @@ abbrev pub comment_begins : ℕ → List Span → Bool
 comment_begins place [] = false
 comment_begins place (c ∷ comments) = c.start == place
 
--- a span behind the change that lies in a text
+-- a span after the change that lies in a text
 pub record IsMovable (removed added : ℕ) (span : Span) : Type 0 where
   pub behind : removed ≤ span.start
   pub ordered : span.start ≤ span.end
@@ -45,7 +45,7 @@ pub record TakesOne (s t : Scanner) : Type 0 where
   pub tokens : t.tokens.items ≡ s.tokens.items ++ token_at kind (span_from s.at len)
   pub comments : t.comments.items ≡ s.comments.items ++ comment_at kind (span_from s.at len)
 
--- what was read since none of it begins, behind the change, where an old token or comment began
+-- what was read since none of it begins, after the change, where an old token or comment began
 pub record ReadsOn (old : Scanned) (from removed added : ℕ) (s t : Scanner) : Type 0 where
   pub tokens : List Token
   pub comments : List Span
@@ -54,14 +54,14 @@ pub record ReadsOn (old : Scanned) (from removed added : ℕ) (s t : Scanner) : 
   pub tokens_new : All (λ (t : Token). IsNew old from removed added t.span) tokens
   pub comments_new : All (λ (c : Span). IsNew old from removed added c) comments
 
--- behind the change, at the end of the text or where an old token or comment begins again; with the old ones from there on
+-- after the change, at the end of the text or where an old token or comment begins again; with the old ones from there on
 pub record IsMet (old : Scanned) (end from removed added at : ℕ) (tokens : List Token) (comments : List Span) : Type 0 where
   pub behind : from + added ≤ at
   pub tokens_are : tokens ≡ back_tokens (at + removed - added) old.tokens
   pub comments_are : comments ≡ back_comments (at + removed - added) old.comments
   pub border : (at ≡ end) ⊎ IsTrue (token_begins (at + removed - added) tokens || comment_begins (at + removed - added) comments)
 
--- the new text with the old tokens and comments in front, those between, and the old ones behind, moved
+-- the new text with the old tokens and comments before it, those between, and the old ones after, moved
 abbrev pub with_between : Scanned → List ℕ → ℕ → ℕ → Between → Scanned
 with_between old new removed added b = record {
   text = new;

@@ -6,21 +6,21 @@ use Rattle.ob0_scan.specs.declared.lexeme.Span.{Span}
 use Rattle.ob0_scan.specs.declared.lexeme.Token.{Token}
 use Rattle.ob0_scan.specs.Scanned.{Scanned}
 
--- So many bytes of the old text from a place on gave way to so many others: the new one is as the old in front of them and behind them.
+-- So many bytes of the old text from a place on gave way to so many others: the new one is as the old before them and after them.
 pub record IsReplaced (old new : List ℕ) (from removed added : ℕ) : Type 0 where
   pub inside_old : from + removed ≤ length old
   pub inside_new : from + added ≤ length new
   pub front : take from old ≡ take from new
   pub behind : drop (from + removed) old ≡ drop (from + added) new
 
--- a span behind the change is moved by what was added less what was removed
+-- a span after the change is moved by what was added less what was removed
 abbrev pub moved : ℕ → ℕ → Span → Span
 moved removed added span = record { start = span.start + added - removed; end = span.end + added - removed }
 
 abbrev pub moved_token : ℕ → ℕ → Token → Token
 moved_token removed added token = record { kind = token.kind; span = moved removed added token.span }
 
--- the tokens in front that end before a place, and the comments
+-- the tokens before it that end before a place, and the comments
 abbrev pub front_tokens : ℕ → List Token → List Token
 front_tokens place tokens = take (prefix_len (λ t. nat_lt t.span.end place) tokens) tokens
 
@@ -39,12 +39,12 @@ pub record NoneBegins (s : Scanned) (place : ℕ) : Type 0 where
   pub tokens : All (λ (t : Token). t.span.start ≢ place) s.tokens
   pub comments : All (λ (c : Span). c.start ≢ place) s.comments
 
--- Behind the change, no old token or comment began where this begins.
+-- After the change, no old token or comment began where this begins.
 abbrev pub IsNew : Scanned → ℕ → ℕ → ℕ → Span → Type 0
 IsNew old from removed added span = from + added ≤ span.start → NoneBegins old (span.start + removed - added)
 
--- Of the tokens and comments of a changed text, the first are the old ones that end before the change, and the last are old ones behind it,
--- moved. As many as told lie between: of these, none behind the change begins where an old one began. So the last begin
+-- Of the tokens and comments of a changed text, the first are the old ones that end before the change, and the last are old ones after it,
+-- moved. As many as `read` says are between: of these, none after the change begins where an old one began. So the last begin
 -- at the first place that the new text's tokens and comments have in common with the old one's.
 pub record Reuses (old new : Scanned) (from removed added read : ℕ) : Type 0 where
   pub place : ℕ

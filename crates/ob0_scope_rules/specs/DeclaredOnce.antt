@@ -5,7 +5,7 @@ use Rattle.ob0_tree.specs.Tree.{Tree, array_type, block, declares, declares_proc
 use Rattle.ob0_scope_rules.specs.Names.{Name, same_name}
 use Rattle.ob0_scope_rules.specs.Parts.{block_constants, block_procedures, block_types, block_variables, constant_names, formal_names, formal_sections, named_types, names_listed, procedure_name, section_type, section_types, section_variables, variable_names}
 
--- no name stands twice in a list
+-- no name is twice in a list
 abbrev pub is_among : Name → List Name → Bool
 is_among x [] = false
 is_among x (y ∷ ys) = same_name x y || is_among x ys

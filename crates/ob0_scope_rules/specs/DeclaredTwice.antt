@@ -1,4 +1,4 @@
--- The faults of names that are declared once more, and of closing names that differ, in the order in which they are told. The names
+-- The faults of names that are declared once more, and of closing names that differ, in the order in which they are reported. The names
 -- of these trees are tokens.
 -- Rule: docs/LANGUAGE.md, Faults of scopes and types, `Duplicate`, `EndName`.
 use Rattle.std.specs.Prelude.{ℕ, Bool, not, List, [], ◌∷◌, ◌++◌, if◌then◌else◌}
@@ -23,12 +23,12 @@ duplicate_at source token = record { code = code.Duplicate; span = span_at sourc
 abbrev pub end_name_at : Scanned → ℕ → Fault
 end_name_at source token = record { code = code.EndName; span = span_at source token }
 
--- each of some names that stands before it in the list, or among those before the list, is told where it stands once more
+-- each of some names that precedes it in the list, or among those before the list, is reported where it is once more
 abbrev pub again : Scanned → List Name → List ℕ → List Fault
 again source before [] = []
 again source before (x ∷ xs) = unless (not (is_among (text_at source x) before)) (duplicate_at source x) ++ again source (text_at source x ∷ before) xs
 
--- a closing name that differs from its opening name is told where it closes
+-- a closing name that differs from its opening name is reported where it closes
 abbrev pub closing_other : Scanned → ℕ → ℕ → List Fault
 closing_other source x closing = unless (same_name (text_at source x) (text_at source closing)) (end_name_at source closing)
 

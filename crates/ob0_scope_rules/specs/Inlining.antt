@@ -68,7 +68,7 @@ inline_in uses v k (begins s) = begins (inline_in uses v k s)
 inline_in uses v k (has_body ds b) = has_body (inline_in uses v k ds) (inline_in uses v (k + length (occurrences ds)) b)
 inline_in uses v k (is_module name b closing) = is_module name (inline_in uses v k b) closing
 
--- in place of each use stands the factor
+-- in place of each use is the factor
 abbrev pub inlined : Tree Name module_text → Uses → Tree Name factor → Tree Name module_text
 inlined m uses v = inline_in uses v 0 m
 
@@ -105,6 +105,6 @@ only occurrence k = k == occurrence
 abbrev pub all_bound_to : Tree Name module_text → ℕ → Uses
 all_bound_to m d k = same_ordinal (binds m k) d
 
--- in place of all uses of the constant d stands a factor, and its declaration is gone
+-- in place of all uses of the constant d is a factor, and its declaration is gone
 abbrev pub inlined_everywhere : Tree Name module_text → ℕ → Tree Name factor → Tree Name module_text
 inlined_everywhere m d v = module_without d (inlined m (all_bound_to m d) v)

@@ -52,7 +52,7 @@ is_of_declarations fault = elim (fault.code) [ code.Duplicate ↦ true | code.En
 abbrev pub is_of_occurrences : Fault → Bool
 is_of_occurrences fault = elim (fault.code) [ code.Undeclared ↦ true | _ ↦ false ]
 
--- where a token stands
+-- where a token is
 abbrev pub span_at : Scanned → ℕ → Span
 span_at source token = spans.span_at source token
 

@@ -40,7 +40,7 @@ abbrev mutual
   pub after_procedure : {N : Type 0} → ℕ → Tree N (item procedure) → ℕ
   after_procedure k (declares_procedure x fs b closing) = after_block (after_names k (formal_names (formal_sections fs))) b
 
--- in a relabelled tree a label stands for each name: a function of its declaration's ordinal and of the name
+-- in a relabelled tree a label represents each name: a function of its declaration's ordinal and of the name
 abbrev pub Labels : Type 0 → Type 0 → Type 0
 Labels N M = Option ℕ → N → M
 
@@ -158,7 +158,7 @@ abbrev mutual
       more (relabel_procedure naming label scope k p)
       (relabel_procedures naming label ((procedure_name p, k) ∷ scope) (after_procedure (suc k) p) rest)
 
-  -- a procedure of ordinal k, visible after its heading; a closing name stands for its procedure
+  -- a procedure of ordinal k, visible after its heading; a closing name means its procedure
   pub relabel_procedure : {N M : Type 0} → Naming N → Labels N M → Scope N → ℕ → Tree N (item procedure) → Tree M (item procedure)
   relabel_procedure naming label scope k (declares_procedure x fs b closing) =
       declares_procedure (label (Some k) x) (relabel_formals naming label scope (suc k) fs)

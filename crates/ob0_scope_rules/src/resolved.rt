@@ -162,7 +162,7 @@ impl<'t> Resolved<'t> {
         self.bindings().occurrences.as_slice()
     }
 
-    /// Second declarations in a block or record and closing names that differ; behind these the names that no declaration
+    /// Second declarations in a block or record and closing names that differ; after these the names that no declaration
     /// binds, in text order.
     pub fn faults(&self) -> &[Fault]
         ensures { result.now ≡ self.now.faults }

@@ -12,7 +12,7 @@ use Rattle.ob0_types_table.specs.Tables.{type_shape}
 use Rattle.ob0_types_rules.specs.WellTyped.{Signature}
 use Rattle.ob0_values.specs.Values.{Shape}
 
--- what the walk over the declarations knows: what names stand for, what types are, and what was found
+-- what the walk over the declarations knows: what names mean, what types are, and what was found
 abbrev pub meaning_in : Declaring → Meanings ℕ Shape Signature
 meaning_in d = token_meaning (declared_in d.known.now) d.resolved.now
 

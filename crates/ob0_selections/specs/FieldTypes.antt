@@ -1,4 +1,4 @@
--- The fields that a module declares, each with its type. A RECORD stands in the declaration of a type, a variable or a
+-- The fields that a module declares, each with its type. A RECORD is in the declaration of a type, a variable or a
 -- parameter; by what this declares it is known what type the RECORD is, and its field is what the field's name selects.
 -- Rule: docs/PROTOCOL.md, Requests on documents 4 (a field with its type, where it is declared).
 use Rattle.std.specs.Prelude.{ℕ, List, [], ◌∷◌, ◌++◌, Option, Some, None, option_and_then}
@@ -30,7 +30,7 @@ abbrev pub type_of_elements : Option Shape → Option Shape
 type_of_elements t = option_and_then (λ a. element_type a integer_shape) t
 
 -- All fields that are declared in a tree, each with its type. Where the tree is a type or a part of one, `t` is the type
--- that it stands in; names that are declared together have one type.
+-- that it is in; names that are declared together have one type.
 abbrev pub typed_fields : {N P : Type 0} {s : Sort} → Meanings N Shape P → Option Shape → Tree N s → List (Selected N)
 typed_fields m t none = []
 typed_fields m t (one part) = typed_fields m t part

@@ -11,7 +11,7 @@ use Rattle.ob0_types_rules.specs.Typing.{element_type, field_type, object_type}
 use Rattle.ob0_types_rules.specs.WellTyped.{Signature}
 use Rattle.ob0_values.specs.Values.{Shape, integer_shape}
 
--- the type behind a selector; every index is an INTEGER
+-- the type after a selector; every index is an INTEGER
 abbrev pub type_behind : {N P : Type 0} → Meanings N Shape P → Shape → Tree N (item selector) → Option Shape
 type_behind m s (field x) = field_type s (m.written x)
 type_behind m s (index e) = element_type s integer_shape
@@ -98,6 +98,6 @@ selections m (begins s) = selections m s
 selections m (has_body ds b) = selections m ds ++ selections m b
 selections m (is_module name b closing) = selections m b
 
--- What the names at tokens stand for. Each is bound to one declaration, and stands for what that declares.
+-- What the names at tokens mean. Each is bound to one declaration, and means what that declares.
 abbrev pub token_meaning : (ℕ → Option (Object Shape Signature)) → Resolution → Meanings ℕ Shape Signature
 token_meaning objects r = record { stands_for = λ token. option_and_then objects (ordinal_in r.ordinals token); written = λ token. text_at r.module_read.source token }
