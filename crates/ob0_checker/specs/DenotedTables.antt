@@ -35,6 +35,7 @@ pub record Denotes (r : Resolution) (before after : Tables) (around : ℕ) (t : 
   pub made : IfSome found (λ of. IsMade (length after.shapes) of)
   pub counted : IfSome found (λ of. length after.shapes ≡ length before.shapes + constructors t)
 
+-- the tree of an array type
 abbrev pub array_in : ArrayType → Tree ℕ written_type
 array_in a = array_type (expression_of a.size) (type_of a.element.value)
 

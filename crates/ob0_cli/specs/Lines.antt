@@ -35,12 +35,15 @@ turns_rule = record (new_rule (codes "turns")) {
 abbrev pub serve : App
 serve = new_app (codes "serve")
 
+-- `ob0 check FILE`
 abbrev pub check : App
 check = with_rule (new_app (codes "check")) (word_rule (codes "file"))
 
+-- `ob0 run FILE [--calls N] [--turns N]`
 abbrev pub run : App
 run = with_rule (with_rule (with_rule (new_app (codes "run")) (word_rule (codes "file"))) calls_rule) turns_rule
 
+-- `ob0 rename FILE LINE COLUMN NAME`
 abbrev pub rename : App
 rename = with_rule (with_rule (with_rule (with_rule (new_app (codes "rename")) (word_rule (codes "file"))) (number_rule (codes "line")))
     (number_rule (codes "column"))) (word_rule (codes "name"))

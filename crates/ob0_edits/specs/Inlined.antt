@@ -129,12 +129,14 @@ abbrev pub or_named : {M : Type 0} → M → Option (List (Lexeme M)) → List (
 or_named name None = Name name ∷ []
 or_named name (Some others) = others
 
+-- a token with its name replaced, or renamed
 abbrev pub token_with : {N M : Type 0} → (N → Option (List (Lexeme M))) → (N → M) → (ℕ → ℕ) → Lexeme N → List (Lexeme M)
 token_with c f g (Name n) = or_named (f n) (c n)
 token_with c f g (Number n) = Number (g n) ∷ []
 token_with c f g (Mark k) = Mark k ∷ []
 token_with c f g EndOfText = EndOfText ∷ []
 
+-- tokens with some names replaced by other tokens, and the others renamed
 abbrev pub tokens_with : {N M : Type 0} → (N → Option (List (Lexeme M))) → (N → M) → (ℕ → ℕ) → List (Lexeme N) → List (Lexeme M)
 tokens_with c f g xs = flat_map (token_with c f g) xs
 

@@ -22,6 +22,7 @@ use Rattle.ob0_edits.specs.Ranges.{range_of}
 abbrev pub token_at : List Token → ℕ → Token
 token_at tokens p = slice_index_or tokens p (record { kind = token.Identifier; span = record { start = 0; end = 0 } })
 
+-- where the token with this index is
 abbrev pub span_at : List Token → ℕ → Span
 span_at tokens p = (token_at tokens p).span
 
@@ -58,6 +59,7 @@ pub record StandsForName (new : List ℕ) (ws : List Word) : Type 0 where
   pub front : (kind : LexemeKind) (letter : ℕ) → IsTrue (is_ascii_alphabetic letter) → goes_on kind letter ≡ false → goes_on kind (slice_index new 0) ≡ false
   pub apart : (byte : ℕ) → is_ascii_alphanumeric byte ≡ false → AreApartBefore lexemes byte
 
+-- an edit as its range and the bytes of its text
 abbrev pub parts : Edit → Range × List ℕ
 parts edit = (edit.range, string_bytes edit.text)
 

@@ -6,8 +6,10 @@ use Rattle.ob0_scan.specs.declared.lexeme.TokenKind.{TokenKind}
 use Rattle.ob0_scan.specs.declared.lexeme.TokenKind.TheVariants as kind
 use Rattle.ob0_scan.specs.declared.lexeme.Symbol.TheVariants as symbol
 
+-- a span lies within another
 abbrev pub is_inside : Span → Span → Bool
 is_inside part span = nat_le part.start span.start && nat_le span.end part.end
 
+-- a token is a `;`
 abbrev pub is_semicolon : TokenKind → Bool
 is_semicolon k = elim k [ kind.Symbol s ↦ elim s [ symbol.Semicolon ↦ true | _ ↦ false ] | _ ↦ false ]

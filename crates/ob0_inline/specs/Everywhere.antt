@@ -69,6 +69,7 @@ text_without m c = without_text m.source c.first c.last (uses_of m c.ordinal) (v
 abbrev pub is_hidden : Tree Name module_text → Constant → ℕ → Bool
 is_hidden m c k = same_ordinal (binds m k) c.ordinal && not (is_shown m k c.value)
 
+-- at some use the word that would be written isn't the predeclared one
 abbrev pub any_hidden : Tree Name module_text → Constant → Bool
 any_hidden m c = list_any (is_hidden m c) (range_with_len 0 (length (bindings m)))
 

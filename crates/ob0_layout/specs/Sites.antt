@@ -24,6 +24,7 @@ abbrev pub gap_before : Option Solid → LexemeKind → LineRole → Gap
 gap_before None kind standing = Nothing
 gap_before (Some b) kind standing = gap_between b.kind b.standing kind standing
 
+-- the gap after the last token or comment: a line feed
 abbrev pub last_gap : Option Solid → Gap
 last_gap None = Nothing
 last_gap (Some b) = Line 0
@@ -74,6 +75,7 @@ edit_of indent width content g = record {
   text = gap_text indent g.gap;
 }
 
+-- what an edit of the code says
 abbrev pub said : Edit → Said
 said e = record { range = e.range; text = string_bytes e.text }
 

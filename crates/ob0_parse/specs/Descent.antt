@@ -33,9 +33,11 @@ pub data Choice : Type 0 where
   missing : Expected → Choice
   too_deep : Choice
 
+-- a reserved word as a part
 abbrev pub word : Reserved → Part
 word w = token (kind.Reserved w)
 
+-- a symbol as a part
 abbrev pub sign : Symbol → Part
 sign s = token (kind.Symbol s)
 

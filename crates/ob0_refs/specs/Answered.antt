@@ -12,5 +12,6 @@ use Rattle.ob0_refs.specs.declared.answers.Of.TheVariants as tells
 abbrev pub of_ordinal : ℕ → of.Of
 of_ordinal ordinal = if nat_lt ordinal 7 then tells.Predeclared else tells.Declared ordinal
 
+-- a name at a place: where it is, and which declaration it has
 abbrev pub at_name : Parsed → named.Named → told.At
 at_name m n = record { span = span_at m.source n.token; of = of_ordinal n.ordinal }

@@ -21,10 +21,12 @@ constant_shown name (truth b) = Some (constant_text name (scalar.Truth b))
 constant_shown name (elements vs) = None
 constant_shown name (members k ms) = None
 
+-- a parameter is a VAR parameter
 abbrev pub is_by_place : Mode → Bool
 is_by_place by_value = false
 is_by_place by_place = true
 
+-- a parameter in a hover text
 abbrev pub parameter_shown : Name → Formal → Parameter
 parameter_shown name f = record { by_place = is_by_place f.mode; name = name; of = type_text f.shape }
 

@@ -28,5 +28,6 @@ pub record HasParametersBehind (m : Parsed) (heading : ℕ × List ℕ) : Type 0
   pub declares : token_declaring (declaring_only (identifiers role.Declaring (tree_of m))) ordinal ≡ Some heading.0
   pub behind : take (length heading.1) (names_behind m ordinal) ≡ map (text_at m.source) heading.1
 
+-- the names declared after each procedure begin with those of its parameters
 abbrev pub ParametersAreBehind : Type 0
 ParametersAreBehind = (m : Parsed) → All (HasParametersBehind m) (block_headings (module_block (tree_of m)))

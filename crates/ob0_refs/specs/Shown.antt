@@ -14,6 +14,7 @@ pub record Shown : Type 0 where
   pub span : Span
   pub text : List ℕ
 
+-- the hover of a name, by what its declaration binds it to
 abbrev pub shown_of : Parsed → named.Named → Option Shown
 shown_of m n = option_map (λ text. record { span = span_at m.source n.token; text = text }) (name_shown m n (declared_object (named_tree_of m) n.ordinal))
 

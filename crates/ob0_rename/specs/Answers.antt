@@ -88,6 +88,7 @@ AnswersForField r k f (Err why) = (why ≡ refusal.Memory) ⊎ IsRefusedToField 
 
 -- ---- by what is at the place
 
+-- the new name is refused to the declaration or the field at the place
 abbrev pub IsRefusedToNamed : Renaming → EditRefusal → Type 0
 IsRefusedToNamed r why = ((d : ℕ) × Means r d × IsRefusedTo r d why) ⊎ ((k : ℕ) × ((f : Name) × MeansField r k f × IsRefusedToField r k f why))
 
@@ -121,6 +122,7 @@ pub record AsksForMemory (r : Renaming) : Type 0 where
 
 -- ---- the name that is there already
 
+-- an error is out of memory
 abbrev pub OnlyMemory : Result (Vec Edit Global) EditRefusal → Type 0
 OnlyMemory result = IfErr result (λ why. why ≡ refusal.Memory)
 

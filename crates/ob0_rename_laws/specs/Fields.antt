@@ -80,26 +80,32 @@ abbrev pub refield_types : FieldNames → ℕ → Tree Name (items type_name) �
 refield_types l k end = end
 refield_types l k (more (declares_type x u) ds) = more (declares_type x (refield_type l k u)) (refield_types l (k + constructors u) ds)
 
+-- the types of a TYPE section with other names for fields
 abbrev pub refield_type_section : FieldNames → ℕ → Tree Name (maybe type_names) → Tree Name (maybe type_names)
 refield_type_section l k none = none
 refield_type_section l k (one (declares_types ts)) = one (declares_types (refield_types l k ts))
 
+-- variables with other names for fields
 abbrev pub refield_variables : FieldNames → ℕ → Tree Name (items variable) → Tree Name (items variable)
 refield_variables l k end = end
 refield_variables l k (more (declares_variable ns u) gs) = more (declares_variable ns (refield_type l k u)) (refield_variables l (k + constructors u) gs)
 
+-- a VAR section with other names for fields
 abbrev pub refield_variable_section : FieldNames → ℕ → Tree Name (maybe variables) → Tree Name (maybe variables)
 refield_variable_section l k none = none
 refield_variable_section l k (one (declares_variables vs)) = one (declares_variables (refield_variables l k vs))
 
+-- a section of parameters with other names for fields
 abbrev pub refield_section : FieldNames → ℕ → Tree Name section → Tree Name section
 refield_section l k (value_section ns u) = value_section ns (refield_type l k u)
 refield_section l k (variable_section ns u) = variable_section ns (refield_type l k u)
 
+-- further sections with other names for fields
 abbrev pub refield_sections : FieldNames → ℕ → Tree Name (items further_section) → Tree Name (items further_section)
 refield_sections l k end = end
 refield_sections l k (more (then_section f) fs) = more (then_section (refield_section l k f)) (refield_sections l (k + constructors (section_type f)) fs)
 
+-- formal parameters with other names for fields
 abbrev pub refield_formals : FieldNames → ℕ → Tree Name (maybe formals) → Tree Name (maybe formals)
 refield_formals l k none = none
 refield_formals l k (one no_formals) = one no_formals
@@ -109,6 +115,7 @@ refield_formals l k (one (some_formals f fs)) = one (some_formals (refield_secti
 abbrev pub behind_variables : TypeEnvironment Name → ℕ → Tree Name block → TypeEnvironment Name
 behind_variables env k b = unwrap_or (option_and_then (declare_typed as_names (after_types k b) (block_variables b)) (declare_first as_names env k b)) env
 
+-- the parameters of a procedure; none where they denote nothing
 abbrev pub parameters_of : TypeEnvironment Name → ℕ → Tree Name (item procedure) → List (TypedParameter Name)
 parameters_of env k p = unwrap_or (typed_parameters as_names env k (procedure_formals p)) []
 
@@ -116,6 +123,7 @@ parameters_of env k p = unwrap_or (typed_parameters as_names env k (procedure_fo
 abbrev pub behind_heading : TypeEnvironment Name → ℕ → Tree Name (item procedure) → TypeEnvironment Name
 behind_heading env k p = heading (procedure_name p) (parameters_of env k p) env
 
+-- what names mean after some procedures
 abbrev pub behind_procedures : TypeEnvironment Name → ℕ → Tree Name (items procedure) → TypeEnvironment Name
 behind_procedures env k end = env
 behind_procedures env k (more p rest) = behind_procedures (behind_heading env k p) (k + procedure_constructors p) rest

@@ -45,10 +45,12 @@ abbrev pub records_in_types : ℕ → Tree Name (items type_name) → List Recor
 records_in_types k end = []
 records_in_types k (more (declares_type x u) ds) = records_in_type k u ++ records_in_types (k + constructors u) ds
 
+-- the records that are written with variables, in text order
 abbrev pub records_in_variables : ℕ → Tree Name (items variable) → List RecordFields
 records_in_variables k end = []
 records_in_variables k (more (declares_variable ns u) gs) = records_in_type k u ++ records_in_variables (k + constructors u) gs
 
+-- the records that are written with parameters
 abbrev pub records_in_sections : ℕ → Tree Name (items further_section) → List RecordFields
 records_in_sections k end = []
 records_in_sections k (more (then_section f) fs) = records_in_type k (section_type f) ++ records_in_sections (k + constructors (section_type f)) fs

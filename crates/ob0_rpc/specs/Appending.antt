@@ -13,6 +13,7 @@ pub record IsReadBack (value : Data) : Type 0 where
   pub numbers : HasNumbers (outline value)
   pub utf8 : IsUtf8 (compact_text value)
 
+-- each of some values reads back from its text
 abbrev pub AreReadBack : List Data → Type 0
 AreReadBack [] = ⊤
 AreReadBack (value ∷ values) = IsReadBack value × AreReadBack values

@@ -16,6 +16,7 @@ error_code UnknownMethod = minus 32601
 error_code BadParams = minus 32602
 error_code Memory = minus 32603
 
+-- the message of an error
 abbrev pub error_text : RpcFault → List ℕ
 error_text NotJson = codes "not JSON"
 error_text NotAMessage = codes "not a message"

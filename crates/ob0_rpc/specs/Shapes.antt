@@ -5,12 +5,15 @@ use Rattle.serde_json.specs.Data.{Data, number, string, object, unsigned, member
 use Rattle.serde_json.specs.Find.{of_integer}
 use Rattle.ob0_text.specs.declared.positions.Position.{Position}
 
+-- a text
 abbrev pub text : List ℕ → Data
 text = string
 
+-- a whole number
 abbrev pub whole_number : ℤ → Data
 whole_number z = number (of_integer z)
 
+-- the value of the member `jsonrpc`
 abbrev pub json_rpc : Data
 json_rpc = text (codes "2.0")
 

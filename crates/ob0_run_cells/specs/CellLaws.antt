@@ -47,6 +47,7 @@ NumbersAreCells =
     → ((n : ℤ) × (read_place store p ≡ Some (number n)) × (slice_get (all_cells store) (address typing p) ≡ Some n))
     × ((n : ℤ) → (after : Store) × (write_place store p (number n) ≡ Some after) × StoreFits typing after × (all_cells after ≡ slice_set (all_cells store) (address typing p) n))
 
+-- a truth value is one cell
 abbrev pub TruthsAreCells : Type 0
 TruthsAreCells =
     (typing : StoreTyping) (store : Store) (p : Place) → StoreFits typing store → PlaceFits typing p boolean_shape
