@@ -25,6 +25,7 @@ LaysOut (array_shape k n s) (layout.Array cells) = cells ≡ size (array_shape k
 LaysOut (record_shape k fs) (layout.Record r) = AreLaidOut fs r
 LaysOut _ _ = ⊥
 
+-- the layouts of a table of types: for each its cells, and the offsets of its fields
 abbrev pub LayOut : List Shape → List Layout → Type 0
 LayOut [] [] = Unit {0}
 LayOut (s ∷ shapes) (l ∷ layouts) = LaysOut s l × LayOut shapes layouts

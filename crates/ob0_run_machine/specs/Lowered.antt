@@ -33,6 +33,7 @@ mutual
 pub data Relation : Type 0 where
   equal not_equal less less_equal greater greater_equal : Relation
 
+-- truth values
 pub data Truth : Type 0 where
   constant : Bool → Truth
   flag : Place → Truth

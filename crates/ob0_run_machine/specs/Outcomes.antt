@@ -10,10 +10,12 @@ use Rattle.ob0_run_machine.specs.Execution.{Progress, Run, State, call, execute_
 use Rattle.ob0_run_machine.specs.Lowered.{Program}
 use Rattle.ob0_run_machine.specs.Machines.{items_out}
 
+-- an end of the code
 abbrev pub end_in : code_end.End → End
 end_in code.Done = Done
 end_in (code.Ended e) = end_of e
 
+-- an outcome of the code as a run
 abbrev pub run_of : Outcome → Run
 run_of o = record { output = items_out o.output.items; ending = end_in o.end }
 

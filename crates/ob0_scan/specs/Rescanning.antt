@@ -10,10 +10,12 @@ use Rattle.ob0_scan.specs.declared.changed.Between.{Between}
 use Rattle.ob0_scan.specs.Scanned.{Scanned, IsScan, span_from, token_at, comment_at}
 use Rattle.ob0_scan.specs.Reused.{back_tokens, back_comments, moved, moved_token, Reuses, IsNew}
 
+-- where a token ends
 abbrev pub token_end : Option Token → ℕ
 token_end None = 0
 token_end (Some t) = t.span.end
 
+-- where a comment ends
 abbrev pub comment_end : Option Span → ℕ
 comment_end None = 0
 comment_end (Some c) = c.end
@@ -27,6 +29,7 @@ abbrev pub token_begins : ℕ → List Token → Bool
 token_begins place [] = false
 token_begins place (t ∷ tokens) = t.span.start == place
 
+-- a comment begins at a place
 abbrev pub comment_begins : ℕ → List Span → Bool
 comment_begins place [] = false
 comment_begins place (c ∷ comments) = c.start == place

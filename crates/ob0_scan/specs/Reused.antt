@@ -17,6 +17,7 @@ pub record IsReplaced (old new : List ℕ) (from removed added : ℕ) : Type 0 w
 abbrev pub moved : ℕ → ℕ → Span → Span
 moved removed added span = record { start = span.start + added - removed; end = span.end + added - removed }
 
+-- a token after the change, moved
 abbrev pub moved_token : ℕ → ℕ → Token → Token
 moved_token removed added token = record { kind = token.kind; span = moved removed added token.span }
 
@@ -24,6 +25,7 @@ moved_token removed added token = record { kind = token.kind; span = moved remov
 abbrev pub front_tokens : ℕ → List Token → List Token
 front_tokens place tokens = take (prefix_len (λ t. nat_lt t.span.end place) tokens) tokens
 
+-- the comments that end before a place
 abbrev pub front_comments : ℕ → List Span → List Span
 front_comments place comments = take (prefix_len (λ c. nat_lt c.end place) comments) comments
 
@@ -31,6 +33,7 @@ front_comments place comments = take (prefix_len (λ c. nat_lt c.end place) comm
 abbrev pub back_tokens : ℕ → List Token → List Token
 back_tokens place tokens = drop (prefix_len (λ t. nat_lt t.span.start place) tokens) tokens
 
+-- the comments from a place on
 abbrev pub back_comments : ℕ → List Span → List Span
 back_comments place comments = drop (prefix_len (λ c. nat_lt c.start place) comments) comments
 

@@ -10,6 +10,7 @@ abbrev pub is_among : Name → List Name → Bool
 is_among x [] = false
 is_among x (y ∷ ys) = same_name x y || is_among x ys
 
+-- no name is twice in a list
 abbrev pub are_distinct : List Name → Bool
 are_distinct [] = true
 are_distinct (x ∷ xs) = not (is_among x xs) && are_distinct xs
@@ -19,6 +20,7 @@ abbrev pub group_fields : {N : Type 0} → Tree N fields → List N
 group_fields no_fields = []
 group_fields (some_fields ns t) = names_listed ns
 
+-- the names of all fields of a record
 abbrev pub groups_fields : {N : Type 0} → Tree N (items further_fields) → List N
 groups_fields end = []
 groups_fields (more (then_fields g) rest) = group_fields g ++ groups_fields rest
@@ -37,6 +39,7 @@ abbrev mutual
   groups_once end = true
   groups_once (more (then_fields g) rest) = group_once g && groups_once rest
 
+-- the names of a block's procedures
 abbrev pub procedure_names : {N : Type 0} → Tree N (items procedure) → List N
 procedure_names end = []
 procedure_names (more p rest) = procedure_name p ∷ procedure_names rest
@@ -51,10 +54,12 @@ abbrev pub types_once : Tree Name (items type_name) → Bool
 types_once end = true
 types_once (more (declares_type x t) ds) = fields_once t && types_once ds
 
+-- in the types of variables each record declares a field once
 abbrev pub variables_once : Tree Name (items variable) → Bool
 variables_once end = true
 variables_once (more (declares_variable ns t) gs) = fields_once t && variables_once gs
 
+-- in the types of parameters each record declares a field once
 abbrev pub formals_once : Tree Name (items further_section) → Bool
 formals_once end = true
 formals_once (more (then_section s) fs) = fields_once (section_type s) && formals_once fs

@@ -17,9 +17,11 @@ use Rattle.ob0_scope_rules.specs.Spans.{span_at}
 abbrev pub unless : Bool → Fault → List Fault
 unless holds fault = if holds then [] else fault ∷ []
 
+-- `Duplicate` at a token
 abbrev pub duplicate_at : Scanned → ℕ → Fault
 duplicate_at source token = record { code = code.Duplicate; span = span_at source token }
 
+-- `EndName` at a token
 abbrev pub end_name_at : Scanned → ℕ → Fault
 end_name_at source token = record { code = code.EndName; span = span_at source token }
 
@@ -52,10 +54,12 @@ abbrev pub types_twice : Scanned → Tree ℕ (items type_name) → List Fault
 types_twice source end = []
 types_twice source (more (declares_type x t) ds) = fields_twice source t ++ types_twice source ds
 
+-- second fields in the types of variables
 abbrev pub variables_twice : Scanned → Tree ℕ (items variable) → List Fault
 variables_twice source end = []
 variables_twice source (more (declares_variable ns t) gs) = fields_twice source t ++ variables_twice source gs
 
+-- second fields in the types of parameters
 abbrev pub formals_twice : Scanned → Tree ℕ (items further_section) → List Fault
 formals_twice source end = []
 formals_twice source (more (then_section s) fs) = fields_twice source (section_type s) ++ formals_twice source fs
@@ -75,6 +79,7 @@ abbrev mutual
   procedure_twice source (declares_procedure x fs b closing) =
       closing_other source x closing ++ (formals_twice source (formal_sections fs) ++ block_twice source (formal_names (formal_sections fs)) b)
 
+-- all such faults of a module
 abbrev pub module_twice : Scanned → Tree ℕ module_text → List Fault
 module_twice source (is_module x b closing) = closing_other source x closing ++ block_twice source [] b
 

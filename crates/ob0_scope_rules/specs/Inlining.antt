@@ -77,6 +77,7 @@ abbrev pub without : ℕ → ℕ → Tree Name (items constant) → Tree Name (i
 without d k end = end
 without d k (more c cs) = if k == d then cs else more c (without d (suc k) cs)
 
+-- a CONST section without the declaration of this ordinal
 abbrev pub section_without : ℕ → ℕ → Tree Name (maybe constants) → Tree Name (maybe constants)
 section_without d k none = none
 section_without d k (one (declares_constants cs)) = one (declares_constants (without d k cs))
@@ -95,6 +96,7 @@ abbrev mutual
   procedure_without d k (declares_procedure x fs b closing) =
       declares_procedure x fs (block_without d (after_names k (formal_names (formal_sections fs))) b) closing
 
+-- a module without the declaration of this ordinal
 abbrev pub module_without : ℕ → Tree Name module_text → Tree Name module_text
 module_without d (is_module x b closing) = is_module x (block_without d 7 b) closing
 
@@ -102,6 +104,7 @@ module_without d (is_module x b closing) = is_module x (block_without d 7 b) clo
 abbrev pub only : ℕ → Uses
 only occurrence k = k == occurrence
 
+-- all occurrences that are bound to a declaration
 abbrev pub all_bound_to : Tree Name module_text → ℕ → Uses
 all_bound_to m d k = same_ordinal (binds m k) d
 

@@ -80,9 +80,11 @@ IsNumbering m ordinals = numbered (named_tree_of m) ≡ mapped (label_at m.sourc
 abbrev pub with_ordinal : Labels Name (Option ℕ × Name)
 with_ordinal ordinal x = (ordinal, x)
 
+-- what the identifier at a token is bound to, and its text
 abbrev pub bound_at : Scanned → List (Option ℕ) → ℕ → Option ℕ × Name
 bound_at source ordinals token = (ordinal_in ordinals token, text_at source token)
 
+-- the table of ordinals is what the scopes of the module bind
 abbrev pub IsBinding : Parsed → List (Option ℕ) → Type 0
 IsBinding m ordinals = relabelled as_names with_ordinal (named_tree_of m) ≡ mapped (bound_at m.source ordinals) (value_at m.source) (tree_of m)
 
@@ -107,6 +109,7 @@ pub record AreFaultsOf (m : Parsed) (faults : List Fault) : Type 0 where
   pub undeclared : filter is_of_occurrences faults ≡ unbound_in m
   pub no_other : list_any (λ fault. not (is_of_declarations fault || is_of_occurrences fault)) faults ≡ false
 
+-- what is known of a module's names is right
 pub record IsResolution (r : Resolution) : Type 0 where
   pub parsed : IsParsed r.module_read
   pub numbering : IsNumbering r.module_read r.ordinals

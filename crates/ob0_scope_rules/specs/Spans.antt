@@ -10,6 +10,7 @@ abbrev pub span_in : Option Token → Span
 span_in None = record { start = 0; end = 0 }
 span_in (Some t) = t.span
 
+-- where a token is: an empty span at the text's start where there is no such token
 abbrev pub span_at : Scanned → ℕ → Span
 span_at source token = span_in (slice_get source.tokens token)
 

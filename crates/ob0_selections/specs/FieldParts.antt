@@ -16,8 +16,10 @@ use Rattle.ob0_values.specs.Values.{Shape}
 abbrev pub meaning_in : Declaring → Meanings ℕ Shape Signature
 meaning_in d = token_meaning (declared_in d.known.now) d.resolved.now
 
+-- the type that a type of the code is
 abbrev pub type_in : Declaring → Option TypeId → Option Shape
 type_in d of = option_map (type_shape (shapes_of d.known.now)) of
 
+-- the fields that were found so far, with their types
 abbrev pub typed_in : Declaring → List Selection → List (Selected ℕ)
 typed_in d found = map (selection_in (shapes_of d.known.now)) found

@@ -10,6 +10,7 @@ use Rattle.ob0_types_rules.specs.Expressions.{Meanings}
 use Rattle.ob0_types_table.specs.FieldPlaces.{field_selected}
 use Rattle.ob0_values.specs.Values.{Shape, integer_shape}
 
+-- the first name of a list
 abbrev pub first_listed : {N : Type 0} → Tree N names → N
 first_listed (listed x rest) = x
 
@@ -18,6 +19,7 @@ abbrev pub field_named : {N P : Type 0} → Meanings N Shape P → Option Shape 
 field_named m None x = []
 field_named m (Some t) x = noted x (field_selected t (m.written x)) (field_type t (m.written x))
 
+-- names of one declaration as fields of a record's type
 abbrev pub fields_named : {N P : Type 0} → Meanings N Shape P → Option Shape → List N → List (Selected N)
 fields_named m t [] = []
 fields_named m t (x ∷ xs) = field_named m t x ++ fields_named m t xs
@@ -26,6 +28,7 @@ fields_named m t (x ∷ xs) = field_named m t x ++ fields_named m t xs
 abbrev pub type_named : {N P : Type 0} → Meanings N Shape P → Option Shape → N → Option Shape
 type_named m t x = option_and_then (λ r. field_type r (m.written x)) t
 
+-- the type of an array's elements
 abbrev pub type_of_elements : Option Shape → Option Shape
 type_of_elements t = option_and_then (λ a. element_type a integer_shape) t
 

@@ -26,6 +26,7 @@ pub record Selected (N : Type 0) : Type 0 where
 abbrev pub name_and_field : {N : Type 0} → Selected N → N × FieldOf
 name_and_field s = (s.name, s.selects)
 
+-- an identifier with the field that it selects, where it selects one
 abbrev pub noted : {N : Type 0} → N → Option FieldOf → Option Shape → List (Selected N)
 noted x None t = []
 noted x (Some f) None = []
