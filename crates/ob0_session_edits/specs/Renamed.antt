@@ -24,6 +24,7 @@ pub record RenameAsked : Type 0 where
   pub version : ℤ
   pub new : List ℕ
 
+-- a request for a rename of the code
 abbrev pub asked_of : RenameRequest → RenameAsked
 asked_of r = record { id = id_data r.id.now; client = r.client; at = at_seen r.place.now; version = r.version; new = r.new.now }
 

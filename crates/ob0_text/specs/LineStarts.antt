@@ -30,6 +30,7 @@ starts_after at (b ∷ bs) next =
 abbrev pub AllUnder : ℕ → List ℕ → Type 0
 AllUnder bound ns = (k : ℕ) → k < length ns → slice_index ns k < bound
 
+-- no number of a list is below a bound
 abbrev pub AllFrom : ℕ → List ℕ → Type 0
 AllFrom bound ns = (k : ℕ) → k < length ns → bound ≤ slice_index ns k
 
@@ -38,6 +39,7 @@ pub record TextInUnit : Type 0 where
   pub text : List ℕ
   pub unit : Unit
 
+-- the code of a text with its unit
 abbrev pub text_code : Coded TextInUnit
 text_code =
     code_by (List ℕ × Unit) (coded× (coded_list coded_ℕ) unit_code) (λ t. (t.text, t.unit)) (λ p. record { text = p.0; unit = p.1 }) (λ t. refl)

@@ -37,6 +37,7 @@ pub data Item : Type 0 where
   procedure : Item
   body : Item
 
+-- the nonterminals, by which trees are indexed
 pub data Sort : Type 0 where
   item : Item → Sort
   items : Item → Sort

@@ -11,6 +11,7 @@ use Rattle.ob0_types_table.specs.KnownTables.{Tables, declared_in}
 use Rattle.ob0_types_rules.specs.WellTyped.{WellTyped, fits_over}
 use Rattle.ob0_types.specs.FaultOrder.{AreFirstFaults}
 
+-- a checked module: its names, its faults, and the table of what it declares
 pub record CheckedModule : Type 0 where
   pub names : Resolution
   pub faults : List Fault

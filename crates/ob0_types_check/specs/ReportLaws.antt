@@ -44,6 +44,7 @@ pub record ConstantFits {N : Type 0} (meaning : Typed N) (told : Option Value) (
   pub given : constant_value meaning e ≡ Some value
   pub scalar : is_some (value_type value) ≡ true
 
+-- a constant's right side without a reported fault has the value that is known
 abbrev pub ConstantsFit : Type 0 → Type 0
 ConstantsFit N =
     (p : SoFar) (shapes : List Shape) (label : ℕ → N) (meaning : Typed N) (e : Tree ℕ expression)
@@ -58,6 +59,7 @@ pub record LengthFits {N : Type 0} (meaning : Typed N) (told : Option ℕ) (e : 
   pub given : constant_value meaning e ≡ Some value
   pub counted : array_length value ≡ Some length
 
+-- an array's length without a reported fault is the one that is known
 abbrev pub LengthsFit : Type 0 → Type 0
 LengthsFit N =
     (p : SoFar) (shapes : List Shape) (label : ℕ → N) (meaning : Typed N) (e : Tree ℕ expression)

@@ -74,6 +74,7 @@ abbrev mutual
 abbrev pub declared_fields : Parsed → List (ℕ × ℕ)
 declared_fields m = declared_in 0 (module_block (tree_of m))
 
+-- the first of a list
 abbrev pub first : List ℕ → Option ℕ
 first [] = None
 first (token ∷ tokens) = Some token
