@@ -266,6 +266,7 @@ abbrev mutual
   pub marked_procedure : {P : Type 0} → Meanings ℕ Shape P → ℕ → Tree ℕ (item procedure) → List (ℕ × ℕ)
   marked_procedure m k (declares_procedure x fs b closing) = marked_sections k (formal_sections fs) ++ marked_block m (after_formals k (declares_procedure x fs b closing)) b
 
+-- the fields of a module, each with the ordinal of its record
 abbrev pub marked_module : {P : Type 0} → Meanings ℕ Shape P → Tree ℕ module_text → List (ℕ × ℕ)
 marked_module m (is_module x b closing) = marked_block m 0 b
 

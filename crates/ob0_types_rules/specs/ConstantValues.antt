@@ -16,9 +16,11 @@ use Rattle.ob0_types_rules.specs.WellTyped.{bind_names}
 abbrev pub Known : Type 0
 Known = Environment Name (Unit {0}) (Unit {0})
 
+-- what isn't a constant has no value
 abbrev pub no_constant : Object (Unit {0}) (Unit {0})
 no_constant = a_variable tt
 
+-- a declaration, as far as constants count
 abbrev pub known_object : {V P : Type 0} → Object V P → Object (Unit {0}) (Unit {0})
 known_object (a_constant v) = a_constant v
 known_object (a_type s) = no_constant
@@ -26,6 +28,7 @@ known_object (a_variable p) = no_constant
 known_object (a_procedure p) = no_constant
 known_object (a_standard p) = no_constant
 
+-- the predeclared names, as far as constants count
 abbrev pub predeclared_known : Known
 predeclared_known = map (λ b. (b.0, known_object b.1)) (outermost {V = Unit {0}} {P = Unit {0}} as_names)
 

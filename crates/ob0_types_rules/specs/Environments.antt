@@ -14,6 +14,7 @@ abbrev pub from_binding : {N V P : Type 0} → Naming N → Environment N V P �
 from_binding naming [] x = []
 from_binding naming (b ∷ env) x = elim (naming.same x b.0) [ true ↦ b ∷ env | false ↦ from_binding naming env x ]
 
+-- the newest binding
 abbrev pub newest : {N V P : Type 0} → Environment N V P → Option (Object V P)
 newest [] = None
 newest (b ∷ env) = Some b.1

@@ -27,6 +27,7 @@ unfoldable pub type_added : {N P : Type 0} → Meanings N Shape P → Shape → 
 unfolding type_of
 type_added meaning x (adds o t) = type_of_term meaning t >>= add_type o x
 
+-- the type after one more factor
 unfoldable pub type_multiplied : {N P : Type 0} → Meanings N Shape P → Shape → Tree N (item multiplier) → Option Shape
 unfolding type_of
 type_multiplied meaning x (multiplies o f) = type_of_factor meaning f >>= multiply_type o x

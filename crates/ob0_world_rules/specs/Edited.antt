@@ -18,6 +18,7 @@ pub record Replacement : Type 0 where
 abbrev pub replacement_of : Edit → Replacement
 replacement_of e = record { range = e.range; text = chars (string_bytes e.text) }
 
+-- edits of the code as replacements
 abbrev pub replacements : List Edit → List Replacement
 replacements edits = map replacement_of edits
 

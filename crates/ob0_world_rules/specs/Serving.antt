@@ -26,6 +26,7 @@ MayTell held (Changed uri version how) sent made = MayPublish uri (document_at (
 MayTell held (Lost uri) sent made = (sent ≡ []) × (made ≡ [])
 MayTell held (Closed uri) sent made = (sent ≡ taken_back uri (is_some (document_at held uri))) × (made ≡ [])
 
+-- what a server sends for a message, and which publications it makes
 abbrev pub MaySend : OpenDocuments → ToServer → List ToEditor → List Made → Type 0
 MaySend held (tells note) sent made = MayTell held note sent made
 MaySend held (asks number uri ask) sent made =
