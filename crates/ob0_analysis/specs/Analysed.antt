@@ -1,4 +1,5 @@
 -- What comes of asking a text.
+-- Rule: none; for contracts of `ask`.
 use Rattle.std.specs.Prelude.{ℕ, List, map}
 use Rattle.ob0_scan.specs.Scanned.{IsScanOf}
 use Rattle.ob0_tree.specs.Parsed.{Parsed, IsParsed, named_tree_of}

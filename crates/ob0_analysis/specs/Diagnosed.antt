@@ -1,4 +1,5 @@
 -- What is told of a text: nothing exactly where it is a well-typed module.
+-- Rule: docs/PROTOCOL.md, Publishing 3; docs/LANGUAGE.md, Lexemes 7, Syntax faults, Faults of scopes and types 1.
 use Rattle.std.specs.Prelude.{◌≡◌, ◌⊎◌, ◌≤◌, ◌<◌, ◌++◌, ◌∷◌, ℕ, List, [], Option, Some, None, map, length, slice_get, codes, string_bytes}
 use Rattle.ob0_scan.specs.CodeTexts.{code_name, code_message}
 use Rattle.ob0_scan.specs.Refused.{AreFaults}
@@ -27,6 +28,7 @@ pub record Complaint : Type 0 where
   pub said : List ℕ
   pub span : Span
 
+-- a diagnosis of the code, as a value of the definitions
 abbrev pub complaint_in : Diagnosis → Complaint
 complaint_in d = record { code = d.code.now; said = string_bytes d.message; span = d.span }
 
@@ -44,6 +46,7 @@ pub record IsWellTypedModule (text : List ℕ) : Type 0 where
 
 -- ---- a text without lexemes
 
+-- a fault of the scanner, of names or of types, with its code, message and place
 abbrev pub complaint_of : Fault → Complaint
 complaint_of fault = record { code = code_name fault.code; said = code_message fault.code; span = fault.span }
 
@@ -61,6 +64,7 @@ abbrev pub place_in : List ℕ → Option Token → Span
 place_in text (Some token) = token.span
 place_in text None = record { start = length text; end = length text }
 
+-- where the token with this index is; an empty span at the text's end where there is no such token
 abbrev pub place_of : Scanned → ℕ → Span
 place_of s token = place_in s.text (slice_get s.tokens token)
 
@@ -68,6 +72,7 @@ place_of s token = place_in s.text (slice_get s.tokens token)
 abbrev pub expects : List ℕ → Span → Complaint
 expects word place = record { code = codes "Syntax"; said = codes "expected " ++ word; span = place }
 
+-- a construct of nesting 101 opens at this place
 abbrev pub too_deep : Span → Complaint
 too_deep place = record { code = codes "TooDeep"; said = codes "nested too deep"; span = place }
 

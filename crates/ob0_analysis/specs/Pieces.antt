@@ -1,4 +1,5 @@
 -- What two texts have in common, piece by piece.
+-- Rule: none; for private contracts: what is compared of two texts.
 use Rattle.std.specs.Prelude.{◌≡◌, ◌+◌, ◌≤◌, ℕ, List, length, take, drop}
 
 -- so many bytes lie behind these places, and are the same

@@ -1,4 +1,5 @@
 -- An edit of a text keeps what its module does.
+-- Rule: docs/PROTOCOL.md, Requests on documents 10.
 use Rattle.std.specs.Prelude.{ℕ, List}
 use Rattle.ob0_run_rules.specs.EditLaws.{SameRuns}
 use Rattle.ob0_analysis.specs.Diagnosed.{IsWellTypedModule}

@@ -80,6 +80,7 @@ fn ask_tokens<Q: Question>(
     ensures { IfOk result (Finds tokens.now.text (Q.answers question.now)) }
 {
     one_scan();
+    // For the proof: what the contract of this call says.
     let _text = tokens.text();
     match parse(alloc, tokens) {
         Ok(module) => ask_module(alloc, &module, question),
@@ -101,11 +102,13 @@ fn ask_module<Q: Question>(
 {
     one_scan();
     one_tree();
+    // For the proof: what the contract of this call says.
     let _text = module.tokens().text();
     let resolved = resolve(alloc, module)?;
     let checked = check(alloc, &resolved)?;
     match checked.well_typed() {
         Some(module) => {
+            // For the proof: what the contract of this call says.
             let _names = module.resolved();
             Ok(Asked::Answered(question.answer(alloc, &module)?))
         }

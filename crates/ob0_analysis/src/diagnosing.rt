@@ -84,6 +84,7 @@ fn diagnose_tokens(alloc: Global, tokens: &Tokens) -> Result<Vec<Diagnosis>, All
     ensures { IfOk result (λ list. Tells tokens.now.text (map complaint_in list.items)) }
 {
     one_scan();
+    // For the proof: what the contract of this call says.
     let _text = tokens.text();
     match parse(alloc, tokens) {
         Ok(module) => diagnose_module(alloc, &module),
@@ -101,6 +102,7 @@ fn diagnose_module(alloc: Global, module: &Module<'_>) -> Result<Vec<Diagnosis>,
 {
     one_scan();
     one_tree();
+    // For the proof: what the contract of this call says.
     let _text = module.tokens().text();
     let resolved = resolve(alloc, module)?;
     let faults = faults_in(alloc, &resolved)?;

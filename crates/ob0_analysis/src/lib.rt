@@ -1,4 +1,5 @@
-//! The analysis of a text: it is scanned, parsed, resolved and checked once, and a question is put to its module.
+//! The analysis of a text: it is scanned, parsed, resolved and checked once, and a question is put to its module. What is
+//! wrong with a text (`diagnose`).
 #![tactic(auto)]
 
 mod analysis;

@@ -1,4 +1,5 @@
 -- The walk over declarations: what is in sight at each place of a module is what its environment there says.
+-- Rule: none; for contracts of the walk over declarations.
 use Rattle.std.specs.Prelude.{◌≡◌, ℕ, ◌+◌, ◌≤◌, Bool, List, ◌++◌, map, length, IfSome, is_some, Some, None, Option, option_map}
 use Rattle.ob0_tree.specs.Tree.{Tree, further_section, item, items, procedure, section}
 use Rattle.ob0_scope_rules.specs.Names.{Label, as_labels, declared}
@@ -70,12 +71,15 @@ pub record Heading : Type 0 where
   pub walk : Walking
   pub parameters : List Parameter
 
+-- a parameter of the code, by name, mode and type
 abbrev pub parameter_in : Resolution → List Shape → Parameter → TypedParameter Label
 parameter_in r shapes p = record { name = label_in r p.name; formal = formal_in shapes p.formal }
 
+-- the parameters of a heading, by a table of types
 abbrev pub parameters_in : Resolution → Tables → List Parameter → List (TypedParameter Label)
 parameters_in r t ps = map (parameter_in r (shapes_of t)) ps
 
+-- the parameters that a heading has so far
 abbrev pub parameters_of : Heading → List (TypedParameter Label)
 parameters_of h = parameters_in h.walk.resolved h.walk.known h.parameters
 
@@ -83,6 +87,7 @@ parameters_of h = parameters_in h.walk.resolved h.walk.known h.parameters
 abbrev pub KeepsParameters : Tables → Heading → Type 0
 KeepsParameters t h = (all : TypeEnvironment Label) → Keeps all t → Keeps (bind_typed (parameters_of h) all) h.walk.known
 
+-- the table has what a procedure and its parameters are declared as
 abbrev pub KeepsHeading : Tables → Label → Heading → Type 0
 KeepsHeading t x h = (all : TypeEnvironment Label) → Keeps all t → Keeps (heading x (parameters_of h) (bind_typed (parameters_of h) all)) h.walk.known
 
@@ -90,12 +95,14 @@ KeepsHeading t x h = (all : TypeEnvironment Label) → Keeps all t → Keeps (he
 abbrev pub typed_section : Tree Label section → Shape → List (TypedParameter Label)
 typed_section f s = map (λ x. record { name = x; formal = record { mode = section_mode f; shape = s } }) (section_names f)
 
+-- what is known after a section: none where its type denotes nothing
 abbrev pub LeavesSection : Heading → Tree Label section → TypeEnvironment Label → Option Heading → Type 0
 LeavesSection h f env None = denoted (meanings as_labels env) h.walk.next (section_type f) ≡ None
 LeavesSection h f env (Some g) =
     (s : Shape) × (denoted (meanings as_labels env) h.walk.next (section_type f) ≡ Some s)
     × Agrees (bind_names (section_names f) (a_variable s) env) g.walk.known × (parameters_of g ≡ parameters_of h ++ typed_section f s)
 
+-- a section's parameters are added, in each environment that agrees with what is known
 pub record DeclaresSection (h : Heading) (f : Tree Label section) (r : Option Heading) : Type 0 where
   pub leaves : (env : TypeEnvironment Label) → Agrees env h.walk.known → LeavesSection h f env r
   pub follows : IfSome r (λ g. Follows h.walk g.walk)

@@ -1,4 +1,5 @@
 -- What the checker makes of a type's text: a type in its table, which has grown by shapes alone.
+-- Rule: none; for contracts of the checker's table.
 use Rattle.std.specs.Prelude.{◌≡◌, ℕ, ◌+◌, ◌<◌, ◌≤◌, List, ◌++◌, map, length, All, IfSome, Option, Some, None}
 use Rattle.ob0_tree.specs.declared.tree.ArrayType.{ArrayType}
 use Rattle.ob0_tree.specs.Tree.{Tree, array_type, written_type}
@@ -34,6 +35,7 @@ pub record Denotes (r : Resolution) (before after : Tables) (around : ℕ) (t : 
   pub made : IfSome found (λ of. IsMade (length after.shapes) of)
   pub counted : IfSome found (λ of. length after.shapes ≡ length before.shapes + constructors t)
 
+-- the tree of an array type
 abbrev pub array_in : ArrayType → Tree ℕ written_type
 array_in a = array_type (expression_of a.size) (type_of a.element.value)
 

@@ -1,5 +1,5 @@
 //! Whether a module is well-typed: the types of expressions, the values of constant ones, which statements fit, and the walk
-//! over the declarations that makes their table.
+//! over the declarations that makes their table (docs/LANGUAGE.md, Types).
 #![tactic(auto)]
 
 mod deciding;

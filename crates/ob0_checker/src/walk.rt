@@ -109,6 +109,7 @@ impl<'t> Walk<'t> {
         ensures mark { result ≡ length self.now.bound }
         ensures tables { AreTables self.now.known }
     {
+        // For the proof: what the contract of this call says.
         let _declared = self.known.count();
         self.bound.len()
     }
@@ -157,6 +158,7 @@ impl<'t> Walk<'t> {
             mut known,
             bound,
         } = self;
+        // For the proof: what the contract of this call says.
         let _declared = known.count();
         let of = match denote(alloc, &mut known, resolved, t)? {
             None => return Ok(None),

@@ -285,7 +285,7 @@ row_found id (r ∷ rs) e = go (bytes_eq r.id id) e (row_found id rs)
     go true e later = refl
     go false e later = later e
 
--- an argument with a default has a row behind its own default
+-- an argument with a default has a row after its own default
 own_default : (a : Rule) (v : Text) (vs : List Text) → a.defaults ≡ v ∷ vs → (rows : List Row) → is_some (find (λ r. bytes_eq r.id a.id) (with_default rows a)) ≡ true
 own_default a v vs is rows = go (has_row a.id rows) refl
   where

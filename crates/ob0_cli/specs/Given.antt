@@ -1,4 +1,5 @@
 -- What the words of a command line give.
+-- Rule: docs/PROTOCOL.md, The program; clap's definition of a command line.
 use Rattle.std.specs.Prelude.{◌≡◌, ◌⊎◌, ◌≤◌, ℕ, List, [], Option, Some, codes, if◌then◌else◌, pos}
 use Rattle.std.specs.Str.{bytes_eq}
 use Rattle.std.specs.Str.Parse.{digits_value, without_leading_plus}
@@ -30,6 +31,7 @@ HoldsValues name rows (Run file calls turns) = (name ≡ codes "run") × (first_
 HoldsValues name rows (Rename file position new) = (name ≡ codes "rename") × (first_of (codes "file") rows ≡ Some file.now)
     × IsNumber (codes "line") rows position.line × IsNumber (codes "column") rows position.character × (first_of (codes "name") rows ≡ Some new.now)
 
+-- the command that was found, with its values, is this command line
 abbrev pub IsReadFrom : Found → CommandLine → Type 0
 IsReadFrom found line = (name : Text) × (rows : List Row) × (found ≡ Some (name, rows)) × HoldsValues name rows line
 
@@ -45,6 +47,7 @@ Refuses words Memory = Unit {0}
 
 -- ---- what the matches are known to have
 
+-- an argument has a text
 abbrev pub HasText : Text → List Row → Type 0
 HasText id rows = (text : Text) × (first_of id rows ≡ Some text)
 
@@ -52,9 +55,11 @@ HasText id rows = (text : Text) × (first_of id rows ≡ Some text)
 abbrev pub most_of : Text → ℕ
 most_of id = if bytes_eq id (codes "calls") then 64 else 100000
 
+-- an option has a number within its bounds
 abbrev pub HasBounded : Text → List Row → Type 0
 HasBounded id rows = (text : Text) × (one_of id rows ≡ Some (without_minus text)) × IsSignedIn (pos 0) (pos (most_of id)) text
 
+-- an argument has a number of 64 bits
 abbrev pub HasPlace : Text → List Row → Type 0
 HasPlace id rows = (text : Text) × (one_of id rows ≡ Some text) × IsUnsignedIn 0 18446744073709551615 text
 
@@ -64,5 +69,6 @@ NeedsAt name rows = (name ≡ codes "serve") ⊎ ((name ≡ codes "check") × Ha
     ⊎ ((name ≡ codes "run") × HasText (codes "file") rows × HasBounded (codes "calls") rows × HasBounded (codes "turns") rows)
     ⊎ ((name ≡ codes "rename") × HasText (codes "file") rows × HasPlace (codes "line") rows × HasPlace (codes "column") rows × HasText (codes "name") rows)
 
+-- each argument that a command needs is there
 abbrev pub HasNeeded : Found → Type 0
 HasNeeded found = (name : Text) × (rows : List Row) × (found ≡ Some (name, rows)) × NeedsAt name rows

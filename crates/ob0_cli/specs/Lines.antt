@@ -1,14 +1,15 @@
 -- The command line of `ob0`, as clap's definition of a simple command sees it.
+-- Rule: docs/PROTOCOL.md, The program; clap's definition of a command line.
 use Rattle.std.specs.Prelude.{[], ◌∷◌, pos, true, Some, codes}
 use Rattle.clap.specs.Words.{App, Rule, Text, new_app, new_rule, with_rule, with_subcommand}
 use Rattle.clap.specs.declared.builder.ArgAction.TheVariants.{Set, SetTrue}
 use Rattle.clap.specs.declared.builder.value_parser.ValueParser.TheVariants.{Signed, Unsigned}
 
--- a word that must stand there; help has a name for its value, as for each value
+-- a word that must be there; help has a name for its value, as for each value
 abbrev pub word_rule : Text → Rule
 word_rule id = record (new_rule id) { action = Some Set; value_names = 1; required = true }
 
--- a number of 64 bits that must stand there
+-- a number of 64 bits that must be there
 abbrev pub number_rule : Text → Rule
 number_rule id = record (word_rule id) { parser = Some (Unsigned 0 18446744073709551615) }
 
@@ -46,12 +47,15 @@ serve_alone = record (new_app (codes "serve")) { top = record (new_app (codes "s
 abbrev pub serve : App
 serve = with_rule (with_rule serve_alone stdio_rule) client_rule
 
+-- `ob0 check FILE`
 abbrev pub check : App
 check = with_rule (new_app (codes "check")) (word_rule (codes "file"))
 
+-- `ob0 run FILE [--calls N] [--turns N]`
 abbrev pub run : App
 run = with_rule (with_rule (with_rule (new_app (codes "run")) (word_rule (codes "file"))) calls_rule) turns_rule
 
+-- `ob0 rename FILE LINE COLUMN NAME`
 abbrev pub rename : App
 rename = with_rule (with_rule (with_rule (with_rule (new_app (codes "rename")) (word_rule (codes "file"))) (number_rule (codes "line")))
     (number_rule (codes "column"))) (word_rule (codes "name"))

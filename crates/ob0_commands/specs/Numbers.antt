@@ -1,4 +1,5 @@
 -- The numbers that an input writes.
+-- Rule: docs/PROTOCOL.md, The program 2.
 use Rattle.std.specs.Prelude.{◌≡◌, ◌≢◌, ℕ, ℤ, List, [], ◌∷◌, ◌++◌, IsTrue, ⊤, slice_index}
 use Rattle.std.specs.Str.Parse.{IsNumeral, signed_digits_value, without_leading_sign}
 use Rattle.ob0_scan.specs.Classes.{is_space}

@@ -1,4 +1,5 @@
 -- A device, and whether it has been flushed since something was last written to it.
+-- Rule: none; for contracts: std's model of a writer, and whether it is flushed.
 use Rattle.std.specs.Prelude.{◌≡◌, ◌⊎◌, Bool, true}
 use Rattle.ob0_commands.specs.declared.printing.Flushed.{Flushed}
 

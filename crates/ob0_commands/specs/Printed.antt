@@ -1,4 +1,5 @@
 -- What the commands print, in bytes of UTF-8.
+-- Rule: docs/PROTOCOL.md, The program 1 to 4.
 use Rattle.std.specs.Prelude.{◌⊎◌, ◌<◌, ℕ, List, [], ◌∷◌, ◌++◌, Option, Some, None, length, codes, decimal}
 use Rattle.std.specs.Fmt.{signed_decimal}
 use Rattle.std.specs.Io.KnownBytes.{Appends}
@@ -17,6 +18,7 @@ use Rattle.ob0_commands.specs.declared.faults.Fault.TheVariants as fault
 
 -- ---- faults
 
+-- the line on standard error that names a fault
 abbrev pub fault_line : Fault → List ℕ
 fault_line fault.File = codes "fault: File\n"
 fault_line fault.Utf8 = codes "fault: Utf8\n"
@@ -40,6 +42,7 @@ lines_at (p ∷ ps) (c ∷ cs) = line_at p c ++ lines_at ps cs
 abbrev pub complaint_line : List ℕ → Complaint → List ℕ
 complaint_line text c = line_at (position_of (width_of Utf16) (chars text) c.span.start) c
 
+-- a line for each diagnostic, by its start
 abbrev pub complaint_lines : List ℕ → List Complaint → List ℕ
 complaint_lines text [] = []
 complaint_lines text (c ∷ cs) = complaint_line text c ++ complaint_lines text cs
@@ -58,6 +61,7 @@ abbrev pub written_text : Written → List ℕ
 written_text (number_out n) = codes " " ++ signed_decimal n
 written_text line_out = codes "\n"
 
+-- the output of a run as text: a number as a space and its digits, an end of line as a line feed
 abbrev pub output_text : List Written → List ℕ
 output_text [] = []
 output_text (w ∷ ws) = written_text w ++ output_text ws

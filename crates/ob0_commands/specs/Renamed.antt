@@ -1,4 +1,5 @@
 -- What is printed of a file's text with another name.
+-- Rule: docs/PROTOCOL.md, The program 3.
 use Rattle.std.specs.Prelude.{◌≡◌, ◌⊎◌, ⊤, ℕ, List, Option, Some, Result, Ok, Err, Vec}
 use Rattle.std.specs.declared.alloc.Global.{Global}
 use Rattle.std.specs.Io.KnownBytes.{Appends}
@@ -19,10 +20,12 @@ pub record PrintsPatched (unit : Unit) (content : List ℕ) (edits : List Edit) 
   pub made : patched (width_of unit) content edits ≡ Some (chars text)
   pub printed : Appends before after text
 
+-- the edited text is printed, or nothing where the name is refused
 abbrev pub PrintsEdited : Unit → List ℕ → Result (Vec Edit Global) EditRefusal → Option (List ℕ) → Option (List ℕ) → Type 0
 PrintsEdited unit content (Ok edits) before after = PrintsPatched unit content edits.items before after
 PrintsEdited unit content (Err refusal) before after = ⊥
 
+-- there are no edits, for a reason
 abbrev pub IsRefusal : Result (Vec Edit Global) EditRefusal → Type 0
 IsRefusal (Ok edits) = ⊥
 IsRefusal (Err refusal) = ⊤

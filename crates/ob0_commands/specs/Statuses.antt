@@ -1,4 +1,5 @@
 -- The statuses with which a command on a file ends.
+-- Rule: docs/PROTOCOL.md, The program 8.
 use Rattle.std.specs.Prelude.{◌≡◌, ◌⊎◌, ℕ, List}
 use Rattle.std.specs.Str.{IsUtf8}
 use Rattle.ob0_run.specs.declared.running.End.{End}

@@ -1,4 +1,5 @@
-//! What the program's commands on files do, over the bytes of a file and over any readers and writers.
+//! What the program's commands on files do, over the bytes of a file and over any readers and writers (docs/PROTOCOL.md,
+//! The program).
 #![tactic(auto)]
 
 mod checking;

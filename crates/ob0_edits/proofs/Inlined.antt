@@ -1,4 +1,4 @@
--- A tree with factors in the place of names spells its tokens with those of the factors, and is nested no deeper than by theirs.
+-- A tree with factors in place of names spells its tokens with those of the factors, and is nested no deeper than by theirs.
 use Rattle.std.proofs.Common.{◌≡◌, ℕ, ◌+◌, ◌≤◌, Option, Some, None, List, [], ◌++◌, refl, sym, append-nil, arith}
 use Rattle.std.proofs.lemmas.List.Concat.{flat_map-append}
 use Rattle.ob0_tree.specs.Lexeme.{Lexeme}

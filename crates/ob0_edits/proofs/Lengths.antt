@@ -149,7 +149,7 @@ name_is_token tokens least [] i names less = absurd (omega (arith, less))
 name_is_token tokens least (p ∷ ps) zero names less = names.1
 name_is_token tokens least (p ∷ ps) (suc i) names less = name_is_token tokens (suc p) ps i names.3 (omega (arith, less))
 
--- the text without a declaration is what stands before it, and then what stands behind
+-- the text without a declaration is what precedes it, and then what follows
 pub chain_without : (s : Scanned) (scan : IsScan s) (new places : List ℕ) (first last : ℕ) → IsDeclaration s.tokens first last → AreNames s.tokens (suc last) places → Chain 0 (removal s.tokens first last ∷ map (cut_of s.tokens new) places)
 chain_without s scan new places first last decl names =
     let apart = (lexed_by_next_bytes s.text scan.lexemes).0 scan.lexed in

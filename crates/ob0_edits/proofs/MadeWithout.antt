@@ -1,4 +1,4 @@
--- The text without a declaration, and with another one at places behind it, is scanned, and has the expected words.
+-- The text without a declaration, and with another one at places after it, is scanned, and has the expected words.
 use Rattle.std.proofs.Common.{◌≡◌, ℕ, suc, ◌≤◌, List, [], ◌∷◌, length, get_or, drop, map, refl, sym, ap, ap₂, ◌∙◌, arith}
 use Rattle.std.specs.Prelude.{Some}
 use Rattle.std.specs.Str.{IsUtf8, chars}

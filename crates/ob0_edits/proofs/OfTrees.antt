@@ -48,7 +48,7 @@ same_token w f g j e h = by_kind w.kind h
     by_kind (token.Integer n) h = ap Number h
     by_kind (token.Symbol s) h = refl
 
--- identifiers stand at the places
+-- identifiers are at the places
 names_at : (tokens : List Token) (least : ℕ) (places : List ℕ) (k : ℕ) → AreNames tokens least places → is_among k places ≡ true → (place.token_at tokens k).kind ≡ token.Identifier
 names_at tokens least [] k names e = absurd (cc)
 names_at tokens least (p ∷ ps) k names e = by_test (k == p) refl e (names_at tokens (suc p) ps k names.3)

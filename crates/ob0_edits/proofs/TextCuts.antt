@@ -40,7 +40,7 @@ place_at bytes u offset border =
       },
     )
 
--- between a CR and its LF stand these two bytes
+-- between a CR and its LF are these two bytes
 record IsEnding (bytes : List ℕ) (offset : ℕ) : Type 0 where
   pub cr : get_or bytes (offset - 1) 0 ≡ 13
   pub lf : get_or bytes offset 0 ≡ 10
@@ -67,7 +67,7 @@ module _ (unit : counting.Unit) (bytes : List ℕ) (u : IsUtf8 bytes) where
   text : List ℕ
   text = chars bytes
 
-  -- the position of a place that isn't inside a line's ending stands at that place
+  -- the position of a place that isn't inside a line's ending is at that place
   goes_to : (offset k : ℕ) → IsPlace bytes offset k → (IsEnding bytes offset → ⊥) → place (width_of unit) (chars bytes) (position_of (width_of unit) (chars bytes) offset) ≡ k
   unfolding place
   goes_to offset k p clear =
@@ -175,7 +175,7 @@ module _ (unit : counting.Unit) (bytes : List ℕ) (u : IsUtf8 bytes) where
             ∙ ap₂ (λ xs ys. xs ++ ys) middle (chars-append b.new (pieced bytes b.to bs) same.0.utf8 ∙ ap₂ (λ xs ys. xs ++ ys) (sym same.0.new) rest.same);
       }
 
--- cuts that stand in order are in the text's order, and apart
+-- cuts that are in order are in the text's order, and apart
 first_stays : (c : Cut) (cs : List Cut) → c.from < c.to → Chain c.to cs → put_in_order c cs ≡ c ∷ cs
 first_stays c [] some chain = refl
 first_stays c (d ∷ ds) some chain =

@@ -1,4 +1,5 @@
--- Factors in the place of names: what inlining makes of a tree.
+-- Factors in place of names: what inlining makes of a tree.
+-- Rule: docs/PROTOCOL.md, Requests on documents 9.
 use Rattle.std.specs.Prelude.{◌≡◌, ℕ, Option, Some, None, List, [], ◌∷◌}
 use Rattle.std.specs.List.{flat_map}
 use Rattle.ob0_tree.specs.Lexeme.{Lexeme, Name, Number, Mark, EndOfText}
@@ -9,7 +10,7 @@ abbrev pub or_name : {M : Type 0} → M → Option (Tree M factor) → Tree M fa
 or_name name None = designator name end
 or_name name (Some v) = v
 
--- The tree with other names and numbers, and with a factor in place of each name that stands as a whole factor and for which there is one.
+-- The tree with other names and numbers, and with a factor in place of each name that is as a whole factor and for which there is one.
 abbrev pub inlined : {N M : Type 0} {s : Sort} → (N → Option (Tree M factor)) → (N → M) → (ℕ → ℕ) → Tree N s → Tree M s
 inlined c f g none = none
 inlined c f g (one a0) = one (inlined c f g a0)
@@ -66,7 +67,7 @@ inlined c f g (begins a0) = begins (inlined c f g a0)
 inlined c f g (has_body a0 a1) = has_body (inlined c f g a0) (inlined c f g a1)
 inlined c f g (is_module a0 a1 a2) = is_module (f a0) (inlined c f g a1) (f a2)
 
--- There is a factor only for names that stand as whole factors.
+-- There is a factor only for names that are as whole factors.
 abbrev pub ReplacesFactors : {N M : Type 0} {s : Sort} → (N → Option (Tree M factor)) → Tree N s → Type 0
 ReplacesFactors c none = Unit {0}
 ReplacesFactors c (one a0) = ReplacesFactors c a0
@@ -123,17 +124,19 @@ ReplacesFactors c (begins a0) = ReplacesFactors c a0
 ReplacesFactors c (has_body a0 a1) = ReplacesFactors c a0 × ReplacesFactors c a1
 ReplacesFactors c (is_module a0 a1 a2) = (c a0 ≡ None) × ReplacesFactors c a1 × (c a2 ≡ None)
 
--- what takes the place of a token: other tokens in the place of a name for which there are some
+-- what takes the place of a token: other tokens in place of a name for which there are some
 abbrev pub or_named : {M : Type 0} → M → Option (List (Lexeme M)) → List (Lexeme M)
 or_named name None = Name name ∷ []
 or_named name (Some others) = others
 
+-- a token with its name replaced, or renamed
 abbrev pub token_with : {N M : Type 0} → (N → Option (List (Lexeme M))) → (N → M) → (ℕ → ℕ) → Lexeme N → List (Lexeme M)
 token_with c f g (Name n) = or_named (f n) (c n)
 token_with c f g (Number n) = Number (g n) ∷ []
 token_with c f g (Mark k) = Mark k ∷ []
 token_with c f g EndOfText = EndOfText ∷ []
 
+-- tokens with some names replaced by other tokens, and the others renamed
 abbrev pub tokens_with : {N M : Type 0} → (N → Option (List (Lexeme M))) → (N → M) → (ℕ → ℕ) → List (Lexeme N) → List (Lexeme M)
 tokens_with c f g xs = flat_map (token_with c f g) xs
 

@@ -1,4 +1,5 @@
 -- What the words of a text and a tree over their numbers have to do with one another.
+-- Rule: none; for contracts of edit makers.
 use Rattle.std.specs.Prelude.{◌≡◌, ℕ, suc, if◌then◌else◌, Option, Some, None, List, [], ◌∷◌, map, slice_index_or}
 use Rattle.ob0_scan.specs.Scanned.{Word, Scanned}
 use Rattle.ob0_tree.specs.Lexeme.{Lexeme}
@@ -15,12 +16,15 @@ abbrev pub placed : ℕ → List Word → List (Lexeme ℕ)
 placed k [] = []
 placed k (w ∷ ws) = lexeme_of k w.kind ∷ placed (suc k) ws
 
+-- the word with this index
 abbrev pub word_at : List Word → ℕ → Word
 word_at ws k = slice_index_or ws k (name_word [])
 
+-- the text of the word with this index
 abbrev pub text_at : List Word → ℕ → List ℕ
 text_at ws k = (word_at ws k).text
 
+-- the value of the word with this index, where it is an integer
 abbrev pub number_at : List Word → ℕ → ℕ
 number_at ws k = value_of (word_at ws k).kind
 

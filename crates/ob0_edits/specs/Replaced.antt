@@ -1,4 +1,5 @@
--- A text with another one in the place of some of its identifiers, and the edits that make it so.
+-- A text with another one in place of some of its identifiers, and the edits that make it so.
+-- Rule: docs/PROTOCOL.md, Requests on documents 10.
 use Rattle.std.specs.Prelude.{◌≡◌, ℕ, suc, ◌<◌, ◌≤◌, false, List, [], ◌∷◌, ◌++◌, length, map, IsTrue, Some, slice_index, slice_index_or, string_bytes}
 use Rattle.std.specs.Char.{is_ascii_alphabetic, is_ascii_alphanumeric}
 use Rattle.std.specs.Str.{chars}
@@ -21,6 +22,7 @@ use Rattle.ob0_edits.specs.Ranges.{range_of}
 abbrev pub token_at : List Token → ℕ → Token
 token_at tokens p = slice_index_or tokens p (record { kind = token.Identifier; span = record { start = 0; end = 0 } })
 
+-- where the token with this index is
 abbrev pub span_at : List Token → ℕ → Span
 span_at tokens p = (token_at tokens p).span
 
@@ -37,7 +39,7 @@ cut_of tokens new p = record { from = (span_at tokens p).start; to = (span_at to
 abbrev pub with_text_at : Scanned → List ℕ → List ℕ → List ℕ
 with_text_at s places new = pieced s.text 0 (map (cut_of s.tokens new) places)
 
--- each cut begins at or behind the end of the one before it, and takes something out
+-- each cut begins at or after the end of the one before it, and takes something out
 abbrev pub AreInOrder : ℕ → List Cut → Type 0
 AreInOrder at [] = Unit {0}
 AreInOrder at (c ∷ cs) = (at ≤ c.from) × (c.from < c.to) × AreInOrder c.to cs
@@ -47,7 +49,7 @@ abbrev pub AreApartBefore : List Lexeme → ℕ → Type 0
 AreApartBefore [] byte = Unit {0}
 AreApartBefore (l ∷ lexemes) byte = EndsBefore l (slice_index (joined lexemes ++ (byte ∷ [])) 0) × AreApartBefore lexemes byte
 
--- The text, which is read as these words, may stand wherever an identifier stands: what ends before a letter ends before
+-- The text, which is read as these words, may be wherever an identifier is: what ends before a letter ends before
 -- its first byte, and its lexemes end before one another and before whatever an identifier ends before.
 pub record StandsForName (new : List ℕ) (ws : List Word) : Type 0 where
   pub lexemes : List Lexeme
@@ -57,6 +59,7 @@ pub record StandsForName (new : List ℕ) (ws : List Word) : Type 0 where
   pub front : (kind : LexemeKind) (letter : ℕ) → IsTrue (is_ascii_alphabetic letter) → goes_on kind letter ≡ false → goes_on kind (slice_index new 0) ≡ false
   pub apart : (byte : ℕ) → is_ascii_alphanumeric byte ≡ false → AreApartBefore lexemes byte
 
+-- an edit as its range and the bytes of its text
 abbrev pub parts : Edit → Range × List ℕ
 parts edit = (edit.range, string_bytes edit.text)
 

@@ -1,4 +1,5 @@
 -- The token that a word of a text is.
+-- Rule: none; for contracts of edit makers.
 use Rattle.std.specs.Prelude.{List, ℕ}
 use Rattle.ob0_scan.specs.Scanned.{Word}
 use Rattle.ob0_tree.specs.Lexeme.{Lexeme, kind_lexeme}

@@ -18,7 +18,7 @@ ghost use Rattle.ob0_edits.specs.Written.{name_word, IsInt32, number_text, numbe
 ghost use Rattle.ob0_edits.specs.Factors.{number_factor, truth_factor};
 ghost use Rattle.ob0_edits.specs.OfTrees.{factor_at, RenamedWordsSpell, InlinedWordsSpell};
 
-/// An identifier may stand wherever an identifier stands.
+/// An identifier may be wherever an identifier is.
 pub fn names_stand_for_names()
     ensures { (new : List ℕ) → IsIdentifier new → StandsForName new (name_word new ∷ []) }
 {}

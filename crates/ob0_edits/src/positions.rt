@@ -1,4 +1,4 @@
-//! Where tokens stand, as spans and as ranges of positions.
+//! Where tokens are, as spans and as ranges of positions.
 
 ghost use Rattle.std.specs.Prelude.{◌≡◌, IfOk, map};
 ghost use Rattle.ob0_edits.specs.Replaced.{span_at};
@@ -9,7 +9,7 @@ use ob0_scan::{Span, Token};
 use ob0_text::{Range, TextStore};
 use std::alloc::{AllocError, Global};
 
-/// The ranges of spans, found in two passes over the text where the spans stand in text order.
+/// The ranges of spans, found in two passes over the text where the spans are in text order.
 pub fn ranges<T: TextStore>(
     alloc: Global,
     store: &T,
@@ -43,7 +43,7 @@ fn ends(alloc: Global, spans: &[Span]) -> Result<Vec<usize>, AllocError>
     spans.iter().map(|span| span.end).collect(alloc)
 }
 
-/// Where the tokens with these numbers stand.
+/// Where the tokens with these numbers are.
 pub(crate) fn spans_of(
     alloc: Global,
     tokens: &[Token],
@@ -57,7 +57,7 @@ pub(crate) fn spans_of(
         .collect(alloc)
 }
 
-/// Where a token stands; the text's start where there is no such token.
+/// Where a token is; the text's start where there is no such token.
 fn span_at(tokens: &[Token], place: usize) -> Span
     ensures { result ≡ span_at tokens.now place }
 {

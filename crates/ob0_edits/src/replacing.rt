@@ -1,4 +1,4 @@
-//! The edits that put one text in the place of several identifiers.
+//! The edits that put one text in place of several identifiers.
 
 ghost use Rattle.std.specs.Prelude.{◌≡◌, ◌⊎◌, ◌+◌, ◌++◌, ◌∷◌, [], suc, OnOk, ◌≤◌, ◌<◌, nat_lt, List, length, map, IfOk, IfErr, IsErrOf};
 ghost use Rattle.std.specs.Str.{chars};
@@ -33,6 +33,7 @@ pub fn edits_for<T: TextStore>(
     ensures too_long { IsErrOf result TooLong → max_text < length (with_text_at tokens.now places.now new.now) }
     ensures refusals { IfErr result (λ refusal. (refusal ≡ TooLong) ⊎ (refusal ≡ Memory)) }
 {
+    // For the proof: what the contract of this call says.
     let _text = tokens.text();
     if is_too_long(tokens, 0, 0, places, new) {
         return Err(EditRefusal::TooLong);
@@ -63,6 +64,7 @@ pub fn edits_without<T: TextStore>(
     ensures too_long { IsErrOf result TooLong → max_text < length (without_text tokens.now first last places.now new.now) }
     ensures refusals { IfErr result (λ refusal. (refusal ≡ TooLong) ⊎ (refusal ≡ Memory)) }
 {
+    // For the proof: what the contract of this call says.
     let _text = tokens.text();
     let start = tokens.tokens()[first].span.start;
     let end = tokens.tokens()[last].span.end;

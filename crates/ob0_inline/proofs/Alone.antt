@@ -1,4 +1,4 @@
--- Where there is a factor for no token of a name that isn't looked up, and for none that stands elsewhere than alone, it stands for whole factors.
+-- Where there is a factor for no token of a name that isn't looked up, and for none that is elsewhere than alone, it means whole factors.
 use Rattle.std.proofs.Common.{◌≡◌, ℕ, Option, None, List, [], ◌∷◌, ◌++◌, map, refl}
 use Rattle.std.proofs.lemmas.List.{map-append}
 use Rattle.ob0_tree.specs.declared.tree.Role.{Role}
@@ -100,7 +100,7 @@ module _ {M : Type 0} (c : ℕ → Option (Tree M factor)) where
       (e.0, alone r other t h0.0 e0.0, alone r other ts h0.1 e0.1)
   alone r other (listed x rest) h e = (other x h.0, further_alone r other rest h.1)
 
--- the names that stand elsewhere, of a tree under other names
+-- the names that are elsewhere, of a tree under other names
 pub elsewhere-mapped : {N M : Type 0} {s : Sort} (f : N → M) (g : ℕ → ℕ) (t : Tree N s) → names_elsewhere (mapped f g t) ≡ map f (names_elsewhere t)
 elsewhere-mapped f g none = refl
 elsewhere-mapped f g (one t0) = simp (elsewhere-mapped f g t0)

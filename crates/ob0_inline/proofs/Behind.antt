@@ -1,4 +1,4 @@
--- Each use of a constant stands behind its declaration.
+-- Each use of a constant follows its declaration.
 use Rattle.std.proofs.Common.{◌≡◌, ℕ, zero, suc, ◌+◌, ◌<◌, ◌≤◌, ◌==◌, ◌||◌, Bool, true, false, Option, Some, None, List, [], ◌∷◌, ◌++◌, map, length, refl, sym, ap, ◌∙◌, subst, arith, append_assoc, length-append, eqb-true, slice_get, true≢false}
 use Rattle.ob0_scan.specs.declared.lexeme.Symbol.TheVariants as symbol
 use Rattle.ob0_scan.specs.declared.lexeme.TokenKind.{TokenKind}
@@ -106,7 +106,7 @@ not_in_front ordinals d zero i (x ∷ front) behind names low among e o =
     absurd (omega (arith, less))
 not_in_front ordinals d (suc j) i (x ∷ front) behind names low among e o = not_in_front ordinals d j i front behind names low.1 among e o
 
--- behind the last token of a declaration
+-- after the last token of a declaration
 names_after : (d k : ℕ) (labels : List ℕ) (left : List (Lexeme ℕ)) (ws : List Word) (t : Taken d k labels (placed 0 ws) left) (i : ℕ) → is_among i (lexeme_names t.after) ≡ true → last_token t < i
 names_after d k labels left ws t i e =
     let front : List (Lexeme ℕ) = t.before ++ (Mark t.border ∷ []) in
@@ -117,7 +117,7 @@ names_after d k labels left ws t i e =
     let count = a.count in
     omega (arith, there, count, n)
 
--- each occurrence that is bound to the constant stands behind its declaration
+-- each occurrence that is bound to the constant follows its declaration
 pub uses_behind : (r : Resolution) → (d : ℕ) (labels : List ℕ) (left : List (Lexeme ℕ))
     → (h : Late d 7 labels (placed 0 (words_of r.module_read.source)) left (occurrences (tree_of r.module_read)) (map (ordinal_in r.ordinals) (occurrences (tree_of r.module_read))))
     → (j i : ℕ) → slice_get (occurrences (tree_of r.module_read)) j ≡ Some i → ordinal_in r.ordinals i ≡ Some d → last_token h.taken < i

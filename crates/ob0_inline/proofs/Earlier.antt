@@ -1,4 +1,4 @@
--- Names are bound to what is declared before them: of the labels of a part each is below the first ordinal behind it.
+-- Names are bound to what is declared before them: of the labels of a part each is below the first ordinal after it.
 use Rattle.std.proofs.Common.{ℕ, suc, ◌<◌, ◌≤◌, true, false, Option, Some, None, List, [], ◌∷◌, ◌++◌, map, sym, subst, arith}
 use Rattle.ob0_tree.specs.Tree.{Sort, Tree, block, constant, constants, declares, declares_constant, declares_constants, declares_procedure, declares_type, declares_types, declares_variable, declares_variables, end, formals, further_section, has_body, item, items, maybe, more, no_formals, none, occurrences, one, procedure, section, some_formals, then_section, type_name, type_names, value_section, variable, variable_section, variables}
 use Rattle.ob0_scope_rules.specs.Names.{Name, as_names, same_name}

@@ -1,4 +1,4 @@
--- Where the declaration of a constant begins and ends, and that its uses stand behind it.
+-- Where the declaration of a constant begins and ends, and that its uses follow it.
 use Rattle.std.proofs.Common.{◌≡◌, ℕ, suc, ◌+◌, ◌-◌, Bool, true, false, cond, if◌then◌else◌, Option, Some, None, List, [], ◌∷◌, ◌++◌, drop, map, length, refl, sym, ap, ◌∙◌, subst, arith, slice_get, append_assoc}
 use Rattle.std.proofs.lemmas.Bool.{le-ltb}
 use Rattle.std.specs.List.{filter, position_from, zip}
@@ -97,7 +97,7 @@ first_end text k j (t ∷ ts) (x ∷ xs) ys e n =
     ap (λ b. cond b (Some j) (position_from (λ (t : Token). is_semicolon t.kind) (j + 1) ts)) (not_end k t.kind x xs (heads e).0 n)
     ∙ (first_end text (suc k) (j + 1) ts xs ys (heads e).1 (others_no_end x xs n) ∙ ap Some (let z : j + 1 + length xs ≡ j + suc (length xs) = omega arith in z))
 
--- tokens without those in front
+-- tokens without those before it
 behind_front : (text : List ℕ) (k : ℕ) (ts : List Token) (front rest : List (Lexeme ℕ)) → placed k (map (read_in text) ts) ≡ front ++ rest → placed (k + length front) (map (read_in text) (drop (length front) ts)) ≡ rest
 behind_front text k ts [] rest e = ap (λ n. placed n (map (read_in text) ts)) (let z : k + 0 ≡ k = omega arith in z) ∙ e
 behind_front text k [] (x ∷ front) rest e = absurd (cc)
@@ -153,7 +153,7 @@ module _ (r : Resolution) (is : IsResolution r) (d : ℕ) (w : Value) (worth : v
   pub ends_at : position_from (λ x. is_semicolon x.kind) name_token (drop name_token r.module_read.source.tokens) ≡ Some end_token
   ends_at = ends_there r.module_read d (spell (gone_module d (tree_of r.module_read))) taken
 
-  -- what the table of declarations tells, and what the search behind it finds
+  -- what the table of declarations tells, and what the search after it finds
   pub token_known : token_declaring r.declarations d ≡ Some name_token
   token_known = ap (λ (xs : List ℕ). token_declaring xs d) is.declaring ∙ begins_at
 

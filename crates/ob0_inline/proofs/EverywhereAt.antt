@@ -1,4 +1,4 @@
--- The uses of a constant, and the words that are left where its value stands in the place of all of them and its declaration is gone.
+-- The uses of a constant, and the words that are left where its value is in place of all of them and its declaration is gone.
 use Rattle.std.proofs.Common.{◌≡◌, ◌≢◌, ℕ, zero, suc, ◌+◌, ◌<◌, ◌≤◌, ◌==◌, ◌||◌, ◌&&◌, Bool, true, false, cond, Option, Some, None, List, [], ◌∷◌, map, length, refl, sym, ap, ◌∙◌, arith, slice_get, eqb-true, eq-eqb, true≢false}
 use Rattle.std.specs.List.{All, filter}
 use Rattle.ob0_scan.specs.declared.lexeme.Token.{Token}
@@ -51,7 +51,7 @@ bound_stand ts ordinals d (i ∷ is) h =
     elim (same_ordinal (ordinal_in ordinals i) d) as (λ b. AreIdentifiers ts (cond b (i ∷ bound_tokens ordinals d is) (bound_tokens ordinals d is)))
     [ true ↦ (h.0, bound_stand ts ordinals d is h.1) | false ↦ bound_stand ts ordinals d is h.1 ]
 
--- all behind a token
+-- all after a token
 from_there : (ordinals : List (Option ℕ)) (d low high last : ℕ) (is : List ℕ) → Ascending low (bound_tokens ordinals d is) high → last < high → ((j i : ℕ) → slice_get is j ≡ Some i → ordinal_in ordinals i ≡ Some d → last < i)
     → Ascending (suc last) (bound_tokens ordinals d is) high
 from_there ordinals d low high last [] a inside h = omega (arith, inside)
@@ -107,7 +107,7 @@ agree r is d j i e =
     and_true true = refl
     and_true false = refl
 
--- a factor at all uses of the tree without the declaration is the factor in the place of them, and the declaration taken out
+-- a factor at all uses of the tree without the declaration is the factor in place of them, and the declaration taken out
 pub inlined_is : (r : Resolution) → IsResolution r → (d : ℕ) (v : Tree Name factor)
     → inlined (factor_at (bound_tokens r.ordinals d r.uses) v) (text_at (words_of r.module_read.source)) (number_at (words_of r.module_read.source)) (gone_module d (tree_of r.module_read))
     ≡ inlined_everywhere (named_tree_of r.module_read) d v
@@ -123,7 +123,7 @@ module _ (r : Resolution) (is : IsResolution r) (d : ℕ) (w : Value) (worth : v
       (map (ordinal_in r.ordinals) (occurrences (tree_of r.module_read)))
   late_here = late_of r is d w worth spelled
 
-  -- its uses are names behind it, in text order
+  -- its uses are names after it, in text order
   pub uses_are_names : last_token late_here.taken < length r.module_read.source.tokens → AreNames r.module_read.source.tokens (suc (last_token late_here.taken)) (bound_tokens r.ordinals d r.uses)
   uses_are_names inside =
       let ts = r.module_read.source.tokens in
@@ -132,7 +132,7 @@ module _ (r : Resolution) (is : IsResolution r) (d : ℕ) (w : Value) (worth : v
       (λ j i e o. uses_behind r d (block_declares (module_block (tree_of r.module_read))) (spell (gone_module d (tree_of r.module_read))) late_here j i (ap (λ us. slice_get us j) (sym is.occurring) ∙ e) o))
       (bound_stand ts r.ordinals d r.uses (uses_are_identifiers r is))
 
-  -- the words that are left spell the module with the factor in the place of all uses, without the declaration
+  -- the words that are left spell the module with the factor in place of all uses, without the declaration
   pub words_everywhere : (v : Tree Name factor) (vs : List Word) → map word_lexeme vs ≡ spell v → All (λ l. l ≢ declared d) (names_elsewhere (numbered (named_tree_of r.module_read)))
       → AreNames r.module_read.source.tokens (suc (last_token late_here.taken)) (bound_tokens r.ordinals d r.uses)
       → map word_lexeme (changed (without (first_token late_here.taken) (last_token late_here.taken) (at_each (bound_tokens r.ordinals d r.uses) vs)) 0 (words_of r.module_read.source))

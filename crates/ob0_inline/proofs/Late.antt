@@ -1,4 +1,4 @@
--- What is bound to a constant stands behind its declaration.
+-- What is bound to a constant follows its declaration.
 use Rattle.std.proofs.Common.{◌≡◌, ◌⊎◌, inl, inr, ℕ, suc, ◌+◌, ◌<◌, ◌≤◌, ◌==◌, ◌||◌, Bool, true, false, if◌then◌else◌, nat_lt, Option, Some, None, List, [], ◌∷◌, ◌++◌, length, refl, sym, ap, ◌∙◌, subst, arith, append_assoc, append-nil, length-append, eqb-true, eq-eqb, option_and_then, slice_get}
 use Rattle.std.proofs.lemmas.Bool.{ltb-true, ltb-false}
 use Rattle.ob0_scan.specs.declared.lexeme.Reserved.TheVariants as reserved
@@ -76,7 +76,7 @@ occurrences_in t =
     (subst (AllIn (looked_up_only (identifiers role.Declaring t))) (leaves_spelled role.Declaring t) (looked_up_in (identifiers role.Declaring t)))
 
 -- A declaration taken out, and the occurrences with what they are bound to: those up to its end are bound to what was
--- declared before it, and the others stand behind it.
+-- declared before it, and the others follow it.
 pub record Late (d k : ℕ) (labels : List ℕ) (whole left : List (Lexeme ℕ)) (occ : List ℕ) (bound : List (Option ℕ)) : Type 0 where
   pub taken : Taken d k labels whole left
   pub front : List ℕ
@@ -122,7 +122,7 @@ late_among d j k labels others w l occ bound h place e g = record {
   among = h.among;
 }
 
--- behind other tokens, and other occurrences
+-- after other tokens, and other occurrences
 late_before : (d k : ℕ) (labels : List ℕ) (zs w l : List (Lexeme ℕ)) (zo occ : List ℕ) (zb bound : List (Option ℕ)) → length zb ≡ length zo → AllLow d zb → Late d k labels w l occ bound
     → Late d k labels (zs ++ w) (zs ++ l) (zo ++ occ) (zb ++ bound)
 late_before d k labels zs w l zo occ zb bound n g h = record {

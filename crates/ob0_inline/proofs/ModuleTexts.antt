@@ -1,4 +1,4 @@
--- The words that stand in a text once a value is written in the place of identifiers are those of the inlined module.
+-- The words that are in a text once a value is written in place of identifiers are those of the inlined module.
 use Rattle.std.proofs.Common.{◌≡◌, ℕ, suc, ◌+◌, ◌≤◌, List, [], ◌∷◌, ◌++◌, map, refl, ap, ◌∙◌, arith}
 use Rattle.std.proofs.lemmas.List.{append_cancel_right}
 use Rattle.ob0_scan.specs.declared.lexeme.Token.{Token}

@@ -8,7 +8,7 @@ use Rattle.ob0_scope_rules.specs.Names.{Name}
 use Rattle.ob0_scope_rules.proofs.OccurrenceNames.{length-map}
 use Rattle.ob0_scope_rules.proofs.OccurrencesMapped.{occurrences-mapped}
 
--- the factor stands for the tokens of the used occurrences, of which the first has the number k, and for no other
+-- the factor replaces the tokens of the used occurrences, of which the first has the number k, and for no other
 abbrev pub Agrees : (ℕ → Option (Tree Name factor)) → Uses → Tree Name factor → ℕ → List ℕ → Type 0
 Agrees c uses v k [] = Unit {0}
 Agrees c uses v k (i ∷ is) = (c i ≡ (if uses k then Some v else None)) × Agrees c uses v (suc k) is

@@ -58,7 +58,7 @@ abbrev mutual
 abbrev pub gone_module : {N : Type 0} → ℕ → Tree N module_text → Tree N module_text
 gone_module d (is_module x b closing) = is_module x (gone_block d 7 b) closing
 
--- with factors in the place of names a tree declares as much as before
+-- with factors in place of names a tree declares as much as before
 module _ (c : ℕ → Option (Tree Name factor)) (f : ℕ → Name) (g : ℕ → ℕ) where
   further_count : (k : ℕ) (ns : Tree ℕ (items further_name)) → after_names k (further_names (inlined c f g ns)) ≡ after_names k (further_names ns)
   further_count k end = refl
@@ -134,7 +134,7 @@ module _ (c : ℕ → Option (Tree Name factor)) (f : ℕ → Name) (g : ℕ →
     procedure_count k (declares_procedure x fs b closing) =
         ap (λ n. after_block n (inlined c f g b)) (formals_count k fs) ∙ block_count (after_names k (formal_names (formal_sections fs))) b
 
-  -- taking out and putting factors in the place of names: in either order
+  -- taking out and putting factors in place of names: in either order
   gone_constants_inlined : (d k : ℕ) (cs : Tree ℕ (items constant)) → inlined c f g (gone_constants d k cs) ≡ without d k (inlined c f g cs)
   gone_constants_inlined d k end = refl
   gone_constants_inlined d k (more x cs) =
@@ -303,7 +303,7 @@ mutual
       let xs = formal_names (formal_sections fs) in
       omega (arith, block_counted (after_names k xs) b, names_counted k xs, length-append xs (block_declares b))
 
--- a declaration that isn't there leaves the tree as it is: one before its ordinals, or behind them
+-- a declaration that isn't there leaves the tree as it is: one before its ordinals, or after them
 low_constants : {N : Type 0} (d k : ℕ) (cs : Tree N (items constant)) → d < k → gone_constants d k cs ≡ cs
 low_constants d k end h = refl
 low_constants d k (more c cs) h =

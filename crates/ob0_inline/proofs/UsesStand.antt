@@ -1,4 +1,4 @@
--- Tokens of occurrences that are bound to a constant: they are names in text order, and stand alone as factors.
+-- Tokens of occurrences that are bound to a constant: they are names in text order, and are alone as factors.
 use Rattle.std.proofs.Common.{◌≡◌, ◌≢◌, ℕ, zero, suc, ◌+◌, ◌≤◌, ◌==◌, ◌||◌, Bool, true, false, if◌then◌else◌, Option, Some, None, List, [], ◌∷◌, map, length, refl, sym, ap, ◌∙◌, subst, arith, slice_get, eqb-true, eq-eqb, true≢false}
 use Rattle.std.specs.List.{All}
 use Rattle.std.proofs.lemmas.List.Elements.{All-head, All-tail}
@@ -131,7 +131,7 @@ none_elsewhere r is d v places h (i ∷ xs) a =
       none_elsewhere r is d v places h xs (All-tail (λ (l : Label). l ≢ declared d) (label_at m.source r.ordinals i) (map (label_at m.source r.ordinals) xs) a),
     )
 
--- the uses of a constant, of which none stands elsewhere, stand alone as factors
+-- the uses of a constant, of which none is elsewhere, are alone as factors
 pub stand_alone : (r : Resolution) → IsResolution r → (d : ℕ) (v : Tree Name factor) (places : List ℕ) → AreBound r d places → All (λ l. l ≢ declared d) (names_elsewhere (numbered (named_tree_of r.module_read)))
     → ReplacesFactors (factor_at places v) (tree_of r.module_read)
 stand_alone r is d v places h a =
@@ -153,7 +153,7 @@ word_number text [] k = refl
 word_number text (t ∷ ts) zero = refl
 word_number text (t ∷ ts) (suc k) = word_number text ts k
 
--- a factor at the tokens of some occurrences is that factor in the place of these occurrences
+-- a factor at the tokens of some occurrences is that factor in place of these occurrences
 pub inlined_by_number : (r : Resolution) (places : List ℕ) (uses : Uses) (v : Tree Name factor) → IsResolution r
     → ((j i : ℕ) → slice_get r.uses j ≡ Some i → is_among i places ≡ uses j)
     → inlined (factor_at places v) (text_at (words_of r.module_read.source)) (number_at (words_of r.module_read.source)) (tree_of r.module_read) ≡ inline_in uses v 0 (named_tree_of r.module_read)

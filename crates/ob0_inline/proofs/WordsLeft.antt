@@ -200,7 +200,7 @@ module _ (s : Scanned) (least : ℕ) (places : List ℕ) (names : AreNames s.tok
           same_with (word_at (words_of s) j) (λ n. spelled (factor_at places v n)) (text_at (words_of s)) (number_at (words_of s)) j (ap (λ b. spelled (if b then Some v else None)) e) refl refl
           ∙ ap (λ b. map word_lexeme (or_itself (word_at (words_of s) j) (if b then Some vs else None))) (sym e)
 
-  -- of the words that stand between others
+  -- of the words that are between others
   part_put : (k : ℕ) (done ws rest : List Word) → words_of s ≡ done ++ (ws ++ rest) → length done ≡ k → flat_map put (placed k ws) ≡ map word_lexeme (changed (at_each places vs) k ws)
   part_put k done [] rest e count = refl
   part_put k done (w ∷ ws) rest e count =

@@ -1,4 +1,5 @@
 -- A constant that a place names, what inlining it everywhere makes of the module, and what refuses it.
+-- Rule: docs/PROTOCOL.md, Requests on documents 9, Refusals of edits.
 use Rattle.std.specs.Prelude.{◌≡◌, ◌≢◌, ◌⊎◌, ℕ, Bool, not, nat_lt, ◌&&◌, if◌then◌else◌, List, [], ◌∷◌, Option, Some, None, Result, Ok, Err, Vec, drop, length, map}
 use Rattle.std.specs.List.{All, filter, list_any, position_from, range_with_len, zip}
 use Rattle.std.specs.declared.alloc.Global.{Global}
@@ -32,7 +33,7 @@ use Rattle.ob0_inline.specs.Inlined.{LeavesModule}
 use Rattle.ob0_inline.specs.Uses.{is_shown}
 use Rattle.ob0_inline.specs.Values.{value_factor, value_text}
 
--- A constant of a CONST section: its ordinal and value, the token that declares it, and the first `;` behind that.
+-- A constant of a CONST section: its ordinal and value, the token that declares it, and the first `;` after that.
 pub record IsConstant (m : Parsed) (c : Constant) : Type 0 where
   pub worth : value_of_constant (named_tree_of m) c.ordinal ≡ Some (scalar_value c.value)
   pub begins : token_declaring (declaring_only (identifiers role.Declaring (tree_of m))) c.ordinal ≡ Some c.first
@@ -52,11 +53,11 @@ NoConstantAt m offset = (n : named.Named) → name_on m offset ≡ Some n → va
 abbrev pub uses_of : Parsed → ℕ → List ℕ
 uses_of m d = map (λ u. u.0) (filter (λ u. same_label u.1 (declared d)) (zip (occurrences (tree_of m)) (bindings (named_tree_of m))))
 
--- none of the names of d stands elsewhere than alone as a factor
+-- none of the names of d is elsewhere than alone as a factor
 abbrev pub StandsAlone : Parsed → ℕ → Type 0
 StandsAlone m d = All (λ l. l ≢ declared d) (names_elsewhere (numbered (named_tree_of m)))
 
--- the module with the value in the place of all uses, without the declaration
+-- the module with the value in place of all uses, without the declaration
 abbrev pub inlined_all : Parsed → Constant → Tree Name module_text
 inlined_all m c = inlined_everywhere (named_tree_of m) c.ordinal (value_factor c.value)
 
@@ -68,10 +69,11 @@ text_without m c = without_text m.source c.first c.last (uses_of m c.ordinal) (v
 abbrev pub is_hidden : Tree Name module_text → Constant → ℕ → Bool
 is_hidden m c k = same_ordinal (binds m k) c.ordinal && not (is_shown m k c.value)
 
+-- at some use the word that would be written isn't the predeclared one
 abbrev pub any_hidden : Tree Name module_text → Constant → Bool
 any_hidden m c = list_any (is_hidden m c) (range_with_len 0 (length (bindings m)))
 
--- a comment stands between the declaration's name and its `;`
+-- a comment is between the declaration's name and its `;`
 abbrev pub has_comment : Parsed → Constant → Bool
 has_comment m c = list_any (is_inside (span_over m.source.tokens c.first c.last)) m.source.comments
 
@@ -84,7 +86,7 @@ refusal_everywhere m c =
     else if has_comment m c then Some CommentInside
     else None
 
--- These edits take the declaration out, from its name to its `;`, write the value in the place of each use, and touch no
+-- These edits take the declaration out, from its name to its `;`, write the value in place of each use, and touch no
 -- other character. They leave the text of the inlined module, which is well-typed and has the same runs.
 pub record InlinesEverywhere (unit : counting.Unit) (text : List ℕ) (m : Parsed) (c : Constant) (edits : List Edit) : Type 0 where
   pub everywhere : map parts edits ≡ (range_of (width_of unit) text (span_over m.source.tokens c.first c.last), []) ∷ map (edit_at unit text m.source.tokens (value_text c.value)) (uses_of m c.ordinal)

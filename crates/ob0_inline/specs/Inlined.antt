@@ -1,4 +1,5 @@
--- A module with a value in the place of some of its identifiers, and the edits that make its text.
+-- A module with a value in place of some of its identifiers, and the edits that make its text.
+-- Rule: docs/PROTOCOL.md, Requests on documents 9, 10.
 use Rattle.std.specs.Prelude.{◌≡◌, ℕ, List, Some}
 use Rattle.std.specs.Str.{chars}
 use Rattle.ob0_scan.specs.Scanned.{Scanned, IsScan}
@@ -15,7 +16,7 @@ use Rattle.ob0_edits.specs.OfTrees.{factor_at, number_at, text_at}
 use Rattle.ob0_values.specs.declared.scalar.Scalar.{Scalar}
 use Rattle.ob0_inline.specs.Values.{value_factor}
 
--- the identifiers at these tokens stand as whole factors
+-- the identifiers at these tokens are as whole factors
 abbrev pub StandAlone : Parsed → List ℕ → Scalar → Type 0
 StandAlone m places value = ReplacesFactors (factor_at places (value_factor value)) (tree_of m)
 

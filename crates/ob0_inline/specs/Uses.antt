@@ -1,4 +1,5 @@
 -- A use of a constant that a place is on, what its inlining makes of the module, and what refuses it.
+-- Rule: docs/PROTOCOL.md, Requests on documents 9, Refusals of edits.
 use Rattle.std.specs.Prelude.{◌≡◌, ◌⊎◌, ℕ, Bool, true, false, nat_lt, if◌then◌else◌, List, [], ◌∷◌, Option, Some, None, Result, Ok, Err, Vec, length, map, slice_get}
 use Rattle.std.specs.declared.alloc.Global.{Global}
 use Rattle.ob0_scan.specs.Scanned.{max_text}
@@ -43,12 +44,12 @@ abbrev pub truth_ordinal : Bool → ℕ
 truth_ordinal true = 2
 truth_ordinal false = 3
 
--- where TRUE or FALSE would be written in the place of an occurrence, it is the predeclared one
+-- where TRUE or FALSE would be written in place of an occurrence, it is the predeclared one
 abbrev pub is_shown : Tree Name module_text → ℕ → Scalar → Bool
 is_shown m occurrence (scalar.Number n) = true
 is_shown m occurrence (scalar.Truth b) = same_ordinal (sees m occurrence (truth_text b)) (truth_ordinal b)
 
--- the module with the value in the place of the use
+-- the module with the value in place of the use
 abbrev pub inlined_here : Parsed → Use → Tree Name module_text
 inlined_here m u = inlined (named_tree_of m) (only u.occurrence) (value_factor u.value)
 
@@ -60,7 +61,7 @@ refusal_here m u =
     else if is_shown (named_tree_of m) u.occurrence u.value then None
     else Some Shadowed
 
--- These edits write the value in the place of the use and touch no other character. They leave the text of the inlined
+-- These edits write the value in place of the use and touch no other character. They leave the text of the inlined
 -- module, which is well-typed and has the same runs.
 pub record InlinesHere (unit : counting.Unit) (text : List ℕ) (m : Parsed) (u : Use) (edits : List Edit) : Type 0 where
   pub here : map parts edits ≡ edit_at unit text m.source.tokens (value_text u.value) u.token ∷ []
@@ -68,7 +69,7 @@ pub record InlinesHere (unit : counting.Unit) (text : List ℕ) (m : Parsed) (u 
   pub well_typed : WellTyped (inlined_here m u)
   pub same_runs : SameRuns (inlined_here m u) (named_tree_of m)
 
--- The edits where nothing refuses a use, else the first refusal; want of memory may stand for either.
+-- The edits where nothing refuses a use, else the first refusal; out of memory may be for either.
 abbrev pub AnswersUse : counting.Unit → List ℕ → Parsed → Use → Result (Vec Edit Global) EditRefusal → Type 0
 AnswersUse unit text m u (Ok edits) = (refusal_here m u ≡ None) × InlinesHere unit text m u edits.items
 AnswersUse unit text m u (Err refusal) = (refusal_here m u ≡ Some refusal) ⊎ (refusal ≡ Memory)

@@ -1,4 +1,5 @@
 -- How a value is written: its text, the words of that text, and the factor that they spell.
+-- Rule: docs/PROTOCOL.md, Requests on documents 9.
 use Rattle.std.specs.Prelude.{ℕ, List}
 use Rattle.ob0_scan.specs.Scanned.{Word}
 use Rattle.ob0_tree.specs.Tree.{Tree, factor}
@@ -7,14 +8,17 @@ use Rattle.ob0_values.specs.declared.scalar.Scalar.TheVariants as scalar
 use Rattle.ob0_edits.specs.Written.{number_text, number_words, truth_text, truth_words}
 use Rattle.ob0_edits.specs.Factors.{number_factor, truth_factor}
 
+-- the text that is written for a value
 abbrev pub value_text : Scalar → List ℕ
 value_text (scalar.Number n) = number_text n
 value_text (scalar.Truth b) = truth_text b
 
+-- the words of that text
 abbrev pub value_words : Scalar → List Word
 value_words (scalar.Number n) = number_words n
 value_words (scalar.Truth b) = truth_words b
 
+-- the factor that these words spell
 abbrev pub value_factor : Scalar → Tree (List ℕ) factor
 value_factor (scalar.Number n) = number_factor n
 value_factor (scalar.Truth b) = truth_factor b

@@ -42,6 +42,7 @@ fn declared(names: &Resolved, ordinal: usize, value: Scalar) -> Option<Constant>
     requires worth { value_of_constant (named_tree_of names.now.module_read) ordinal ≡ Some (scalar_value value) }
     ensures { IsSomeAnd result (λ c. (c.ordinal ≡ ordinal) × IsConstant names.now.module_read c) }
 {
+    // For the proof: what the contract of this call says.
     let _module = names.module();
     match names.declaring_token(ordinal) {
         Some(first) => match end_of_declaration(names.tokens().tokens(), first) {

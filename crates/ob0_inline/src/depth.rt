@@ -15,7 +15,7 @@ use ob0_text::{Edit, EditRefusal, PatchFault, TextStore, patch};
 use ob0_tree::Module;
 use std::alloc::Global;
 
-/// How deep constructs may stand in one another in a module.
+/// How deeply constructs may be nested in a module.
 const MAX_NESTING: u32 = 100;
 
 /// Whether the text that these edits make is nested deeper than a module may be, where they make a module deeper by one

@@ -29,8 +29,8 @@ use ob0_types::WellTyped;
 use ob0_types_rules::laws::constants_stand_alone;
 use std::alloc::{AllocError, Global};
 
-/// The edits that write a constant's value in the place of all uses of it, and take its declaration out, from its name to
-/// its `;`. The place is on one of its names. The first edit takes the declaration out, the others are in text order behind it.
+/// The edits that write a constant's value in place of all uses of it, and take its declaration out, from its name to
+/// its `;`. The place is on one of its names. The first edit takes the declaration out, the others are in text order after it.
 pub fn inline_all<T: TextStore>(
     alloc: Global,
     store: &T,
@@ -109,6 +109,7 @@ fn edits_everywhere<T: TextStore>(
 fn uses_of(alloc: Global, names: &Resolved, constant: usize) -> Result<Vec<usize>, AllocError>
     ensures { IfOk result (λ uses. uses.items ≡ uses_of names.now.module_read constant) }
 {
+    // For the proof: what the contract of this call says.
     let _module = names.module();
     let mut uses = Vec::new(alloc);
     for token in names.occurrences() {
@@ -119,7 +120,7 @@ fn uses_of(alloc: Global, names: &Resolved, constant: usize) -> Result<Vec<usize
     Ok(uses)
 }
 
-/// Whether a comment stands between the name of a constant's declaration and its `;`.
+/// Whether a comment is between the name of a constant's declaration and its `;`.
 fn has_comment(tokens: &Tokens, constant: Constant) -> bool
     requires inside { constant.last < length tokens.now.tokens }
     requires order { constant.first < constant.last }

@@ -16,7 +16,7 @@ use ob0_types::WellTyped;
 use ob0_types_rules::laws::constants_stand_alone;
 use std::alloc::Global;
 
-/// The edit that writes a constant's value in the place of the use of it that a place is on.
+/// The edit that writes a constant's value in place of the use of it that a place is on.
 pub fn inline_here<T: TextStore>(
     alloc: Global,
     store: &T,

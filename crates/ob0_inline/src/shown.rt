@@ -20,7 +20,7 @@ const TRUE: usize = 2;
 
 const FALSE: usize = 3;
 
-/// Whether the name that would be written for a value in the place of an occurrence is the predeclared one. A number has
+/// Whether the name that would be written for a value in place of an occurrence is the predeclared one. A number has
 /// none.
 pub(crate) fn is_shown(
     alloc: Global,
@@ -37,7 +37,7 @@ pub(crate) fn is_shown(
     }
 }
 
-/// Whether a name would be bound to this declaration in the place of an occurrence.
+/// Whether a name would be bound to this declaration in place of an occurrence.
 fn is_seen(
     alloc: Global,
     names: &Resolved,
@@ -85,7 +85,7 @@ pub(crate) fn any_hidden(
     }
 }
 
-/// Whether a name would be bound to another declaration than this in the place of a use of a constant.
+/// Whether a name would be bound to another declaration than this in place of a use of a constant.
 fn is_hidden(
     alloc: Global,
     names: &Resolved,
@@ -96,6 +96,7 @@ fn is_hidden(
     ensures { IfOk result (λ hidden. hidden ≡ list_any (λ k. same_ordinal (binds (named_tree_of names.now.module_read) k) constant && not (same_ordinal (sees (named_tree_of names.now.module_read) k name.now) ordinal))
         (range_with_len 0 (length (bindings (named_tree_of names.now.module_read))))) }
 {
+    // For the proof: what the contract of this call says.
     let _module = names.module();
     let bound = seen(alloc, names, name)?;
     Ok(any_elsewhere(names, &bound, constant, ordinal))

@@ -1,4 +1,4 @@
-//! The edits that write a value in the place of names.
+//! The edits that write a value in place of names.
 
 ghost use Rattle.std.specs.Prelude.{◌≡◌, ◌⊎◌, ◌<◌, ◌≤◌, IfOk, IfErr, IsErrOf, length, map};
 ghost use Rattle.std.specs.Str.{chars};
@@ -17,7 +17,7 @@ use ob0_text::{Edit, EditRefusal, TextStore};
 use ob0_values::Scalar;
 use std::alloc::Global;
 
-/// One edit for each of some tokens, identifiers that stand as whole factors, which writes the value in its place.
+/// One edit for each of some tokens, identifiers that are as whole factors, which writes the value in its place.
 pub(crate) fn edits_at<T: TextStore>(
     alloc: Global,
     store: &T,

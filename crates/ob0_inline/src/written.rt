@@ -39,7 +39,7 @@ fn number_text(alloc: Global, number: i32) -> Result<String, AllocError>
     format!(in alloc; "{number}")
 }
 
-/// A number of 32 bits may be written wherever an identifier stands.
+/// A number of 32 bits may be written wherever an identifier is.
 fn stands_for_name(number: i32)
     ensures { StandsForName (number_text number) (number_words number) }
 {}
@@ -56,5 +56,6 @@ pub(crate) fn is_scalar(value: Scalar)
 fn fits(number: i32)
     ensures { IsTrue (fits number) }
 {
+    // For the proof: what is known of this value.
     let _ = number;
 }

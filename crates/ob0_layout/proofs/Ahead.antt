@@ -79,7 +79,7 @@ module _ (text : List ℕ) (before : Option Solid) (level : ℕ) (ss : List Line
     pub comments : comments_from at rest ≡ []
     pub gaps : sites before level broken ss from at rest ≡ make_site from (length text) (last_gap before) ∷ []
 
-  -- a token, behind white space
+  -- a token, after white space
   pub record TokenAhead (at : ℕ) (broken : Bool) (rest : List Lexeme) : Type 0 where
     pub kind : TokenKind
     pub place : ℕ
@@ -100,7 +100,7 @@ module _ (text : List ℕ) (before : Option Solid) (level : ℕ) (ss : List Line
   with_comment standing place size ls =
       make_site from place (gap_before before lexeme.Comment standing) ∷ sites (Some (make_solid lexeme.Comment standing)) level false ss (place + size) (place + size) ls
 
-  -- a comment, behind white space
+  -- a comment, after white space
   pub record CommentAhead (at : ℕ) (broken : Bool) (rest : List Lexeme) : Type 0 where
     pub place : ℕ
     pub size : ℕ

@@ -119,7 +119,7 @@ quiet_first (lexeme.Token (token.Reserved r)) text standing b h = absurd (differ
 quiet_first (lexeme.Token (token.Integer n)) text standing b h = absurd (differ h)
 quiet_first (lexeme.Token (token.Symbol s)) text standing b h = subst (λ t. Quiet (get_or t 0 0)) (sym b) (quiet_symbol s standing h)
 
--- what is followed directly is gone on with at most by a `*` behind a `(`
+-- what follows directly is continued at most by a `*` after a `(`
 abbrev left_paren : LexemeKind
 left_paren = lexeme.Token (token.Symbol symbol.LeftParen)
 
@@ -208,7 +208,7 @@ line_fits k first indent level = by_space (record { alone = refl; unequal = refl
 space_fits : (k : LexemeKind) (first : ℕ) → Fits k first (32 ∷ [])
 space_fits k first = by_space (record { alone = refl; unequal = refl; starless = refl }) (record { nonempty = omega arith; all = AllPass-from_list_all is_space (32 ∷ []) refl })
 
--- two tokens or comments, of which the second doesn't begin with a `*` where it is a token behind a `(`
+-- two tokens or comments, of which the second doesn't begin with a `*` where it is a token after a `(`
 record Neighbours (a b : Placed) : Type 0 where
   left : IsSolid a.lexeme.kind
   right : IsSolid b.lexeme.kind

@@ -21,7 +21,7 @@ abbrev pub is_star : {N : Type 0} → Lexeme N → Bool
 is_star (Mark (kind.Symbol symbol.Times)) = true
 is_star other = false
 
--- behind each `(` stands something, and no `*`
+-- after each `(` is something, and no `*`
 pub data Calm {N : Type 0} : List (Lexeme N) → Type 0 where
   calm_end : Calm []
   calm_next : {x : Lexeme N} {xs : List (Lexeme N)} → is_paren x ≡ false → Calm xs → Calm (x ∷ xs)

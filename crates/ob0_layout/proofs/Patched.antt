@@ -114,7 +114,7 @@ indent_ascii : (indent : Indent) (level : ℕ) → IsAscii (indentation indent l
 indent_ascii indent_by.Tab level = same_ascii level 9 (omega arith)
 indent_ascii (indent_by.Spaces n) level = same_ascii (level * n) 32 (omega arith)
 
--- what is to stand in a gap is ASCII
+-- what is to be in a gap is ASCII
 gap_ascii : (indent : Indent) (g : Gap) → IsAscii (gap_text indent g)
 gap_ascii indent Nothing = nil_ascii
 gap_ascii indent Space = cons_ascii 32 [] (omega arith) nil_ascii

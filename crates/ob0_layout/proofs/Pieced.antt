@@ -79,7 +79,7 @@ chain_sites indent [] at before level broken ss from up = (omega arith, up, tt)
 chain_sites indent (l ∷ ls) at before level broken ss from up = chain_kind indent l.kind l.text ls before level broken ss from at up (chain_sites indent ls (at + length l.text))
 
 module _ (indent : Indent) (text : List ℕ) where
-  -- what stands at a place, and then pieces from behind it
+  -- what is at a place, and then pieces from after it
   over_text : (at : ℕ) (t : List ℕ) (ls : List Lexeme) (cs : List Cut) → drop at text ≡ t ++ joined ls → Chain (at + length t) cs → pieced text at cs ≡ t ++ pieced text (at + length t) cs
   over_text at t ls cs here chain =
       let size : at + length t - at ≡ length t + 0 = omega arith in

@@ -1,11 +1,12 @@
 -- Gaps as cuts of the text's bytes.
+-- Rule: none; for private contracts: gaps as cuts of bytes.
 use Rattle.std.specs.Prelude.{ℕ, List, map}
 use Rattle.ob0_text.specs.declared.edits.Indent.{Indent}
 use Rattle.ob0_text.specs.Patches.{Cut, pieced}
 use Rattle.ob0_layout.specs.declared.sites.Site.{Site}
 use Rattle.ob0_layout.specs.Layout.{gap_text}
 
--- a gap is taken out, and what is to stand there is put in its place
+-- a gap is taken out, and what is to be there is put in its place
 abbrev pub cut_of : Indent → Site → Cut
 cut_of indent g = record { from = g.start; to = g.end; new = gap_text indent g.gap }
 

@@ -1,4 +1,5 @@
--- The gaps of a text: before, between and behind its tokens and comments.
+-- The gaps of a text: before, between and after its tokens and comments.
+-- Rule: docs/PROTOCOL.md, Requests on documents 8.
 use Rattle.std.specs.Prelude.{◌≤◌, ℕ, ◌+◌, ◌-◌, Bool, true, false, ◌||◌, not, if◌then◌else◌, nat_lt, bytes_eq, Option, Some, None, List, [], ◌∷◌, length, drop, filter, slice_range, string_bytes}
 use Rattle.std.specs.List.{AllPass}
 use Rattle.ob0_scan.specs.declared.lexeme.LexemeKind.{LexemeKind}
@@ -20,16 +21,17 @@ use Rattle.ob0_layout.specs.declared.sites.Solid.{Solid}
 use Rattle.ob0_layout.specs.declared.standing.LineRole.{LineRole}
 use Rattle.ob0_layout.specs.Layout.{next_line, next_role, holds_break, comment_role, gap_between, gap_text}
 
--- the gap before a token or comment, and the one behind the last: nothing at the text's start
+-- the gap before a token or comment, and the one after the last: nothing at the text's start
 abbrev pub gap_before : Option Solid → LexemeKind → LineRole → Gap
 gap_before None kind standing = Nothing
 gap_before (Some b) kind standing = gap_between b.kind b.standing kind standing
 
+-- the gap after the last token or comment: a line feed
 abbrev pub last_gap : Option Solid → Gap
 last_gap None = Nothing
 last_gap (Some b) = Line 0
 
--- The gaps of a text that goes on with these lexemes at a place, each with what is to stand there. The first of them began at `from`, behind
+-- The gaps of a text that goes on with these lexemes at a place, each with what is to be there. The first of them began at `from`, after
 -- a token or comment or at the text's start; `level`, `broken` and `ss` are those of `placed`.
 abbrev pub sites : Option Solid → ℕ → Bool → List LineRole → ℕ → ℕ → List Lexeme → List Site
 sites before level broken ss from at [] = record { start = from; end = at; gap = last_gap before } ∷ []
@@ -55,7 +57,7 @@ next_of [] (c ∷ cs) = Some (next.Comment c)
 next_of (t ∷ ts) [] = Some (next.Token t)
 next_of (t ∷ ts) (c ∷ cs) = if nat_lt c.start t.span.start then Some (next.Comment c) else Some (next.Token t)
 
--- whether what stands in a gap isn't what is to stand there
+-- whether what is in a gap isn't what is to be there
 abbrev pub is_changed : Indent → List ℕ → Site → Bool
 is_changed indent text g = not (bytes_eq (slice_range text g.start g.end) (gap_text indent g.gap))
 
@@ -63,18 +65,19 @@ is_changed indent text g = not (bytes_eq (slice_range text g.start g.end) (gap_t
 abbrev pub changed_sites : Indent → List ℕ → List Site → List Site
 changed_sites indent text gs = filter (is_changed indent text) gs
 
--- what an edit says: where, and what is to stand there
+-- what an edit says: where, and what is to be there
 pub record Said : Type 0 where
   pub range : Range
   pub text : List ℕ
 
--- the edit of a gap replaces the whole gap by what is to stand there
+-- the edit of a gap replaces the whole gap by what is to be there
 abbrev pub edit_of : Indent → (ℕ → ℕ) → List ℕ → Site → Said
 edit_of indent width content g = record {
   range = record { start = position_of width content g.start; end = position_of width content g.end };
   text = gap_text indent g.gap;
 }
 
+-- what an edit of the code says
 abbrev pub said : Edit → Said
 said e = record { range = e.range; text = string_bytes e.text }
 

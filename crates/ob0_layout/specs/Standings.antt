@@ -1,4 +1,5 @@
--- How the tokens of a tree stand in lines.
+-- The roles of a tree's tokens in their lines.
+-- Rule: docs/LANGUAGE.md, Layout 2 to 4.
 use Rattle.std.specs.Prelude.{ℕ, ◌+◌, min, Bool, true, false, Option, Some, None, List, [], ◌∷◌, ◌++◌}
 use Rattle.ob0_tree.specs.declared.tree.Sign.{Sign}
 use Rattle.ob0_tree.specs.Tree.{Sort, Tree, none, one, end, more, compares, relates, sum, adds, product, multiplies, designator, integer, parenthesised, negation, field, index, empty, assigns, calls, branches, while_loop, repeat_loop, no_arguments, some_arguments, then_argument, runs, then_statement, elsif_branch, else_branch, listed, then_name, named_type, array_type, record_type, no_fields, some_fields, then_fields, no_formals, some_formals, value_section, variable_section, then_section, declares_constant, declares_constants, declares_type, declares_types, declares_variable, declares_variables, declares_procedure, declares, begins, has_body, is_module}
@@ -19,14 +20,14 @@ abbrev pub sign_role : Option Sign → List LineRole
 sign_role None = []
 sign_role (Some s) = Joining ∷ []
 
--- what stands before an item of a list
+-- what precedes an item of a list
 abbrev pub separated : Bool → List LineRole
 separated true = []
 separated false = Plain ∷ []
 
--- How each token that a tree spells stands, in the order in which it spells them. The level is that of the block, and in a
+-- The role of each token that a tree spells, in the order in which it spells them. The level is that of the block, and in a
 -- sequence that of its statements. The module has level 0, and a procedure one level more than the block that declares it. The
--- statements of a body have one level more than its block, and those inside a statement one more than that statement. What stands
+-- statements of a body have one level more than its block, and those inside a statement one more than that statement. What is
 -- within a line has no level: 0 is said there.
 abbrev pub line_roles : {N : Type 0} {s : Sort} → ℕ → Tree N s → List LineRole
 line_roles k none = []

@@ -33,7 +33,7 @@ pub fn laid_out_once()
         → (t : Scanned) (again : IsScan t) → t.text ≡ layout indent tree scan.lexemes → layout indent tree again.lexemes ≡ layout indent tree scan.lexemes }
 {}
 
-/// What is to stand in the gaps that change makes of the text its layout, which is UTF-8, and the length that is counted is the layout's.
+/// What is to be in the gaps that change makes of the text its layout, which is UTF-8, and the length that is counted is the layout's.
 pub fn gaps_make_the_layout()
     ensures utf8 { (indent : Indent) (s : Scanned) (scan : IsScan s) (tree : Tree (List ℕ) module_text) → IsUtf8 (layout indent tree scan.lexemes) }
     ensures made { (indent : Indent) (s : Scanned) (scan : IsScan s) (tree : Tree (List ℕ) module_text)

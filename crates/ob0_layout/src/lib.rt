@@ -1,4 +1,4 @@
-//! The layout of a module: its line breaks, indents and spaces.
+//! The layout of a module: its line breaks, indents and spaces (docs/LANGUAGE.md, Layout), and the edits that make it.
 #![tactic(auto)]
 
 mod formatting;

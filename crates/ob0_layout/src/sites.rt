@@ -1,4 +1,4 @@
-//! The gaps of a text, each with what is to stand there.
+//! The gaps of a text, each with what is to be there.
 
 ghost use Rattle.std.specs.Prelude.{◌≡◌, ◌||◌, ◌==◌, IfOk, is_none, drop};
 ghost use Rattle.ob0_scan.specs.Scanned.{IsScan};
@@ -10,7 +10,7 @@ use crate::standing::LineRole;
 use ob0_scan::{LexemeKind, Span, Token, Tokens};
 use std::alloc::{AllocError, Global};
 
-/// A gap of a text: where it begins and ends, and what is to stand there.
+/// A gap of a text: where it begins and ends, and what is to be there.
 #[derive(Clone, Copy)]
 pub struct Site {
     pub start: usize,
@@ -18,7 +18,7 @@ pub struct Site {
     pub gap: Gap,
 }
 
-/// A token or comment, and how it stands.
+/// A token or comment, and its role in its line.
 #[derive(Clone, Copy)]
 pub struct Solid {
     pub kind: LexemeKind,
@@ -32,7 +32,7 @@ pub enum Next {
     Comment(Span),
 }
 
-/// The gaps of a text in text order, where its tokens stand so.
+/// The gaps of a text in text order, where its tokens are so.
 pub fn all_sites(
     alloc: Global,
     tokens: &Tokens,
@@ -111,7 +111,7 @@ fn gap_before(before: Option<Solid>, kind: LexemeKind, standing: LineRole) -> Ga
     }
 }
 
-/// The gap behind the last token or comment.
+/// The gap after the last token or comment.
 fn last_gap(before: Option<Solid>) -> Gap
     ensures { result ≡ last_gap before }
 {
@@ -121,7 +121,7 @@ fn last_gap(before: Option<Solid>) -> Gap
     }
 }
 
-/// The level of the line in which the next token stands.
+/// The level of the line in which the next token is.
 fn next_line(level: u32, standings: &[LineRole]) -> u32
     ensures { result ≡ next_line level standings.now }
 {
@@ -155,7 +155,7 @@ fn behind_first<T>(items: &[T]) -> &[T]
     &items[1..]
 }
 
-/// How a comment stands before which a line break stands or not.
+/// The role of a comment, by whether a line break precedes it.
 fn comment_role(broken: bool, level: u32) -> LineRole
     ensures { result ≡ comment_role broken level }
 {
@@ -166,7 +166,7 @@ fn comment_role(broken: bool, level: u32) -> LineRole
     }
 }
 
-/// Whether a line break stands in a gap. The text's start counts as one.
+/// Whether a line break is in a gap. The text's start counts as one.
 fn begins_anew(before: Option<Solid>, gap: &[u8]) -> bool
     ensures { result ≡ (is_none before || holds_break gap.now) }
 {

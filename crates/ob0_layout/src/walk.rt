@@ -1,4 +1,4 @@
-//! The walk over a module that tells how each of its tokens stands.
+//! The walk over a module that gives each of its tokens its role in a line.
 
 ghost use Rattle.std.specs.Prelude.{◌≡◌, ◌++◌, ◌∷◌, [], IfOk};
 ghost use Rattle.ob0_layout.specs.declared.standing.LineRole.TheVariants.{Begins, Plain};
@@ -15,7 +15,7 @@ use ob0_tree::{
 };
 use std::alloc::{AllocError, Global};
 
-/// How the tokens of a module stand, in text order.
+/// The roles of the tokens of a module in their lines, in text order.
 pub fn line_roles(alloc: Global, module: &Module) -> Result<Vec<LineRole>, AllocError>
     ensures { IfOk result (λ out. out.items ≡ line_roles 0 (tree_of module.now)) }
 {
@@ -138,7 +138,7 @@ fn selector(out: &mut Vec<LineRole>, s: &Selector) -> Result<(), AllocError>
     }
 }
 
-/// What stands before an item of a list: nothing before the first, a `;` or `,` before the others.
+/// What precedes an item of a list: nothing before the first, a `;` or `,` before the others.
 fn separator(out: &mut Vec<LineRole>, first: bool) -> Result<(), AllocError>
     ensures { IfOk result (λ _. out.new.items ≡ out.old.items ++ separated first) }
 {
@@ -148,7 +148,7 @@ fn separator(out: &mut Vec<LineRole>, first: bool) -> Result<(), AllocError>
     Ok(())
 }
 
-/// Statements of this level. Between two of them stands a `;`.
+/// Statements of this level. Between two of them is a `;`.
 #[cycle(statements)]
 fn sequence(
     out: &mut Vec<LineRole>,
@@ -265,7 +265,7 @@ fn elsifs(out: &mut Vec<LineRole>, level: u32, parts: &Vec<Elsif>) -> Result<(),
     Ok(())
 }
 
-/// Names of which the first stands so.
+/// Names of which the first is so.
 fn names(out: &mut Vec<LineRole>, first: LineRole, ns: &Names) -> Result<(), AllocError>
     ensures { IfOk result (λ _. out.new.items ≡ out.old.items ++ (first ∷ line_roles 0 (items_of then_name ns.now.more.items))) }
 {

@@ -63,7 +63,7 @@ same_stop (deep c) (deep d) = refl
 pub as_is : {qs : List Part} {ts : List Token} {at : ℕ} → ReadAs qs qs ts at at
 as_is = record { on = λ o more r. r }
 
--- one part is read, and then those behind it
+-- one part is read, and then those after it
 pub both : {p : Part} {qs rs : List Part} {ts : List Token} {a b c : ℕ} → ReadAs (p ∷ []) [] ts a b → ReadAs qs rs ts b c → ReadAs (p ∷ qs) rs ts a c
 both {qs = qs} p q = record { on = λ o more r. p.on o (qs ++ more) (q.on o more r) }
 

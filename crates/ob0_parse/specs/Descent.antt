@@ -1,6 +1,7 @@
 -- The descent: how a text is read, from left to right, by the productions of the grammar. What a construct is made of
 -- is chosen by its next token, or its next two. So the token at which the descent stops, and what it expects there,
 -- hang on the tokens alone.
+-- Rule: docs/LANGUAGE.md, Grammar 1, Nesting and limits 1, Syntax faults.
 use Rattle.std.specs.Prelude.{◌≡◌, ◌==◌, ℕ, zero, suc, ◌+◌, List, [], ◌∷◌, ◌++◌, Option, Some, None, Bool, true, false, drop, if◌then◌else◌}
 use Rattle.ob0_scan.specs.declared.lexeme.TokenKind.{TokenKind}
 use Rattle.ob0_scan.specs.declared.lexeme.TokenKind.TheVariants as kind
@@ -32,9 +33,11 @@ pub data Choice : Type 0 where
   missing : Expected → Choice
   too_deep : Choice
 
+-- a reserved word as a part
 abbrev pub word : Reserved → Part
 word w = token (kind.Reserved w)
 
+-- a symbol as a part
 abbrev pub sign : Symbol → Part
 sign s = token (kind.Symbol s)
 
@@ -61,7 +64,7 @@ is_section_next (Name n ∷ tokens) = true
 is_section_next (Mark (kind.Reserved reserved.Var) ∷ tokens) = true
 is_section_next tokens = false
 
--- Behind its identifier an assignment goes on with `:=`, or with a selector.
+-- After its identifier an assignment goes on with `:=`, or with a selector.
 abbrev pub is_assigned : List (Lexeme ℕ) → Bool
 is_assigned (Mark (kind.Symbol symbol.Becomes) ∷ tokens) = true
 is_assigned tokens = is_next selector tokens

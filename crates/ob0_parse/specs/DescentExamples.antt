@@ -1,4 +1,5 @@
 -- Texts, by the kinds of their tokens, and where the descent stops in them.
+-- Rule: docs/LANGUAGE.md, Syntax faults (its examples).
 use Rattle.std.specs.Prelude.{ℕ, zero, suc, ◌+◌, List, [], ◌∷◌, ◌++◌}
 use Rattle.ob0_scan.specs.declared.lexeme.TokenKind.{TokenKind}
 use Rattle.ob0_scan.specs.declared.lexeme.TokenKind.TheVariants as kind
@@ -16,18 +17,23 @@ abbrev pub tokens_from : ℕ → List TokenKind → List (Lexeme ℕ)
 tokens_from i [] = EndOfText ∷ []
 tokens_from i (k ∷ ks) = lexeme_of i k ∷ tokens_from (i + 1) ks
 
+-- the descent stops so in a text of these kinds of tokens
 abbrev pub StopsIn : List TokenKind → Stop → Type 0
 StopsIn kinds stop = DescendsText (tokens_from 0 kinds) stop
 
+-- a reserved word
 abbrev pub w : Reserved → TokenKind
 w r = kind.Reserved r
 
+-- a symbol
 abbrev pub s : Symbol → TokenKind
 s c = kind.Symbol c
 
+-- an identifier
 abbrev pub ident : TokenKind
 ident = kind.Identifier
 
+-- an integer
 abbrev pub one : TokenKind
 one = kind.Integer 1
 

@@ -1,4 +1,5 @@
--- What stands behind `expected` in the message of a syntax fault.
+-- What follows `expected` in the message of a syntax fault.
+-- Rule: docs/LANGUAGE.md, Syntax faults 2.
 use Rattle.std.specs.Prelude.{ℕ, List, codes}
 use Rattle.ob0_scan.specs.declared.lexeme.TokenKind.TheVariants as kind
 use Rattle.ob0_scan.specs.Classes.{reserved_text, symbol_text}

@@ -4,7 +4,7 @@ ghost use Rattle.std.specs.Prelude.{◌≡◌, ◌≤◌, ◌++◌, ◌∷◌, [
 
 use std::alloc::AllocError;
 
-/// Puts an item behind the others. Most lists of a tree hold one item, so there is room for 1, 2, 4, 8 and so on.
+/// Puts an item after the others. Most lists of a tree hold one item, so there is room for 1, 2, 4, 8 and so on.
 pub(crate) fn add<T: Drop>(list: &mut Vec<T>, item: T) -> Result<(), AllocError>
     ensures { OnOk result (list.new.items ≡ list.old.items ++ item ∷ []) }
 {

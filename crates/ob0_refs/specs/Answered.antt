@@ -1,4 +1,5 @@
 -- What is answered of a name: where it stands, and what it is a name of.
+-- Rule: docs/PROTOCOL.md, Requests on documents 3, 4.
 use Rattle.std.specs.Prelude.{ℕ, nat_lt, if◌then◌else◌}
 use Rattle.ob0_tree.specs.Parsed.{Parsed}
 use Rattle.ob0_scope_rules.specs.Resolution.{span_at}
@@ -11,5 +12,6 @@ use Rattle.ob0_refs.specs.declared.answers.Of.TheVariants as tells
 abbrev pub of_ordinal : ℕ → of.Of
 of_ordinal ordinal = if nat_lt ordinal 7 then tells.Predeclared else tells.Declared ordinal
 
+-- a name at a place: where it is, and which declaration it has
 abbrev pub at_name : Parsed → named.Named → told.At
 at_name m n = record { span = span_at m.source n.token; of = of_ordinal n.ordinal }

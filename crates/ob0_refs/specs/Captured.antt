@@ -1,4 +1,5 @@
 -- Where another name for a declaration isn't free.
+-- Rule: docs/PROTOCOL.md, Refusals of edits.
 use Rattle.std.specs.Prelude.{ℕ, List, Option, Some, None, map, option_and_then, option_map, slice_get}
 use Rattle.ob0_scan.specs.declared.lexeme.Span.{Span}
 use Rattle.ob0_tree.specs.Parsed.{Parsed, named_tree_of, tree_of}

@@ -1,4 +1,5 @@
 -- What the code's values stand for.
+-- Rule: none; for contracts: what values of the code mean.
 use Rattle.std.specs.Prelude.{List, map, Option}
 use Rattle.ob0_types_table.specs.declared.known.Formal as formal
 use Rattle.ob0_types_table.specs.declared.known.Object as declaration
@@ -8,8 +9,10 @@ use Rattle.ob0_types_rules.specs.Expressions.{Object}
 use Rattle.ob0_types_rules.specs.WellTyped.{Signature}
 use Rattle.ob0_values.specs.Values.{Shape}
 
+-- what a declaration of the table is
 abbrev pub object_of : Tables → declaration.Object → Option (Object Shape Signature)
 object_of t o = object_in (shapes_of t) o
 
+-- the parameters of a procedure of the table, by mode and type
 abbrev pub signature_in : Tables → List formal.Formal → Signature
 signature_in t fs = map (formal_in (shapes_of t)) fs

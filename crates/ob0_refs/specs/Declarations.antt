@@ -1,4 +1,5 @@
 -- What is shown of a name, by what its declaration binds it to.
+-- Rule: docs/PROTOCOL.md, JSON shapes 3.
 use Rattle.std.specs.Prelude.{ℕ, ◌+◌, ◌-◌, Bool, true, false, List, [], ◌∷◌, drop, map, nat_lt, if◌then◌else◌, Option, Some, None, option_and_then}
 use Rattle.ob0_tree.specs.declared.tree.Role.TheVariants as role
 use Rattle.ob0_tree.specs.Parsed.{Parsed, tree_of}
@@ -20,10 +21,12 @@ constant_shown name (truth b) = Some (constant_text name (scalar.Truth b))
 constant_shown name (elements vs) = None
 constant_shown name (members k ms) = None
 
+-- a parameter is a VAR parameter
 abbrev pub is_by_place : Mode → Bool
 is_by_place by_value = false
 is_by_place by_place = true
 
+-- a parameter in a hover text
 abbrev pub parameter_shown : Name → Formal → Parameter
 parameter_shown name f = record { by_place = is_by_place f.mode; name = name; of = type_text f.shape }
 

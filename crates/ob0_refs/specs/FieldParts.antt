@@ -1,4 +1,5 @@
 -- What the code's lists stand for.
+-- Rule: none; for contracts: what values of the code mean.
 use Rattle.std.specs.Prelude.{ℕ, List, [], ◌∷◌, Option, Some, None, if◌then◌else◌}
 use Rattle.ob0_scan.specs.Scanned.{Scanned}
 use Rattle.ob0_scope_rules.specs.Resolution.{span_at}

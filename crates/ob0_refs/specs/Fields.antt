@@ -1,4 +1,5 @@
 -- The fields of a module, where they are declared and where they are selected, by what its names are declared as.
+-- Rule: docs/PROTOCOL.md, Requests on documents 4.
 use Rattle.std.specs.Prelude.{ℕ, List, None}
 use Rattle.ob0_tree.specs.Parsed.{named_tree_of, tree_of}
 use Rattle.ob0_scope_rules.specs.Resolution.{Resolution}

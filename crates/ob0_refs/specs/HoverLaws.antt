@@ -1,4 +1,5 @@
 -- Laws of what is shown of procedures.
+-- Rule: none; laws of hover texts.
 use Rattle.std.specs.Prelude.{◌≡◌, ℕ, List, [], ◌++◌, ◌∷◌, Some, length, map, take}
 use Rattle.std.specs.List.{All}
 use Rattle.ob0_tree.specs.declared.tree.Role.TheVariants as role
@@ -27,5 +28,6 @@ pub record HasParametersBehind (m : Parsed) (heading : ℕ × List ℕ) : Type 0
   pub declares : token_declaring (declaring_only (identifiers role.Declaring (tree_of m))) ordinal ≡ Some heading.0
   pub behind : take (length heading.1) (names_behind m ordinal) ≡ map (text_at m.source) heading.1
 
+-- the names declared after each procedure begin with those of its parameters
 abbrev pub ParametersAreBehind : Type 0
 ParametersAreBehind = (m : Parsed) → All (HasParametersBehind m) (block_headings (module_block (tree_of m)))

@@ -1,18 +1,22 @@
 -- What is shown of a name: its declaration, or that it is predeclared. Names and types are given by their texts.
+-- Rule: docs/PROTOCOL.md, JSON shapes 3.
 use Rattle.std.specs.Prelude.{ℕ, ◌+◌, Bool, true, false, List, [], ◌∷◌, ◌++◌, codes, decimal}
 use Rattle.std.specs.Fmt.{signed_decimal}
 use Rattle.ob0_values.specs.Values.{FieldShapes, Shape, array_shape, boolean_shape, integer_shape, next_field_shape, no_field_shape, record_shape}
 use Rattle.ob0_values.specs.declared.scalar.Scalar.{Scalar}
 use Rattle.ob0_values.specs.declared.scalar.Scalar.TheVariants as scalar
 
+-- TRUE or FALSE
 abbrev pub truth_text : Bool → List ℕ
 truth_text true = codes "TRUE"
 truth_text false = codes "FALSE"
 
+-- a constant's value: its decimal digits, TRUE or FALSE
 abbrev pub value_text : Scalar → List ℕ
 value_text (scalar.Number n) = signed_decimal n
 value_text (scalar.Truth b) = truth_text b
 
+-- how many fields a record has
 abbrev pub fields_count : FieldShapes → ℕ
 fields_count no_field_shape = 0
 fields_count (next_field_shape x s rest) = fields_count rest + 1
@@ -46,10 +50,12 @@ pub record Parameter : Type 0 where
   pub name : List ℕ
   pub of : List ℕ
 
+-- `VAR ` before a VAR parameter
 abbrev pub by_text : Bool → List ℕ
 by_text true = codes "VAR "
 by_text false = []
 
+-- `a: T` or `VAR a: T`
 abbrev pub parameter_text : Parameter → List ℕ
 parameter_text p = by_text p.by_place ++ (p.name ++ (codes ": " ++ p.of))
 
@@ -58,6 +64,7 @@ abbrev pub further_text : List Parameter → List ℕ
 further_text [] = []
 further_text (p ∷ ps) = codes "; " ++ (parameter_text p ++ further_text ps)
 
+-- parameters with `; ` between them
 abbrev pub parameters_text : List Parameter → List ℕ
 parameters_text [] = []
 parameters_text (p ∷ ps) = parameter_text p ++ further_text ps
@@ -66,5 +73,6 @@ parameters_text (p ∷ ps) = parameter_text p ++ further_text ps
 abbrev pub procedure_text : List ℕ → List Parameter → List ℕ
 procedure_text name ps = codes "PROCEDURE " ++ (name ++ (codes "(" ++ (parameters_text ps ++ codes ")")))
 
+-- `predeclared N`
 abbrev pub predeclared_text : List ℕ → List ℕ
 predeclared_text name = codes "predeclared " ++ name

@@ -1,4 +1,5 @@
 -- Laws of what is answered at a place that is on a field.
+-- Rule: none; laws of what is answered at fields.
 use Rattle.std.specs.Prelude.{◌≡◌, ℕ, true, Some, None, map, is_some}
 use Rattle.std.specs.List.{Contains}
 use Rattle.ob0_scan.specs.declared.lexeme.Span.{Span}
@@ -28,6 +29,7 @@ pub record IsRenamedThere (r : Resolution) (offset : ℕ) (span : Span) (k : ℕ
   pub uses : references_at r offset true ≡ map (span_at r.module_read.source) (field_tokens r k (text_at r.module_read.source token))
   pub itself : Contains (references_at r offset true) span
 
+-- where a field is answered, renaming finds that field, and its references are what renaming writes
 abbrev pub FieldsAreRenamedThere : Type 0
 FieldsAreRenamedThere = (r : Resolution) (offset k index : ℕ) (span : Span) → IsOnField r offset span k index → IsRenamedThere r offset span k
 

@@ -1,4 +1,5 @@
 -- Where a name is declared, and where it is named.
+-- Rule: docs/PROTOCOL.md, Requests on documents 4, 5.
 use Rattle.std.specs.Prelude.{ℕ, Bool, List, Option, map, option_map}
 use Rattle.ob0_scan.specs.declared.lexeme.Span.{Span}
 use Rattle.ob0_tree.specs.Parsed.{Parsed, tree_of}

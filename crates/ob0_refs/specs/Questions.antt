@@ -1,4 +1,5 @@
 -- What is answered of a place: of the name that stands there, or else of the field.
+-- Rule: docs/PROTOCOL.md, Requests on documents 3 to 5.
 use Rattle.std.specs.Prelude.{◌≡◌, ◌==◌, ℕ, Bool, true, false, not, List, [], ◌∷◌, if◌then◌else◌, map, Option, Some, None, option_map, option_and_then, unwrap_or}
 use Rattle.std.specs.List.{filter}
 use Rattle.ob0_scan.specs.Scanned.{Scanned}
@@ -27,9 +28,11 @@ Identified = ℕ × ℕ
 abbrev pub index_of : Parsed → Identified → ℕ
 index_of m x = unwrap_or (field_place m x.1 (text_at m.source x.0)) 0
 
+-- a field at a place: where it is, its record and its place in that record
 abbrev pub at_field : Parsed → Identified → told.At
 at_field m x = record { span = span_at m.source x.0; of = tells.Field x.1 (index_of m x) }
 
+-- the name at a place, or else the field
 abbrev pub stands : Parsed → Option named.Named → Option Identified → Option told.At
 stands m (Some n) f = Some (at_name m n)
 stands m None f = option_map (at_field m) f
@@ -42,6 +45,7 @@ stands_at r offset = stands r.module_read (name_on r.module_read offset) (field_
 abbrev pub field_declared : Parsed → Identified → Option Span
 field_declared m x = option_map (span_at m.source) (declaring_field m x.1 (text_at m.source x.0))
 
+-- where the name is declared, or else the field
 abbrev pub declared : Parsed → Option named.Named → Option Identified → Option Span
 declared m (Some n) f = declared_at m n.ordinal
 declared m None f = option_and_then (field_declared m) f
@@ -61,10 +65,12 @@ field_references r x true = field_tokens r x.1 (text_at r.module_read.source x.0
 field_references r x false =
     without (declaring_field r.module_read x.1 (text_at r.module_read.source x.0)) (field_tokens r x.1 (text_at r.module_read.source x.0))
 
+-- the identifiers of the field at a place, in text order
 abbrev pub field_named_at : Resolution → Bool → Option Identified → List Span
 field_named_at r include None = []
 field_named_at r include (Some x) = map (span_at r.module_read.source) (field_references r x include)
 
+-- the identifiers of the name at a place, or else of the field
 abbrev pub named_at : Resolution → Bool → Option named.Named → Option Identified → List Span
 named_at r include (Some n) f = references_to r.module_read n.ordinal include
 named_at r include None f = field_named_at r include f
@@ -73,9 +79,11 @@ named_at r include None f = field_named_at r include f
 abbrev pub references_at : Resolution → ℕ → Bool → List Span
 references_at r offset include = named_at r include (name_on r.module_read offset) (field_at r offset)
 
+-- these spans are the references at a place
 abbrev pub AreReferencesAt : Resolution → ℕ → Bool → List Span → Type 0
 AreReferencesAt r offset include spans = spans ≡ references_at r offset include
 
+-- the first, or else the second
 abbrev pub or_else : {A : Type 0} → Option A → Option A → Option A
 or_else (Some a) other = Some a
 or_else None other = other
@@ -85,6 +93,7 @@ abbrev pub selected_on : Scanned → ℕ → List (Selected ℕ) → Option (Sel
 selected_on source offset [] = None
 selected_on source offset (s ∷ found) = if is_on offset (span_at source s.name) then Some s else selected_on source offset found
 
+-- the hover of a selected field
 abbrev pub selection_shown : Resolution → Selected ℕ → Shown
 selection_shown r s = record { span = span_at r.module_read.source s.name; text = field_text (text_at r.module_read.source s.name) (type_text s.shape) }
 

@@ -1,4 +1,5 @@
 -- What is shown of the name at a place: what its declaration binds it to.
+-- Rule: docs/PROTOCOL.md, Requests on documents 4, JSON shapes 3.
 use Rattle.std.specs.Prelude.{ℕ, List, Option, option_map, option_and_then}
 use Rattle.ob0_scan.specs.declared.lexeme.Span.{Span}
 use Rattle.ob0_tree.specs.Parsed.{Parsed, named_tree_of}
@@ -13,6 +14,7 @@ pub record Shown : Type 0 where
   pub span : Span
   pub text : List ℕ
 
+-- the hover of a name, by what its declaration binds it to
 abbrev pub shown_of : Parsed → named.Named → Option Shown
 shown_of m n = option_map (λ text. record { span = span_at m.source n.token; text = text }) (name_shown m n (declared_object (named_tree_of m) n.ordinal))
 

@@ -120,6 +120,7 @@ fn procedure_line(
 fn declared_behind<'r>(names: &'r Resolved<'_>, ordinal: usize) -> &'r [usize]
     ensures { result.now ≡ drop (ordinal + 1 - 7) (declaring_only (identifiers role.Declaring (tree_of names.now.module_read))) }
 {
+    // For the proof: what the contract of this call says.
     let _module = names.module();
     let declarations = names.declarations();
     let skipped = ordinal.saturating_sub(PREDECLARED - 1);

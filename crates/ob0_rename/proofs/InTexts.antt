@@ -22,7 +22,7 @@ use Rattle.ob0_analysis.specs.declared.analysis.Asked.{Asked}
 use Rattle.ob0_analysis.specs.declared.analysis.Asked.TheVariants.{Answered, IllTyped}
 use Rattle.ob0_analysis.proofs.Scanning.{is_module, utf8_of}
 
--- a refusal that isn't want of memory
+-- a refusal that isn't out of memory
 pub not_memory : (r : Renaming) (refusal : EditRefusal) → (refusal ≡ Memory) ⊎ IsRefused r refusal → (refusal ≡ Memory → ⊥) → IsRefused r refusal
 not_memory r refusal (inl wants) other = absurd (other wants)
 not_memory r refusal (inr h) other = h

@@ -1,4 +1,4 @@
--- What is answered for a declaration: by what stands against the new name, or by the edits.
+-- What is answered for a declaration: by what conflicts with the new name, or by the edits.
 use Rattle.std.proofs.Common.{◌≡◌, ◌⊎◌, ℕ, ◌≤◌, ◌<◌, Bool, true, false, if◌then◌else◌, Option, Some, None, Result, Ok, Err, Vec, List, [], ◌∷◌, length, map, slice_get, option_map, option_and_then, inl, inr, refl, sym, ap, ◌∙◌, subst, arith}
 use Rattle.std.proofs.lemmas.Bool.{ltb-false, ltb-true}
 use Rattle.std.specs.Prelude.{IfErr, IfOk, IsErrOf, nat_lt}
@@ -172,7 +172,7 @@ pub own_predeclared : (a : Renaming) (result : Result (Vec Edit Global) EditRefu
 own_predeclared a result is =
     own_nowhere a result (λ d means. let both : predeclared ≡ declaration d = sym is ∙ means in absurd (cc)) (λ k f means. let both : predeclared ≡ field_of k f = sym is ∙ means in absurd (cc))
 
--- ---- what stands at the place
+-- ---- what is at the place
 
 pub meant_named : (r : Resolution) (offset : ℕ) (n : named.Named) → name_on r.module_read offset ≡ Some n → meant_at r offset ≡ by_ordinal n.ordinal
 meant_named r offset n is = ap (λ o. meant_by r.module_read.source o (field_at r offset)) is

@@ -1,4 +1,5 @@
 -- What is answered where a declaration or a field is to have another name: edits, or a refusal.
+-- Rule: docs/PROTOCOL.md, Requests on documents 6, Refusals of edits.
 use Rattle.std.specs.Prelude.{◌≡◌, ◌⊎◌, ℕ, ◌<◌, ◌≤◌, List, Some, Result, Ok, Err, IfErr, Vec, length, map, true}
 use Rattle.std.specs.Str.{chars}
 use Rattle.std.specs.declared.alloc.Global.{Global}
@@ -67,7 +68,7 @@ pub record RenamesField (r : Renaming) (k : ℕ) (f : Name) (edits : List Edit) 
   pub free : FieldFree (tree_of r) k f r.new
   pub writes : Writes r (field_tokens_renamed r.names k f r.new) (field_renamed (tree_of r) k f r.new) edits
 
--- Why the new name is refused to the field. Only another field of its record stands against it.
+-- Why the new name is refused to the field. Only another field of its record conflicts with it.
 abbrev pub IsRefusedToField : Renaming → ℕ → Name → EditRefusal → Type 0
 IsRefusedToField r k f refusal.NoName = ⊥
 IsRefusedToField r k f refusal.Predeclared = ⊥
@@ -85,8 +86,9 @@ abbrev pub AnswersForField : Renaming → ℕ → Name → Result (Vec Edit Glob
 AnswersForField r k f (Ok edits) = RenamesField r k f edits.items
 AnswersForField r k f (Err why) = (why ≡ refusal.Memory) ⊎ IsRefusedToField r k f why
 
--- ---- by what stands at the place
+-- ---- by what is at the place
 
+-- the new name is refused to the declaration or the field at the place
 abbrev pub IsRefusedToNamed : Renaming → EditRefusal → Type 0
 IsRefusedToNamed r why = ((d : ℕ) × Means r d × IsRefusedTo r d why) ⊎ ((k : ℕ) × ((f : Name) × MeansField r k f × IsRefusedToField r k f why))
 
@@ -120,6 +122,7 @@ pub record AsksForMemory (r : Renaming) : Type 0 where
 
 -- ---- the name that is there already
 
+-- an error is out of memory
 abbrev pub OnlyMemory : Result (Vec Edit Global) EditRefusal → Type 0
 OnlyMemory result = IfErr result (λ why. why ≡ refusal.Memory)
 

@@ -1,4 +1,5 @@
 -- Renaming in a text: the edits, or why there are none.
+-- Rule: docs/PROTOCOL.md, Requests on documents 2, 6.
 use Rattle.std.specs.Prelude.{◌≡◌, ℕ, List, Some, Result, Ok, Err, Vec, map}
 use Rattle.std.specs.declared.alloc.Global.{Global}
 use Rattle.ob0_text.specs.Patches.{patched}

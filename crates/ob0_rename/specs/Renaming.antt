@@ -1,5 +1,6 @@
 -- Another name for what is named at a place of a text, a declaration or a record's field: where it is to be written, and what
--- stands against it.
+-- conflicts with it.
+-- Rule: docs/PROTOCOL.md, Requests on documents 6, Refusals of edits.
 use Rattle.std.specs.Prelude.{◌≡◌, ℕ, Bool, true, false, nat_lt, if◌then◌else◌, List, [], ◌∷◌, Option, Some, None, option_and_then, option_map, slice_get}
 use Rattle.ob0_scan.specs.Scanned.{Scanned}
 use Rattle.ob0_text.specs.Texts.{offset_of}
@@ -28,14 +29,17 @@ pub record Renaming : Type 0 where
   pub place : Position
   pub new : Name
 
+-- the module of the text
 abbrev pub module_of : Renaming → read.Parsed
 module_of r = r.names.module_read
 
+-- its tree over names
 abbrev pub tree_of : Renaming → Tree Name module_text
 tree_of r = read.named_tree_of (module_of r)
 
 -- ---- what is named at a place
 
+-- what is to be renamed: nothing, a predeclared name, a declaration or a field
 pub data Meant : Type 0 where
   nothing : Meant
   predeclared : Meant
@@ -48,10 +52,12 @@ pub data Meant : Type 0 where
 abbrev pub by_ordinal : ℕ → Meant
 by_ordinal ordinal = if nat_lt ordinal 7 then predeclared else declaration ordinal
 
+-- a field, by its record and the token that names it
 abbrev pub by_token : Scanned → Option (ℕ × ℕ) → Meant
 by_token source None = nothing
 by_token source (Some x) = field_of x.1 (text_at source x.0)
 
+-- the name at the place, or else the field
 abbrev pub meant_by : Scanned → Option named.Named → Option (ℕ × ℕ) → Meant
 meant_by source (Some n) f = by_ordinal n.ordinal
 meant_by source None f = by_token source f
@@ -61,6 +67,7 @@ abbrev pub meant_at : Resolution → ℕ → Meant
 meant_at names offset =
     meant_by names.module_read.source (name_on names.module_read offset) (field_at names offset)
 
+-- what is to be renamed at the place
 abbrev pub meant : Renaming → Meant
 meant r = meant_at r.names (offset_of (width_of r.unit) r.text r.place)
 
@@ -94,8 +101,9 @@ field_tokens_renamed names k f new = if same_name new f then [] else field_token
 abbrev pub text_with : Renaming → List ℕ → List ℕ
 text_with r tokens = with_text_at (module_of r).source tokens r.new
 
--- ---- what stands against it
+-- ---- what conflicts with it
 
+-- the range of a token
 abbrev pub token_range : Renaming → ℕ → Range
 token_range r token = range_of (width_of r.unit) r.text (span_at (module_of r).source token)
 

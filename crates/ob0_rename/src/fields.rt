@@ -31,6 +31,7 @@ pub(crate) fn field_named_at(
     ensures found { result ≡ field_at well_typed.now offset }
     ensures spelled { IfSome result (λ x. IsIdentifier (text_at well_typed.now.module_read.source x.0)) }
 {
+    // For the proof: what the contract of this call says.
     let _text = well_typed.resolved().tokens().text();
     field_at(well_typed, offset)
 }
@@ -54,6 +55,7 @@ pub(crate) fn rename_field<T: TextStore>(
     renamed_at_tokens();
     duplicate_by_token();
     let names = well_typed.resolved();
+    // For the proof: what the contract of this call says.
     let _text = names.tokens().text();
     if !is_identifier(new) {
         return Err(EditRefusal::BadName);

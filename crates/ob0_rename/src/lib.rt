@@ -1,4 +1,5 @@
-//! Another name for a declaration or a field: the edits that write it, which leave a well-typed module with the same runs, or why it is refused.
+//! Renaming a declaration or a field: the edits, which leave a well-typed module with the same runs, or why it is refused
+//! (docs/PROTOCOL.md, Requests on documents and Refusals of edits).
 #![tactic(auto)]
 
 mod fields;

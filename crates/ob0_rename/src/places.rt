@@ -37,6 +37,7 @@ pub(crate) fn tokens_renamed(
 fn is_declared_as(names: &Resolved, declaration: usize, name: &str) -> bool
     ensures { result ≡ is_declared_as names.now.module_read declaration name.now }
 {
+    // For the proof: what the contract of this call says.
     let _module = names.module();
     match names.declaring_token(declaration) {
         Some(token) => is_written(names.tokens(), token, name),
@@ -73,7 +74,7 @@ fn span_range<T: TextStore>(store: &T, span: Span) -> Range
     }
 }
 
-/// Where a token stands; the text's start where there is no such token.
+/// Where a token is; the text's start where there is no such token.
 pub(crate) fn span_of(tokens: &Tokens, token: usize) -> Span
     ensures { result ≡ span_at tokens.now token }
 {

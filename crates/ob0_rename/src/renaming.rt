@@ -77,6 +77,7 @@ fn rename_declaration<T: TextStore>(
     renamed_words_spell();
     free_keeps_modules();
     let names = well_typed.resolved();
+    // For the proof: what the contract of this call says.
     let _text = names.tokens().text();
     if !is_identifier(new) {
         return Err(EditRefusal::BadName);
@@ -97,6 +98,7 @@ fn refusal_of<T: TextStore>(store: &T, names: &Resolved, capture: Capture) -> Ed
     ensures occurrence { (k token : ℕ) → capture ≡ Occurrence k → slice_get (occurrences (tree_of names.now.module_read)) k ≡ Some token
         → result ≡ refused.Captures (range_of (width_of (T.unit_of store.now)) (T.content store.now) (span_at names.now.module_read.source token)) }
 {
+    // For the proof: what the contract of this call says.
     let _module = names.module();
     match capture {
         Capture::Duplicate(other) => EditRefusal::Duplicate {

@@ -44,7 +44,7 @@ impl<'a, T: TextStore> Question for NewName<'a, T> {
 }
 
 /// The edits that write `new` for what is named at a place of the text in a store, or why there are none; what is wrong with
-/// a text that is no well-typed module. Out of memory is never the reason: it is answered as such. Where the tokens that were
+/// a text that isn't a well-typed module. Out of memory is never the reason: it is answered as such. Where the tokens that were
 /// kept are the text's, it isn't scanned again.
 pub fn rename_in<T: TextStore>(
     alloc: Global,

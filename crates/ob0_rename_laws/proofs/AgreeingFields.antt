@@ -45,7 +45,7 @@ pub records-split : (p q : FieldNames) (xs ys : List RecordFields) → RecordsAg
 records-split p q [] ys h = (tt, h)
 records-split p q (x ∷ xs) ys h = let g = records-split p q xs ys h.1 in ((h.0, g.0), g.1)
 
--- types behind selectors
+-- types after selectors
 
 field-agrees : (p q : FieldNames) (k : ℕ) (fs : FieldShapes) (x : Name) (s : Shape) → FieldsAgree p q k fs → shape_of_field fs x ≡ Some s → (p (Some k) x ≡ q (Some k) x) × ShapeAgrees p q s
 field-agrees p q k no_field_shape x s agrees h = absurd (cc)
@@ -65,7 +65,7 @@ element_type-agrees : (p q : FieldNames) (s j u : Shape) → ShapeAgrees p q s �
 element_type-agrees p q (array_shape k n s) integer_shape u agrees h = (h, of_some (ShapeAgrees p q) h agrees)
 element_type-agrees p q _ _ u agrees h = absurd (cc)
 
--- what names stand for
+-- what names mean
 
 abbrev pub ObjectAgrees : FieldNames → FieldNames → Object Shape Signature → Type 0
 ObjectAgrees p q (a_type s) = ShapeAgrees p q s

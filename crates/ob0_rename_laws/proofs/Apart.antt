@@ -1,4 +1,4 @@
--- Types, and what names stand for, with fields written anew.
+-- Types, and what names mean, with fields under other names.
 use Rattle.std.proofs.Common.{◌≡◌, ℕ, suc, ◌+◌, ◌*◌, max, Bool, true, false, ◌&&◌, List, [], ◌∷◌, map, if◌then◌else◌, nat_le, ◌==◌, Some, None, Option, option_map, option_and_then, refl, ap, ◌∙◌, subst}
 use Rattle.ob0_tree.specs.declared.tree.Relation.{Relation}
 use Rattle.ob0_tree.specs.declared.tree.Relation.TheVariants as relation
@@ -17,7 +17,7 @@ use Rattle.ob0_rename_laws.specs.Fields.{FieldNames, record_of}
 use Rattle.ob0_rename_laws.specs.FieldLaws.{KeepsApart}
 use Rattle.std.proofs.lemmas.Bool.{eqb-true}
 
--- a type with its fields written anew
+-- a type with its fields under other names
 abbrev mutual
   pub shape_by : FieldNames → Shape → Shape
   shape_by l integer_shape = integer_shape
@@ -123,7 +123,7 @@ within_limits-by l s =
     (λ i. if nat_le (scalars-by l s i) 65536 && nat_le (depth-by l s i) 100 then Some (shape_by l s) else None)
     ∙ choose-map (shape_by l) (nat_le (scalars s) 65536 && nat_le (depth s) 100) s None
 
--- two types are the same where they are the same with their fields written anew
+-- two types are the same where they are the same with their fields under other names
 
 and-when : (b p q : Bool) → (b ≡ true → p ≡ q) → (b && p) ≡ (b && q)
 and-when true p q h = h refl
@@ -149,7 +149,7 @@ pub agree-by : (l : FieldNames) → KeepsApart l → (a b : Option Shape) → ag
 agree-by l apart (Some s) (Some t) = same_shape-by l apart s t
 agree-by l apart _ _ = refl
 
--- what a name stands for
+-- what a name means
 
 abbrev pub formal_by : FieldNames → Formal → Formal
 formal_by l f = record { mode = f.mode; shape = shape_by l f.shape }

@@ -1,4 +1,4 @@
--- The proofs of the laws of fields written anew.
+-- The proofs of the laws of fields under other names.
 use Rattle.std.proofs.Common.{IsTrue, sym, refl, ap, ◌∙◌, subst}
 use Rattle.ob0_scope_rules.specs.Names.{as_names}
 use Rattle.ob0_types_rules.specs.WellTyped.{WellTyped}

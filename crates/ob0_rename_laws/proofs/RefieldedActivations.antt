@@ -1,4 +1,4 @@
--- Two runs declare alike: one with tagged fields, the other with fields written anew.
+-- Two runs declare alike: one with tagged fields, the other with fields under other names.
 use Rattle.std.proofs.Common.{◌≡◌, ℕ, zero, suc, ◌+◌, true, false, List, [], ◌∷◌, ◌++◌, map, length, Some, None, Option, option_map, option_and_then, sym, refl, ap, ◌∙◌, subst₂}
 use Rattle.std.proofs.lemmas.List.{length-map, map-append}
 use Rattle.ob0_tree.specs.Tree.{Tree, block, body, constant, constants, declares, declares_constant, declares_type, declares_variable, end, expression, further_section, has_body, item, items, maybe, more, procedure, then_section, type_name, type_names, variable, variables, written_type}
@@ -20,7 +20,7 @@ use Rattle.ob0_rename_laws.proofs.RefieldedTypes.{constant_value-alike, construc
 use Rattle.ob0_rename_laws.proofs.ScalarConstants.{constant_value-scalar}
 use Rattle.ob0_rename_laws.proofs.Values.{Spot, members_by, store_by, tagged, value_by, values_by}
 
--- a procedure in both runs: its text, the ordinal of the first ARRAY or RECORD in it, and what names stand for in its block when it is checked
+-- a procedure in both runs: its text, the ordinal of the first ARRAY or RECORD in it, and what names mean in its block when it is checked
 pub record Text : Type 0 where
   pub first : ℕ
   pub checked : TypeEnvironment Name
@@ -125,7 +125,7 @@ value-as l scene e = constant_value-alike (λ x. newest (from_binding as_names (
 pub denoted-as : (l : FieldNames) (scene : Scene) (k : ℕ) (t : Tree Name written_type) → denoted (meanings as_names (env_as l scene)) k (refield_type l k t) ≡ option_map (shape_by l) (denoted (named (objects_in scene)) k t)
 denoted-as l scene k t = denoted-refield l (λ x. newest (from_binding as_names (env_as l scene) x)) (objects_in scene) (constants-as l scene) (types-as l scene) k t
 
--- both runs make what stands for one thing, or neither makes anything
+-- both runs make what means one thing, or neither makes anything
 abbrev pub Both : {A X Y : Type 0} → (A → X) → (A → Y) → Option X → Option Y → Type 0
 Both {A} f g o₁ o₂ = (o : Option A) × (o₁ ≡ option_map f o) × (o₂ ≡ option_map g o)
 

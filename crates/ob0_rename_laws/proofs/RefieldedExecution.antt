@@ -1,4 +1,4 @@
--- Two runs execute a statement alike: one with tagged fields, the other with fields written anew.
+-- Two runs execute a statement alike: one with tagged fields, the other with fields under other names.
 use Rattle.std.proofs.Common.{◌≡◌, ℕ, zero, suc, ◌-◌, List, [], ◌∷◌, map, ℤ, ◌⊎◌, inl, inr, true, false, Some, None, Option, option_map, sym, refl, ap, subst₂}
 use Rattle.ob0_tree.specs.Tree.{Tree, assigns, branches, calls, else_branch, else_part, elsif_branch, elsif_part, empty, end, expression, further_statement, items, maybe, more, none, one, repeat_loop, runs, selector, sequence, statement, then_statement, while_loop}
 use Rattle.ob0_scope_rules.specs.Names.{Name}

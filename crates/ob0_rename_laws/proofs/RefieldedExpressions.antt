@@ -1,4 +1,4 @@
--- Two runs evaluate an expression alike: one with tagged fields, the other with fields written anew.
+-- Two runs evaluate an expression alike: one with tagged fields, the other with fields under other names.
 use Rattle.std.proofs.Common.{◌≡◌, ℤ, Bool, List, [], ◌∷◌, ◌++◌, map, inl, pos, true, false, Some, None, Option, option_map, sym, refl}
 use Rattle.std.proofs.lemmas.List.{map-append}
 use Rattle.ob0_tree.specs.Tree.{Tree, addend, adds, compares, designator, end, expression, factor, field, index, integer, items, more, multiplier, multiplies, negation, none, one, parenthesised, product, relates, selector, simple, sum, term}
@@ -22,7 +22,7 @@ abbrev pub scalar_value : Scalar → Value
 scalar_value (whole n) = number n
 scalar_value (logical b) = truth b
 
--- what a name stands for in both runs
+-- what a name means in both runs
 pub data Thing (P : Type 0) : Type 0 where
   type_thing : Shape → Thing P
   constant_thing : Scalar → Thing P

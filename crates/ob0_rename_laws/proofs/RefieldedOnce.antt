@@ -1,4 +1,4 @@
--- Names are declared once exactly where they are with fields written anew; and written as they are, fields change nothing.
+-- Names are declared once exactly where they are with fields under other names; and written as they are, fields change nothing.
 use Rattle.std.proofs.Common.{◌≡◌, ℕ, suc, ◌+◌, not, ◌&&◌, ◌||◌, List, [], ◌∷◌, ◌++◌, map, Some, None, Option, refl, ap, ◌∙◌, sym}
 use Rattle.std.proofs.lemmas.List.{map-append}
 use Rattle.ob0_tree.specs.Tree.{Sort, Tree, adds, array_type, assigns, begins, block, branches, calls, compares, declares, declares_procedure, declares_type, declares_types, declares_variable, declares_variables, designator, else_branch, elsif_branch, end, field, fields, formals, further_fields, further_name, further_section, has_body, index, is_module, item, items, listed, maybe, module_text, more, multiplies, named_type, names, negation, no_fields, no_formals, none, one, parenthesised, procedure, product, record_type, relates, repeat_loop, runs, section, some_arguments, some_fields, some_formals, sum, then_argument, then_fields, then_name, then_section, then_statement, type_name, type_names, value_section, variable, variable_section, variables, while_loop, written_type}

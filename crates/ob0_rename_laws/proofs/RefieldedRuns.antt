@@ -1,4 +1,4 @@
--- Two runs of a module are alike: one with tagged fields, the other with fields written anew.
+-- Two runs of a module are alike: one with tagged fields, the other with fields under other names.
 use Rattle.std.proofs.Common.{◌≡◌, ℕ, zero, suc, ◌+◌, ◌≢◌, true, false, List, [], ◌∷◌, map, ℤ, ◌⊎◌, inl, inr, Some, None, Option, option_map, option_and_then, sym, refl, ap, ◌∙◌, subst, subst₂}
 use Rattle.ob0_tree.specs.Tree.{Tree, begins, block, body, declares, declares_procedure, formals, has_body, is_module, item, maybe, module_text, none, one, procedure}
 use Rattle.ob0_scope_rules.specs.Names.{Name, as_names}
@@ -18,7 +18,7 @@ use Rattle.ob0_rename_laws.proofs.RefieldedExpressions.{constant_thing, logical,
 use Rattle.ob0_rename_laws.proofs.RefieldedModules.{formal_sections-refield, formals_count-refield, refielding_keeps_fitting-holds}
 use Rattle.ob0_rename_laws.proofs.Values.{store_by, tagged, tagged-apart}
 
--- what names stand for to a block's statements, when they are checked
+-- what names mean to a block's statements, when they are checked
 abbrev pub body_meaning : TypeEnvironment Name → ℕ → Tree Name block → Typed Name
 body_meaning checked k b = meanings as_names (behind_procedures (behind_variables checked k b) (after_variables k b) (block_procedures b))
 

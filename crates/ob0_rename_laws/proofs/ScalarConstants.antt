@@ -1,4 +1,4 @@
--- A constant expression over numbers and truth values is worth a number or a truth value.
+-- A constant expression over numbers and truth values evaluates to a number or a truth value.
 use Rattle.std.proofs.Common.{◌≡◌, Bool, true, false, ℕ, zero, suc, ℤ, pos, negsuc, ◌+ℤ◌, ◌-ℤ◌, ◌*ℤ◌, neg_ℤ, List, [], ◌∷◌, if◌then◌else◌, Some, None, Option, option_map, option_and_then, refl, sym, ap, ◌∙◌, subst}
 use Rattle.ob0_tree.specs.declared.tree.Relation.{Relation}
 use Rattle.ob0_tree.specs.declared.tree.Relation.TheVariants as relation
@@ -148,7 +148,7 @@ given-scalar (ends e) h = (None, refl)
 abbrev as_constant : Value → Object Place (Unit {0})
 as_constant v = a_constant v
 
--- where names stand for scalars alone
+-- where names mean scalars alone
 pub constant_value-scalar : {V P : Type 0} (stands : Name → Option (Object V P)) (cs : Constants) → ((x : Name) → constant_of (stands x) ≡ option_map scalar_value (cs x)) → (e : Tree Name expression)
     → (c : Option Scalar) × (constant_value (named stands) e ≡ option_map scalar_value c)
 unfolding constant_value

@@ -1,4 +1,4 @@
--- Values, places and the store of two runs: one with the ordinal of its record before each field's name, the other with its fields written anew.
+-- Values, places and the store of two runs: one with the ordinal of its record before each field's name, the other with its fields under other names.
 use Rattle.std.proofs.Common.{◌≡◌, ℕ, zero, suc, Bool, true, false, ◌&&◌, List, [], ◌∷◌, map, ◌⊎◌, inl, inr, if◌then◌else◌, ◌==◌, slice_get, slice_set, Some, None, Option, option_map, option_and_then, sym, refl, ap, ◌∙◌, subst, subst₂, eq-eqb}
 use Rattle.std.proofs.Math.Dec.{eqb-suc-suc, eqb-zero-suc}
 use Rattle.std.proofs.lemmas.Bool.{eqb-true}
@@ -21,7 +21,7 @@ bare owner x = x
 pub tagged-apart : KeepsApart tagged
 tagged-apart k x y = ap (λ b. b && same_name x y) (eq-eqb (suc k) (suc k) refl)
 
--- values with their fields written anew
+-- values with their fields under other names
 abbrev mutual
   pub value_by : FieldNames → Value → Value
   value_by l (number n) = number n

@@ -10,7 +10,7 @@ use Rattle.ob0_types_rules.specs.WellTyped.{declare_typed, typed_parameters}
 use Rattle.ob0_rename_laws.specs.Renaming.{FieldFree, field_renamed, is_duplicate_field, records}
 
 -- TYPE R = RECORD a, b: INTEGER END; VAR r: R; s: RECORD a: INTEGER END; a: INTEGER; BEGIN r.a := 1; s.a := 2; a := r.a + s.a; Write(a) END M.
--- The field a of R to c: its declaration, and the two selectors behind r
+-- The field a of R to c: its declaration, and the two selectors after r
 abbrev two_records_renamed : Tree Name module_text
 two_records_renamed =
     is_module (codes "M") (has_body (declares none (one (declares_types (more (declares_type (codes "R") (record_type (some_fields (listed (codes "c") (more (then_name (codes "b")) end)) (named_type (codes "INTEGER"))) end)) end))) (one (declares_variables (more (declares_variable (listed (codes "r") end) (named_type (codes "R"))) (more (declares_variable (listed (codes "s") end) (record_type (some_fields (listed (codes "a") end) (named_type (codes "INTEGER"))) end)) (more (declares_variable (listed (codes "a") end) (named_type (codes "INTEGER"))) end))))) end) (one (begins (runs (assigns (codes "r") (more (field (codes "c")) end) (alone (integer 1))) (more (then_statement (assigns (codes "s") (more (field (codes "a")) end) (alone (integer 2)))) (more (then_statement (assigns (codes "a") end (compares (sum None (product (designator (codes "r") (more (field (codes "c")) end)) end) (more (adds add_operator.Add (product (designator (codes "s") (more (field (codes "a")) end)) end)) end)) none))) (more (then_statement (calls (codes "Write") (one (some_arguments (alone (designator (codes "a") end)) end)))) end))))))) (codes "M")

@@ -1,4 +1,5 @@
 -- Laws of fields: under other names, kept apart in each record, they keep a module's types and runs.
+-- Rule: none; laws of fields under other names.
 use Rattle.std.specs.Prelude.{◌≡◌, ℕ, Some}
 use Rattle.ob0_tree.specs.Tree.{Tree, module_text}
 use Rattle.ob0_scope_rules.specs.Names.{Name, as_names, same_name}
@@ -11,7 +12,7 @@ use Rattle.ob0_rename_laws.specs.Renaming.{FieldFree, field_renamed}
 abbrev pub KeepsApart : FieldNames → Type 0
 KeepsApart l = (k : ℕ) (x y : Name) → same_name (l (Some k) x) (l (Some k) y) ≡ same_name x y
 
--- fields written anew, those of a record kept apart, keep a module's declarations and statements fitting
+-- fields under other names, those of a record kept apart, keep a module's declarations and statements fitting
 abbrev pub RefieldingKeepsFitting : Type 0
 RefieldingKeepsFitting = (l : FieldNames) (m : Tree Name module_text) → KeepsApart l → fits_over as_names (refielded l m) ≡ fits_over as_names m
 

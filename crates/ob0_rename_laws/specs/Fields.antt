@@ -1,4 +1,5 @@
 -- The fields of records under other names: where they are declared, and where selectors select them.
+-- Rule: docs/LANGUAGE.md, Scopes 7.
 use Rattle.std.specs.Prelude.{ℕ, suc, ◌+◌, List, [], Some, None, Option, option_and_then, unwrap_or}
 use Rattle.ob0_tree.specs.Tree.{Item, Sort, Tree, adds, array_type, assigns, begins, block, branches, calls, compares, declares, declares_procedure, declares_type, declares_types, declares_variable, declares_variables, designator, else_branch, elsif_branch, end, field, fields, formals, further_fields, further_section, has_body, index, is_module, item, items, maybe, module_text, more, multiplies, named_type, negation, no_fields, no_formals, none, one, parenthesised, procedure, product, record_type, relates, repeat_loop, runs, section, some_arguments, some_fields, some_formals, sum, then_argument, then_fields, then_section, then_statement, type_name, type_names, value_section, variable, variable_section, variables, while_loop, written_type}
 use Rattle.ob0_scope_rules.specs.Mapping.{with_names}
@@ -14,7 +15,7 @@ use Rattle.ob0_values.specs.Values.{Shape, array_shape, boolean_shape, integer_s
 abbrev pub FieldNames : Type 0
 FieldNames = Option ℕ → Name → Name
 
--- the record of which a selector behind this type selects a field
+-- the record of which a selector after this type selects a field
 abbrev pub record_of : Option Shape → Option ℕ
 record_of None = None
 record_of (Some integer_shape) = None
@@ -22,7 +23,7 @@ record_of (Some boolean_shape) = None
 record_of (Some (array_shape k n s)) = None
 record_of (Some (record_shape k fs)) = Some k
 
--- the type behind one more selector
+-- the type after one more selector
 abbrev pub behind : {i : Item} → Option Shape → Tree Name (item i) → Option Shape
 behind s (field x) = option_and_then (λ t. field_type t x) s
 behind s (index e) = option_and_then (λ t. element_type t integer_shape) s
@@ -79,42 +80,50 @@ abbrev pub refield_types : FieldNames → ℕ → Tree Name (items type_name) �
 refield_types l k end = end
 refield_types l k (more (declares_type x u) ds) = more (declares_type x (refield_type l k u)) (refield_types l (k + constructors u) ds)
 
+-- the types of a TYPE section with other names for fields
 abbrev pub refield_type_section : FieldNames → ℕ → Tree Name (maybe type_names) → Tree Name (maybe type_names)
 refield_type_section l k none = none
 refield_type_section l k (one (declares_types ts)) = one (declares_types (refield_types l k ts))
 
+-- variables with other names for fields
 abbrev pub refield_variables : FieldNames → ℕ → Tree Name (items variable) → Tree Name (items variable)
 refield_variables l k end = end
 refield_variables l k (more (declares_variable ns u) gs) = more (declares_variable ns (refield_type l k u)) (refield_variables l (k + constructors u) gs)
 
+-- a VAR section with other names for fields
 abbrev pub refield_variable_section : FieldNames → ℕ → Tree Name (maybe variables) → Tree Name (maybe variables)
 refield_variable_section l k none = none
 refield_variable_section l k (one (declares_variables vs)) = one (declares_variables (refield_variables l k vs))
 
+-- a section of parameters with other names for fields
 abbrev pub refield_section : FieldNames → ℕ → Tree Name section → Tree Name section
 refield_section l k (value_section ns u) = value_section ns (refield_type l k u)
 refield_section l k (variable_section ns u) = variable_section ns (refield_type l k u)
 
+-- further sections with other names for fields
 abbrev pub refield_sections : FieldNames → ℕ → Tree Name (items further_section) → Tree Name (items further_section)
 refield_sections l k end = end
 refield_sections l k (more (then_section f) fs) = more (then_section (refield_section l k f)) (refield_sections l (k + constructors (section_type f)) fs)
 
+-- formal parameters with other names for fields
 abbrev pub refield_formals : FieldNames → ℕ → Tree Name (maybe formals) → Tree Name (maybe formals)
 refield_formals l k none = none
 refield_formals l k (one no_formals) = one no_formals
 refield_formals l k (one (some_formals f fs)) = one (some_formals (refield_section l k f) (refield_sections l (k + constructors (section_type f)) fs))
 
--- what names stand for behind the constants, types and variables of a block; where these don't fit, the module isn't well-typed
+-- what names mean after the constants, types and variables of a block; where these don't fit, the module isn't well-typed
 abbrev pub behind_variables : TypeEnvironment Name → ℕ → Tree Name block → TypeEnvironment Name
 behind_variables env k b = unwrap_or (option_and_then (declare_typed as_names (after_types k b) (block_variables b)) (declare_first as_names env k b)) env
 
+-- the parameters of a procedure; none where they denote nothing
 abbrev pub parameters_of : TypeEnvironment Name → ℕ → Tree Name (item procedure) → List (TypedParameter Name)
 parameters_of env k p = unwrap_or (typed_parameters as_names env k (procedure_formals p)) []
 
--- behind a procedure's heading, and behind those of a block's procedures
+-- after a procedure's heading, and after those of a block's procedures
 abbrev pub behind_heading : TypeEnvironment Name → ℕ → Tree Name (item procedure) → TypeEnvironment Name
 behind_heading env k p = heading (procedure_name p) (parameters_of env k p) env
 
+-- what names mean after some procedures
 abbrev pub behind_procedures : TypeEnvironment Name → ℕ → Tree Name (items procedure) → TypeEnvironment Name
 behind_procedures env k end = env
 behind_procedures env k (more p rest) = behind_procedures (behind_heading env k p) (k + procedure_constructors p) rest
@@ -139,6 +148,6 @@ abbrev mutual
   refield_procedure l env k (declares_procedure x fs b closing) =
       declares_procedure x (refield_formals l k fs) (refield_block l env (after_formals k (declares_procedure x fs b closing)) b) closing
 
--- a module with its fields written anew
+-- a module with its fields under other names
 abbrev pub refielded : FieldNames → Tree Name module_text → Tree Name module_text
 refielded l (is_module x b closing) = is_module x (refield_block l (outermost as_names) 0 b) closing

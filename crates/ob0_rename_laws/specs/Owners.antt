@@ -1,4 +1,5 @@
 -- Which identifiers of a text are fields, and of which record: by token.
+-- Rule: none; for contracts: which record a field's token belongs to.
 use Rattle.std.specs.Prelude.{◌≡◌, ℕ, Bool, ◌&&◌, List, Option, Some, None, if◌then◌else◌}
 use Rattle.ob0_scan.specs.Scanned.{Scanned}
 use Rattle.ob0_tree.specs.Tree.{mapped}
@@ -10,13 +11,13 @@ use Rattle.ob0_scope_rules.specs.Scopes.{same_ordinal}
 use Rattle.ob0_rename_laws.specs.Fields.{FieldNames, refielded}
 use Rattle.ob0_rename_laws.specs.Renaming.{field_renamed}
 
--- the fields of known records written anew
+-- the fields of known records rewritten
 abbrev pub of_records : (ℕ → Name → Name) → FieldNames
 of_records l None x = x
 of_records l (Some k) x = l k x
 
 -- A table that has at each token that is a field's name, declared or selected, the ordinal of the field's record: in whatever way fields are
--- written anew, the module so written is the tree with each token written by the table.
+-- rewritten, the module so written is the tree with each token written by the table.
 abbrev pub AreOwners : Parsed → List (Option ℕ) → Type 0
 AreOwners m owners =
     (l : ℕ → Name → Name) → refielded (of_records l) (named_tree_of m) ≡ mapped (λ i. of_records l (ordinal_in owners i) (text_at m.source i)) (value_at m.source) (tree_of m)

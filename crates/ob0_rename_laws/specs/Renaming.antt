@@ -1,4 +1,5 @@
 -- The renaming of a record's field.
+-- Rule: docs/PROTOCOL.md, Requests on documents 6.
 use Rattle.std.specs.Prelude.{◌≡◌, ℕ, suc, ◌+◌, Bool, false, not, ◌&&◌, List, [], ◌∷◌, ◌++◌, if◌then◌else◌, ◌==◌}
 use Rattle.std.specs.List.{list_any}
 use Rattle.ob0_tree.specs.Tree.{Tree, array_type, block, declares_procedure, declares_type, declares_variable, end, fields, further_fields, further_section, has_body, declares, item, items, module_text, more, named_type, no_fields, procedure, record_type, some_fields, then_fields, then_section, type_name, variable, written_type}
@@ -44,10 +45,12 @@ abbrev pub records_in_types : ℕ → Tree Name (items type_name) → List Recor
 records_in_types k end = []
 records_in_types k (more (declares_type x u) ds) = records_in_type k u ++ records_in_types (k + constructors u) ds
 
+-- the records that are written with variables, in text order
 abbrev pub records_in_variables : ℕ → Tree Name (items variable) → List RecordFields
 records_in_variables k end = []
 records_in_variables k (more (declares_variable ns u) gs) = records_in_type k u ++ records_in_variables (k + constructors u) gs
 
+-- the records that are written with parameters
 abbrev pub records_in_sections : ℕ → Tree Name (items further_section) → List RecordFields
 records_in_sections k end = []
 records_in_sections k (more (then_section f) fs) = records_in_type k (section_type f) ++ records_in_sections (k + constructors (section_type f)) fs

@@ -3,12 +3,12 @@
 ghost use Rattle.ob0_rename_laws.specs.FieldLaws.{FreeFieldKeepsModules, RefieldingKeepsFitting, RefieldingKeepsModules};
 ghost use Rattle.ob0_rename_laws.specs.Owners.{RenamedByToken};
 
-/// Fields written anew, those of a record kept apart, keep a module's declarations and statements fitting.
+/// Fields under other names, those of a record kept apart, keep a module's declarations and statements fitting.
 pub fn refielding_keeps_fitting()
     ensures { RefieldingKeepsFitting }
 {}
 
-/// Fields written anew, those of a record kept apart, keep a module well-typed, and its runs.
+/// Fields under other names, those of a record kept apart, keep a module well-typed, and its runs.
 pub fn refielding_keeps_modules()
     ensures { RefieldingKeepsModules }
 {}

@@ -1,4 +1,5 @@
 -- JSON values that are written as text, behind what stands there.
+-- Rule: none; for contracts of writers.
 use Rattle.std.specs.Prelude.{◌≡◌, ◌++◌, ℕ, List, [], ◌∷◌, Bool, true, Some, ⊤}
 use Rattle.std.specs.Str.{IsUtf8}
 use Rattle.json.specs.Tree.{HasNumbers}
@@ -12,6 +13,7 @@ pub record IsReadBack (value : Data) : Type 0 where
   pub numbers : HasNumbers (outline value)
   pub utf8 : IsUtf8 (compact_text value)
 
+-- each of some values reads back from its text
 abbrev pub AreReadBack : List Data → Type 0
 AreReadBack [] = ⊤
 AreReadBack (value ∷ values) = IsReadBack value × AreReadBack values

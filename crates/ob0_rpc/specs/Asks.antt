@@ -1,4 +1,5 @@
 -- What requests ask, by their method and params (LSP 3.17).
+-- Rule: docs/PROTOCOL.md, JSON shapes 4, Capabilities; LSP 3.17, requests.
 use Rattle.std.specs.Prelude.{ℕ, List, [], ◌∷◌, Bool, false, Option, Some, None, is_some, if◌then◌else◌, ◌||◌, max, min, option_map, option_and_then, unwrap_or, codes, Result, Ok, Err}
 use Rattle.std.specs.Str.{bytes_eq}
 use Rattle.serde_json.specs.Data.{Data, Items, no_items, item}
@@ -43,6 +44,7 @@ within (name ∷ names) d = option_and_then (within names) (get name d)
 abbrev pub is_true : Option Data → Bool
 is_true found = unwrap_or (option_and_then as_bool found) false
 
+-- a member is this text
 abbrev pub is_text : List ℕ → Option (List ℕ) → Bool
 is_text text None = false
 is_text text (Some other) = bytes_eq other text
@@ -52,10 +54,12 @@ abbrev pub has_text : List ℕ → Items → Bool
 has_text text no_items = false
 has_text text (item d ds) = is_text text (as_str d) || has_text text ds
 
+-- a list has this text
 abbrev pub lists_text : List ℕ → Option Items → Bool
 lists_text text None = false
 lists_text text (Some items) = has_text text items
 
+-- what the client of an `initialize` can do
 abbrev pub client_of : Data → Client
 client_of params = record {
   counts_utf8 = lists_text (codes "utf-8") (option_and_then as_array (within (codes "capabilities" ∷ codes "general" ∷ codes "positionEncodings" ∷ []) params));
@@ -70,11 +74,13 @@ initialize_of params = if is_some (as_object params) then Some (initialize (clie
 
 -- ---- what is asked of a document
 
+-- a document and a place, where both can be read
 abbrev pub at_by : Option (List ℕ) → Option Position → Option At
 at_by (Some uri) (Some position) = Some (record { uri = uri; position = position })
 at_by (Some uri) None = None
 at_by None position = None
 
+-- the document and the place in params
 abbrev pub at_of : Data → Option At
 at_of params = at_by (uri_of params) (position_in (codes "position") params)
 
@@ -84,14 +90,17 @@ references_by (Some at) (Some include) = Some (references at include)
 references_by (Some at) None = None
 references_by None include = None
 
+-- `textDocument/references`
 abbrev pub references_of : Data → Option Ask
 references_of params = references_by (at_of params) (option_and_then (truth_in (codes "includeDeclaration")) (get (codes "context") params))
 
+-- a rename, where the place and the name can be read
 abbrev pub rename_by : Option At → Option (List ℕ) → Option Ask
 rename_by (Some at) (Some name) = Some (rename at name)
 rename_by (Some at) None = None
 rename_by None name = None
 
+-- `textDocument/rename`
 abbrev pub rename_of : Data → Option Ask
 rename_of params = rename_by (at_of params) (text_in (codes "newName") params)
 
@@ -108,12 +117,14 @@ only_by found = if is_absent found then Some None else option_map Some (option_a
 abbrev pub only_of : Data → Option (Option (List (List ℕ)))
 only_of context = if is_some (as_object context) then only_by (get (codes "only") context) else None
 
+-- a code action, where its parts can be read
 abbrev pub code_action_by : Option (List ℕ) → Option Range → Option (Option (List (List ℕ))) → Option Ask
 code_action_by (Some uri) (Some range) (Some only) = Some (code_action uri range only)
 code_action_by (Some uri) (Some range) None = None
 code_action_by (Some uri) None only = None
 code_action_by None range only = None
 
+-- `textDocument/codeAction`
 abbrev pub code_action_of : Data → Option Ask
 code_action_of params = code_action_by (uri_of params) (range_in (codes "range") params) (option_and_then only_of (get (codes "context") params))
 
@@ -123,19 +134,23 @@ indent_by (Some size) (Some spaces) = Some (if spaces then Spaces (max 1 (min si
 indent_by (Some size) None = None
 indent_by None spaces = None
 
+-- the indent in formatting options: a tab, or 1 to 16 spaces
 abbrev pub indent_of : Data → Option Indent
 indent_of options = indent_by (count_in (codes "tabSize") options) (truth_in (codes "insertSpaces") options)
 
+-- a formatting, where the document and the options can be read
 abbrev pub formatting_by : Option (List ℕ) → Option Indent → Option Ask
 formatting_by (Some uri) (Some indent) = Some (formatting uri indent)
 formatting_by (Some uri) None = None
 formatting_by None indent = None
 
+-- `textDocument/formatting`
 abbrev pub formatting_of : Data → Option Ask
 formatting_of params = formatting_by (uri_of params) (option_and_then indent_of (get (codes "options") params))
 
 -- ---- requests
 
+-- the request, or `bad params`
 abbrev pub or_bad : Option Ask → Result Ask RpcFault
 or_bad (Some ask) = Ok ask
 or_bad None = Err BadParams

@@ -1,4 +1,5 @@
 -- How a fault of a message is told (JSON-RPC 2.0, error objects).
+-- Rule: docs/PROTOCOL.md, Order of checks, and errors; JSON-RPC 2.0, error object.
 use Rattle.std.specs.Prelude.{◌-◌, ℕ, ℤ, negsuc, List, codes}
 use Rattle.ob0_rpc.specs.declared.incoming.RpcFault.{RpcFault}
 use Rattle.ob0_rpc.specs.declared.incoming.RpcFault.TheVariants.{NotJson, NotAMessage, UnknownMethod, BadParams, Memory}
@@ -15,6 +16,7 @@ error_code UnknownMethod = minus 32601
 error_code BadParams = minus 32602
 error_code Memory = minus 32603
 
+-- the message of an error
 abbrev pub error_text : RpcFault → List ℕ
 error_text NotJson = codes "not JSON"
 error_text NotAMessage = codes "not a message"

@@ -1,4 +1,5 @@
 -- What the members of params hold.
+-- Rule: docs/PROTOCOL.md, Contents 4, 5, JSON shapes 4.
 use Rattle.std.specs.Prelude.{ℕ, ℤ, List, Bool, true, false, Option, Some, None, option_map, option_and_then, codes}
 use Rattle.std.specs.Str.{chars}
 use Rattle.serde_json.specs.Data.{Data, null, boolean, number, string, array, object}
@@ -20,6 +21,7 @@ is_absent (Some (object ms)) = false
 abbrev pub text_in : List ℕ → Data → Option (List ℕ)
 text_in name d = option_and_then as_str (get name d)
 
+-- the truth value of a member
 abbrev pub truth_in : List ℕ → Data → Option Bool
 truth_in name d = option_and_then as_bool (get name d)
 
@@ -31,6 +33,7 @@ count_in name d = option_and_then as_u64 (option_and_then as_number (get name d)
 abbrev pub of_document : List ℕ → Data → Option Data
 of_document name params = option_and_then (get name) (get (codes "textDocument") params)
 
+-- the uri of the document in params
 abbrev pub uri_of : Data → Option (List ℕ)
 uri_of params = option_and_then as_str (of_document (codes "uri") params)
 
@@ -38,9 +41,11 @@ uri_of params = option_and_then as_str (of_document (codes "uri") params)
 abbrev pub version_of : Data → Option ℤ
 version_of params = option_and_then as_i64 (option_and_then as_number (of_document (codes "version") params))
 
+-- the text of the document in params
 abbrev pub text_of : Data → Option (List ℕ)
 text_of params = option_map chars (option_and_then as_str (of_document (codes "text") params))
 
+-- a position, where both numbers can be read
 abbrev pub position_by : Option ℕ → Option ℕ → Option Position
 position_by (Some line) (Some character) = Some (record { line = line; character = character })
 position_by (Some line) None = None
@@ -50,9 +55,11 @@ position_by None character = None
 abbrev pub position_of : Data → Option Position
 position_of d = position_by (count_in (codes "line") d) (count_in (codes "character") d)
 
+-- the position of a member
 abbrev pub position_in : List ℕ → Data → Option Position
 position_in name d = option_and_then position_of (get name d)
 
+-- a range, where both positions can be read
 abbrev pub range_by : Option Position → Option Position → Option Range
 range_by (Some start) (Some end) = Some (record { start = start; end = end })
 range_by (Some start) None = None
@@ -62,5 +69,6 @@ range_by None end = None
 abbrev pub range_of : Data → Option Range
 range_of d = range_by (position_in (codes "start") d) (position_in (codes "end") d)
 
+-- the range of a member
 abbrev pub range_in : List ℕ → Data → Option Range
 range_in name d = option_and_then range_of (get name d)

@@ -1,4 +1,5 @@
 -- What notifications tell, by their method and params (LSP 3.17, text document synchronization).
+-- Rule: docs/PROTOCOL.md, Documents, JSON shapes 4; LSP 3.17, text document synchronization.
 use Rattle.std.specs.Prelude.{ℕ, ℤ, List, [], ◌∷◌, Option, Some, None, if◌then◌else◌, option_map, option_and_then, codes}
 use Rattle.std.specs.Str.{bytes_eq, chars}
 use Rattle.serde_json.specs.Data.{Data, Items, no_items, item}
@@ -7,6 +8,7 @@ use Rattle.ob0_text.specs.OpenDocuments.{TextChange}
 use Rattle.ob0_text.specs.declared.positions.Range.{Range}
 use Rattle.ob0_rpc.specs.Members.{is_absent, text_in, uri_of, version_of, text_of, range_of}
 
+-- what a notification says
 pub data Notification : Type 0 where
   exits : Notification
   -- the uri, the version and the characters of the text
@@ -22,6 +24,7 @@ pub data Notification : Type 0 where
 abbrev pub range_by : Option Data → Option (Option Range)
 range_by found = if is_absent found then Some None else option_map Some (option_and_then range_of found)
 
+-- a change, where its range and its text can be read
 abbrev pub change_by : Option (Option Range) → Option (List ℕ) → Option TextChange
 change_by (Some range) (Some text) = Some (record { range = range; text = chars text })
 change_by (Some range) None = None
@@ -36,21 +39,25 @@ abbrev pub all_changes : Items → Option (List TextChange)
 all_changes no_items = Some []
 all_changes (item entry later) = option_and_then (λ change. option_map (λ changes. change ∷ changes) (all_changes later)) (change_in entry)
 
+-- the changes in params, where all of them can be read
 abbrev pub changes_of : Data → Option (List TextChange)
 changes_of params = option_and_then all_changes (option_and_then as_array (get (codes "contentChanges") params))
 
+-- `textDocument/didOpen`, with the uri alone where the rest can't be read
 abbrev pub open_of : Option (List ℕ) → Option ℤ → Option (List ℕ) → Notification
 open_of None version text = unreadable None
 open_of (Some uri) (Some version) (Some text) = opens uri version text
 open_of (Some uri) (Some version) None = unreadable (Some uri)
 open_of (Some uri) None text = unreadable (Some uri)
 
+-- `textDocument/didChange`, with the uri alone where the rest can't be read
 abbrev pub change_of : Option (List ℕ) → Option ℤ → Option (List TextChange) → Notification
 change_of None version all = unreadable None
 change_of (Some uri) (Some version) (Some all) = changes uri version all
 change_of (Some uri) (Some version) None = unreadable (Some uri)
 change_of (Some uri) None all = unreadable (Some uri)
 
+-- `textDocument/didClose`
 abbrev pub close_of : Option (List ℕ) → Notification
 close_of None = unreadable None
 close_of (Some uri) = closes uri

@@ -1,4 +1,5 @@
 -- What the values of the code stand for.
+-- Rule: none; for contracts: what values of the code mean.
 use Rattle.std.specs.Prelude.{◌≡◌, ℕ, List, Option, Some, None, Result, Ok, Err, string_bytes, String, Vec, map, option_map}
 use Rattle.std.specs.Str.{chars}
 use Rattle.std.specs.declared.alloc.Global.{Global}
@@ -19,6 +20,7 @@ use Rattle.ob0_rpc.specs.declared.incoming.RpcFault.{RpcFault}
 use Rattle.ob0_rpc.specs.declared.incoming.RpcFault.TheVariants.{NotJson, NotAMessage, UnknownMethod, BadParams, Memory}
 use Rattle.ob0_rpc.specs.declared.notes.Note as noted
 
+-- an id of the code as a JSON value
 abbrev pub id_data : Id → Data
 id_data (Signed z) = number (of_integer z)
 id_data (Unsigned n) = number (unsigned n)
@@ -29,6 +31,7 @@ abbrev pub id_or_null : Option Id → Data
 id_or_null (Some id) = id_data id
 id_or_null None = null
 
+-- a message of the code
 abbrev pub seen : Incoming → Meaning
 seen (Request id method params) = request (id_data id) (string_bytes method) (view params)
 seen (Notice method params) = notice (string_bytes method) (view params)
@@ -49,6 +52,7 @@ ReadsAs content (Err NotJson) = Reads content None
 ReadsAs content (Err Memory) = Unit {0}
 ReadsAs content r = (d : Data) × Reads content (Some d) × MeansAs d r
 
+-- a document and a place of the code
 abbrev pub at_seen : Place → At
 at_seen place = record { uri = string_bytes place.uri; position = place.position }
 
@@ -56,6 +60,7 @@ at_seen place = record { uri = string_bytes place.uri; position = place.position
 abbrev pub kinds_seen : Option (Vec (String Global) Global) → Option (List (List ℕ))
 kinds_seen kinds = option_map (λ texts. map string_bytes texts.items) kinds
 
+-- a request of the code
 abbrev pub seen_call : called.Call → Ask
 seen_call (called.TheVariants.Initialize client) = initialize client
 seen_call called.TheVariants.Shutdown = shutdown
@@ -76,6 +81,7 @@ AsksFor asked (Err Memory) = Unit {0}
 AsksFor asked (Err NotJson) = ⊥
 AsksFor asked (Err NotAMessage) = ⊥
 
+-- a notification of the code
 abbrev pub seen_note : noted.Note → Notification
 seen_note noted.TheVariants.Exit = exits
 seen_note (noted.TheVariants.Open uri version text) = opens (string_bytes uri) version (chars (string_bytes text))

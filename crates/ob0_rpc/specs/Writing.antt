@@ -1,4 +1,5 @@
 -- A message as it is written.
+-- Rule: docs/PROTOCOL.md, JSON shapes 1.
 use Rattle.std.specs.Prelude.{◌≡◌, ◌≤◌, ℕ, List, false, Some}
 use Rattle.serde_json.specs.Data.{Data, depth}
 use Rattle.serde_json.specs.Written.{compact_text, has_float}

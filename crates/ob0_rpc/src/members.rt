@@ -18,12 +18,14 @@ pub fn is_absent(member: Option<&Value>) -> bool
     }
 }
 
+/// The text of a member; None where it is absent, or isn't a text.
 pub fn text_in<'v>(value: &'v Value, name: &str) -> Option<&'v str>
     ensures { option_map (λ s. s.now) result ≡ text_of_member name.now (view value.now) }
 {
     value.get(name)?.as_str()
 }
 
+/// The truth value of a member; None where it is absent, or isn't a truth value.
 pub fn truth_in(value: &Value, name: &str) -> Option<bool>
     ensures { result ≡ truth_of_member name.now (view value.now) }
 {
@@ -44,6 +46,7 @@ pub fn uri_of(params: &Value) -> Option<&str>
     params.get("textDocument")?.get("uri")?.as_str()
 }
 
+/// The version of the document that params name, a whole number of 64 bits with a sign.
 pub fn version_of(params: &Value) -> Option<i64>
     ensures { result ≡ version_told (view params.now) }
 {
@@ -91,6 +94,7 @@ fn into_text(value: Value) -> Option<String>
     }
 }
 
+/// A position: a line and a character, both whole numbers from 0 to 2^64-1.
 pub fn position_of(value: &Value) -> Option<Position>
     ensures { result ≡ position_told (view value.now) }
 {
@@ -99,12 +103,14 @@ pub fn position_of(value: &Value) -> Option<Position>
     Some(Position { line, character })
 }
 
+/// The position of a member.
 pub fn position_in(value: &Value, name: &str) -> Option<Position>
     ensures { result ≡ position_of_member name.now (view value.now) }
 {
     position_of(value.get(name)?)
 }
 
+/// A range: its start and its end, in whatever order they are.
 pub fn range_of(value: &Value) -> Option<Range>
     ensures { result ≡ range_told (view value.now) }
 {
@@ -113,6 +119,7 @@ pub fn range_of(value: &Value) -> Option<Range>
     Some(Range { start, end })
 }
 
+/// The range of a member.
 pub fn range_in(value: &Value, name: &str) -> Option<Range>
     ensures { result ≡ range_of_member name.now (view value.now) }
 {

@@ -1,4 +1,5 @@
 -- What an outcome says of a run.
+-- Rule: none; for contracts: what values of the code mean.
 use Rattle.ob0_values.specs.Values as values
 use Rattle.ob0_run.specs.declared.running.End.{End}
 use Rattle.ob0_run.specs.declared.running.End.TheVariants as end
@@ -6,6 +7,7 @@ use Rattle.ob0_run.specs.declared.running.Outcome.{Outcome}
 use Rattle.ob0_run_rules.specs.Runs.{Run}
 use Rattle.ob0_run.specs.States.{items_out}
 
+-- an end of the code
 abbrev pub end_in : End → values.End
 end_in end.Done = values.Done
 end_in end.Overflow = values.Overflow

@@ -65,6 +65,7 @@ fn have_numbers(input: &[i32])
     ensures { HaveNumbers input.now }
 {
     for n in input {
+        // For the proof: what is known of this value.
         let _number = *n;
     }
 }

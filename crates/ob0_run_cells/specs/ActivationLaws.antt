@@ -1,4 +1,5 @@
 -- Calls of lowered procedures do what calls of the module's do that give up their variables; runs are the same runs.
+-- Rule: none; laws of lowered programs.
 use Rattle.std.specs.Prelude.{◌≡◌, ℕ, suc, ◌+◌, ◌*◌, ◌<◌, ◌^◌, List, map, ℤ}
 use Rattle.ob0_tree.specs.Tree.{Tree, module_text}
 use Rattle.ob0_scope_rules.specs.Names.{Label, Name, as_labels}

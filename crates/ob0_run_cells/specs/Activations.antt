@@ -1,4 +1,5 @@
 -- Where lowered code finds what names stand for, and what it means that a table of procedures is lowered from a module's blocks.
+-- Rule: none; for contracts of lowering, against docs/LANGUAGE.md, Runs 6.
 use Rattle.std.specs.Prelude.{◌≡◌, ℕ, suc, ◌+◌, ◌≤◌, true, false, List, [], ◌∷◌, drop, slice_get, Some, Option, option_and_then}
 use Rattle.ob0_tree.specs.Tree.{Tree, begins, block, body, declares, declares_procedure, declares_variable, end, has_body, item, items, maybe, module_text, more, none, one, procedure, variable}
 use Rattle.ob0_scope_rules.specs.Names.{Naming}
@@ -27,31 +28,38 @@ pub data Whereabouts : Type 0 where
 abbrev pub Placing : Type 0 → Type 0
 Placing N = List (N × Whereabouts)
 
+-- what is placed from the binding of a name on
 abbrev pub from_name : {N : Type 0} → Naming N → Placing N → N → Placing N
 from_name naming [] x = []
 from_name naming (b ∷ placing) x = elim (naming.same x b.0) [ true ↦ b ∷ placing | false ↦ from_name naming placing x ]
 
+-- the slot of a variable
 abbrev pub slot_of : Whereabouts → Slot
 slot_of nowhere = of_module 0
 slot_of (in_slot s) = s
 slot_of (at_target t) = of_module 0
 
+-- the target of a procedure
 abbrev pub target_of : Whereabouts → Target
 target_of nowhere = record { procedure = 0; up = 0 }
 target_of (in_slot s) = record { procedure = 0; up = 0 }
 target_of (at_target t) = t
 
+-- the slot of the newest binding
 abbrev pub first_slot : {N : Type 0} → Placing N → Slot
 first_slot [] = of_module 0
 first_slot (b ∷ placing) = slot_of b.1
 
+-- the target of the newest binding
 abbrev pub first_target : {N : Type 0} → Placing N → Target
 first_target [] = record { procedure = 0; up = 0 }
 first_target (b ∷ placing) = target_of b.1
 
+-- the slot that a name has in a placing
 abbrev pub slots_in : {N : Type 0} → Naming N → Placing N → N → Slot
 slots_in naming placing x = first_slot (from_name naming placing x)
 
+-- the target that a name has in a placing
 abbrev pub targets_in : {N : Type 0} → Naming N → Placing N → N → Target
 targets_in naming placing x = first_target (from_name naming placing x)
 
@@ -61,11 +69,13 @@ inward_slot (of_module at) = of_module at
 inward_slot (held up at) = held (suc up) at
 inward_slot (lent up at) = lent (suc up) at
 
+-- where something is as an activation one level further in sees it
 abbrev pub inward_whereabouts : Whereabouts → Whereabouts
 inward_whereabouts nowhere = nowhere
 inward_whereabouts (in_slot s) = in_slot (inward_slot s)
 inward_whereabouts (at_target t) = at_target record t { up = suc t.up }
 
+-- a placing as an activation one level further in sees it
 abbrev pub inward : {N : Type 0} → Placing N → Placing N
 inward [] = []
 inward (b ∷ placing) = (b.0, inward_whereabouts b.1) ∷ inward placing
@@ -76,20 +86,24 @@ pub record Placed (N : Type 0) : Type 0 where
   pub cells : ℕ
   pub lent_places : ℕ
 
+-- names placed one by one, each with so many cells
 abbrev pub place_names : {N : Type 0} → (ℕ → Slot) → List N → ℕ → Placed N → Placed N
 place_names at [] n p = p
 place_names at (x ∷ xs) n p = place_names at xs n record p { placing = (x, in_slot (at p.cells)) ∷ p.placing; cells = p.cells + n }
 
+-- the variables of a block, placed one after the other
 unfoldable pub place_variables : {N : Type 0} → Naming N → (ℕ → Slot) → TypeEnvironment N → ℕ → Tree N (items variable) → Placed N → Option (Placed N)
 unfolding denoted
 place_variables naming at checked k end p = Some p
 place_variables naming at checked k (more (declares_variable ns u) gs) p =
     option_and_then (λ s. place_variables naming at (bind_names (names_listed ns) (a_variable s) checked) (k + constructors u) gs (place_names at (names_listed ns) (size s) p)) (denoted (meanings naming checked) k u)
 
+-- a parameter, placed: by value in cells of its own, as VAR by its address
 abbrev pub place_parameter : {N : Type 0} → Mode → N → ℕ → Placed N → Placed N
 place_parameter by_value x n p = record p { placing = (x, in_slot (held 0 p.cells)) ∷ p.placing; cells = p.cells + n }
 place_parameter by_place x n p = record p { placing = (x, in_slot (lent 0 p.lent_places)) ∷ p.placing; lent_places = suc p.lent_places }
 
+-- parameters, placed one after the other
 abbrev pub place_parameters : {N : Type 0} → List (TypedParameter N) → Placed N → Placed N
 place_parameters [] p = p
 place_parameters (q ∷ ps) p = place_parameters ps (place_parameter q.formal.mode q.name (size q.formal.shape) p)
@@ -107,6 +121,7 @@ own_target i = at_target record { procedure = i; up = 0 }
 abbrev pub entered_placing : {N : Type 0} → List (TypedParameter N) → Placing N → Placed N
 entered_placing ps placing = place_parameters ps record { placing = inward placing; cells = 0; lent_places = 0 }
 
+-- the code of a body means it, wherever its statements are checked
 abbrev pub BodyMeans : {N : Type 0} → Naming N → TypeEnvironment N → Placing N → lowered.Statements → Tree N (maybe body) → Type 0
 BodyMeans naming checked placing code none = code ≡ lowered.no_statement
 BodyMeans naming checked placing code (one (begins statements)) = SequenceMeans (meanings naming checked) (slots_in naming placing) (targets_in naming placing) code statements

@@ -1,4 +1,5 @@
 -- Laws of cells: values, places and the store of a checked module against one list of cells.
+-- Rule: none; laws of cells.
 use Rattle.std.specs.Prelude.{◌≡◌, ◌+◌, ◌≤◌, Bool, List, [], ◌∷◌, ◌++◌, length, replicate, take, ℤ, pos, slice_get, slice_set, Some}
 use Rattle.ob0_types_rules.specs.Typing.{scalars}
 use Rattle.ob0_values.specs.Values.{Place, Shape, Step, Store, Value, at_path, boolean_shape, initial, integer_shape, number, read_place, truth, with_at_path, write_place}
@@ -46,6 +47,7 @@ NumbersAreCells =
     → ((n : ℤ) × (read_place store p ≡ Some (number n)) × (slice_get (all_cells store) (address typing p) ≡ Some n))
     × ((n : ℤ) → (after : Store) × (write_place store p (number n) ≡ Some after) × StoreFits typing after × (all_cells after ≡ slice_set (all_cells store) (address typing p) n))
 
+-- a truth value is one cell
 abbrev pub TruthsAreCells : Type 0
 TruthsAreCells =
     (typing : StoreTyping) (store : Store) (p : Place) → StoreFits typing store → PlaceFits typing p boolean_shape

@@ -1,9 +1,11 @@
 -- A store as one list of cells, each a number: a number is its cell, FALSE is 0 and TRUE is 1, and elements and members lie one after the other.
+-- Rule: none; for contracts of lowering: a store of docs/LANGUAGE.md, Runs, as cells.
 use Rattle.std.specs.Prelude.{ℕ, ◌+◌, ◌*◌, Bool, true, false, List, [], ◌∷◌, ◌++◌, length, take, drop, ℤ, pos, if◌then◌else◌, slice_get, option_map, unwrap_or}
 use Rattle.ob0_scope_rules.specs.Names.{Name, same_name}
 use Rattle.ob0_values.specs.Values.{FieldShapes, Members, Place, Shape, Step, Store, Value, Values, array_shape, at_field, at_index, boolean_shape, elements, integer_shape, members, next_field_shape, next_member, next_value, no_field_shape, no_member, no_value, number, record_shape, truth}
 use Rattle.ob0_run_rules.specs.Fitting.{StoreTyping, part_shape}
 
+-- FALSE is 0 and TRUE is 1
 abbrev pub truth_cell : Bool → ℤ
 truth_cell false = pos 0
 truth_cell true = pos 1
@@ -41,6 +43,7 @@ abbrev mutual
   field_sizes no_field_shape = 0
   field_sizes (next_field_shape x s rest) = size s + field_sizes rest
 
+-- how many cells the variables of a store have
 abbrev pub sizes : StoreTyping → ℕ
 sizes [] = 0
 sizes (s ∷ typing) = size s + sizes typing
@@ -50,6 +53,7 @@ abbrev pub field_offset : FieldShapes → Name → ℕ
 field_offset no_field_shape x = 0
 field_offset (next_field_shape y s rest) x = if same_name x y then 0 else size s + field_offset rest x
 
+-- where the part that a step selects begins in its whole
 abbrev pub step_offset : Shape → Step → ℕ
 step_offset (array_shape k n s) (at_index i) = i * size s
 step_offset (record_shape k fs) (at_field x) = field_offset fs x

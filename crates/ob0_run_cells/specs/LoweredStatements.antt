@@ -1,4 +1,5 @@
 -- What lowered statements mean: they do to cells, input and output what the statements of a module do.
+-- Rule: none; for contracts of lowering, against docs/LANGUAGE.md, Runs 5 to 9.
 use Rattle.std.specs.Prelude.{◌≡◌, ℕ, ◌^◌, ◌<◌, true, List, [], ◌∷◌, ◌++◌, length, map, ℤ, Some}
 use Rattle.ob0_tree.specs.Tree.{Tree, else_part, elsif_part, expression, further_statement, items, maybe, selector, sequence, statement}
 use Rattle.ob0_types_rules.specs.Expressions.{Meanings, a_procedure, a_variable}
@@ -14,6 +15,7 @@ use Rattle.ob0_run_machine.specs.Lowered as lowered
 use Rattle.ob0_run_cells.specs.Cells.{address, all_cells, cells_of, size, sizes}
 use Rattle.ob0_run_cells.specs.Lowering.{NumberMeans, PlaceMeans, Slot, TruthMeans, ValueAt, end_of, place_of_designator, slot_address, value_of_expression}
 
+-- an item of the machine's output
 abbrev pub written_of : execution.Written → Written
 written_of (execution.number_out n) = number_out n
 written_of execution.line_out = line_out
@@ -43,6 +45,7 @@ argument_cells [] = []
 argument_cells (place_argument p ∷ args) = argument_cells args
 argument_cells (value_argument v ∷ args) = cells_of v ++ argument_cells args
 
+-- the addresses of arguments for VAR parameters
 abbrev pub argument_addresses : StoreTyping → List Argument → List ℕ
 argument_addresses typing [] = []
 argument_addresses typing (place_argument p ∷ args) = address typing p ∷ argument_addresses typing args
@@ -81,9 +84,11 @@ abbrev pub Does : {N : Type 0} → Typed N → (N → Slot) → (N → Target) �
 Does {N} checked slots targets low_step step =
     (b : Body N) → ShowsBody checked slots targets b → (t : ℕ) (low : execution.State) (s : State) → Represents b.typing low s → ProgressRepresents b.typing (low_step b t low) (step b t s)
 
+-- lowered code does what the statement does
 abbrev pub StatementMeans : {N : Type 0} → Typed N → (N → Slot) → (N → Target) → lowered.Statement → Tree N statement → Type 0
 StatementMeans checked slots targets c a = Does checked slots targets (λ b t. execution.execute b.lowered_enters t b.levels c) (λ b t. execute b.active b.enters t a)
 
+-- lowered code does what the statements do
 abbrev pub SequenceMeans : {N : Type 0} → Typed N → (N → Slot) → (N → Target) → lowered.Statements → Tree N sequence → Type 0
 SequenceMeans checked slots targets cs a = Does checked slots targets (λ b t. execution.execute_all b.lowered_enters t b.levels cs) (λ b t. execute_all b.active b.enters t a)
 
@@ -91,6 +96,7 @@ SequenceMeans checked slots targets cs a = Does checked slots targets (λ b t. e
 abbrev pub FurtherMean : {N : Type 0} → Typed N → (N → Slot) → (N → Target) → lowered.Statements → Tree N (items further_statement) → Type 0
 FurtherMean checked slots targets cs rest = Does checked slots targets (λ b t. execution.execute_all b.lowered_enters t b.levels cs) (λ b t. execute_further b.active b.enters t rest)
 
+-- lowered code does what the ELSE part does
 abbrev pub ElseMeans : {N : Type 0} → Typed N → (N → Slot) → (N → Target) → lowered.Statements → Tree N (maybe else_part) → Type 0
 ElseMeans checked slots targets cs last = Does checked slots targets (λ b t. execution.execute_all b.lowered_enters t b.levels cs) (λ b t. execute_else b.active b.enters t last)
 
@@ -111,6 +117,7 @@ ArgumentMeans checked slots f (lowered.by_number n) e = (f.mode ≡ by_value) ×
 ArgumentMeans checked slots f (lowered.by_truth t) e = (f.mode ≡ by_value) × (f.shape ≡ boolean_shape) × TruthMeans checked slots t (value_of_expression e)
 ArgumentMeans checked slots f (lowered.by_block q n) e = (f.mode ≡ by_value) × (n ≡ size f.shape) × ValueAt checked slots q f.shape (value_of_expression e)
 
+-- lowered arguments mean the arguments of a call
 abbrev pub ArgumentsMean : {N : Type 0} → Typed N → (N → Slot) → Signature → List lowered.Argument → List (Tree N expression) → Type 0
 ArgumentsMean checked slots [] [] [] = Unit {0}
 ArgumentsMean checked slots (f ∷ fs) (c ∷ cs) (e ∷ es) = ArgumentMeans checked slots f c e × ArgumentsMean checked slots fs cs es

@@ -1,4 +1,5 @@
 -- What lowered code means: its places, numbers and truths against the designators and expressions of a module, at the moments of a run.
+-- Rule: none; for contracts of lowering, against docs/LANGUAGE.md, Runs 2 to 4.
 use Rattle.std.specs.Prelude.{◌≡◌, ℕ, zero, suc, ◌+◌, ◌^◌, ◌<◌, true, List, ◌++◌, ℤ, slice_index_or, Some}
 use Rattle.ob0_tree.specs.declared.tree.Relation.{Relation}
 use Rattle.ob0_tree.specs.declared.tree.Relation.TheVariants as relation
@@ -19,6 +20,7 @@ pub data Slot : Type 0 where
   held : (up offset : ℕ) → Slot
   lent : (up index : ℕ) → Slot
 
+-- the address of a slot, as the running activation sees it
 abbrev pub slot_address : Levels → Slot → ℕ
 slot_address ls (of_module offset) = offset
 slot_address ls (held up offset) = (level_at ls up).base + offset
@@ -40,6 +42,7 @@ pub record Moment (N : Type 0) : Type 0 where
   pub active : Meanings N Place (List Mode)
   pub levels : Levels
 
+-- all cells at a moment, those of passed arguments last
 abbrev pub cells_in : {N : Type 0} → Moment N → List ℤ
 cells_in m = all_cells m.store ++ m.passed
 
@@ -61,6 +64,7 @@ end_of machine.InputEnd = InputEnd
 end_of machine.CallBound = CallBound
 end_of machine.TurnBound = TurnBound
 
+-- an outcome of the machine as one of the module
 abbrev pub outcome_of : {A B : Type 0} → (A → B) → machine.Outcome A → Outcome B
 outcome_of f (machine.gives a) = gives (f a)
 outcome_of f (machine.ends e) = ends (end_of e)
@@ -69,6 +73,7 @@ outcome_of f (machine.ends e) = ends (end_of e)
 abbrev pub Evaluated : Type 0 → Type 0 → Type 0
 Evaluated N A = Moment N → Outcome A
 
+-- what a number evaluates to has 32 bits
 abbrev pub Has32Bits : machine.Outcome ℤ → Type 0
 Has32Bits (machine.gives n) = machine.fits n ≡ true
 Has32Bits (machine.ends e) = Unit {0}
@@ -78,6 +83,7 @@ abbrev pub NumberMeans : {N : Type 0} → Typed N → (N → Slot) → lowered.N
 NumberMeans {N} checked slots n worth =
     (m : Moment N) → Shows checked slots m → (outcome_of number (machine.number m.levels (cells_in m) n) ≡ worth m) × Has32Bits (machine.number m.levels (cells_in m) n)
 
+-- a lowered truth value is what is evaluated, at every moment
 abbrev pub TruthMeans : {N : Type 0} → Typed N → (N → Slot) → lowered.Truth → Evaluated N Value → Type 0
 TruthMeans {N} checked slots t worth =
     (m : Moment N) → Shows checked slots m → outcome_of truth (machine.truth m.levels (cells_in m) t) ≡ worth m
@@ -102,15 +108,19 @@ ValueAt {N} checked slots q s value =
 abbrev pub value_of_expression : {N : Type 0} → Tree N expression → Evaluated N Value
 value_of_expression e m = evaluate m.active m.store e
 
+-- the value of a simple expression at a moment
 abbrev pub value_of_simple : {N : Type 0} → Tree N simple → Evaluated N Value
 value_of_simple e m = evaluate_simple m.active m.store e
 
+-- the value of a term at a moment
 abbrev pub value_of_term : {N : Type 0} → Tree N term → Evaluated N Value
 value_of_term e m = evaluate_term m.active m.store e
 
+-- the value of a factor at a moment
 abbrev pub value_of_factor : {N : Type 0} → Tree N factor → Evaluated N Value
 value_of_factor e m = evaluate_factor m.active m.store e
 
+-- the place of a designator at a moment
 abbrev pub place_of_designator : {N : Type 0} → N → Tree N (items selector) → Evaluated N Place
 place_of_designator x path m = designate m.active m.store x path
 
@@ -118,15 +128,19 @@ place_of_designator x path m = designate m.active m.store x path
 abbrev pub Rest : Type 0 → Type 0 → Type 0
 Rest N A = Moment N → A → Outcome A
 
+-- what the addends that are left make of a value
 abbrev pub addends_left : {N : Type 0} → Tree N (items addend) → Rest N Value
 addends_left rest m v = evaluate_addends m.active m.store v rest
 
+-- what the factors that are left make of a value
 abbrev pub multipliers_left : {N : Type 0} → Tree N (items multiplier) → Rest N Value
 multipliers_left rest m v = evaluate_multipliers m.active m.store v rest
 
+-- a place, some steps further in
 abbrev pub further : Place → List Step → Place
 further p steps = record { variable = p.variable; path = p.path ++ steps }
 
+-- what the selectors that are left make of a place
 abbrev pub selectors_left : {N : Type 0} → Tree N (items selector) → Rest N Place
 selectors_left rest m p = or_stuck (read_place m.store p) >>= (λ v. follow m.active m.store v rest >>= (λ steps. gives (further p steps)))
 
@@ -135,12 +149,15 @@ abbrev pub Leads : {N A : Type 0} → Typed N → (N → Slot) → (Evaluated N 
 Leads {N} {A} checked slots Means rest whole =
     (so_far : Evaluated N A) × Means so_far × ((m : Moment N) → Shows checked slots m → (so_far m >>= rest m) ≡ whole m)
 
+-- the place so far and the selectors left come to the whole
 abbrev pub PlaceLeads : {N : Type 0} → Typed N → (N → Slot) → lowered.Place → Shape → Tree N (items selector) → Evaluated N Place → Type 0
 PlaceLeads checked slots q s rest = Leads checked slots (PlaceMeans checked slots q s) (selectors_left rest)
 
+-- the number so far and what is left of the chain come to the whole
 abbrev pub NumberLeads : {N : Type 0} → Typed N → (N → Slot) → lowered.Number → Rest N Value → Evaluated N Value → Type 0
 NumberLeads checked slots n = Leads checked slots (NumberMeans checked slots n)
 
+-- the truth value so far and what is left of the chain come to the whole
 abbrev pub TruthLeads : {N : Type 0} → Typed N → (N → Slot) → lowered.Truth → Rest N Value → Evaluated N Value → Type 0
 TruthLeads checked slots t = Leads checked slots (TruthMeans checked slots t)
 

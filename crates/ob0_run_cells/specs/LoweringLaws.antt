@@ -1,4 +1,5 @@
 -- Lowering is right for each production of designators and expressions: what its parts mean makes what the whole means.
+-- Rule: none; laws of lowered expressions.
 use Rattle.std.specs.Prelude.{◌≡◌, ℕ, Bool, true, ℤ, pos, Some, None}
 use Rattle.ob0_tree.specs.declared.tree.Relation.{Relation}
 use Rattle.ob0_tree.specs.declared.tree.Relation.TheVariants as relation
@@ -36,6 +37,7 @@ IndexesLower =
     → PlaceLeads checked slots q (array_shape k n t) (more (index e) rest) whole → NumberMeans checked slots i (value_of_expression e)
     → PlaceLeads checked slots (lowered.element q i n (size t)) t rest whole
 
+-- where no selector is left, the place so far is the whole
 abbrev pub SelectorsEnd : Type 0
 SelectorsEnd =
     (checked : Typed Label) (slots : Label → Slot) (q : lowered.Place) (s : Shape) (whole : Evaluated Label Place)
@@ -59,12 +61,14 @@ CellsLower =
     → (PlaceMeans checked slots q integer_shape (place_of_designator x path) → NumberMeans checked slots (lowered.cell q) (value_of_factor (designator x path)))
     × (PlaceMeans checked slots q boolean_shape (place_of_designator x path) → TruthMeans checked slots (lowered.flag q) (value_of_factor (designator x path)))
 
+-- an expression in parentheses means what it means without them
 abbrev pub ParenthesesLower : Type 0
 ParenthesesLower =
     (checked : Typed Label) (slots : Label → Slot) (e : Tree Label expression)
     → ((n : lowered.Number) → NumberMeans checked slots n (value_of_expression e) → NumberMeans checked slots n (value_of_factor (parenthesised e)))
     × ((t : lowered.Truth) → TruthMeans checked slots t (value_of_expression e) → TruthMeans checked slots t (value_of_factor (parenthesised e)))
 
+-- `~` of a truth value
 abbrev pub NegationsLower : Type 0
 NegationsLower =
     (checked : Typed Label) (slots : Label → Slot) (f : Tree Label factor) (t : lowered.Truth)
@@ -85,6 +89,7 @@ ProductsLower =
     × (NumberLeads checked slots m (multipliers_left (more (multiplies multiply_operator.Divide f) rest)) whole → NumberLeads checked slots (lowered.operation lowered.quotient m n) (multipliers_left rest) whole)
     × (NumberLeads checked slots m (multipliers_left (more (multiplies multiply_operator.Modulo f) rest)) whole → NumberLeads checked slots (lowered.operation lowered.remainder m n) (multipliers_left rest) whole)
 
+-- `&` of two truth values
 abbrev pub ConjunctionsLower : Type 0
 ConjunctionsLower =
     (checked : Typed Label) (slots : Label → Slot) (t u : lowered.Truth) (f : Tree Label factor) (rest : Tree Label (items multiplier)) (whole : Evaluated Label Value) → TruthMeans checked slots u (value_of_factor f)
@@ -109,12 +114,14 @@ SumsLower =
     × NumberLeads checked slots (lowered.negative n) (addends_left rest) (value_of_simple (sum (Some sign.Minus) e rest)))
     × ((t : lowered.Truth) → TruthMeans checked slots t (value_of_term e) → TruthLeads checked slots t (addends_left rest) (value_of_simple (sum None e rest)))
 
+-- `+` and `-` of two numbers
 abbrev pub AddendsLower : Type 0
 AddendsLower =
     (checked : Typed Label) (slots : Label → Slot) (m n : lowered.Number) (e : Tree Label term) (rest : Tree Label (items addend)) (whole : Evaluated Label Value) → NumberMeans checked slots n (value_of_term e)
     → (NumberLeads checked slots m (addends_left (more (adds add_operator.Add e) rest)) whole → NumberLeads checked slots (lowered.operation lowered.sum m n) (addends_left rest) whole)
     × (NumberLeads checked slots m (addends_left (more (adds add_operator.Subtract e) rest)) whole → NumberLeads checked slots (lowered.operation lowered.difference m n) (addends_left rest) whole)
 
+-- OR of two truth values
 abbrev pub DisjunctionsLower : Type 0
 DisjunctionsLower =
     (checked : Typed Label) (slots : Label → Slot) (t u : lowered.Truth) (e : Tree Label term) (rest : Tree Label (items addend)) (whole : Evaluated Label Value) → TruthMeans checked slots u (value_of_term e)
@@ -127,6 +134,7 @@ ExpressionsLower =
     → ((n : lowered.Number) → NumberMeans checked slots n (value_of_simple e) → NumberMeans checked slots n (value_of_expression (compares e none)))
     × ((t : lowered.Truth) → TruthMeans checked slots t (value_of_simple e) → TruthMeans checked slots t (value_of_expression (compares e none)))
 
+-- a relation of two numbers or two truth values
 abbrev pub RelationsLower : Type 0
 RelationsLower =
     (checked : Typed Label) (slots : Label → Slot) (d e : Tree Label simple)

@@ -1,4 +1,5 @@
 -- Lowering is right for each production of statements: what the parts mean makes what the whole means.
+-- Rule: none; laws of lowered statements.
 use Rattle.std.specs.Prelude.{◌≡◌, List, [], ◌∷◌, Some}
 use Rattle.ob0_tree.specs.Tree.{Tree, arguments, assigns, branches, calls, else_branch, else_part, elsif_branch, elsif_part, empty, end, expression, further_statement, items, maybe, more, none, one, repeat_loop, runs, selector, sequence, statement, then_statement, while_loop}
 use Rattle.ob0_scope_rules.specs.Names.{Label}
@@ -43,6 +44,7 @@ BranchesLower =
     → StatementMeans checked slots targets (lowered.chooses (lowered.branch t body bs) otherwise) (branches e a rest last)
     × ElsifsMean checked slots targets (lowered.branch t body bs) otherwise (more (elsif_branch e a) rest) last
 
+-- an ELSE part does what its statements do
 abbrev pub ElsesLower : Type 0
 ElsesLower =
     (checked : Typed Label) (slots : Label → Slot) (targets : Label → Target)
@@ -50,6 +52,7 @@ ElsesLower =
     × ((a : Tree Label sequence) (cs : lowered.Statements) → SequenceMeans checked slots targets cs a → ElseMeans checked slots targets cs (one (else_branch a)))
     × ElseMeans checked slots targets lowered.no_statement none
 
+-- WHILE and REPEAT, by their conditions and statements
 abbrev pub LoopsLower : Type 0
 LoopsLower =
     (checked : Typed Label) (slots : Label → Slot) (targets : Label → Target) (e : Tree Label expression) (a : Tree Label sequence) (t : lowered.Truth) (body : lowered.Statements)
@@ -66,5 +69,6 @@ SequencesLower =
     × SequenceMeans checked slots targets cs (runs empty rest)
     × FurtherMean checked slots targets cs (more (then_statement empty) rest)
 
+-- no further statement has no code
 abbrev pub SequencesEnd : Type 0
 SequencesEnd = (checked : Typed Label) (slots : Label → Slot) (targets : Label → Target) → FurtherMean checked slots targets lowered.no_statement end

@@ -1,4 +1,5 @@
 -- What the code of procedures and blocks means, wherever they stand in a well-typed module.
+-- Rule: none; for contracts of lowering.
 use Rattle.std.specs.Prelude.{◌≡◌, ℕ, ◌≤◌, true, List, length, Some, slice_get}
 use Rattle.ob0_tree.specs.Tree.{Tree, block, body, items, maybe, procedure}
 use Rattle.ob0_scope_rules.specs.Names.{Label, as_labels}

@@ -1,4 +1,5 @@
 -- The code of values by their types: of what stands at a place, of an operation on two, of a part.
+-- Rule: none; for contracts of lowering.
 use Rattle.std.specs.Prelude.{◌≡◌, ℕ, Some, None, Option, option_map}
 use Rattle.ob0_tree.specs.declared.tree.Relation.{Relation}
 use Rattle.ob0_tree.specs.declared.tree.Relation.TheVariants as relation
@@ -43,10 +44,12 @@ standing q boolean_shape = a_truth (lowered.flag q)
 standing q (array_shape k n s) = a_block q (size (array_shape k n s))
 standing q (record_shape k fs) = a_block q (size (record_shape k fs))
 
+-- the code of what was found at a place
 abbrev pub standing_there : Option Found → Code
 standing_there None = no_code
 standing_there (Some f) = standing f.place f.shape
 
+-- the code of a constant's value
 abbrev pub constant_code : Value → Code
 constant_code (number n) = a_number (lowered.literal n)
 constant_code (truth b) = a_truth (lowered.constant b)
@@ -58,35 +61,42 @@ abbrev pub named_code : Option Value → Option Found → Code
 named_code (Some v) found = constant_code v
 named_code None found = standing_there found
 
+-- an operation on two numbers
 abbrev pub operated : lowered.Operator → Code → Code → Code
 operated o (a_number m) (a_number n) = a_number (lowered.operation o m n)
 operated _ _ _ = no_code
 
+-- an operation on two truth values
 abbrev pub combined : (lowered.Truth → lowered.Truth → lowered.Truth) → Code → Code → Code
 combined operation (a_truth t) (a_truth u) = a_truth (operation t u)
 combined _ _ _ = no_code
 
+-- the code of a sum, a difference or an OR
 abbrev pub added : AddOperator → Code → Code → Code
 added add_operator.Add = operated lowered.sum
 added add_operator.Subtract = operated lowered.difference
 added add_operator.Or = combined lowered.either
 
+-- the code of a product, a quotient, a remainder or an `&`
 abbrev pub multiplied : MultiplyOperator → Code → Code → Code
 multiplied multiply_operator.Multiply = operated lowered.product
 multiplied multiply_operator.Divide = operated lowered.quotient
 multiplied multiply_operator.Modulo = operated lowered.remainder
 multiplied multiply_operator.And = combined lowered.both
 
+-- the code of a term with its sign
 abbrev pub signed : Option Sign → Code → Code
 signed None c = c
 signed (Some sign.Plus) (a_number n) = a_number n
 signed (Some sign.Minus) (a_number n) = a_number (lowered.negative n)
 signed _ _ = no_code
 
+-- the code of `~`
 abbrev pub negated : Code → Code
 negated (a_truth t) = a_truth (lowered.negation t)
 negated _ = no_code
 
+-- the code of a relation
 abbrev pub related : Relation → Code → Code → Code
 related r (a_number m) (a_number n) = a_truth (lowered.related (relation_of r) m n)
 related relation.Equal (a_truth t) (a_truth u) = a_truth (lowered.same t u)
@@ -102,6 +112,7 @@ abbrev pub element_found : Code → lowered.Place → Shape → Option Found
 element_found (a_number i) q (array_shape k n s) = Some (record { place = lowered.element q i n (size s); shape = s })
 element_found _ _ _ = None
 
+-- an element of the array that was found
 abbrev pub element_of : Code → Option Found → Option Found
 element_of c None = None
 element_of c (Some f) = element_found c f.place f.shape

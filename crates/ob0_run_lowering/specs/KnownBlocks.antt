@@ -1,4 +1,5 @@
 -- What a module's declarations bind, and what its table of declarations has, by ordinal.
+-- Rule: none; for contracts of lowering.
 use Rattle.std.specs.Prelude.{◌≡◌, ℕ, ◌+◌, List, [], ◌∷◌, Some, Option}
 use Rattle.ob0_tree.specs.Tree.{Tree, block, declares, declares_procedure, end, has_body, item, items, more, procedure}
 use Rattle.ob0_scope_rules.specs.Names.{Label, as_labels, declared}

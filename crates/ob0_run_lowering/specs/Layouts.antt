@@ -1,4 +1,5 @@
 -- How many cells types have, and where the fields of records are, as a table.
+-- Rule: none; for contracts of lowering.
 use Rattle.std.specs.Prelude.{◌≡◌, ℕ, ◌+◌, List, [], ◌∷◌, Some, None, Option}
 use Rattle.std.specs.Borrow.{Bor}
 use Rattle.ob0_types_table.specs.Tables.{no_shape}
@@ -24,6 +25,7 @@ LaysOut (array_shape k n s) (layout.Array cells) = cells ≡ size (array_shape k
 LaysOut (record_shape k fs) (layout.Record r) = AreLaidOut fs r
 LaysOut _ _ = ⊥
 
+-- the layouts of a table of types: for each its cells, and the offsets of its fields
 abbrev pub LayOut : List Shape → List Layout → Type 0
 LayOut [] [] = Unit {0}
 LayOut (s ∷ shapes) (l ∷ layouts) = LaysOut s l × LayOut shapes layouts

@@ -1,5 +1,6 @@
 -- What the lowered code of statements means in a scene: for whatever is checked, and whatever slots and targets, the scene sees,
 -- the code of statements that fit does what they do.
+-- Rule: none; for contracts of lowering.
 use Rattle.std.specs.Prelude.{◌≡◌, ◌&&◌, Bool, List, [], IsTrue, Option, Some, None}
 use Rattle.std.specs.declared.alloc.Global.{Global}
 use Rattle.std.specs.declared.vec.Vec.{Vec}
@@ -19,12 +20,15 @@ use Rattle.ob0_run_lowering.specs.Scenes.{Sees}
 abbrev pub InScene : Scene → (Typed Label → Bool) → (Typed Label → (Label → Slot) → (Label → Target) → Type 0) → Type 0
 InScene scene fits Means = (checked : Typed Label) (slots : Label → Slot) (targets : Label → Target) → Sees scene checked slots targets → IsTrue (fits checked) → Means checked slots targets
 
+-- the code of a condition means it wherever the scene is right
 abbrev pub ConditionLowers : Scene → lowered.Truth → Tree Label expression → Type 0
 ConditionLowers scene t e = InScene scene (λ checked. condition_fits checked e) (λ checked slots targets. TruthMeans checked slots t (value_of_expression e))
 
+-- the code of arguments means them
 abbrev pub ArgumentsLower : Scene → Signature → List lowered.Argument → List (Tree Label expression) → Type 0
 ArgumentsLower scene signature cs es = InScene scene (λ checked. arguments_fit checked signature es) (λ checked slots targets. ArgumentsMean checked slots signature cs es)
 
+-- the code of a statement means it
 abbrev pub StatementLowers : Scene → lowered.Statement → Tree Label statement → Type 0
 StatementLowers scene c a = InScene scene (λ checked. statement_fits checked a) (λ checked slots targets. StatementMeans checked slots targets c a)
 
@@ -38,6 +42,7 @@ abbrev pub CodeLowers : Scene → Option lowered.Statement → Tree Label statem
 CodeLowers scene None a = a ≡ empty
 CodeLowers scene (Some c) a = StatementLowers scene c a
 
+-- the code of statements means them
 abbrev pub SequenceLowers : Scene → lowered.Statements → Tree Label sequence → Type 0
 SequenceLowers scene cs a = InScene scene (λ checked. sequence_fits checked a) (λ checked slots targets. SequenceMeans checked slots targets cs a)
 
@@ -45,6 +50,7 @@ SequenceLowers scene cs a = InScene scene (λ checked. sequence_fits checked a) 
 abbrev pub FurtherLower : Scene → lowered.Statements → Tree Label (items further_statement) → Type 0
 FurtherLower scene cs rest = InScene scene (λ checked. statements_fit checked rest) (λ checked slots targets. FurtherMean checked slots targets cs rest)
 
+-- the code of an ELSE part means it
 abbrev pub ElseLowers : Scene → lowered.Statements → Tree Label (maybe else_part) → Type 0
 ElseLowers scene cs last = InScene scene (λ checked. else_fits checked last) (λ checked slots targets. ElseMeans checked slots targets cs last)
 

@@ -1,4 +1,5 @@
 -- What the code of expressions, designators and arguments means, wherever a scene is right.
+-- Rule: none; for contracts of lowering.
 use Rattle.std.specs.Prelude.{◌≡◌, ℕ, true, List, Some}
 use Rattle.ob0_tree.specs.Tree.{Tree, expression, items, selector}
 use Rattle.ob0_scope_rules.specs.Names.{Label}
@@ -36,10 +37,12 @@ abbrev pub Lowers : Scene → Tree ℕ expression → Lowered → Type 0
 Lowers scene e l =
     WhereSeen scene (λ checked slots. (s : Shape) → type_of checked (in_labels scene.resolved.now e) ≡ Some s → Means checked slots l s (value_of_expression (in_labels scene.resolved.now e)))
 
+-- a number means the expression, where that is an INTEGER
 abbrev pub LowersNumber : Scene → Tree ℕ expression → Number → Type 0
 LowersNumber scene e n =
     WhereSeen scene (λ checked slots. type_of checked (in_labels scene.resolved.now e) ≡ Some integer_shape → NumberMeans checked slots (number_of n) (value_of_expression (in_labels scene.resolved.now e)))
 
+-- a truth value means the expression, where that is a BOOLEAN
 abbrev pub LowersTruth : Scene → Tree ℕ expression → Truth → Type 0
 LowersTruth scene e t =
     WhereSeen scene (λ checked slots. type_of checked (in_labels scene.resolved.now e) ≡ Some boolean_shape → TruthMeans checked slots (truth_of t) (value_of_expression (in_labels scene.resolved.now e)))

@@ -1,4 +1,5 @@
 -- What is taken of the code of an expression, where it is what was asked for.
+-- Rule: none; for contracts of lowering.
 use Rattle.std.specs.Prelude.{◌≡◌, Option, Some, None}
 use Rattle.ob0_run_machine.specs.declared.code.Argument.{Argument}
 use Rattle.ob0_run_machine.specs.declared.code.Argument.TheVariants as argument
@@ -8,12 +9,14 @@ use Rattle.ob0_run_lowering.specs.declared.lowered.Located.{Located}
 use Rattle.ob0_run_lowering.specs.declared.lowered.Lowered.{Lowered}
 use Rattle.ob0_run_lowering.specs.declared.lowered.Lowered.TheVariants as code
 
+-- the number that a code is
 abbrev pub IsNumberOf : Lowered → Number → Type 0
 IsNumberOf (code.Number m) n = m ≡ n
 IsNumberOf (code.Truth t) n = Unit {0}
 IsNumberOf (code.Block q k) n = Unit {0}
 IsNumberOf code.Nothing n = Unit {0}
 
+-- the truth value that a code is
 abbrev pub IsTruthOf : Lowered → Truth → Type 0
 IsTruthOf (code.Number m) t = Unit {0}
 IsTruthOf (code.Truth u) t = u ≡ t
@@ -27,6 +30,7 @@ IsValueOf (code.Truth t) a = argument.Truth t ≡ a
 IsValueOf (code.Block q k) a = argument.Block q k ≡ a
 IsValueOf code.Nothing a = Unit {0}
 
+-- the place that was found
 abbrev pub IsPlaceOf : Option Located → Located → Type 0
 IsPlaceOf (Some m) l = m ≡ l
 IsPlaceOf None l = Unit {0}

@@ -1,4 +1,5 @@
 -- Where the code's table has what is placed, and how the names of a block and of a heading are placed one by one.
+-- Rule: none; for contracts of lowering.
 use Rattle.std.specs.Prelude.{◌≡◌, ℕ, zero, suc, ◌+◌, ◌≤◌, List, [], ◌∷◌, ◌++◌, length, if◌then◌else◌, ◌==◌, Some, None, Option}
 use Rattle.ob0_tree.specs.Tree.{Tree, declares_variable, end, further_section, items, more, then_section, variable}
 use Rattle.ob0_scope_rules.specs.Names.{Label, as_labels, declared}
@@ -24,6 +25,7 @@ abbrev pub first_placed : Placing Label → Whereabouts
 first_placed [] = nowhere
 first_placed (b ∷ placing) = b.1
 
+-- where a placing has a name
 abbrev pub found : Placing Label → Label → Whereabouts
 found placing x = first_placed (from_name as_labels placing x)
 
@@ -53,6 +55,7 @@ Suits (a_type s) w = Unit {0}
 Suits (a_constant v) w = Unit {0}
 Suits (a_standard p) w = Unit {0}
 
+-- an environment and a placing, binding by binding
 abbrev pub Matches : TypeEnvironment Label → Placing Label → Type 0
 Matches [] [] = Unit {0}
 Matches (b ∷ env) (w ∷ placing) = (b.0 ≡ w.0) × Suits b.1 w.1 × Matches env placing
@@ -63,6 +66,7 @@ abbrev pub shape_size : Option Shape → ℕ
 shape_size None = 0
 shape_size (Some s) = size s
 
+-- how many cells a declared variable has
 abbrev pub declared_size : Tables → Label → ℕ
 declared_size t x = shape_size (type_declared (object_at t x))
 
@@ -80,14 +84,17 @@ abbrev pub place_one : (ℕ → Slot) → (Label → ℕ) → Mode → Label →
 place_one at size_of by_value x p = record p { placing = (x, in_slot (at p.cells)) ∷ p.placing; cells = p.cells + size_of x }
 place_one at size_of by_place x p = record p { placing = (x, in_slot (lent 0 p.lent_places)) ∷ p.placing; lent_places = suc p.lent_places }
 
+-- names of one declaration, placed one by one
 abbrev pub place_each : (ℕ → Slot) → (Label → ℕ) → Mode → List Label → Placed Label → Placed Label
 place_each at size_of mode [] p = p
 place_each at size_of mode (x ∷ xs) p = place_each at size_of mode xs (place_one at size_of mode x p)
 
+-- the variables of a block, placed one by one
 abbrev pub place_groups : (ℕ → Slot) → (Label → ℕ) → Tree Label (items variable) → Placed Label → Placed Label
 place_groups at size_of end p = p
 place_groups at size_of (more (declares_variable ns u) gs) p = place_groups at size_of gs (place_each at size_of by_value (names_listed ns) p)
 
+-- the parameters of a heading, placed one by one
 abbrev pub place_sections : (ℕ → Slot) → (Label → ℕ) → Tree Label (items further_section) → Placed Label → Placed Label
 place_sections at size_of end p = p
 place_sections at size_of (more (then_section f) fs) p = place_sections at size_of fs (place_each at size_of (section_mode f) (section_names f) p)
@@ -106,6 +113,7 @@ abbrev pub before_all : List Hidden → (ℕ → Site) → ℕ → Site
 before_all [] sites = sites
 before_all (h ∷ later) sites = put_site h.ordinal h.before (before_all later sites)
 
+-- what is hidden has ordinals below this
 abbrev pub AllWithin : ℕ → List Hidden → Type 0
 AllWithin n [] = Unit {0}
 AllWithin n (h ∷ hs) = (suc h.ordinal ≤ n) × AllWithin n hs

@@ -1,4 +1,5 @@
 -- Where lowering stands: what declarations are, where each of them is, and how deep the running activation is.
+-- Rule: none; for contracts of lowering.
 use Rattle.std.specs.Prelude.{◌≡◌, ℕ, ◌-◌, List, slice_index_or, Some, None, Option, true, ℤ, pos}
 use Rattle.ob0_tree.specs.Places.{value_at}
 use Rattle.ob0_run_machine.specs.Evaluation as machine
@@ -23,6 +24,7 @@ seen_from depth (site.Held at offset) = in_slot (held (depth - at) offset)
 seen_from depth (site.Lent at index) = in_slot (lent (depth - at) index)
 seen_from depth (site.Procedure at index) = at_target (record { procedure = index; up = depth - at })
 
+-- where the declaration of an ordinal is
 abbrev pub site_at : List Site → ℕ → Site
 site_at sites k = slice_index_or sites k site.Nowhere
 
@@ -31,9 +33,11 @@ abbrev pub whereabouts : Scene → Label → Whereabouts
 whereabouts scene (declared k) = seen_from scene.depth (site_at scene.sites.now k)
 whereabouts scene (as_written x) = nowhere
 
+-- the slot of a name in a scene
 abbrev pub slot_at : Scene → Label → Slot
 slot_at scene x = slot_of (whereabouts scene x)
 
+-- the target of a name in a scene
 abbrev pub target_at : Scene → Label → Target
 target_at scene x = target_of (whereabouts scene x)
 

@@ -1,4 +1,5 @@
 -- The code of designators and expressions of a scene, by what declarations are and where they are.
+-- Rule: none; for contracts of lowering.
 use Rattle.std.specs.Prelude.{◌≡◌, ℕ, List, map, pos, Some, None, Option, option_and_then}
 use Rattle.ob0_tree.specs.Tree.{Tree, addend, adds, compares, designator, end, expression, factor, field, index, integer, item, items, more, multiplier, multiplies, negation, none, one, parenthesised, product, relates, selector, simple, sum, term}
 use Rattle.ob0_scope_rules.specs.Names.{Label, label_text}
@@ -25,6 +26,7 @@ code_of (code.Truth t) = a_truth (truth_of t)
 code_of (code.Block q n) = a_block (place_of q) n
 code_of code.Nothing = no_code
 
+-- a place of the code with its type
 abbrev pub found_of : List Shape → Located → Found
 found_of shapes l = record { place = place_of l.place; shape = type_shape shapes l.of }
 
@@ -37,6 +39,7 @@ variable_found q (Some (a_constant v)) = None
 variable_found q (Some (a_procedure p)) = None
 variable_found q (Some (a_standard p)) = None
 
+-- the place of a variable or parameter, before its selectors
 abbrev pub base_found : Scene → Label → Option Found
 base_found scene x = variable_found (slot_place (slot_at scene x)) (object_at scene.types.now x)
 

@@ -86,6 +86,7 @@ impl<'s, 'k, 't> Scene<'s, 'k, 't> {
     fn has_small(&self)
         ensures { HasSmall self.now }
     {
+        // For the proof: what the contracts of these calls say.
         let _known = self.types.known();
         let _text = self.resolved.tokens().text();
     }

@@ -1,4 +1,5 @@
 -- What the machine's steps answer.
+-- Rule: none; for contracts of the machine's steps.
 use Rattle.std.specs.Prelude.{◌≡◌, ℤ, List, Option, Some, None, Ok, Err, Result}
 use Rattle.ob0_run_machine.specs.declared.ending.Ending.{Ending}
 use Rattle.ob0_run_machine.specs.declared.ending.Ending.TheVariants as ending

@@ -1,4 +1,5 @@
 -- What places, numbers and truths of lowered code are worth, in activations and over cells.
+-- Rule: none; for contracts of the machine: what lowered expressions mean, by the rules of docs/LANGUAGE.md, Runs 2 to 4.
 use Rattle.std.specs.Prelude.{ℕ, zero, suc, ◌+◌, ◌-◌, ◌*◌, ◌/◌, ◌%◌, ◌^◌, Bool, true, false, not, ◌&&◌, List, [], ◌∷◌, ℤ, pos, negsuc, ◌+ℤ◌, ◌-ℤ◌, ◌*ℤ◌, neg_ℤ, if◌then◌else◌, nat_lt, slice_index_or, int_lt, int_le, drop}
 use Rattle.ob0_run_machine.specs.Lowered.{Place, in_module, here, outside, passed, element, part, Number, literal, cell, negative, operation, Operator, sum, difference, product, quotient, remainder, Relation, equal, not_equal, less, less_equal, greater, greater_equal, Truth, constant, flag, negation, both, either, related, same, different}
 
@@ -12,6 +13,7 @@ pub data Outcome (A : Type 0) : Type 0 where
   gives : A → Outcome A
   ends : End → Outcome A
 
+-- one evaluation after another: an end of the first is the end of both
 abbrev pub ◌>>=◌ : {A B : Type 0} → Outcome A → (A → Outcome B) → Outcome B
 ◌>>=◌ (gives a) next = next a
 ◌>>=◌ (ends e) next = ends e
@@ -25,10 +27,12 @@ pub record Level : Type 0 where
 abbrev pub Levels : Type 0
 Levels = List Level
 
+-- the first of some activations; of none, one with base 0 and no addresses
 abbrev pub innermost : Levels → Level
 innermost [] = record { base = 0; addresses = [] }
 innermost (l ∷ ls) = l
 
+-- the activation some levels out
 abbrev pub level_at : Levels → ℕ → Level
 level_at ls up = innermost (drop up ls)
 
@@ -50,6 +54,7 @@ abbrev pub fits : ℤ → Bool
 fits (pos n) = nat_lt n (2 ^ 31)
 fits (negsuc n) = nat_lt n (2 ^ 31)
 
+-- a result of 32 bits, or Overflow
 abbrev pub in_range : ℤ → Outcome ℤ
 in_range n = if fits n then gives n else ends Overflow
 
@@ -58,6 +63,7 @@ abbrev pub quotient_of : ℤ → ℕ → ℤ
 quotient_of (pos a) b = pos (a / b)
 quotient_of (negsuc a) b = negsuc (a / b)
 
+-- the remainder, which is never negative
 abbrev pub remainder_of : ℤ → ℕ → ℤ
 remainder_of (pos a) b = pos (a % b)
 remainder_of (negsuc a) b = pos (b - suc (a % b))
@@ -68,6 +74,7 @@ divided_by result a (pos zero) = ends Divisor
 divided_by result a (pos (suc b)) = in_range (result a (suc b))
 divided_by result a (negsuc b) = ends Divisor
 
+-- an operator on two numbers
 abbrev pub operate : Operator → ℤ → ℤ → Outcome ℤ
 operate sum a b = in_range (a +ℤ b)
 operate difference a b = in_range (a -ℤ b)
@@ -91,6 +98,7 @@ abbrev mutual
   number ls cells (negative n) = number ls cells n >>= (λ a. in_range (neg_ℤ a))
   number ls cells (operation o m n) = number ls cells m >>= (λ a. number ls cells n >>= operate o a)
 
+-- a relation between two numbers
 abbrev pub compare : Relation → ℤ → ℤ → Bool
 compare equal a b = int_le a b && int_le b a
 compare not_equal a b = not (int_le a b && int_le b a)
@@ -105,14 +113,17 @@ is_true (pos zero) = false
 is_true (pos (suc n)) = true
 is_true (negsuc n) = true
 
+-- a truth value as a cell
 abbrev pub as_cell : Bool → ℤ
 as_cell false = pos 0
 as_cell true = pos 1
 
+-- two truth values are the same
 abbrev pub alike : Bool → Bool → Bool
 alike true b = b
 alike false b = not b
 
+-- the value of a truth
 abbrev pub truth : Levels → List ℤ → Truth → Outcome Bool
 truth ls cells (constant b) = gives b
 truth ls cells (flag p) = address ls cells p >>= (λ a. gives (is_true (cell_at cells a)))

@@ -1,9 +1,11 @@
 -- Runs of lowered code, by big steps: statements, calls and whole programs, over the activations that are seen, the cells, the
 -- rest of the input, and bounds c on open calls and t on the turns of a loop.
+-- Rule: none; for contracts of the machine: what lowered statements mean, by the rules of docs/LANGUAGE.md, Runs 5 to 10.
 use Rattle.std.specs.Prelude.{ℕ, zero, suc, ◌+◌, ◌-◌, Bool, true, false, ◌&&◌, List, [], ◌∷◌, ◌++◌, length, take, drop, replicate, ℤ, pos, Some, None, Option, if◌then◌else◌, nat_le, slice_get, slice_set}
 use Rattle.ob0_run_machine.specs.Lowered.{Argument, by_place, by_number, by_truth, by_block, Statement, stores_number, stores_truth, copies, reads, writes, writes_line, chooses, while_loop, repeat_loop, calls, Statements, no_statement, before, Branches, no_branch, branch, Procedure, Program}
 use Rattle.ob0_run_machine.specs.Evaluation.{CallBound, Done, End, InputEnd, Outcome, Levels, TurnBound, address, as_cell, ends, gives, innermost, number, truth, ◌>>=◌}
 
+-- an item of output
 pub data Written : Type 0 where
   number_out : ℤ → Written
   line_out : Written
@@ -24,15 +26,18 @@ abbrev pub use_in : {A : Type 0} → State → Outcome A → (A → Progress) �
 use_in s (gives a) next = next a
 use_in s (ends e) next = stopped e s.output
 
+-- a run that goes on is continued; one that has ended stays so
 abbrev pub go_on : Progress → (State → Progress) → Progress
 go_on (running s) next = next s
 go_on (stopped e out) next = stopped e out
 
+-- one of two ways, by a condition
 abbrev pub choose : State → Outcome Bool → (State → Progress) → (State → Progress) → Progress
 choose s (gives true) when_true when_false = when_true s
 choose s (gives false) when_true when_false = when_false s
 choose s (ends e) when_true when_false = stopped e s.output
 
+-- the state with one more item of output
 abbrev pub put_out : State → Written → State
 put_out s i = record s { output = s.output ++ i ∷ [] }
 
@@ -65,9 +70,11 @@ pub record Passed : Type 0 where
   pub cells : List ℤ
   pub addresses : List ℕ
 
+-- more cells of arguments
 abbrev pub pass_cells : Passed → List ℤ → Passed
 pass_cells p more = record p { cells = p.cells ++ more }
 
+-- an argument is passed: a VAR parameter's address, or cells
 abbrev pub pass : Levels → Argument → Passed → Outcome Passed
 pass ls (by_place p) done = address ls done.cells p >>= (λ a. gives record done { addresses = done.addresses ++ a ∷ [] })
 pass ls (by_number n) done = number ls done.cells n >>= (λ a. gives (pass_cells done (a ∷ [])))
@@ -146,6 +153,7 @@ unfolding activate
 call procedures zero t k ls s = stopped CallBound s.output
 call procedures (suc c) t k ls s = drop_variables (innermost ls).base (activate (call procedures c t) t ls (slice_get procedures k) s)
 
+-- the output and the end of a run
 pub record Run : Type 0 where
   pub output : List Written
   pub ending : End

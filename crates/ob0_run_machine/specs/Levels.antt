@@ -1,4 +1,5 @@
 -- The activations that an activation sees, itself first, and where VAR parameters lead.
+-- Rule: none; for contracts of the machine.
 use Rattle.std.specs.Prelude.{ℕ, List, Option, Some, None, [], ◌∷◌}
 use denote.Ref.{Bor}
 use Rattle.ob0_run_machine.specs.declared.addresses.Addresses.{Addresses}
@@ -14,10 +15,12 @@ abbrev mutual
   levels_behind code.None' = []
   levels_behind (code.Some' pointer l) = levels_of l
 
+-- the activations that one of the code sees
 abbrev pub levels_seen : Option (Bor code.Level) → Levels
 levels_seen None = []
 levels_seen (Some l) = levels_of l.now
 
+-- the addresses of a call's VAR parameters
 abbrev pub addresses_in : Addresses → List ℕ
 addresses_in addresses.Empty = []
 addresses_in (addresses.One a) = a ∷ []

@@ -1,5 +1,6 @@
 -- Lowered code: a module whose variables are offsets of cells, whose designators are bases, bounds and offsets, and whose calls
 -- name their procedure by its index.
+-- Rule: none; for contracts of the machine: lowered code.
 use Rattle.std.specs.Prelude.{ℕ, Bool, List, ℤ}
 
 -- the operators between two numbers
@@ -32,6 +33,7 @@ mutual
 pub data Relation : Type 0 where
   equal not_equal less less_equal greater greater_equal : Relation
 
+-- truth values
 pub data Truth : Type 0 where
   constant : Bool → Truth
   flag : Place → Truth

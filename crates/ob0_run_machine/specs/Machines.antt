@@ -1,4 +1,5 @@
 -- What the machine stands for, and what a step of it says of the run.
+-- Rule: none; for contracts of the machine.
 use Rattle.std.specs.Prelude.{◌≡◌, ℕ, ℤ, List, map, Ok, Err, Option, Result}
 use denote.MutBor.{MutBor}
 use denote.Ref.{Bor}
@@ -17,13 +18,16 @@ use Rattle.ob0_run_machine.specs.Lowered.{Procedure, Statement, Statements}
 use Rattle.ob0_run_machine.specs.View.{program_of}
 use Rattle.ob0_run_machine.specs.declared.code.Program.{Program}
 
+-- an item of output of the code
 abbrev pub item_of : Item → Written
 item_of (item.Number n) = number_out n
 item_of item.Line = line_out
 
+-- the output of the code
 abbrev pub items_out : List Item → List Written
 items_out = map item_of
 
+-- the state of a machine
 abbrev pub state_of : Machine → State
 state_of m = record { cells = m.cells.items; input = m.input.now; output = items_out m.output.items }
 
@@ -52,9 +56,11 @@ Performs post enters =
 abbrev pub Doing : Type 0
 Doing = Calls → State → Progress
 
+-- what a statement does
 abbrev pub executed : ℕ → Levels → Statement → Doing
 executed t ls a enters s = execute enters t ls a s
 
+-- what statements do
 abbrev pub executed_all : ℕ → Levels → Statements → Doing
 executed_all t ls as_listed enters s = execute_all enters t ls as_listed s
 

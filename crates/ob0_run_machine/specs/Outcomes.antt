@@ -12,6 +12,7 @@ use Rattle.ob0_run_machine.specs.Execution.{Progress, Run, State, call, execute_
 use Rattle.ob0_run_machine.specs.Lowered.{Program}
 use Rattle.ob0_run_machine.specs.Machines.{items_out}
 
+-- an end of the code
 abbrev pub end_in : code_end.End → End
 end_in code.Done = Done
 end_in (code.Ended e) = end_of e

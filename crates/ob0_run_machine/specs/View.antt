@@ -1,4 +1,5 @@
 -- The lowered code that a value of the code's types stands for, and the activations.
+-- Rule: none; for contracts: what values of the code mean.
 use Rattle.std.specs.Prelude.{List, [], ◌∷◌, map}
 use Rattle.ob0_run_machine.specs.declared.code.Place as place
 use Rattle.ob0_run_machine.specs.declared.code.Place.{Place}
@@ -33,6 +34,7 @@ use Rattle.ob0_run_machine.specs.declared.code.Procedure as procedure
 use Rattle.ob0_run_machine.specs.declared.code.Program as program
 use Rattle.ob0_run_machine.specs.Lowered as lowered
 
+-- an operator of the code
 abbrev pub operator_of : Operator → lowered.Operator
 operator_of operator.Sum = lowered.sum
 operator_of operator.Difference = lowered.difference
@@ -94,13 +96,16 @@ element_of e = lowered.element (place_of (out-Element e).array) (number_of (out-
 abbrev pub operation_of : Operation → lowered.Number
 operation_of o = applied (out-Operation o).link (number_of (out-Operation o).first)
 
+-- a chain of operations, from this left operand on
 abbrev pub chained_from : lowered.Number → List Link → lowered.Number
 chained_from left [] = left
 chained_from left (l ∷ ls) = chained_from (applied l left) ls
 
+-- a chain of operations of the code
 abbrev pub chained_in : chain.Chain → lowered.Number
 chained_in c = chained_from (number_of (chain.out-Chain c).first) (chain.out-Chain c).rest.items
 
+-- a relation of the code
 abbrev pub relation_of : Relation → lowered.Relation
 relation_of relation.Equal = lowered.equal
 relation_of relation.NotEqual = lowered.not_equal
@@ -109,6 +114,7 @@ relation_of relation.LessEqual = lowered.less_equal
 relation_of relation.Greater = lowered.greater
 relation_of relation.GreaterEqual = lowered.greater_equal
 
+-- two numbers that are compared
 abbrev pub related_by : Relation → Operands → lowered.Truth
 related_by r o = lowered.related (relation_of r) (number_of o.left) (number_of o.right)
 
@@ -138,22 +144,27 @@ abbrev pub all_from : lowered.Truth → List Truth → lowered.Truth
 all_from left [] = left
 all_from left (t ∷ ts) = all_from (lowered.both left (truth_of t)) ts
 
+-- a chain of OR, from this left operand on
 abbrev pub any_from : lowered.Truth → List Truth → lowered.Truth
 any_from left [] = left
 any_from left (t ∷ ts) = any_from (lowered.either left (truth_of t)) ts
 
+-- a chain of `&` of the code
 abbrev pub all_in : Several → lowered.Truth
 all_in s = all_from (truth_of (out-Several s).first) (out-Several s).rest.items
 
+-- a chain of OR of the code
 abbrev pub any_in : Several → lowered.Truth
 any_in s = any_from (truth_of (out-Several s).first) (out-Several s).rest.items
 
+-- an argument of the code
 abbrev pub argument_of : argument_type.Argument → lowered.Argument
 argument_of (argument.Place p) = lowered.by_place (place_of p)
 argument_of (argument.Number n) = lowered.by_number (number_of n)
 argument_of (argument.Truth t) = lowered.by_truth (truth_of t)
 argument_of (argument.Block p n) = lowered.by_block (place_of p) n
 
+-- a call of the code
 abbrev pub call_of : call.Call → lowered.Statement
 call_of c = lowered.calls c.procedure c.up (map argument_of c.arguments.items)
 
@@ -188,21 +199,27 @@ abbrev pub sequence_of : List Statement → lowered.Statements
 sequence_of [] = lowered.no_statement
 sequence_of (s ∷ ss) = lowered.before (statement_of s) (sequence_of ss)
 
+-- a WHILE of the code
 abbrev pub while_of : While → lowered.Statement
 while_of w = lowered.while_loop (truth_of w.condition) (sequence_of w.body.items)
 
+-- a REPEAT of the code
 abbrev pub repeat_of : Repeat → lowered.Statement
 repeat_of r = lowered.repeat_loop (sequence_of r.body.items) (truth_of r.condition)
 
+-- the branches of an IF of the code
 abbrev pub all_branches : List Branch → lowered.Branches
 all_branches [] = lowered.no_branch
 all_branches (b ∷ bs) = lowered.branch (truth_of b.condition) (sequence_of b.body.items) (all_branches bs)
 
+-- a procedure of the code
 abbrev pub procedure_of : procedure.Procedure → lowered.Procedure
 procedure_of p = record { cells = p.cells; body = sequence_of p.body.items }
 
+-- a program of the code
 abbrev pub program_of : program.Program → lowered.Program
 program_of p = record { cells = p.cells; body = sequence_of p.body.items; procedures = map procedure_of p.procedures.items }
 
+-- an IF of the code
 abbrev pub branches_in : if_statement.If → lowered.Statement
 branches_in i = lowered.chooses (all_branches (if_statement.out-If i).branches.items) (sequence_of (if_statement.out-If i).otherwise.items)

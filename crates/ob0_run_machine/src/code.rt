@@ -52,6 +52,7 @@ pub struct Element {
     pub stride: usize,
 }
 
+/// An expression whose value is a number of 32 bits.
 #[cycle(numbers)]
 #[derive(Drop)]
 pub enum Number {
@@ -74,6 +75,7 @@ pub struct Operation {
     pub link: Link,
 }
 
+/// A first operand, and operators with theirs, from left to right.
 #[cycle(numbers)]
 #[derive(Drop)]
 pub struct Chain {
@@ -137,6 +139,7 @@ pub enum Truth {
     Different(Box<Truths>),
 }
 
+/// Two truth values that are compared or joined.
 #[cycle(truths)]
 #[derive(Drop)]
 pub struct Truths {
@@ -144,6 +147,7 @@ pub struct Truths {
     pub right: Truth,
 }
 
+/// Many truth values in a row, from left to right.
 #[cycle(truths)]
 #[derive(Drop)]
 pub struct Several {
@@ -161,6 +165,7 @@ pub enum Argument {
     Block(Place, usize),
 }
 
+/// A statement. An empty statement has no code.
 #[cycle(statements)]
 #[derive(Drop)]
 pub enum Statement {
@@ -189,6 +194,7 @@ pub struct If {
     pub otherwise: Vec<Statement>,
 }
 
+/// A condition, and the statements that are run where it is TRUE.
 #[cycle(statements)]
 #[derive(Drop)]
 pub struct Branch {
@@ -196,6 +202,7 @@ pub struct Branch {
     pub body: Vec<Statement>,
 }
 
+/// A WHILE: its condition and its statements.
 #[cycle(statements)]
 #[derive(Drop)]
 pub struct While {
@@ -203,6 +210,7 @@ pub struct While {
     pub body: Vec<Statement>,
 }
 
+/// A REPEAT: its statements and the condition that ends it.
 #[cycle(statements)]
 #[derive(Drop)]
 pub struct Repeat {

@@ -1,4 +1,4 @@
-//! Lowered code, and the machine that runs it over one store of cells.
+//! Lowered code, what it means, and the machine that runs it over one store of cells.
 #![tactic(auto)]
 
 pub mod addresses;

@@ -14,6 +14,7 @@ pub enum Item {
     Line,
 }
 
+/// The state of a run: its cells, the rest of the input, and what it has output.
 #[derive(Drop)]
 pub struct Machine<'i> {
     pub alloc: Global,

@@ -42,6 +42,7 @@ pub(crate) fn modulo(left: i32, right: i32) -> Result<i32, Ending>
     Ok(left.rem_euclid(right))
 }
 
+/// The result of an operator on two numbers; the end Overflow or Divisor where it has none.
 #[inline(always)]
 pub(crate) fn add(left: i32, right: i32) -> Result<i32, Ending>
     ensures { outcome_of_result result ≡ operate sum left right }
@@ -49,6 +50,7 @@ pub(crate) fn add(left: i32, right: i32) -> Result<i32, Ending>
     in_range(left.checked_add(right))
 }
 
+/// The number with the other sign; the end Overflow for the least one.
 #[inline(always)]
 pub(crate) fn subtract(left: i32, right: i32) -> Result<i32, Ending>
     ensures { outcome_of_result result ≡ operate difference left right }
@@ -70,6 +72,7 @@ pub(crate) fn negative(number: i32) -> Result<i32, Ending>
     in_range(number.checked_neg())
 }
 
+/// Whether two numbers are in a relation.
 #[inline(always)]
 pub(crate) fn compare(relation: Relation, left: i32, right: i32) -> bool
     ensures { result ≡ compare (relation_of relation) left right }
@@ -84,6 +87,7 @@ pub(crate) fn compare(relation: Relation, left: i32, right: i32) -> bool
     }
 }
 
+/// Whether two truth values are the same.
 #[inline(always)]
 pub(crate) fn alike(left: bool, right: bool) -> bool
     ensures { result ≡ alike left right }
@@ -91,6 +95,7 @@ pub(crate) fn alike(left: bool, right: bool) -> bool
     left == right
 }
 
+/// The truth value that a cell has: TRUE is any number but 0.
 #[inline(always)]
 pub(crate) fn is_true(number: i32) -> bool
     ensures { result ≡ is_true number }
@@ -98,6 +103,7 @@ pub(crate) fn is_true(number: i32) -> bool
     number != 0
 }
 
+/// A truth value as a cell: 1 for TRUE, 0 for FALSE.
 #[inline(always)]
 pub(crate) fn as_cell(truth: bool) -> i32
     ensures { result ≡ as_cell truth }

@@ -1,4 +1,5 @@
 -- Laws of edits: what keeps a module well-typed and its runs.
+-- Rule: none; laws of edits and runs.
 use Rattle.std.specs.Prelude.{List, Some, ℕ, ℤ, ◌≡◌, ◌≢◌}
 use Rattle.ob0_tree.specs.Tree.{Tree, factor, module_text}
 use Rattle.ob0_scope_rules.specs.Inlining.{Uses, inlined, inlined_everywhere, module_without}

@@ -1,4 +1,5 @@
 -- Values, places and what names stand for, by the types that a checked module gives them.
+-- Rule: docs/LANGUAGE.md, Runs 11.
 use Rattle.std.specs.Prelude.{◌≡◌, true, List, [], ◌∷◌, map, if◌then◌else◌, nat_lt, slice_get, Some, None, Option, option_and_then}
 use Rattle.ob0_scope_rules.specs.Names.{Naming}
 use Rattle.ob0_scope_rules.specs.Parts.{procedure_formals}
@@ -32,6 +33,7 @@ part_shape (array_shape k n s) (at_index i) = if nat_lt i n then Some s else Non
 part_shape (record_shape k fs) (at_field x) = shape_of_field fs x
 part_shape _ _ = None
 
+-- the type of the part that a path leads to
 abbrev pub shape_at_path : List Step → Shape → Option Shape
 shape_at_path [] s = Some s
 shape_at_path (step ∷ path) s = option_and_then (shape_at_path path) (part_shape s step)
@@ -40,14 +42,17 @@ shape_at_path (step ∷ path) s = option_and_then (shape_at_path path) (part_sha
 abbrev pub StoreTyping : Type 0
 StoreTyping = List Shape
 
+-- each variable has a value of its type
 abbrev pub StoreFits : StoreTyping → Store → Type 0
 StoreFits [] [] = Unit {0}
 StoreFits (s ∷ ss) (v ∷ vs) = HasShape v s × StoreFits ss vs
 StoreFits _ _ = ⊥
 
+-- a place is of this type
 abbrev pub PlaceFits : StoreTyping → Place → Shape → Type 0
 PlaceFits typing p s = option_and_then (shape_at_path p.path) (slice_get typing p.variable) ≡ Some s
 
+-- the modes of a procedure's parameters
 abbrev pub modes_in : Signature → List Mode
 modes_in = map (λ f. f.mode)
 
@@ -61,6 +66,7 @@ ObjectFits typing (Some (a_procedure signature)) (Some (a_procedure modes)) = mo
 ObjectFits typing (Some (a_standard p)) (Some (a_standard q)) = p ≡ q
 ObjectFits typing _ _ = ⊥
 
+-- what names mean in a run is as the check says
 abbrev pub MeaningsFit : {N : Type 0} → StoreTyping → Typed N → Meanings N Place (List Mode) → Type 0
 MeaningsFit {N} typing checked active =
     ((x : N) → ObjectFits typing (checked.stands_for x) (active.stands_for x)) × ((x : N) → checked.written x ≡ active.written x)
@@ -79,6 +85,7 @@ BindingFits {N} naming typing checked x (a_procedure signature) (a_procedure cod
     × (procedure_fits naming (bind_typed ps (heading x ps checked)) code.first_constructor code.text ≡ true)
 BindingFits naming typing checked x o r = ObjectFits typing (Some o) (passing (Some r))
 
+-- the environment of a run is as that of the check, binding by binding
 abbrev pub EnvironmentsFit : {N : Type 0} → Naming N → StoreTyping → TypeEnvironment N → Activation N → Type 0
 EnvironmentsFit naming typing [] [] = Unit {0}
 EnvironmentsFit naming typing (b ∷ checked) (d ∷ active) = (b.0 ≡ d.0) × BindingFits naming typing checked b.0 b.1 d.1 × EnvironmentsFit naming typing checked active

@@ -1,4 +1,5 @@
 -- Runs in which a call that returns gives up its variables, so that the store has only those of the calls that are open.
+-- Rule: docs/LANGUAGE.md, Runs 6 (that no run can tell whether variables are freed).
 use Rattle.std.specs.Prelude.{ℕ, zero, suc, length, take, List, ℤ}
 use Rattle.ob0_tree.specs.Tree.{Tree, module_text}
 use Rattle.ob0_scope_rules.specs.Names.{Naming}
@@ -18,6 +19,7 @@ call_giving_up naming zero t env x args s = stopped CallBound s.output
 call_giving_up naming (suc c) t env x args s =
     drop_variables (length s.store) (activate naming (call_giving_up naming c t) t (from_binding naming env x) args s)
 
+-- the run in which calls that return drop their variables
 unfoldable pub run_giving_up : {N : Type 0} → Naming N → Tree N module_text → List ℤ → ℕ → ℕ → Run
 unfolding run_by call_giving_up
 run_giving_up naming m input c t = run_by naming (call_giving_up naming c t) t m input

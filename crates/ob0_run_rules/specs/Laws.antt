@@ -1,4 +1,5 @@
 -- Laws of runs.
+-- Rule: none; laws of runs.
 use Rattle.std.specs.Prelude.{◌≡◌, ℕ, ◌≢◌, List, ℤ, Some}
 use Rattle.ob0_tree.specs.Tree.{Tree, factor, module_text, occurrences, statement}
 use Rattle.ob0_scope_rules.specs.Inlining.{Uses, inline_in}

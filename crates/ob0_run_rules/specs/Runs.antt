@@ -1,4 +1,5 @@
 -- Runs, by big steps: statements, calls and whole modules, over names, an environment, a store, the rest of the input, and bounds c on open calls and t on the turns of a loop.
+-- Rule: docs/LANGUAGE.md, Runs 1 to 10.
 use Rattle.std.specs.Prelude.{ℕ, zero, suc, ◌+◌, ◌-◌, true, false, List, [], ◌∷◌, ◌++◌, map, length, ℤ, Some, None, Option, option_map, option_and_then}
 use Rattle.ob0_tree.specs.Tree.{Tree, assigns, begins, block, body, branches, calls, declares_variable, else_branch, else_part, elsif_branch, elsif_part, empty, end, expression, further_section, further_statement, item, items, maybe, module_text, more, none, one, procedure, repeat_loop, runs, sequence, statement, then_section, then_statement, variable, while_loop}
 use Rattle.ob0_scope_rules.specs.Names.{Label, Name, Naming, as_labels, as_names}
@@ -11,10 +12,12 @@ use Rattle.ob0_types_rules.specs.Typing.{constructors, denoted, designated}
 use Rattle.ob0_values.specs.Values.{CallBound, Done, End, InputEnd, Outcome, Place, Store, Stuck, TurnBound, Value, ends, gives, initial, number, or_stuck, truth, write_place, ◌>>=◌}
 use Rattle.ob0_types_rules.specs.WellTyped.{Mode, by_place, by_value, section_mode}
 
+-- an item of output: a number or an end of line
 pub data Written : Type 0 where
   number_out : ℤ → Written
   line_out : Written
 
+-- the state of a run
 pub record State : Type 0 where
   pub store : Store
   pub input : List ℤ
@@ -35,18 +38,22 @@ abbrev pub use_in : {A : Type 0} → State → Outcome A → (A → Progress) �
 use_in s (gives a) next = next a
 use_in s (ends e) next = stopped e s.output
 
+-- a run that goes on is continued; one that has ended stays so
 abbrev pub go_on : Progress → (State → Progress) → Progress
 go_on (running s) next = next s
 go_on (stopped e out) next = stopped e out
 
+-- one of two ways, by a condition
 abbrev pub choose : State → Value → (State → Progress) → (State → Progress) → Progress
 choose s (truth true) when_true when_false = when_true s
 choose s (truth false) when_true when_false = when_false s
 choose s _ when_true when_false = stopped Stuck s.output
 
+-- the state with one more item of output
 abbrev pub put_out : State → Written → State
 put_out s i = record s { output = s.output ++ i ∷ [] }
 
+-- a value is stored at a place
 abbrev pub store_at : State → Place → Value → Progress
 store_at s p v = use_in s (or_stuck (write_place s.store p v)) (λ store. running record s { store = store })
 
@@ -63,6 +70,7 @@ modes_of (Some (a_standard writes)) = gives (by_value ∷ [])
 modes_of (Some (a_standard writes_line)) = gives []
 modes_of _ = ends Stuck
 
+-- an argument: a copy of its value, or the place of a VAR argument (rule 6)
 unfoldable pub evaluate_argument : {N P : Type 0} → Meanings N Place P → Store → Mode → Tree N expression → Outcome Argument
 unfolding designate evaluate
 evaluate_argument meaning store by_value e = do
@@ -150,6 +158,7 @@ pub record Code (N : Type 0) : Type 0 where
   pub first_constructor : ℕ
   pub text : Tree N (item procedure)
 
+-- what names mean in an activation
 abbrev pub Activation : Type 0 → Type 0
 Activation N = Environment N Place (Code N)
 
@@ -164,6 +173,7 @@ allocate [] v f = f
 allocate (x ∷ xs) v f =
     allocate xs v record { env = (x, a_variable record { variable = length f.store; path = [] }) ∷ f.env; store = f.store ++ v ∷ [] }
 
+-- variables are new ones, and begin as 0 and FALSE (rule 1)
 unfoldable pub declare_variables : {N : Type 0} → Naming N → ℕ → Tree N (items variable) → Frame N → Option (Frame N)
 unfolding denoted
 declare_variables naming k end f = Some f
@@ -177,6 +187,7 @@ declare_procedures k end env = env
 declare_procedures k (more p rest) env =
     declare_procedures (k + procedure_constructors p) rest ((procedure_name p, a_procedure record { first_constructor = k; text = p }) ∷ env)
 
+-- the procedures of a block become visible
 abbrev pub with_procedures : {N : Type 0} → ℕ → Tree N (items procedure) → Frame N → Frame N
 with_procedures k ps f = record { env = declare_procedures k ps f.env; store = f.store }
 
@@ -194,14 +205,17 @@ bind_parameter by_place x (place_argument p) f = Some record { env = (x, a_varia
 bind_parameter by_value x (value_argument v) f = Some (allocate (x ∷ []) v f)
 bind_parameter _ x _ f = None
 
+-- a formal parameter by its name and mode
 pub record Parameter (N : Type 0) : Type 0 where
   pub mode : Mode
   pub name : N
 
+-- the formal parameters of a heading
 abbrev pub parameters : {N : Type 0} → Tree N (items further_section) → List (Parameter N)
 parameters end = []
 parameters (more (then_section f) fs) = map (λ x. record { mode = section_mode f; name = x }) (section_names f) ++ parameters fs
 
+-- parameters are bound to arguments: a VAR parameter to its place, another to a new variable
 abbrev pub bind_parameters : {N : Type 0} → List (Parameter N) → List Argument → Frame N → Option (Frame N)
 bind_parameters [] [] f = Some f
 bind_parameters (p ∷ ps) (a ∷ args) f = option_and_then (bind_parameters ps args) (bind_parameter p.mode p.name a f)
@@ -221,9 +235,11 @@ passing (Some (a_variable p)) = Some (a_variable p)
 passing (Some (a_procedure code)) = Some (a_procedure (formal_modes (procedure_formals code.text)))
 passing (Some (a_standard p)) = Some (a_standard p)
 
+-- what names mean at a statement
 abbrev pub statement_meanings : {N : Type 0} → Naming N → Activation N → Meanings N Place (List Mode)
 statement_meanings naming env = record { stands_for = λ x. passing ((meanings naming env).stands_for x); written = naming.written }
 
+-- the statements of a body; a body that isn't there does nothing
 unfoldable pub execute_body : {N : Type 0} → Naming N → Activation N → Calls N → ℕ → Tree N (maybe body) → State → Progress
 unfolding execute
 execute_body naming env enter t none s = running s
@@ -250,6 +266,7 @@ unfolding activate
 call naming zero t env x args s = stopped CallBound s.output
 call naming (suc c) t env x args s = activate naming (call naming c t) t (from_binding naming env x) args s
 
+-- the output and the end of a run
 pub record Run : Type 0 where
   pub output : List Written
   pub ending : End

@@ -1,4 +1,4 @@
-//! What a module does when it runs: the definition of runs, and laws over it.
+//! What a module does when it runs (docs/LANGUAGE.md, Runs): the definition, and laws over it.
 #![tactic(auto)]
 
 pub mod laws;

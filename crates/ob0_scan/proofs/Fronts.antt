@@ -1,4 +1,4 @@
--- The lexemes in front that end before a place, without white space at their end; and where the last of them ends.
+-- The lexemes before it that end before a place, without white space at their end; and where the last of them ends.
 use Rattle.std.proofs.Common.{◌≡◌, ◌≢◌, ℕ, ◌+◌, ◌-◌, ◌<◌, ◌≤◌, List, [], ◌∷◌, ◌++◌, length, max, refl, sym, ap, ap₂, ◌∙◌, subst, arith, ◌⊎◌, inl, inr, ⊎_elim, append-nil, length-append, add-zero, ltb, Some}
 use Rattle.std.specs.List.{All, prefix_len, slice_get}
 use Rattle.std.proofs.lemmas.List.{length_push}
@@ -55,7 +55,7 @@ module _ (place s : ℕ) (l : Lexeme) (ls : List Lexeme) where
   no_bytes : (r : Front place (s + length l.text) ls) → r.front ≡ [] → s + length l.text ≡ r.at
   no_bytes r e = let none : length (joined r.front) ≡ 0 = ap (λ t. length (joined t)) e in omega (arith, r.at_is, none)
 
-  -- only white space stands in front
+  -- only white space is before it
   blank : (r : Front place (s + length l.text) ls) → r.front ≡ [] → l.kind ≡ lexeme.Space → Front place s (l ∷ ls)
   blank r e white =
       let rest : ls ≡ r.back = r.split ∙ ap (λ t. t ++ r.back) e in

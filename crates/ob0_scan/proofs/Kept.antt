@@ -72,7 +72,7 @@ module _ (old : Scanned) (o : IsScan old) (new : List ℕ) (from removed added :
       (subst (λ (xs : List Span). prefix_len (λ (x : Span). ltb x.end from) xs ≤ prefix_len (λ (x : Span). ltb x.start place) xs) (sym o.comments) less)
       ef w.met.comments_are en em
 
-  -- what was read by a scanner that went on behind the front lies between
+  -- what was read by a scanner that went on after the front lies between
   pub lies_between : fs ≡ front_tokens from old.tokens → gs ≡ front_comments from old.comments → t.front.tokens.now ≡ fs → t.front.comments.now ≡ gs → s.tokens.items ≡ [] → s.comments.items ≡ []
       → ReadsOn old from removed added s t → Settled old new from removed added t rs qs
       → b.front.tokens ≡ length fs → b.behind.tokens ≡ length old.tokens - length rs → b.front.comments ≡ length gs → b.behind.comments ≡ length old.comments - length qs
@@ -98,7 +98,7 @@ module _ (old : Scanned) (o : IsScan old) (new : List ℕ) (from removed added :
         reuses = reused old (with_between old new removed added b) from removed added s t rs qs (length new) fs gs ef eg st sc r w.met tokens comments (length b.tokens.items + length b.comments.items) (omega (arith, ap length et, ap length ec));
       }
 
--- ---- a list that is changed from the front on
+-- ---- a list that is changed from the beginning on
 
 changed_there : {X : Type 0} (f : X → X) (xs : List X) (i n : ℕ) (d v : X) → i < length xs → n ≡ suc i → v ≡ f (get_or xs i d) → set (map f (take i xs) ++ drop i xs) i v ≡ map f (take n xs) ++ drop n xs
 changed_there f [] i n d v less e w = absurd (omega (arith, less))
@@ -153,7 +153,7 @@ module _ {X : Type 0} (f : X → X) (xs : List X) (first : ℕ) (some : first �
       let all : length (drop first xs) ≤ at - first = omega (arith, length-drop first xs, end) in
       c.are ∙ ap₂ (λ x y. take first xs ++ (map f x ++ y)) (take_all (at - first) (drop first xs) all) (drop_all (at - first) (drop first xs) all) ∙ ap (λ x. take first xs ++ x) (append-nil (map f (drop first xs)))
 
--- others are put between a front and what is behind
+-- others are put between a front and what is after
 pub put_between : {X : Type 0} (xs ys zs us vs now : List X) (front behind : ℕ) → front ≤ behind → behind ≤ length xs → ys ≡ take behind xs ++ zs → now ≡ splice ys front behind vs → vs ≡ us → now ≡ take front xs ++ (us ++ zs)
 put_between xs ys zs us vs now front behind less inside e s b =
     let long : length (take behind xs) ≡ behind = length-take-le behind xs inside in

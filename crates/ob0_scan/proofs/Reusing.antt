@@ -1,4 +1,4 @@
--- What stands in front of a change and behind it has the lexemes that it had.
+-- What is before a change and after it has the lexemes that it had.
 use Rattle.std.proofs.Common.{◌≡◌, ℕ, ◌+◌, ◌-◌, ◌<◌, ◌≤◌, List, [], ◌∷◌, ◌++◌, length, map, get_or, take, drop, refl, sym, ap, ap₂, ◌∙◌, subst, arith, ⊎_elim, append_assoc, append-nil, length-append, length-take-le, take-append-drop, drop_at, take_at, drop-drop, get_or-take, get_or-drop, add-zero, IsUtf8, IsCharBoundary}
 use Rattle.std.specs.List.{All}
 use Rattle.std.proofs.lemmas.List.{take-append-le}
@@ -27,7 +27,7 @@ first_byte : (w a b : List ℕ) → get_or a 0 0 ≡ get_or b 0 0 → get_or (w 
 first_byte [] a b e = e
 first_byte (x ∷ w) a b e = refl
 
--- lexemes depend on the one byte behind them
+-- lexemes depend on the one byte after them
 same_behind : (ls : List Lexeme) (a b : List ℕ) → get_or a 0 0 ≡ get_or b 0 0 → AreLexemes ls a → AreLexemes ls b
 same_behind [] a b e f = tt
 same_behind (l ∷ ls) a b e f =
@@ -72,7 +72,7 @@ told_behind {room = room} {faults = faults} s text (l ∷ ls) after f e h =
     lexeme l (joined ls ++ after) f.0 (e ∙ append_assoc l.text (joined ls) after)
     (told_behind (s + length l.text) (joined ls ++ after) ls after f.1 refl (subst (λ n. FaultsFrom room n after faults) place h))
 
--- a scanner may begin behind what is cut already
+-- a scanner may begin after what is cut already
 pub progress_behind : (text : List ℕ) (at : ℕ) (tokens : List Token) (comments : List Span) → IsUtf8 text → at ≤ length text → IsCutTo text at tokens comments → Progress text at tokens comments []
 progress_behind text at tokens comments utf8 inside cut =
     let whole : joined cut.lexemes ++ drop at text ≡ text = ap (λ t. t ++ drop at text) cut.front ∙ take-append-drop at text in
@@ -122,7 +122,7 @@ module _ (old : Scanned) (o : IsScan old) (new : List ℕ) (from removed added :
         },
       )
 
-  -- what stands behind a place behind the change is what stood behind the place that it was
+  -- what follows a place after the change is what was after the place that it was
   same_rest : (at p : ℕ) → from + added ≤ at → at + removed ≡ p + added → drop at new ≡ drop p old.text
   same_rest at p behind e =
       let k : ℕ = at - (from + added) in
@@ -130,7 +130,7 @@ module _ (old : Scanned) (o : IsScan old) (new : List ℕ) (from removed added :
       let there : from + removed + k ≡ p = omega arith in
       ap (λ n. drop n new) (sym here) ∙ sym (drop-drop k (from + added) new) ∙ ap (drop k) (sym r.behind) ∙ drop-drop k (from + removed) old.text ∙ ap (λ n. drop n old.text) there
 
-  -- the lexemes behind a place of the old text
+  -- the lexemes after a place of the old text
   border_facts : (p : ℕ) (b : Border 0 o.lexemes p) → (joined b.back ≡ drop p old.text) × AreLexemes b.back [] × (back_tokens p old.tokens ≡ tokens_from p b.back) × (back_comments p old.comments ≡ comments_from p b.back) × Full b.back
   border_facts p b =
       let parts = full_parts b.front b.back (subst Full b.split some_each) in

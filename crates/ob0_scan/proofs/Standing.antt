@@ -1,4 +1,4 @@
--- Where the tokens of lexemes stand, and where the comments: what both have in common.
+-- Where the tokens of lexemes are, and where the comments: what both have in common.
 use Rattle.std.proofs.Common.{◌≡◌, ◌≢◌, ℕ, suc, ◌+◌, ◌-◌, ◌<◌, ◌≤◌, Bool, true, false, List, [], ◌∷◌, ◌++◌, length, map, take, drop, refl, sym, ap, ap₂, ◌∙◌, subst, arith, ◌⊎◌, inl, inr, ⊎_elim, append_assoc, length-append, add-zero, ltb, eqb, eqb-true, eq-eqb}
 use Rattle.std.specs.List.{All, prefix_len}
 use Rattle.std.proofs.Math.Seq.{drop-append_seam, take-append_seam}
@@ -14,7 +14,7 @@ use Rattle.ob0_scan.specs.Scanned.{span_from, token_at, comment_at, tokens_from,
 use Rattle.ob0_scan.specs.Reused.{moved, moved_token}
 use Rattle.ob0_scan.proofs.Cuts.{nonempty}
 
--- what stands where lexemes do: each lexeme has at most one of it, at the lexeme's place
+-- what is where lexemes do: each lexeme has at most one of it, at the lexeme's place
 pub record Standing (X : Type 0) : Type 0 where
   pub span : X → Span
   pub head : ℕ → Lexeme → List X
@@ -113,7 +113,7 @@ front_passes q (x ∷ xs) ys h e =
 not_below : (a b : ℕ) → b ≤ a → ltb a b ≡ false
 not_below a b h = false_from_ne_true (ltb a b) (λ e. absurd (omega (arith, ltb-true a b e)))
 
--- those that begin at the end of some lexemes or behind it are those of the others
+-- those that begin at the end of some lexemes or after it are those of the others
 pub back_split : {X : Type 0} (g : Standing X) (s place : ℕ) (xs ys : List Lexeme) → Full xs → Full ys → s + length (joined xs) ≡ place → drop (prefix_len (λ x. ltb (g.span x).start place) (g.all s (xs ++ ys))) (g.all s (xs ++ ys)) ≡ g.all place ys
 back_split {X} g s place xs ys f h e =
     let q : X → Bool = λ x. ltb (g.span x).start place in
@@ -138,7 +138,7 @@ front_split {X} g s at place xs ys f near e none =
           let close = near (omega arith) in
           All-weaker (λ x. Lies s (s + length (joined (z ∷ zs))) (g.span x)) (λ x. ltb (g.span x).end place ≡ true) (λ x w. lt-ltb (g.span x).end place (omega (arith, w.ends, close))) (g.all s (z ∷ zs)) (lies g s (z ∷ zs) f)
 
--- where the first lexeme ends behind a place, nothing ends before it
+-- where the first lexeme ends after a place, nothing ends before it
 pub none_end : {X : Type 0} (g : Standing X) (place s : ℕ) (l : Lexeme) (ls : List Lexeme) → Full (l ∷ ls) → place ≤ s + length l.text → prefix_len (λ x. ltb (g.span x).end place) (g.all s (l ∷ ls)) ≡ 0
 none_end {X} g place s l ls f far =
     let P : X → Type 0 = λ x. ltb (g.span x).end place ≡ false in
@@ -190,7 +190,7 @@ ascending g s (l ∷ ls) h = subst (Ascending (λ x. (g.span x).start)) (sym (g.
     (All-weaker (λ x. Lies (s + length l.text) (s + length l.text + length (joined ls)) (g.span x)) (λ x. s + length l.text ≤ (g.span x).start) (λ x w. w.starts) (g.all (s + length l.text) ls) (lies g (s + length l.text) ls h.1))
     (ascending g (s + length l.text) ls h.1))
 
--- those that begin at a place or behind it
+-- those that begin at a place or after it
 abbrev pub back_of : {X : Type 0} → (X → ℕ) → ℕ → List X → List X
 back_of start place xs = drop (prefix_len (λ x. ltb (start x) place) xs) xs
 

@@ -1,4 +1,5 @@
 -- A scan of a changed text that is under way.
+-- Rule: none; for private contracts of the scanner.
 use Rattle.std.specs.Prelude.{◌≡◌, ℕ, ◌+◌, ◌-◌, ◌<◌, ◌≤◌, ◌^◌, ◌==◌, ◌||◌, ◌⊎◌, Bool, false, List, [], ◌∷◌, ◌++◌, Option, Some, None, IsTrue, length, map, take, drop, max}
 use Rattle.std.specs.List.{All, slice_get}
 use Rattle.ob0_scan.specs.declared.lexeme.Span.{Span}
@@ -9,15 +10,17 @@ use Rattle.ob0_scan.specs.declared.changed.Between.{Between}
 use Rattle.ob0_scan.specs.Scanned.{Scanned, IsScan, span_from, token_at, comment_at}
 use Rattle.ob0_scan.specs.Reused.{back_tokens, back_comments, moved, moved_token, Reuses, IsNew}
 
+-- where a token ends
 abbrev pub token_end : Option Token → ℕ
 token_end None = 0
 token_end (Some t) = t.span.end
 
+-- where a comment ends
 abbrev pub comment_end : Option Span → ℕ
 comment_end None = 0
 comment_end (Some c) = c.end
 
--- behind which byte the last of the tokens and comments ends
+-- after which byte the last of the tokens and comments ends
 abbrev pub last_end : List Token → List Span → ℕ
 last_end tokens comments = max (token_end (slice_get tokens (length tokens - 1))) (comment_end (slice_get comments (length comments - 1)))
 
@@ -26,11 +29,12 @@ abbrev pub token_begins : ℕ → List Token → Bool
 token_begins place [] = false
 token_begins place (t ∷ tokens) = t.span.start == place
 
+-- a comment begins at a place
 abbrev pub comment_begins : ℕ → List Span → Bool
 comment_begins place [] = false
 comment_begins place (c ∷ comments) = c.start == place
 
--- a span behind the change that lies in a text
+-- a span after the change that lies in a text
 pub record IsMovable (removed added : ℕ) (span : Span) : Type 0 where
   pub behind : removed ≤ span.start
   pub ordered : span.start ≤ span.end
@@ -44,7 +48,7 @@ pub record TakesOne (s t : Scanner) : Type 0 where
   pub tokens : t.tokens.items ≡ s.tokens.items ++ token_at kind (span_from s.at len)
   pub comments : t.comments.items ≡ s.comments.items ++ comment_at kind (span_from s.at len)
 
--- what was read since none of it begins, behind the change, where an old token or comment began
+-- what was read since none of it begins, after the change, where an old token or comment began
 pub record ReadsOn (old : Scanned) (from removed added : ℕ) (s t : Scanner) : Type 0 where
   pub tokens : List Token
   pub comments : List Span
@@ -53,14 +57,14 @@ pub record ReadsOn (old : Scanned) (from removed added : ℕ) (s t : Scanner) : 
   pub tokens_new : All (λ (t : Token). IsNew old from removed added t.span) tokens
   pub comments_new : All (λ (c : Span). IsNew old from removed added c) comments
 
--- behind the change, at the end of the text or where an old token or comment begins again; with the old ones from there on
+-- after the change, at the end of the text or where an old token or comment begins again; with the old ones from there on
 pub record IsMet (old : Scanned) (end from removed added at : ℕ) (tokens : List Token) (comments : List Span) : Type 0 where
   pub behind : from + added ≤ at
   pub tokens_are : tokens ≡ back_tokens (at + removed - added) old.tokens
   pub comments_are : comments ≡ back_comments (at + removed - added) old.comments
   pub border : (at ≡ end) ⊎ IsTrue (token_begins (at + removed - added) tokens || comment_begins (at + removed - added) comments)
 
--- the new text with the old tokens and comments in front, those between, and the old ones behind, moved
+-- the new text with the old tokens and comments before it, those between, and the old ones after, moved
 abbrev pub with_between : Scanned → List ℕ → ℕ → ℕ → Between → Scanned
 with_between old new removed added b = record {
   text = new;

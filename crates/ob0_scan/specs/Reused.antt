@@ -1,28 +1,31 @@
 -- What a scan of a changed text takes over from the scan of the text before.
+-- Rule: none; for contracts of `rescan`.
 use Rattle.std.specs.Prelude.{◌≡◌, ◌≢◌, ℕ, ◌+◌, ◌-◌, ◌≤◌, List, ◌++◌, length, map, take, drop, nat_lt}
 use Rattle.std.specs.List.{All, prefix_len}
 use Rattle.ob0_scan.specs.declared.lexeme.Span.{Span}
 use Rattle.ob0_scan.specs.declared.lexeme.Token.{Token}
 use Rattle.ob0_scan.specs.Scanned.{Scanned}
 
--- So many bytes of the old text from a place on gave way to so many others: the new one is as the old in front of them and behind them.
+-- So many bytes of the old text from a place on gave way to so many others: the new one is as the old before them and after them.
 pub record IsReplaced (old new : List ℕ) (from removed added : ℕ) : Type 0 where
   pub inside_old : from + removed ≤ length old
   pub inside_new : from + added ≤ length new
   pub front : take from old ≡ take from new
   pub behind : drop (from + removed) old ≡ drop (from + added) new
 
--- a span behind the change is moved by what was added less what was removed
+-- a span after the change is moved by what was added less what was removed
 abbrev pub moved : ℕ → ℕ → Span → Span
 moved removed added span = record { start = span.start + added - removed; end = span.end + added - removed }
 
+-- a token after the change, moved
 abbrev pub moved_token : ℕ → ℕ → Token → Token
 moved_token removed added token = record { kind = token.kind; span = moved removed added token.span }
 
--- the tokens in front that end before a place, and the comments
+-- the tokens before it that end before a place, and the comments
 abbrev pub front_tokens : ℕ → List Token → List Token
 front_tokens place tokens = take (prefix_len (λ t. nat_lt t.span.end place) tokens) tokens
 
+-- the comments that end before a place
 abbrev pub front_comments : ℕ → List Span → List Span
 front_comments place comments = take (prefix_len (λ c. nat_lt c.end place) comments) comments
 
@@ -30,6 +33,7 @@ front_comments place comments = take (prefix_len (λ c. nat_lt c.end place) comm
 abbrev pub back_tokens : ℕ → List Token → List Token
 back_tokens place tokens = drop (prefix_len (λ t. nat_lt t.span.start place) tokens) tokens
 
+-- the comments from a place on
 abbrev pub back_comments : ℕ → List Span → List Span
 back_comments place comments = drop (prefix_len (λ c. nat_lt c.start place) comments) comments
 
@@ -38,12 +42,12 @@ pub record NoneBegins (s : Scanned) (place : ℕ) : Type 0 where
   pub tokens : All (λ (t : Token). t.span.start ≢ place) s.tokens
   pub comments : All (λ (c : Span). c.start ≢ place) s.comments
 
--- Behind the change, no old token or comment began where this begins.
+-- After the change, no old token or comment began where this begins.
 abbrev pub IsNew : Scanned → ℕ → ℕ → ℕ → Span → Type 0
 IsNew old from removed added span = from + added ≤ span.start → NoneBegins old (span.start + removed - added)
 
--- Of the tokens and comments of a changed text, the first are the old ones that end before the change, and the last are old ones behind it,
--- moved. As many as told lie between: of these, none behind the change begins where an old one began. So the last begin
+-- Of the tokens and comments of a changed text, the first are the old ones that end before the change, and the last are old ones after it,
+-- moved. As many as `read` says are between: of these, none after the change begins where an old one began. So the last begin
 -- at the first place that the new text's tokens and comments have in common with the old one's.
 pub record Reuses (old new : Scanned) (from removed added read : ℕ) : Type 0 where
   pub place : ℕ

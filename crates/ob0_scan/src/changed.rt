@@ -1,4 +1,4 @@
-//! Scans a text that was changed at one place, and takes over what an older scan found in front of the change and behind it.
+//! Scans a text that was changed at one place, and takes over what an older scan found before the change and after it.
 
 ghost use Rattle.std.specs.Prelude.{◌≡◌, ◌+◌, ◌<◌, ◌≤◌, ◌^◌, ◌||◌, ◌++◌, IfOk, IfErr, OnOk, length, map, take, drop, nat_lt, option_copied};
 ghost use Rattle.std.specs.List.{All, prefix_len};
@@ -26,7 +26,7 @@ pub(crate) struct Change {
 }
 
 impl Change {
-    /// Where a byte behind the change was before it.
+    /// Where a byte after the change was before it.
     fn old_place(self, place: usize) -> usize
         requires behind { self.added ≤ place }
         requires small { place + self.removed < 2 ^ 64 }
@@ -35,7 +35,7 @@ impl Change {
         place - self.added + self.removed
     }
 
-    /// Where a span of the old text that lies behind the change is now.
+    /// Where a span of the old text that lies after the change is now.
     fn moved(self, span: Span) -> Span
         requires { IsMovable self.removed self.added span }
         ensures { result ≡ moved self.removed self.added span }
@@ -55,7 +55,7 @@ pub(crate) struct Pieces<'t> {
 }
 
 impl<'t> Pieces<'t> {
-    /// Those in front that end before a byte.
+    /// Those before it that end before a byte.
     fn ending_before(self, place: usize) -> Pieces<'t>
         ensures tokens { result.tokens.now ≡ front_tokens place self.entry.tokens.now }
         ensures comments { result.comments.now ≡ front_comments place self.entry.comments.now }
@@ -88,7 +88,7 @@ impl<'t> Pieces<'t> {
         token_begins(self.tokens, place) || comment_begins(self.comments, place)
     }
 
-    /// Behind which byte the last of them ends.
+    /// After which byte the last of them ends.
     pub(crate) fn end(self) -> usize
         ensures { result ≡ last_end self.entry.tokens.now self.entry.comments.now }
     {
@@ -134,7 +134,7 @@ fn comment_end(comment: Option<&Span>) -> usize
     }
 }
 
-/// How many tokens in front end before a byte.
+/// How many tokens before it end before a byte.
 fn tokens_ending_before(tokens: &[Token], place: usize) -> usize
     ensures bound { result ≤ length tokens.now }
     ensures count { result ≡ prefix_len (λ (t : Token). nat_lt t.span.end place) tokens.now }
@@ -145,7 +145,7 @@ fn tokens_ending_before(tokens: &[Token], place: usize) -> usize
         .count()
 }
 
-/// How many comments in front end before a byte.
+/// How many comments before it end before a byte.
 fn comments_ending_before(comments: &[Span], place: usize) -> usize
     ensures bound { result ≤ length comments.now }
     ensures count { result ≡ prefix_len (λ (c : Span). nat_lt c.end place) comments.now }
@@ -156,7 +156,7 @@ fn comments_ending_before(comments: &[Span], place: usize) -> usize
         .count()
 }
 
-/// How many tokens in front begin before a byte.
+/// How many tokens before it begin before a byte.
 fn tokens_beginning_before(tokens: &[Token], place: usize) -> usize
     ensures bound { result ≤ length tokens.now }
     ensures count { result ≡ prefix_len (λ (t : Token). nat_lt t.span.start place) tokens.now }
@@ -167,7 +167,7 @@ fn tokens_beginning_before(tokens: &[Token], place: usize) -> usize
         .count()
 }
 
-/// How many comments in front begin before a byte.
+/// How many comments before it begin before a byte.
 fn comments_beginning_before(comments: &[Span], place: usize) -> usize
     ensures bound { result ≤ length comments.now }
     ensures count { result ≡ prefix_len (λ (c : Span). nat_lt c.start place) comments.now }
@@ -178,14 +178,14 @@ fn comments_beginning_before(comments: &[Span], place: usize) -> usize
         .count()
 }
 
-/// How many tokens and comments there are in front of a place.
+/// How many tokens and comments there are before a place.
 #[derive(Clone, Copy)]
 pub(crate) struct Counts {
     pub(crate) tokens: usize,
     pub(crate) comments: usize,
 }
 
-/// What comes between the old tokens and comments that a changed text goes on to have: those in front, of which there are so many, and
+/// What comes between the old tokens and comments that a changed text goes on to have: those before it, of which there are so many, and
 /// those from `behind` on.
 #[derive(Drop)]
 pub(crate) struct Between {
@@ -211,7 +211,7 @@ impl From<AllocError> for NotRescanned {
 }
 
 /// The tokens and comments of `new_text`, which is the text of `old` with the `removed` bytes from byte `from` on replaced by
-/// `added` others; or its faults. What `old` has in front of the change is kept, and the scan ends where a token or comment of `old` begins again.
+/// `added` others; or its faults. What `old` has before the change is kept, and the scan ends where a token or comment of `old` begins again.
 pub fn rescan(
     alloc: Global,
     old: &Tokens,
@@ -234,7 +234,7 @@ pub fn rescan(
     }
 }
 
-/// The same, in the place of the old tokens and comments: those in front stay where they are. A text with faults gives the old ones back.
+/// The same, in place of the old tokens and comments: those before it stay where they are. A text with faults gives the old ones back.
 pub fn rescan_in_place(
     alloc: Global,
     old: Tokens,
@@ -266,7 +266,7 @@ pub fn rescan_in_place(
     }
 }
 
-/// What is read anew of a changed text.
+/// What is read again of a changed text.
 fn scan_again(
     alloc: Global,
     old: &Tokens,
@@ -309,8 +309,8 @@ fn scan_again(
     })
 }
 
-/// Scans to the end of the text, or up to the first place behind the change where an old token or comment begins again.
-/// Gives those that begin there or behind.
+/// Scans to the end of the text, or up to the first place after the change where an old token or comment begins again.
+/// Gives those that begin there or after.
 fn scan_on<'o>(
     scanner: &mut Scanner,
     old: &'o Tokens,
@@ -343,7 +343,7 @@ fn scan_on<'o>(
     })
 }
 
-/// Puts tokens between those in front and those behind, which are moved to where they are now.
+/// Puts tokens between those before it and those after, which are moved to where they are now.
 pub(crate) fn put_tokens(
     tokens: &mut Vec<Token>,
     front: usize,
@@ -361,7 +361,7 @@ pub(crate) fn put_tokens(
     Ok(())
 }
 
-/// Puts comments between those in front and those behind, which are moved to where they are now.
+/// Puts comments between those before it and those after, which are moved to where they are now.
 pub(crate) fn put_comments(
     comments: &mut Vec<Span>,
     front: usize,

@@ -10,6 +10,7 @@ use Rattle.ob0_scope_rules.specs.Names.{Name}
 abbrev pub with_byte : ℕ → ℕ → ℕ
 with_byte number byte = (number * 256 % 2 ^ 64 + byte) % 2 ^ 64
 
+-- a number with these bytes behind it, of which the last eight count
 abbrev pub with_bytes : List ℕ → ℕ → ℕ
 with_bytes [] number = number
 with_bytes (byte ∷ bytes) number = with_bytes bytes (with_byte number byte)
@@ -18,6 +19,7 @@ with_bytes (byte ∷ bytes) number = with_bytes bytes (with_byte number byte)
 abbrev pub number_of : Name → ℕ
 number_of x = with_bytes (drop (length x - 8) x) 0
 
+-- a name with its number before it
 abbrev pub Key : Type 0
 Key = ℕ × Bor Name
 
@@ -25,5 +27,6 @@ Key = ℕ × Bor Name
 abbrev pub compare_keys : Key → Key → Ordering
 compare_keys a b = ordering_then (nat_cmp a.0 b.0) (slice_cmp nat_cmp a.1.now b.1.now)
 
+-- the order of keys: by their numbers, and by the names where these are the same
 abbrev pub compare_name : Name → Key → Ordering
 compare_name x key = ordering_then (nat_cmp (number_of x) key.0) (slice_cmp nat_cmp x key.1.now)

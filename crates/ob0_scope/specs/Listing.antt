@@ -1,4 +1,5 @@
 -- The identifiers of a module by a table of ordinals.
+-- Rule: none; for contracts: identifiers by a table of ordinals.
 use Rattle.std.specs.Prelude.{ℕ, Bool, true, false, not, ◌&&◌, ◌||◌, List, Option, map}
 use Rattle.std.specs.List.{filter}
 use Rattle.ob0_scan.specs.declared.lexeme.Token.{Token}
@@ -10,6 +11,7 @@ use Rattle.ob0_scope_rules.specs.Scopes.{same_ordinal}
 use Rattle.ob0_scope_rules.specs.Spans.{is_on}
 use Rattle.ob0_scope.specs.Standing.{is_declaring}
 
+-- a token is an identifier
 abbrev pub is_identifier : TokenKind → Bool
 is_identifier kind.Identifier = true
 is_identifier (kind.Reserved word) = false
@@ -24,5 +26,6 @@ is_name_on offset t = is_identifier t.kind && is_on offset t.span
 abbrev pub is_listed : List (Option ℕ) → Bool → ℕ → Role × ℕ → Bool
 is_listed ordinals include d x = same_ordinal (ordinal_in ordinals x.1) d && (include || not (is_declaring x.0))
 
+-- the identifiers of a declaration by the table, with or without the declaring one
 abbrev pub tokens_listed : List (Option ℕ) → Bool → ℕ → List (Role × ℕ) → List ℕ
 tokens_listed ordinals include d xs = map (λ x. x.1) (filter (is_listed ordinals include d) xs)

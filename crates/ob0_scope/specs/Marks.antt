@@ -1,4 +1,5 @@
 -- Identifiers with the ordinals of their declarations.
+-- Rule: none; for private contracts of the walk over identifiers.
 use Rattle.std.specs.Prelude.{ℕ, List, [], ◌∷◌, Option, Some, slice_set}
 
 -- an identifier's token, and the ordinal of its declaration

@@ -1,4 +1,5 @@
 -- The names that were bound, each once, with the index of its newest binding.
+-- Rule: none; for private contracts: the map of visible names.
 use Rattle.std.specs.Prelude.{◌≡◌, ◌<◌, ℕ, suc, List, [], ◌∷◌, Option, Some, None, if◌then◌else◌, length, option_map, slice_index_or}
 use Rattle.std.specs.BTreeMap.{BTreeMap, get_by}
 use Rattle.ob0_scope.specs.declared.newest.Entry.{Entry}

@@ -1,4 +1,5 @@
 -- A declaration under another name: what each occurrence is then bound to, and which declaration stands against it.
+-- Rule: docs/PROTOCOL.md, Refusals of edits (Duplicate, Captures).
 use Rattle.std.specs.Prelude.{◌≡◌, ℕ, Bool, true, false, not, ◌&&◌, if◌then◌else◌, ◌==◌, List, [], ◌∷◌, Option, Some, None}
 use Rattle.std.specs.Option.{option_or}
 use Rattle.ob0_tree.specs.Tree.{Tree, mapped, module_text}
@@ -18,6 +19,7 @@ abbrev pub other_named : Scope Name → ℕ → Name → Option ℕ
 other_named [] d new = None
 other_named (b ∷ own) d new = if same_name b.0 new && not (b.1 == d) then Some b.1 else other_named own d new
 
+-- another declaration of a block that has the name
 abbrev pub namesake_in : List (Scope Name) → ℕ → Name → Option ℕ
 namesake_in [] d new = None
 namesake_in (own ∷ others) d new = option_or (if declares_ordinal own d then other_named own d new else None) (namesake_in others d new)

@@ -1,4 +1,5 @@
 -- The search for another declaration of a block that has a name, over indexes of tokens.
+-- Rule: none; for private contracts: the search for another declaration.
 use Rattle.std.specs.Prelude.{ℕ, Bool, not, ◌&&◌, if◌then◌else◌, List, [], ◌∷◌, ◌++◌, Option, None}
 use Rattle.std.specs.List.{list_any}
 use Rattle.std.specs.Option.{option_or}
@@ -18,12 +19,15 @@ pub record Sought : Type 0 where
   pub declaration : ℕ
   pub new : Name
 
+-- the ordinal at a token
 abbrev pub ordinal_sought : Sought → ℕ → Option ℕ
 ordinal_sought s i = ordinal_in s.ordinals i
 
+-- the token declares the declaration
 abbrev pub is_sought : Sought → ℕ → Bool
 is_sought s i = same_ordinal (ordinal_sought s i) s.declaration
 
+-- the token has the new name, and isn't of the declaration
 abbrev pub is_other : Sought → ℕ → Bool
 is_other s i = same_name (text_at s.source i) s.new && not (is_sought s i)
 

@@ -1,4 +1,5 @@
 -- A scope as it is kept: bindings, oldest first, each with the index of the one that it hides.
+-- Rule: none; for private contracts: a scope as it is stored.
 use Rattle.std.specs.Prelude.{◌≡◌, ℕ, List, [], ◌∷◌, Option, Some, None, if◌then◌else◌, map, length, reverse}
 use Rattle.ob0_scope.specs.declared.visible.Binding.{Binding}
 use Rattle.ob0_scope.specs.declared.newest.Entry.{Entry}

@@ -1,4 +1,5 @@
 -- The names at the places of a module's text, by what its identifiers are bound to.
+-- Rule: docs/PROTOCOL.md, Requests on documents 3 to 6.
 use Rattle.std.specs.Prelude.{ℕ, Bool, true, false, not, ◌&&◌, ◌||◌, ◌==◌, ◌≡◌, if◌then◌else◌, List, [], ◌∷◌, Option, map, option_map, option_and_then}
 use Rattle.std.specs.List.{filter, find, zip}
 use Rattle.ob0_tree.specs.declared.tree.Role.{Role}
@@ -34,6 +35,7 @@ named_by s = option_map (λ ordinal. record { token = s.0.1; ordinal = ordinal }
 abbrev pub name_on : Parsed → ℕ → Option named.Named
 name_on m offset = option_and_then named_by (identifier_on m offset)
 
+-- an identifier declares
 abbrev pub is_declaring : Role → Bool
 is_declaring role.Declaring = true
 is_declaring role.LookedUp = false
@@ -49,6 +51,7 @@ refers include d s = same_label s.1 (declared d) && (include || not (is_declarin
 abbrev pub tokens_bound : Parsed → ℕ → Bool → List ℕ
 tokens_bound m d include = map (λ s. s.0.1) (filter (refers include d) (bound_identifiers m))
 
+-- a token is in a list
 abbrev pub is_among : ℕ → List ℕ → Bool
 is_among i [] = false
 is_among i (x ∷ xs) = i == x || is_among i xs

@@ -1,4 +1,5 @@
 -- How the identifiers of a text are written: as in the text, or those of one declaration by another name.
+-- Rule: none; for private contracts: identifiers as they are written.
 use Rattle.std.specs.Prelude.{ℕ, Bool, false, if◌then◌else◌, List, [], Option, Some, None}
 use Rattle.ob0_scan.specs.Scanned.{Scanned}
 use Rattle.ob0_tree.specs.Tree.{Sort, Tree, mapped}

@@ -60,6 +60,7 @@ pub fn renamed_tokens(
     ensures stand { IfOk result (λ found. AreIdentifiers names.now.module_read.source.tokens found.items) }
     ensures renamed { IfOk result (λ found. IsRenamedAt names.now.module_read declaration found.items) }
 {
+    // For the proof: what the contract of this call says.
     let _ = names.module();
     tokens_bound(alloc, names, declaration, true)
 }

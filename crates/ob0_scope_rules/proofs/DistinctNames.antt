@@ -1,4 +1,4 @@
--- Names of which none stands twice: in any order, and after a renaming.
+-- Names of which none is twice: in any order, and after a renaming.
 use Rattle.std.proofs.Common.{Bool, List, Some, [], ap, arith, eqb-true, falls, false, if◌then◌else◌, ne_eqb, not, refl, sym, true, ℕ, ◌&&◌, ◌++◌, ◌<◌, ◌==◌, ◌||◌, ◌∙◌, ◌∷◌, ◌≡◌, ◌≤◌}
 use Rattle.ob0_scope_rules.specs.DeclaredOnce.{are_distinct, is_among}
 use Rattle.ob0_scope_rules.specs.Names.{Name, same_name}

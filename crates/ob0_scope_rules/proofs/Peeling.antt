@@ -1,4 +1,4 @@
--- Two trees over one shape with the same looked-up names are one tree. Their lists of looked-up names are peeled from the front.
+-- Two trees over one shape with the same looked-up names are one tree. Their lists of looked-up names are peeled from the beginning.
 use Rattle.std.proofs.Common.{◌≡◌, List, [], ◌∷◌, ◌++◌, sym, refl, ap, ◌∙◌, append_assoc}
 use Rattle.ob0_tree.specs.Tree.{Sort, Tree, adds, array_type, assigns, begins, branches, calls, compares, declares, declares_constant, declares_constants, declares_procedure, declares_type, declares_types, declares_variable, declares_variables, designator, else_branch, elsif_branch, empty, end, field, further_name, has_body, index, integer, is_module, items, listed, more, multiplies, named_type, names, negation, no_arguments, no_fields, no_formals, none, occurrences, one, parenthesised, product, record_type, relates, repeat_loop, runs, some_arguments, some_fields, some_formals, sum, then_argument, then_fields, then_name, then_section, then_statement, value_section, variable_section, while_loop}
 use Rattle.ob0_scope_rules.specs.Mapping.{with_names}

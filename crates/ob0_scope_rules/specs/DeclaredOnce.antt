@@ -1,14 +1,16 @@
 -- Names declared once: no second declaration in a block or record, and no wrong closing name.
+-- Rule: docs/LANGUAGE.md, Scopes 5 to 7.
 use Rattle.std.specs.Prelude.{Bool, true, false, not, ◌&&◌, ◌||◌, List, [], ◌∷◌, ◌++◌}
 use Rattle.ob0_tree.specs.Tree.{Tree, array_type, block, declares, declares_procedure, declares_type, declares_variable, end, fields, further_fields, further_section, has_body, is_module, item, items, module_text, more, named_type, no_fields, procedure, record_type, some_fields, then_fields, then_section, type_name, variable, written_type}
 use Rattle.ob0_scope_rules.specs.Names.{Name, same_name}
 use Rattle.ob0_scope_rules.specs.Parts.{block_constants, block_procedures, block_types, block_variables, constant_names, formal_names, formal_sections, named_types, names_listed, procedure_name, section_type, section_types, section_variables, variable_names}
 
--- no name stands twice in a list
+-- no name is twice in a list
 abbrev pub is_among : Name → List Name → Bool
 is_among x [] = false
 is_among x (y ∷ ys) = same_name x y || is_among x ys
 
+-- no name is twice in a list
 abbrev pub are_distinct : List Name → Bool
 are_distinct [] = true
 are_distinct (x ∷ xs) = not (is_among x xs) && are_distinct xs
@@ -18,6 +20,7 @@ abbrev pub group_fields : {N : Type 0} → Tree N fields → List N
 group_fields no_fields = []
 group_fields (some_fields ns t) = names_listed ns
 
+-- the names of all fields of a record
 abbrev pub groups_fields : {N : Type 0} → Tree N (items further_fields) → List N
 groups_fields end = []
 groups_fields (more (then_fields g) rest) = group_fields g ++ groups_fields rest
@@ -36,6 +39,7 @@ abbrev mutual
   groups_once end = true
   groups_once (more (then_fields g) rest) = group_once g && groups_once rest
 
+-- the names of a block's procedures
 abbrev pub procedure_names : {N : Type 0} → Tree N (items procedure) → List N
 procedure_names end = []
 procedure_names (more p rest) = procedure_name p ∷ procedure_names rest
@@ -50,10 +54,12 @@ abbrev pub types_once : Tree Name (items type_name) → Bool
 types_once end = true
 types_once (more (declares_type x t) ds) = fields_once t && types_once ds
 
+-- in the types of variables each record declares a field once
 abbrev pub variables_once : Tree Name (items variable) → Bool
 variables_once end = true
 variables_once (more (declares_variable ns t) gs) = fields_once t && variables_once gs
 
+-- in the types of parameters each record declares a field once
 abbrev pub formals_once : Tree Name (items further_section) → Bool
 formals_once end = true
 formals_once (more (then_section s) fs) = fields_once (section_type s) && formals_once fs

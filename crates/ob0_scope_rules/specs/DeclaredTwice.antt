@@ -1,5 +1,6 @@
--- The faults of names that are declared once more, and of closing names that differ, in the order in which they are told. The names
+-- The faults of names that are declared once more, and of closing names that differ, in the order in which they are reported. The names
 -- of these trees are tokens.
+-- Rule: docs/LANGUAGE.md, Faults of scopes and types, `Duplicate`, `EndName`.
 use Rattle.std.specs.Prelude.{ℕ, Bool, not, List, [], ◌∷◌, ◌++◌, if◌then◌else◌}
 use Rattle.ob0_scan.specs.declared.fault.Code.TheVariants as code
 use Rattle.ob0_scan.specs.declared.fault.Fault.{Fault}
@@ -16,18 +17,20 @@ use Rattle.ob0_scope_rules.specs.Spans.{span_at}
 abbrev pub unless : Bool → Fault → List Fault
 unless holds fault = if holds then [] else fault ∷ []
 
+-- `Duplicate` at a token
 abbrev pub duplicate_at : Scanned → ℕ → Fault
 duplicate_at source token = record { code = code.Duplicate; span = span_at source token }
 
+-- `EndName` at a token
 abbrev pub end_name_at : Scanned → ℕ → Fault
 end_name_at source token = record { code = code.EndName; span = span_at source token }
 
--- each of some names that stands before it in the list, or among those before the list, is told where it stands once more
+-- each of some names that precedes it in the list, or among those before the list, is reported where it is once more
 abbrev pub again : Scanned → List Name → List ℕ → List Fault
 again source before [] = []
 again source before (x ∷ xs) = unless (not (is_among (text_at source x) before)) (duplicate_at source x) ++ again source (text_at source x ∷ before) xs
 
--- a closing name that differs from its opening name is told where it closes
+-- a closing name that differs from its opening name is reported where it closes
 abbrev pub closing_other : Scanned → ℕ → ℕ → List Fault
 closing_other source x closing = unless (same_name (text_at source x) (text_at source closing)) (end_name_at source closing)
 
@@ -51,10 +54,12 @@ abbrev pub types_twice : Scanned → Tree ℕ (items type_name) → List Fault
 types_twice source end = []
 types_twice source (more (declares_type x t) ds) = fields_twice source t ++ types_twice source ds
 
+-- second fields in the types of variables
 abbrev pub variables_twice : Scanned → Tree ℕ (items variable) → List Fault
 variables_twice source end = []
 variables_twice source (more (declares_variable ns t) gs) = fields_twice source t ++ variables_twice source gs
 
+-- second fields in the types of parameters
 abbrev pub formals_twice : Scanned → Tree ℕ (items further_section) → List Fault
 formals_twice source end = []
 formals_twice source (more (then_section s) fs) = fields_twice source (section_type s) ++ formals_twice source fs
@@ -74,6 +79,7 @@ abbrev mutual
   procedure_twice source (declares_procedure x fs b closing) =
       closing_other source x closing ++ (formals_twice source (formal_sections fs) ++ block_twice source (formal_names (formal_sections fs)) b)
 
+-- all such faults of a module
 abbrev pub module_twice : Scanned → Tree ℕ module_text → List Fault
 module_twice source (is_module x b closing) = closing_other source x closing ++ block_twice source [] b
 

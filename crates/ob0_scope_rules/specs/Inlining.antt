@@ -1,4 +1,5 @@
 -- Inlining a constant: a factor is written in place of uses, and the declaration may go.
+-- Rule: docs/PROTOCOL.md, Requests on documents 9.
 use Rattle.std.specs.Prelude.{ℕ, suc, ◌+◌, Bool, length, if◌then◌else◌, ◌==◌}
 use Rattle.ob0_tree.specs.Tree.{Sort, Tree, adds, array_type, assigns, begins, block, branches, calls, compares, constant, constants, declares, declares_constant, declares_constants, declares_procedure, declares_type, declares_types, declares_variable, declares_variables, designator, else_branch, elsif_branch, empty, end, factor, field, has_body, index, integer, is_module, item, items, listed, maybe, module_text, more, multiplies, named_type, negation, no_arguments, no_fields, no_formals, none, occurrences, one, parenthesised, procedure, product, record_type, relates, repeat_loop, runs, some_arguments, some_fields, some_formals, sum, then_argument, then_fields, then_name, then_section, then_statement, value_section, variable_section, while_loop}
 use Rattle.ob0_scope_rules.specs.Names.{Name}
@@ -67,7 +68,7 @@ inline_in uses v k (begins s) = begins (inline_in uses v k s)
 inline_in uses v k (has_body ds b) = has_body (inline_in uses v k ds) (inline_in uses v (k + length (occurrences ds)) b)
 inline_in uses v k (is_module name b closing) = is_module name (inline_in uses v k b) closing
 
--- in place of each use stands the factor
+-- in place of each use is the factor
 abbrev pub inlined : Tree Name module_text → Uses → Tree Name factor → Tree Name module_text
 inlined m uses v = inline_in uses v 0 m
 
@@ -76,6 +77,7 @@ abbrev pub without : ℕ → ℕ → Tree Name (items constant) → Tree Name (i
 without d k end = end
 without d k (more c cs) = if k == d then cs else more c (without d (suc k) cs)
 
+-- a CONST section without the declaration of this ordinal
 abbrev pub section_without : ℕ → ℕ → Tree Name (maybe constants) → Tree Name (maybe constants)
 section_without d k none = none
 section_without d k (one (declares_constants cs)) = one (declares_constants (without d k cs))
@@ -94,6 +96,7 @@ abbrev mutual
   procedure_without d k (declares_procedure x fs b closing) =
       declares_procedure x fs (block_without d (after_names k (formal_names (formal_sections fs))) b) closing
 
+-- a module without the declaration of this ordinal
 abbrev pub module_without : ℕ → Tree Name module_text → Tree Name module_text
 module_without d (is_module x b closing) = is_module x (block_without d 7 b) closing
 
@@ -101,9 +104,10 @@ module_without d (is_module x b closing) = is_module x (block_without d 7 b) clo
 abbrev pub only : ℕ → Uses
 only occurrence k = k == occurrence
 
+-- all occurrences that are bound to a declaration
 abbrev pub all_bound_to : Tree Name module_text → ℕ → Uses
 all_bound_to m d k = same_ordinal (binds m k) d
 
--- in place of all uses of the constant d stands a factor, and its declaration is gone
+-- in place of all uses of the constant d is a factor, and its declaration is gone
 abbrev pub inlined_everywhere : Tree Name module_text → ℕ → Tree Name factor → Tree Name module_text
 inlined_everywhere m d v = module_without d (inlined m (all_bound_to m d) v)

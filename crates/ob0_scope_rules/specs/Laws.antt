@@ -1,4 +1,5 @@
 -- Laws of names.
+-- Rule: none; laws of names.
 use Rattle.std.specs.Prelude.{◌≡◌, ℕ}
 use Rattle.ob0_tree.specs.Tree.{Tree, module_text}
 use Rattle.ob0_scope_rules.specs.Names.{Name}

@@ -1,4 +1,5 @@
 -- What each occurrence of a name is bound to, and which new names for a declaration are free.
+-- Rule: docs/LANGUAGE.md, Scopes 2 to 4; docs/PROTOCOL.md, Refusals of edits (Duplicate, Captures).
 use Rattle.std.specs.Prelude.{◌≡◌, ℕ, suc, Bool, false, not, ◌&&◌, List, [], ◌∷◌, ◌++◌, if◌then◌else◌, ◌==◌, slice_get, Some, None, Option, option_map, option_and_then}
 use Rattle.ob0_tree.specs.Tree.{Tree, block, declares, declares_procedure, end, has_body, item, items, module_text, more, occurrences, procedure}
 use Rattle.ob0_scope_rules.specs.Names.{Label, Name, as_written, declared, same_label, same_name}
@@ -10,6 +11,7 @@ use Rattle.std.specs.List.{list_any}
 abbrev pub bindings : Tree Name module_text → List Label
 bindings m = occurrences (numbered m)
 
+-- the ordinal of a label, where it has one
 abbrev pub label_ordinal : Label → Option ℕ
 label_ordinal (declared k) = Some k
 label_ordinal (as_written x) = None
@@ -32,6 +34,7 @@ abbrev mutual
   blocks_in_procedure k (declares_procedure x fs b closing) =
       blocks_in (after_names k (formal_names (formal_sections fs))) (declare_names k (formal_names (formal_sections fs)) []) b
 
+-- a block declares this ordinal
 abbrev pub declares_ordinal : Scope Name → ℕ → Bool
 declares_ordinal own d = list_any (λ b. b.1 == d) own
 
@@ -47,6 +50,7 @@ is_duplicate m d new = list_any (λ own. declares_ordinal own d && names_another
 abbrev pub Free : Tree Name module_text → ℕ → Name → Type 0
 Free m d new = (is_duplicate m d new ≡ false) × (bindings (renamed m d new) ≡ bindings m)
 
+-- two occurrences are bound to the same
 abbrev pub same_binding : Label → Label → Bool
 same_binding (as_written x) (as_written y) = same_name x y
 same_binding a b = same_label a b
@@ -56,6 +60,7 @@ abbrev pub first_difference : List Label → List Label → Option ℕ
 first_difference (a ∷ as₁) (b ∷ bs) = if same_binding a b then option_map suc (first_difference as₁ bs) else Some 0
 first_difference _ _ = None
 
+-- where a new name isn't free: another declaration of the block, or an occurrence
 pub data Capture : Type 0 where
   at_declaration : Capture
   at_occurrence : ℕ → Capture

@@ -1,4 +1,5 @@
 -- Laws of renaming: what a free name keeps, and where a first capture is named.
+-- Rule: none; laws of renaming.
 use Rattle.std.specs.Prelude.{IsTrue, None, ℕ, ◌↔◌, ◌≡◌}
 use Rattle.ob0_tree.specs.Tree.{Tree, module_text}
 use Rattle.ob0_scope_rules.specs.Names.{Name}

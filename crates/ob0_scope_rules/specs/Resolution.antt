@@ -52,7 +52,7 @@ is_of_declarations fault = elim (fault.code) [ code.Duplicate ↦ true | code.En
 abbrev pub is_of_occurrences : Fault → Bool
 is_of_occurrences fault = elim (fault.code) [ code.Undeclared ↦ true | _ ↦ false ]
 
--- where a token stands
+-- where a token is
 abbrev pub span_at : Scanned → ℕ → Span
 span_at source token = spans.span_at source token
 
@@ -80,9 +80,11 @@ IsNumbering m ordinals = numbered (named_tree_of m) ≡ mapped (label_at m.sourc
 abbrev pub with_ordinal : Labels Name (Option ℕ × Name)
 with_ordinal ordinal x = (ordinal, x)
 
+-- what the identifier at a token is bound to, and its text
 abbrev pub bound_at : Scanned → List (Option ℕ) → ℕ → Option ℕ × Name
 bound_at source ordinals token = (ordinal_in ordinals token, text_at source token)
 
+-- the table of ordinals is what the scopes of the module bind
 abbrev pub IsBinding : Parsed → List (Option ℕ) → Type 0
 IsBinding m ordinals = relabelled as_names with_ordinal (named_tree_of m) ≡ mapped (bound_at m.source ordinals) (value_at m.source) (tree_of m)
 
@@ -114,6 +116,7 @@ is_identifier_of m token = list_any (λ i. i == token) (leaves (tree_of m))
 abbrev pub NamesAlone : Parsed → List (Option ℕ) → Type 0
 NamesAlone m ordinals = (token : ℕ) → is_identifier_of m token ≡ false → ordinal_in ordinals token ≡ None
 
+-- what is known of a module's names is right
 pub record IsResolution (r : Resolution) : Type 0 where
   pub parsed : IsParsed r.module_read
   pub numbering : IsNumbering r.module_read r.ordinals

@@ -1,4 +1,5 @@
 -- Scopes: which declaration each name is bound to, and trees with their names replaced by what these are bound to.
+-- Rule: docs/LANGUAGE.md, Scopes 1 to 6.
 use Rattle.std.specs.Prelude.{ℕ, suc, Bool, true, false, List, [], ◌∷◌, map, if◌then◌else◌, ◌==◌, Some, None, Option}
 use Rattle.ob0_tree.specs.Tree.{Sort, Tree, block, constant, constants, declares, declares_constant, declares_constants, declares_procedure, declares_type, declares_types, declares_variable, declares_variables, end, formals, further_name, further_section, has_body, is_module, item, items, listed, maybe, module_text, more, names, no_formals, none, one, procedure, section, some_formals, then_name, then_section, type_name, type_names, value_section, variable, variable_section, variables}
 use Rattle.ob0_scope_rules.specs.Mapping.{with_names}
@@ -19,6 +20,7 @@ abbrev pub declare_names : {N : Type 0} → ℕ → List N → Scope N → Scope
 declare_names k [] scope = scope
 declare_names k (x ∷ xs) scope = declare_names (suc k) xs ((x, k) ∷ scope)
 
+-- the outermost block
 abbrev pub predeclared_scope : {N : Type 0} → Naming N → Scope N
 predeclared_scope naming = declare_names 0 (map naming.predeclared (0 ∷ 1 ∷ 2 ∷ 3 ∷ 4 ∷ 5 ∷ 6 ∷ [])) []
 
@@ -39,7 +41,7 @@ abbrev mutual
   pub after_procedure : {N : Type 0} → ℕ → Tree N (item procedure) → ℕ
   after_procedure k (declares_procedure x fs b closing) = after_block (after_names k (formal_names (formal_sections fs))) b
 
--- in a relabelled tree a label stands for each name: a function of its declaration's ordinal and of the name
+-- in a relabelled tree a label represents each name: a function of its declaration's ordinal and of the name
 abbrev pub Labels : Type 0 → Type 0 → Type 0
 Labels N M = Option ℕ → N → M
 
@@ -56,10 +58,12 @@ abbrev pub label_names : {N M : Type 0} → Labels N M → ℕ → List N → Li
 label_names label k [] = []
 label_names label k (x ∷ xs) = label (Some k) x ∷ label_names label (suc k) xs
 
+-- further declared names with their labels
 abbrev pub relabel_further : {N M : Type 0} → Labels N M → ℕ → Tree N (items further_name) → Tree M (items further_name)
 relabel_further label k end = end
 relabel_further label k (more (then_name x) rest) = more (then_name (label (Some k) x)) (relabel_further label (suc k) rest)
 
+-- declared names with their labels
 abbrev pub relabel_names : {N M : Type 0} → Labels N M → ℕ → Tree N names → Tree M names
 relabel_names label k (listed x rest) = listed (label (Some k) x) (relabel_further label (suc k) rest)
 
@@ -82,16 +86,19 @@ relabel_variables naming label scope k (more (declares_variable ns t) gs) =
     more (declares_variable (relabel_names label k ns) (relabel_uses naming label scope t))
     (relabel_variables naming label (declare_names k (names_listed ns) scope) (after_names k (names_listed ns)) gs)
 
+-- a section of parameters with labels
 abbrev pub relabel_section : {N M : Type 0} → Naming N → Labels N M → Scope N → ℕ → Tree N section → Tree M section
 relabel_section naming label scope k (value_section ns t) = value_section (relabel_names label k ns) (relabel_uses naming label scope t)
 relabel_section naming label scope k (variable_section ns t) = variable_section (relabel_names label k ns) (relabel_uses naming label scope t)
 
+-- further sections with labels
 abbrev pub relabel_sections : {N M : Type 0} → Naming N → Labels N M → Scope N → ℕ → Tree N (items further_section) → Tree M (items further_section)
 relabel_sections naming label scope k end = end
 relabel_sections naming label scope k (more (then_section s) fs) =
     more (then_section (relabel_section naming label scope k s))
     (relabel_sections naming label (declare_names k (section_names s) scope) (after_names k (section_names s)) fs)
 
+-- formal parameters with labels
 abbrev pub relabel_formals : {N M : Type 0} → Naming N → Labels N M → Scope N → ℕ → Tree N (maybe formals) → Tree M (maybe formals)
 relabel_formals naming label scope k none = none
 relabel_formals naming label scope k (one no_formals) = one no_formals
@@ -104,10 +111,12 @@ abbrev pub relabel_constant_section : {N M : Type 0} → Naming N → Labels N M
 relabel_constant_section naming label scope k none = none
 relabel_constant_section naming label scope k (one (declares_constants cs)) = one (declares_constants (relabel_constants naming label scope k cs))
 
+-- a TYPE section with labels
 abbrev pub relabel_type_section : {N M : Type 0} → Naming N → Labels N M → Scope N → ℕ → Tree N (maybe type_names) → Tree M (maybe type_names)
 relabel_type_section naming label scope k none = none
 relabel_type_section naming label scope k (one (declares_types ts)) = one (declares_types (relabel_types naming label scope k ts))
 
+-- a VAR section with labels
 abbrev pub relabel_variable_section : {N M : Type 0} → Naming N → Labels N M → Scope N → ℕ → Tree N (maybe variables) → Tree M (maybe variables)
 relabel_variable_section naming label scope k none = none
 relabel_variable_section naming label scope k (one (declares_variables vs)) = one (declares_variables (relabel_variables naming label scope k vs))
@@ -122,9 +131,11 @@ declare_procedure_names k (more p rest) scope =
 abbrev pub first_type : {N : Type 0} → ℕ → Tree N block → ℕ
 first_type k b = after_names k (constant_names (block_constants b))
 
+-- the ordinal of a block's first variable
 abbrev pub first_variable : {N : Type 0} → ℕ → Tree N block → ℕ
 first_variable k b = after_names (first_type k b) (named_types (block_types b))
 
+-- the ordinal of a block's first procedure
 abbrev pub first_procedure : {N : Type 0} → ℕ → Tree N block → ℕ
 first_procedure k b = after_names (first_variable k b) (variable_names (block_variables b))
 
@@ -132,12 +143,15 @@ first_procedure k b = after_names (first_variable k b) (variable_names (block_va
 abbrev pub types_scope : {N : Type 0} → ℕ → Tree N block → Scope N → Scope N
 types_scope k b scope = declare_names k (constant_names (block_constants b)) scope
 
+-- the scope in which a block's variables are declared
 abbrev pub variables_scope : {N : Type 0} → ℕ → Tree N block → Scope N → Scope N
 variables_scope k b scope = declare_names (first_type k b) (named_types (block_types b)) (types_scope k b scope)
 
+-- the scope in which a block's procedures are declared
 abbrev pub procedures_scope : {N : Type 0} → ℕ → Tree N block → Scope N → Scope N
 procedures_scope k b scope = declare_names (first_variable k b) (variable_names (block_variables b)) (variables_scope k b scope)
 
+-- the scope of a block's statements
 abbrev pub body_scope : {N : Type 0} → ℕ → Tree N block → Scope N → Scope N
 body_scope k b scope = declare_procedure_names (first_procedure k b) (block_procedures b) (procedures_scope k b scope)
 
@@ -157,7 +171,7 @@ abbrev mutual
       more (relabel_procedure naming label scope k p)
       (relabel_procedures naming label ((procedure_name p, k) ∷ scope) (after_procedure (suc k) p) rest)
 
-  -- a procedure of ordinal k, visible after its heading; a closing name stands for its procedure
+  -- a procedure of ordinal k, visible after its heading; a closing name means its procedure
   pub relabel_procedure : {N M : Type 0} → Naming N → Labels N M → Scope N → ℕ → Tree N (item procedure) → Tree M (item procedure)
   relabel_procedure naming label scope k (declares_procedure x fs b closing) =
       declares_procedure (label (Some k) x) (relabel_formals naming label scope (suc k) fs)
@@ -178,6 +192,7 @@ as_label naming (Some k) x = declared k
 abbrev pub numbered : Tree Name module_text → Tree Label module_text
 numbered = relabelled as_names (as_label as_names)
 
+-- an ordinal is this one
 abbrev pub same_ordinal : Option ℕ → ℕ → Bool
 same_ordinal None k = false
 same_ordinal (Some j) k = j == k

@@ -1,4 +1,5 @@
--- What another name would be bound to in the place of an occurrence.
+-- What another name would be bound to in place of an occurrence.
+-- Rule: docs/PROTOCOL.md, Refusals of edits (Shadowed).
 use Rattle.std.specs.Prelude.{List, Option, map, option_and_then, slice_get, ℕ}
 use Rattle.ob0_tree.specs.Tree.{Tree, module_text, occurrences}
 use Rattle.ob0_scope_rules.specs.Names.{Name, Naming, predeclared_name, same_name}
@@ -9,7 +10,7 @@ use Rattle.ob0_scope_rules.specs.Scopes.{as_label, relabelled}
 abbrev pub looking_for : Name → Naming Name
 looking_for y = record { same = λ x. same_name y; written = λ x. x; predeclared = predeclared_name }
 
--- the ordinal of the declaration to which y would be bound in the place of an occurrence; None where nothing would bind it
+-- the ordinal of the declaration to which y would be bound in place of an occurrence; None where nothing would bind it
 abbrev pub sees : Tree Name module_text → ℕ → Name → Option ℕ
 sees m occurrence y = option_and_then label_ordinal (slice_get (occurrences (relabelled (looking_for y) (as_label (looking_for y)) m)) occurrence)
 

@@ -1,14 +1,16 @@
--- Where tokens stand.
+-- Where tokens are.
+-- Rule: none; for contracts: places of tokens.
 use Rattle.std.specs.Prelude.{ℕ, Bool, nat_le, ◌&&◌, Option, Some, None, slice_get}
 use Rattle.ob0_scan.specs.declared.lexeme.Span.{Span}
 use Rattle.ob0_scan.specs.declared.lexeme.Token.{Token}
 use Rattle.ob0_scan.specs.Scanned.{Scanned}
 
--- where a token stands: at the text's start where there is no such token
+-- where a token is: at the text's start where there is no such token
 abbrev pub span_in : Option Token → Span
 span_in None = record { start = 0; end = 0 }
 span_in (Some t) = t.span
 
+-- where a token is: an empty span at the text's start where there is no such token
 abbrev pub span_at : Scanned → ℕ → Span
 span_at source token = span_in (slice_get source.tokens token)
 

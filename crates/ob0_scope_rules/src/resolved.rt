@@ -105,6 +105,7 @@ impl<'t> Resolved<'t> {
     pub fn declaration_of(&self, occurrence: usize) -> Option<usize>
         ensures { result ≡ binds (named_tree_of self.now.module_read) occurrence }
     {
+        // For the proof: what is known of this value.
         let _ = &self.bindings;
         match self.occurrence(occurrence) {
             Some(token) => self.ordinal_at(token),

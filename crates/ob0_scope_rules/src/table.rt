@@ -1,4 +1,4 @@
-//! Tables of ordinals by token, and where tokens stand.
+//! Tables of ordinals by token, and where tokens are.
 
 ghost use Rattle.std.specs.Prelude.{◌≡◌};
 ghost use Rattle.ob0_scope_rules.specs.Resolution.{ordinal_in, span_at};
@@ -15,7 +15,7 @@ pub fn ordinal_at(ordinals: &[Option<usize>], token: usize) -> Option<usize>
     }
 }
 
-/// Where a token stands; the text's start where there is no such token.
+/// Where a token is; the text's start where there is no such token.
 pub fn token_span(tokens: &Tokens, token: usize) -> Span
     ensures { result ≡ span_at tokens.now token }
 {

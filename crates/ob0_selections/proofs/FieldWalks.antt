@@ -1,4 +1,4 @@
--- A walk over the items of a list, which puts the fields that are declared in each behind what was found before.
+-- A walk over the items of a list, which puts the fields that are declared in each after what was found before.
 use Rattle.std.proofs.Common.{◌≡◌, ℕ, ◌≤◌, List, ◌++◌, length, drop, Option, sym, ap, ◌∙◌, append-nil}
 use Rattle.std.proofs.lemmas.List.{drop_all}
 use Rattle.ob0_selections.specs.FieldTypes.{typed_fields}

@@ -1,4 +1,4 @@
--- A designator's selectors one by one, each from the type behind the one before.
+-- A designator's selectors one by one, each from the type after the one before.
 use Rattle.std.proofs.Common.{◌≡◌, ℕ, ◌+◌, ◌<◌, ◌≤◌, List, [], ◌∷◌, ◌++◌, length, get_or, drop, Some, None, Option, option_and_then, refl, sym, ap, ◌∙◌, append_assoc, append-nil}
 use Rattle.std.proofs.lemmas.List.{drop_all, drop_more}
 use Rattle.ob0_tree.specs.declared.tree.Selector.{Selector}
@@ -19,7 +19,7 @@ path_end : {N P : Type 0} (m : Meanings N Shape P) (base : Option Shape) → pat
 path_end m None = refl
 path_end m (Some s) = refl
 
--- what was found, with what is still selected from the type behind, is what was there at first with all that the path selects
+-- what was found, with what is still selected from the type after, is what was there at first with all that the path selects
 pub record OnPath (m : Meanings ℕ Shape Signature) (start : List (Selected ℕ)) (base : Option Shape) (xs : List Selector) (done : ℕ) (out : List (Selected ℕ)) (at : Option Shape) : Type 0 where
   pub so_far : out ++ path_selections m at (items_of selector_of (drop done xs)) ≡ start ++ path_selections m base (items_of selector_of xs)
 

@@ -1,5 +1,6 @@
--- The fields that a module declares, each with its type. A RECORD stands in the declaration of a type, a variable or a
+-- The fields that a module declares, each with its type. A RECORD is in the declaration of a type, a variable or a
 -- parameter; by what this declares it is known what type the RECORD is, and its field is what the field's name selects.
+-- Rule: docs/PROTOCOL.md, Requests on documents 4 (a field with its type, where it is declared).
 use Rattle.std.specs.Prelude.{ℕ, List, [], ◌∷◌, ◌++◌, Option, Some, None, option_and_then}
 use Rattle.ob0_scope_rules.specs.Parts.{names_listed}
 use Rattle.ob0_selections.specs.Selections.{Selected, noted}
@@ -9,6 +10,7 @@ use Rattle.ob0_types_rules.specs.Expressions.{Meanings}
 use Rattle.ob0_types_table.specs.FieldPlaces.{field_selected}
 use Rattle.ob0_values.specs.Values.{Shape, integer_shape}
 
+-- the first name of a list
 abbrev pub first_listed : {N : Type 0} → Tree N names → N
 first_listed (listed x rest) = x
 
@@ -17,6 +19,7 @@ abbrev pub field_named : {N P : Type 0} → Meanings N Shape P → Option Shape 
 field_named m None x = []
 field_named m (Some t) x = noted x (field_selected t (m.written x)) (field_type t (m.written x))
 
+-- names of one declaration as fields of a record's type
 abbrev pub fields_named : {N P : Type 0} → Meanings N Shape P → Option Shape → List N → List (Selected N)
 fields_named m t [] = []
 fields_named m t (x ∷ xs) = field_named m t x ++ fields_named m t xs
@@ -25,11 +28,12 @@ fields_named m t (x ∷ xs) = field_named m t x ++ fields_named m t xs
 abbrev pub type_named : {N P : Type 0} → Meanings N Shape P → Option Shape → N → Option Shape
 type_named m t x = option_and_then (λ r. field_type r (m.written x)) t
 
+-- the type of an array's elements
 abbrev pub type_of_elements : Option Shape → Option Shape
 type_of_elements t = option_and_then (λ a. element_type a integer_shape) t
 
 -- All fields that are declared in a tree, each with its type. Where the tree is a type or a part of one, `t` is the type
--- that it stands in; names that are declared together have one type.
+-- that it is in; names that are declared together have one type.
 abbrev pub typed_fields : {N P : Type 0} {s : Sort} → Meanings N Shape P → Option Shape → Tree N s → List (Selected N)
 typed_fields m t none = []
 typed_fields m t (one part) = typed_fields m t part

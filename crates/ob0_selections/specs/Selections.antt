@@ -1,4 +1,5 @@
 -- Which field of which record each selector selects.
+-- Rule: docs/PROTOCOL.md, Requests on documents 4 (a field with its type, where it is selected).
 use Rattle.std.specs.Prelude.{ℕ, List, [], ◌∷◌, ◌++◌, Some, None, Option, option_and_then}
 use Rattle.ob0_scope_rules.specs.Resolution.{Resolution, ordinal_in}
 use Rattle.ob0_tree.specs.Places.{text_at}
@@ -10,7 +11,7 @@ use Rattle.ob0_types_rules.specs.Typing.{element_type, field_type, object_type}
 use Rattle.ob0_types_rules.specs.WellTyped.{Signature}
 use Rattle.ob0_values.specs.Values.{Shape, integer_shape}
 
--- the type behind a selector; every index is an INTEGER
+-- the type after a selector; every index is an INTEGER
 abbrev pub type_behind : {N P : Type 0} → Meanings N Shape P → Shape → Tree N (item selector) → Option Shape
 type_behind m s (field x) = field_type s (m.written x)
 type_behind m s (index e) = element_type s integer_shape
@@ -25,6 +26,7 @@ pub record Selected (N : Type 0) : Type 0 where
 abbrev pub name_and_field : {N : Type 0} → Selected N → N × FieldOf
 name_and_field s = (s.name, s.selects)
 
+-- an identifier with the field that it selects, where it selects one
 abbrev pub noted : {N : Type 0} → N → Option FieldOf → Option Shape → List (Selected N)
 noted x None t = []
 noted x (Some f) None = []
@@ -97,6 +99,6 @@ selections m (begins s) = selections m s
 selections m (has_body ds b) = selections m ds ++ selections m b
 selections m (is_module name b closing) = selections m b
 
--- What the names at tokens stand for. Each is bound to one declaration, and stands for what that declares.
+-- What the names at tokens mean. Each is bound to one declaration, and means what that declares.
 abbrev pub token_meaning : (ℕ → Option (Object Shape Signature)) → Resolution → Meanings ℕ Shape Signature
 token_meaning objects r = record { stands_for = λ token. option_and_then objects (ordinal_in r.ordinals token); written = λ token. text_at r.module_read.source token }

@@ -124,7 +124,7 @@ impl<'a, 't> Declaring<'a, 't> {
         Ok(())
     }
 
-    /// What is declared in a type as it is written, by the type that it stands for.
+    /// What is declared in a type as it is written, by the type that it means.
     #[cycle(types)]
     fn written_type(
         &self,

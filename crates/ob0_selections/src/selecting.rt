@@ -92,7 +92,7 @@ impl<'a, 't> Selecting<'a, 't> {
         Ok(behind)
     }
 
-    /// The type behind a selector; what it selects is noted.
+    /// The type after a selector; what it selects is noted.
     fn step(
         &self,
         found: &mut Selections,

@@ -1,4 +1,5 @@
 -- The statuses with which a conversation that broke off ends.
+-- Rule: docs/PROTOCOL.md, The program 8.
 use Rattle.std.specs.Prelude.{ℕ}
 use Rattle.ob0_session.specs.declared.serving.ServeFault.{ServeFault}
 use Rattle.ob0_session.specs.declared.serving.ServeFault.TheVariants as fault

@@ -1,4 +1,5 @@
 -- In which unit positions are counted.
+-- Rule: docs/PROTOCOL.md, Capabilities (`positionEncoding`), Positions 1.
 use Rattle.std.specs.Prelude.{if◌then◌else◌}
 use Rattle.ob0_text.specs.declared.positions.Unit.{Unit}
 use Rattle.ob0_text.specs.declared.positions.Unit.TheVariants.{Utf16, Utf8}

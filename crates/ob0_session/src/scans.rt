@@ -13,6 +13,7 @@ pub struct Scans {
 }
 
 impl Scans {
+    /// No tokens of any document.
     pub fn new(alloc: Global) -> Scans {
         Scans {
             alloc,
@@ -20,6 +21,7 @@ impl Scans {
         }
     }
 
+    /// The tokens that are kept of a document.
     pub fn get(&self, uri: &str) -> Option<&Tokens> {
         self.by_uri.get(uri)
     }
@@ -29,12 +31,14 @@ impl Scans {
         self.by_uri.remove(uri)
     }
 
+    /// Keeps the tokens of a document, and drops those that were kept of it.
     pub fn keep(&mut self, uri: &str, tokens: Tokens) -> Result<(), AllocError> {
         let key = String::from_str(self.alloc, uri)?;
         self.by_uri.insert(key, tokens)?;
         Ok(())
     }
 
+    /// Drops the tokens of a document.
     pub fn forget(&mut self, uri: &str) {
         self.take(uri);
     }

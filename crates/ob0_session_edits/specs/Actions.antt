@@ -1,4 +1,5 @@
 -- Code actions on request: a constant is inlined, here or everywhere.
+-- Rule: docs/PROTOCOL.md, Requests on documents 7.
 use Rattle.std.specs.Prelude.{◌≡◌, ◌⊎◌, ℕ, ℤ, List, [], ◌∷◌, ◌++◌, Bool, true, false, ◌&&◌, ◌||◌, min, Option, Some, None, Result, Ok, Err, Vec, codes}
 use Rattle.std.specs.List.{list_any}
 use Rattle.std.specs.Str.{bytes_eq}
@@ -37,6 +38,7 @@ pub record ActionsAsked : Type 0 where
   pub range : Range
   pub only : Option (List (List ℕ))
 
+-- a request for code actions of the code
 abbrev pub actions_asked : ActionsRequest → ActionsAsked
 actions_asked r = record { id = id_data r.id.now; client = r.client; uri = r.uri.now; version = r.version; range = r.range; only = kinds_seen r.only.now }
 
@@ -76,6 +78,7 @@ FindsInlinings unit text offset (IllTyped told) = ¬ IsWellTypedModule (utf8 tex
 
 -- ---- the message
 
+-- the title of an action
 abbrev pub title : Inlining → List ℕ
 title Here = codes "Inline here"
 title Everywhere = codes "Inline everywhere"
@@ -84,6 +87,7 @@ title Everywhere = codes "Inline everywhere"
 abbrev pub action_of : ActionsAsked → Inlining → List Edit → Data
 action_of asked how edits = action_value (workspace_edit asked.client asked.uri asked.version edits) (title how)
 
+-- an action, where its edit isn't refused
 abbrev pub action_values : ActionsAsked → Inlining → Option (Vec Edit Global) → List Data
 action_values asked how (Some edits) = action_of asked how edits.items ∷ []
 action_values asked how None = []

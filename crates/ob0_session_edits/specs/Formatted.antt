@@ -1,4 +1,5 @@
 -- Laying out a text: the edits, and the answer.
+-- Rule: docs/PROTOCOL.md, Requests on documents 8.
 use Rattle.std.specs.Prelude.{◌≡◌, ◌⊎◌, ℕ, List, Result, Ok, Err, Vec, codes}
 use Rattle.std.specs.declared.alloc.Global.{Global}
 use Rattle.serde_json.specs.Data.{Data}

@@ -1,4 +1,5 @@
 -- Renaming on request: the edits, and the answer.
+-- Rule: docs/PROTOCOL.md, Requests on documents 6.
 use Rattle.std.specs.Prelude.{◌≡◌, ◌⊎◌, ℕ, ℤ, List, codes}
 use Rattle.serde_json.specs.Data.{Data}
 use Rattle.ob0_rpc.specs.Asks.{At}
@@ -23,6 +24,7 @@ pub record RenameAsked : Type 0 where
   pub version : ℤ
   pub new : List ℕ
 
+-- a request for a rename of the code
 abbrev pub asked_of : RenameRequest → RenameAsked
 asked_of r = record { id = id_data r.id.now; client = r.client; at = at_seen r.place.now; version = r.version; new = r.new.now }
 

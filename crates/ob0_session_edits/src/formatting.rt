@@ -1,4 +1,4 @@
-// Laying out a text on request.
+//! Laying out a text on request.
 ghost use Rattle.std.specs.Prelude.{◌≡◌, IfOk};
 ghost use Rattle.std.specs.Str.{chars};
 ghost use Rattle.serde_json.specs.Data.{Data};

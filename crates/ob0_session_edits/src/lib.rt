@@ -1,4 +1,4 @@
-//! What the server answers about a text with edits, and its diagnostics: the contents of these answers and publications.
+//! The answers to requests for edits, and the diagnostics of a text: contents of answers and publications.
 #![tactic(auto)]
 
 pub mod actions;

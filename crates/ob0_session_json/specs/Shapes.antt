@@ -1,4 +1,5 @@
 -- The messages that a server writes, as JSON values. Members stand in byte order of their names.
+-- Rule: docs/PROTOCOL.md, JSON shapes 2, Capabilities.
 use Rattle.std.specs.Prelude.{◌≡◌, ℕ, ℤ, List, true, Bool, Option, Some, None, if◌then◌else◌, codes, map, string_bytes}
 use Rattle.serde_json.specs.Data.{Data, boolean, number, array, object, unsigned, Members, member, no_members, item, no_items}
 use Rattle.serde_json.specs.View.{items_view, items_of}
@@ -44,6 +45,7 @@ capabilities client = object (member (codes "capabilities") (object (server_memb
 
 -- ---- diagnostics
 
+-- a diagnostic: its code, its message and its range
 pub record Diagnostic : Type 0 where
   pub code : List ℕ
   pub said : List ℕ
@@ -70,6 +72,7 @@ hover_value said range = object (member (codes "contents") (plain_text said) (me
 abbrev pub edit_value : Edit → Data
 edit_value e = object (member (codes "newText") (text (string_bytes e.text)) (member (codes "range") (range_value e.range.start e.range.end) no_members))
 
+-- `[E,..]`
 abbrev pub edits_value : List Edit → Data
 edits_value es = array (items_of (map edit_value es))
 
@@ -104,6 +107,7 @@ diagnostic_value d =
     object (member (codes "code") (text d.code) (member (codes "message") (text d.said)
     (member (codes "range") (range_value d.start d.end) (member (codes "severity") (number (unsigned 1)) no_members))))
 
+-- `[D,..]`
 abbrev pub diagnostics_value : List Diagnostic → Data
 diagnostics_value ds = array (items_of (map diagnostic_value ds))
 
@@ -117,5 +121,6 @@ publication_params uri (Some version) ds =
     object (member (codes "diagnostics") (diagnostics_value ds) (member (codes "uri") (text uri) (member (codes "version") (whole_number version) no_members)))
 publication_params uri None ds = object (member (codes "diagnostics") (diagnostics_value ds) (member (codes "uri") (text uri) no_members))
 
+-- `textDocument/publishDiagnostics`, with a version or without
 abbrev pub publication : List ℕ → Option ℤ → List Diagnostic → Data
 publication uri version ds = notification_message (codes "textDocument/publishDiagnostics") (publication_params uri version ds)

@@ -1,4 +1,5 @@
-//! How results look as JSON: what the server can do, diagnostics, places, edits and actions, as values and as text.
+//! How results look as JSON (docs/PROTOCOL.md, JSON shapes): capabilities, diagnostics, places, edits and actions, as values
+//! and as text.
 #![tactic(auto)]
 
 pub mod results;

@@ -1,4 +1,4 @@
-// The parts of answers that no request decides.
+//! The parts of answers that no request decides.
 ghost use Rattle.std.specs.Prelude.{◌≡◌, List, IfOk, OnOk, codes, if◌then◌else◌, true};
 ghost use Rattle.serde_json.specs.Data.{boolean, object, put as with_member};
 ghost use Rattle.serde_json.specs.View.{members_view, view};

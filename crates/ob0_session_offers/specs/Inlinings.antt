@@ -1,4 +1,5 @@
 -- A constant is inlined, here or everywhere: the edits, and what they leave.
+-- Rule: docs/PROTOCOL.md, Requests on documents 7, 9, 10.
 use Rattle.std.specs.Prelude.{◌≡◌, ℕ, List, Option, Some, None, Result, Ok, Err, Vec}
 use Rattle.std.specs.declared.alloc.Global.{Global}
 use Rattle.ob0_text.specs.Patches.{patched}

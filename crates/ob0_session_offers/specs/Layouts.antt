@@ -1,4 +1,5 @@
 -- A text is laid out: the edits, and what they leave.
+-- Rule: docs/PROTOCOL.md, Requests on documents 8, 10.
 use Rattle.std.specs.Prelude.{◌≡◌, ◌<◌, ℕ, List, Some, map, length}
 use Rattle.ob0_scan.specs.Scanned.{max_text}
 use Rattle.ob0_text.specs.Patches.{patched}

@@ -1,4 +1,5 @@
 -- Questions about the name or field at a position: what is answered of a document's text.
+-- Rule: docs/PROTOCOL.md, Requests on documents 2 to 5.
 use Rattle.std.specs.Prelude.{◌≡◌, ◌⊎◌, ℕ, List, Bool, Option, Some, None, map, option_map, option_and_then}
 use Rattle.serde_json.specs.Data.{Data, null, array, no_items}
 use Rattle.serde_json.specs.View.{items_of}
@@ -36,9 +37,11 @@ renamable_in names offset = option_and_then (λ (a : told.At). can_be_renamed a.
 
 -- ---- as values, at positions of a unit: the unit, the uri and the characters of the text
 
+-- the range of a span of the text
 abbrev pub range_at : Unit → List ℕ → Span → Data
 range_at unit text span = let range = range_of (width_of unit) text span in range_value range.start range.end
 
+-- the location of a span of the text
 abbrev pub location_at : Unit → List ℕ → List ℕ → Span → Data
 location_at unit uri text span = location_in uri (range_of (width_of unit) text span)
 
@@ -46,6 +49,7 @@ location_at unit uri text span = location_in uri (range_of (width_of unit) text 
 abbrev pub hover_at : Unit → List ℕ → Shown → Data
 hover_at unit text shown = hover_value shown.text (range_at unit text shown.span)
 
+-- a value, or null
 abbrev pub or_null : Option Data → Data
 or_null (Some value) = value
 or_null None = null

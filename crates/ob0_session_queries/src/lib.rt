@@ -1,4 +1,4 @@
-//! Questions about the name or field at a position of a text, and their answers.
+//! The answers to questions about the name or field at a position of a text.
 #![tactic(auto)]
 
 mod questions;

@@ -1,4 +1,4 @@
-//! Tests of what needs a module: syntax and faults, names, runs, edits that keep the run, layout. They ask what no contract
+//! Tests of what needs a module: syntax and faults, names, runs, edits that keep the run, layout. They test what no contract
 //! says, and examples with known answers.
 #![tactic(auto)]
 

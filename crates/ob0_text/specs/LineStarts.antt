@@ -1,4 +1,5 @@
 -- Where the lines of a text start, in bytes.
+-- Rule: docs/PROTOCOL.md, Positions 2 (by bytes, for the table of lines).
 use Rattle.std.specs.Prelude.{ℕ, suc, ◌+◌, ◌<◌, ◌≤◌, if◌then◌else◌, List, [], ◌∷◌, ◌++◌, length, slice_index, refl}
 use Rattle.std.specs.Coded.{Coded, code_by, coded×, coded_list, coded_ℕ}
 use Rattle.ob0_text.specs.declared.positions.Unit.{Unit}
@@ -29,6 +30,7 @@ starts_after at (b ∷ bs) next =
 abbrev pub AllUnder : ℕ → List ℕ → Type 0
 AllUnder bound ns = (k : ℕ) → k < length ns → slice_index ns k < bound
 
+-- no number of a list is below a bound
 abbrev pub AllFrom : ℕ → List ℕ → Type 0
 AllFrom bound ns = (k : ℕ) → k < length ns → bound ≤ slice_index ns k
 
@@ -37,6 +39,7 @@ pub record TextInUnit : Type 0 where
   pub text : List ℕ
   pub unit : Unit
 
+-- the code of a text with its unit
 abbrev pub text_code : Coded TextInUnit
 text_code =
     code_by (List ℕ × Unit) (coded× (coded_list coded_ℕ) unit_code) (λ t. (t.text, t.unit)) (λ p. record { text = p.0; unit = p.1 }) (λ t. refl)

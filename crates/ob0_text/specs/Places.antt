@@ -1,10 +1,12 @@
 -- Places in a text that a pass over it has reached, and what the pass knows of all that stands behind them.
+-- Rule: none; for private contracts of passes over a text.
 use Rattle.std.specs.Prelude.{◌≡◌, ℕ, ◌+◌, ◌-◌, ◌<◌, ◌≤◌, ◌⊎◌, if◌then◌else◌, ◌==◌, List, ◌++◌, length, drop}
 use Rattle.std.specs.Str.{IsUtf8, chars}
 use Rattle.ob0_text.specs.declared.places.Place.{Place}
 use Rattle.ob0_text.specs.declared.positions.Position.{Position}
 use Rattle.ob0_text.specs.Texts.{before, byte_len, position_of}
 
+-- a position
 abbrev pub at : ℕ → ℕ → Position
 at line character = record { line = line; character = character }
 
@@ -34,6 +36,7 @@ pub record IsCounted (width : ℕ → ℕ) (text rest : List ℕ) (offset line c
   pub characters_fit : character + length rest ≤ length text
   pub same : (o : ℕ) → offset ≤ o → counted_from line character (position_of width (chars rest) (o - offset)) ≡ position_of width (chars text) o
 
+-- positions of later offsets are counted on from this place
 abbrev pub IsPlace : (ℕ → ℕ) → List ℕ → Place → Type 0
 IsPlace width text p = IsCounted width text (drop p.offset text) p.offset p.line p.character
 
@@ -43,5 +46,6 @@ pub record IsSought (width : ℕ → ℕ) (text : List ℕ) (sought : Position) 
   pub not_past : IsFrom (at line character) sought
   pub same : (p : Position) → IsFrom sought p → offset + byte_len (before width (chars rest) (left_of line character p)) ≡ byte_len (before width (chars text) p)
 
+-- a position, and each later one, is found from this place on
 abbrev pub IsPlaceBefore : (ℕ → ℕ) → List ℕ → Position → Place → Type 0
 IsPlaceBefore width text sought p = IsSought width text sought (drop p.offset text) p.offset p.line p.character

@@ -1,4 +1,5 @@
 -- Characters of a line that stand one after another, counted together.
+-- Rule: none; for private contracts of passes over a text.
 use Rattle.std.specs.Prelude.{◌≡◌, ℕ, ◌+◌, ◌-◌, ◌<◌, ◌≤◌, false, ◌||◌, ◌==◌, if◌then◌else◌, nat_lt, nat_le, List, length, take, drop, sum_by}
 use Rattle.std.specs.List.{All}
 use Rattle.std.specs.Str.{IsUtf8, chars}

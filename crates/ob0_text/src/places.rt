@@ -69,18 +69,21 @@ pub fn offsets_of(
     Ok(offsets)
 }
 
+/// The position of a byte offset, in units of `unit`.
 pub fn position_of(text: &str, unit: Unit, offset: usize) -> Position
     ensures { result ≡ position_of (width_of unit) (chars text.now) offset }
 {
     position_at(onward_to_offset(text, unit, START, offset))
 }
 
+/// The byte offset of a position in units of `unit`.
 pub fn offset_of(text: &str, unit: Unit, position: Position) -> usize
     ensures { result ≡ offset_of (width_of unit) (chars text.now) position }
 {
     onward_to_position(text, unit, START, position).offset
 }
 
+/// The position of the place that a pass has come to.
 pub fn position_at(place: Place) -> Position
     ensures { result ≡ at place.line place.character }
 {

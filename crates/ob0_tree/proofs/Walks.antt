@@ -1,4 +1,4 @@
--- A walk over the items of a list, which puts the identifiers of each behind those before.
+-- A walk over the items of a list, which puts the identifiers of each after those before.
 use Rattle.std.proofs.Common.{◌≡◌, ℕ, ◌≤◌, List, ◌++◌, length, drop, sym, ap, ◌∙◌, append_assoc, append-nil}
 use Rattle.std.proofs.lemmas.List.{drop_all}
 use Rattle.ob0_tree.specs.declared.tree.Role.{Role}

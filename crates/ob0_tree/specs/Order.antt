@@ -1,4 +1,5 @@
 -- The identifiers of a tree by their places among a text's tokens.
+-- Rule: none; for contracts: identifiers by their places.
 use Rattle.std.specs.Prelude.{◌≡◌, ℕ, ◌+◌, ◌≤◌, ◌<◌, List, [], ◌∷◌, ◌++◌, map, length}
 use Rattle.std.specs.List.{HoldsAt}
 use Rattle.ob0_scan.specs.declared.lexeme.TokenKind.{TokenKind}
@@ -13,6 +14,7 @@ abbrev pub Ascending : ℕ → List ℕ → ℕ → Type 0
 Ascending low [] high = low ≤ high
 Ascending low (x ∷ xs) high = (low ≤ x) × Ascending (x + 1) xs high
 
+-- identifiers without their roles
 abbrev pub names_only : {N : Type 0} → List (Role × N) → List N
 names_only xs = map (λ x. x.1) xs
 
@@ -34,6 +36,7 @@ identifiers_from i (t ∷ ts) = identifier_at i t.kind ++ identifiers_from (i + 
 abbrev pub IsIdentifier : List Token → ℕ → Type 0
 IsIdentifier ts i = (i < length ts) × HoldsAt (λ t. t.kind ≡ kind.Identifier) ts i
 
+-- these tokens are identifiers
 abbrev pub AreIdentifiers : List Token → List ℕ → Type 0
 AreIdentifiers ts [] = Unit {0}
 AreIdentifiers ts (i ∷ others) = IsIdentifier ts i × AreIdentifiers ts others

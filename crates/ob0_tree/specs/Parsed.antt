@@ -1,4 +1,5 @@
 -- A module as it was read from a text.
+-- Rule: none; for contracts: a module as it was read.
 use Rattle.std.specs.Prelude.{◌≡◌, ℕ, List, [], ◌∷◌, ◌++◌}
 use Rattle.ob0_scan.specs.Scanned.{Scanned}
 use Rattle.ob0_tree.specs.declared.tree.Block.{Block}

@@ -1,4 +1,5 @@
 -- Trees over the indexes of a text's tokens: each identifier and integer is the index of its token.
+-- Rule: none; for contracts: trees over indexes of tokens.
 use Rattle.std.specs.Prelude.{ℕ, ◌+◌, Option, Some, None, List, [], ◌∷◌, slice_get}
 use Rattle.ob0_scan.specs.declared.lexeme.TokenKind.{TokenKind}
 use Rattle.ob0_scan.specs.declared.lexeme.TokenKind.TheVariants as kind
@@ -18,6 +19,7 @@ abbrev pub lexemes_from : ℕ → List Token → List (Lexeme ℕ)
 lexemes_from i [] = EndOfText ∷ []
 lexemes_from i (t ∷ ts) = lexeme_of i t.kind ∷ lexemes_from (i + 1) ts
 
+-- the tokens of a text, as a tree over indexes spells them
 abbrev pub lexemes : List Token → List (Lexeme ℕ)
 lexemes ts = lexemes_from 0 ts
 
@@ -31,6 +33,7 @@ abbrev pub value_of : TokenKind → ℕ
 value_of (kind.Integer value) = value
 value_of _ = 0
 
+-- the value of a token; 0 where it isn't an integer
 abbrev pub value_in : Option Token → ℕ
 value_in None = 0
 value_in (Some t) = value_of t.kind
@@ -39,6 +42,7 @@ value_in (Some t) = value_of t.kind
 abbrev pub text_at : Scanned → ℕ → List ℕ
 text_at s i = text_in s.text (slice_get s.tokens i)
 
+-- the value of the token with this index
 abbrev pub value_at : Scanned → ℕ → ℕ
 value_at s i = value_in (slice_get s.tokens i)
 

@@ -1,4 +1,5 @@
 -- The syntax trees of the language: one family of trees, with a sort for each nonterminal.
+-- Rule: docs/LANGUAGE.md, Grammar 1, Nesting and limits 1.
 use Rattle.std.specs.Prelude.{ℕ, ◌+◌, Option, List, [], ◌∷◌, ◌++◌, max}
 use Rattle.ob0_scan.specs.declared.lexeme.TokenKind.{TokenKind}
 use Rattle.ob0_scan.specs.declared.lexeme.TokenKind.TheVariants as kind
@@ -12,7 +13,7 @@ use Rattle.ob0_tree.specs.declared.tree.Role.{Role}
 use Rattle.ob0_tree.specs.declared.tree.Role.TheVariants as role
 use Rattle.ob0_tree.specs.Lexeme.{Lexeme, Name, Number, Mark, relation_mark, sign_marks, add_mark, multiply_mark}
 
--- What may stand again and again, or once or not at all, behind something else.
+-- What may be again and again, or once or not at all, after something else.
 pub data Item : Type 0 where
   selector : Item
   multiplier : Item
@@ -36,6 +37,7 @@ pub data Item : Type 0 where
   procedure : Item
   body : Item
 
+-- the nonterminals, by which trees are indexed
 pub data Sort : Type 0 where
   item : Item → Sort
   items : Item → Sort
@@ -110,7 +112,7 @@ pub data Tree (N : Type 0) : Sort → Type 0 where
   has_body : Tree N declarations → Tree N (maybe body) → Tree N block
   is_module : N → Tree N block → N → Tree N module_text
 
--- what stands in place of a name, or a kind of token, alone
+-- what is in place of a name, or a kind of token, alone
 abbrev pub mark : {N : Type 0} → TokenKind → List (Lexeme N)
 mark k = Mark k ∷ []
 
@@ -173,7 +175,7 @@ spell (has_body ds b) = spell ds ++ spell b
 spell (is_module name b closing) =
     Mark (kind.Reserved reserved.Module) ∷ Name name ∷ Mark (kind.Symbol symbol.Semicolon) ∷ (spell b ++ (Mark (kind.Reserved reserved.End) ∷ Name closing ∷ mark (kind.Symbol symbol.Dot)))
 
--- How deep constructs stand in one another: those of these productions count.
+-- How deeply constructs are nested: those of these productions count.
 abbrev pub nesting : {N : Type 0} {s : Sort} → Tree N s → ℕ
 nesting none = 0
 nesting (one t) = nesting t

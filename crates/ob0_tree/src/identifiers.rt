@@ -1,4 +1,4 @@
-// The walk over the identifiers of a module.
+//! The walk over the identifiers of a module.
 
 ghost use Rattle.std.specs.Prelude.{◌≡◌, ◌++◌, ◌∷◌, [], IfOk};
 ghost use Rattle.ob0_tree.specs.declared.tree.Role.TheVariants as roles;
@@ -13,11 +13,11 @@ use crate::tree::{
 };
 use std::alloc::{AllocError, Global};
 
-/// Identifiers in text order: what each is where it stands, and the index of its token.
+/// Identifiers in text order: what each is where it is, and the index of its token.
 pub type Found = Vec<(Role, usize)>;
 
 impl<'t> Module<'t> {
-    /// Every identifier of the module in text order: what it is where it stands, and the index of its token.
+    /// Every identifier of the module in text order: what it is where it is, and the index of its token.
     pub fn identifiers(&self, alloc: Global) -> Result<Vec<(Role, usize)>, AllocError>
         ensures { IfOk result (λ v. v.items ≡ identifiers roles.Declaring (tree_of self.now)) }
     {

@@ -1,4 +1,4 @@
-// How deep the constructs of a module stand in one another.
+//! How deeply the constructs of a module are nested.
 
 ghost use Rattle.std.specs.Prelude.{◌≡◌, ◌+◌};
 ghost use Rattle.ob0_tree.specs.Tree.{nesting};
@@ -13,11 +13,12 @@ use crate::tree::{
 };
 
 impl<'t> Module<'t> {
-    /// The greatest number of constructs that stand in one another: parenthesised and negated factors, indexes,
+    /// The greatest number of constructs that are in one another: parenthesised and negated factors, indexes,
     /// IF, WHILE and REPEAT, array and record types, and procedures. At most 100.
     pub fn nesting(&self) -> u32
         ensures { result ≡ nesting (tree_of self.now) }
     {
+        // For the proof: what the contract of this call says.
         let _parsed = self.tokens();
         block(self.block())
     }

@@ -1,4 +1,5 @@
 -- A checked module: its names, and what was told of it.
+-- Rule: docs/LANGUAGE.md, Types 8, Faults of scopes and types 1.
 use Rattle.std.specs.Prelude.{◌≡◌, ℕ, ◌≤◌, Bool, true, List, [], length, ◌↔◌, IfSome, is_some, Option}
 use Rattle.ob0_scan.specs.declared.fault.Fault.{Fault}
 use Rattle.ob0_scope_rules.specs.Resolution.{Resolution, IsResolution}
@@ -10,6 +11,7 @@ use Rattle.ob0_types_table.specs.KnownTables.{Tables, declared_in}
 use Rattle.ob0_types_rules.specs.WellTyped.{WellTyped}
 use Rattle.ob0_types.specs.FaultOrder.{AreFirstFaults}
 
+-- a checked module: its names, its faults, and the table of what it declares
 pub record CheckedModule : Type 0 where
   pub names : Resolution
   pub faults : List Fault

@@ -1,4 +1,5 @@
 -- The type of a declaration.
+-- Rule: docs/LANGUAGE.md, Types 1.
 use Rattle.ob0_types_table.specs.KnownTables.{shapes_of}
 use Rattle.ob0_types_table.specs.Tables.{type_shape}
 use Rattle.ob0_types.specs.declared.checked.Shape as declared

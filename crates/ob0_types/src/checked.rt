@@ -257,6 +257,7 @@ impl<'c, 't> WellTyped<'c, 't> {
     pub fn constant(&self, declaration: usize) -> Option<Scalar>
         ensures { option_map scalar_value result ≡ value_of_constant (named_tree_of self.now.module_read) declaration }
     {
+        // For the proof: what the contract of this call says.
         let _module = self.resolved();
         let value = self.known().constant(declaration);
         if declaration < PREDECLARED {

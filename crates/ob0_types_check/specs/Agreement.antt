@@ -1,4 +1,5 @@
 -- What is known while faults are told, and what names and types are by the definitions of types: where they agree.
+-- Rule: none; for laws: what is known against what names and types are.
 use Rattle.std.specs.Prelude.{◌≡◌, ℕ, true, List, [], ◌∷◌, Option, Some, None, option_map, option_and_then, is_some, slice_get}
 use Rattle.ob0_scope_rules.specs.Names.{Name}
 use Rattle.ob0_types_table.specs.declared.types.TypeId.{TypeId}
@@ -61,6 +62,7 @@ TokenAgrees facts shape label meaning role.Declaring x = Unit {0}
 TokenAgrees facts shape label meaning role.ClosingName x = Unit {0}
 TokenAgrees facts shape label meaning role.ModuleName x = Unit {0}
 
+-- what is known of each looked-up name is what it means, and fields are written as in the text
 abbrev pub TokensAgree : {T N : Type 0} → Facts T → (T → Option Shape) → (ℕ → N) → Typed N → List (Role × ℕ) → Type 0
 TokensAgree facts shape label meaning [] = Unit {0}
 TokensAgree facts shape label meaning (x ∷ xs) = TokenAgrees facts shape label meaning x.0 x.1 × TokensAgree facts shape label meaning xs
@@ -77,6 +79,7 @@ as_array boolean_shape = None
 as_array (array_shape k n s) = Some (array_shape k n s)
 as_array (record_shape k fs) = None
 
+-- a type that is a record
 abbrev pub as_record : Shape → Option Shape
 as_record integer_shape = None
 as_record boolean_shape = None
@@ -96,11 +99,13 @@ abbrev pub PartsAgree : (TypeId → Option Shape) → Parts → Shape → Type 0
 PartsAgree shape (of_elements t) s = FormAgrees shape (an_array t) s
 PartsAgree shape (of_fields fields) s = FormAgrees shape (a_record fields) s
 
+-- what is known of an array or record is as its type says, with its size
 pub record MadeAgrees (shape : TypeId → Option Shape) (m : Made) (s : Shape) : Type 0 where
   pub parts : PartsAgree shape m.parts s
   pub scalars : m.size.scalars ≡ typing.scalars s
   pub depth : m.size.depth ≡ typing.depth s
 
+-- each array and record that was made agrees with its type
 abbrev pub EachMade : (TypeId → Option Shape) → List Made → List Shape → Type 0
 EachMade shape [] [] = Unit {0}
 EachMade shape [] (s ∷ ss) = ⊥

@@ -1,5 +1,6 @@
 -- The faults of a module's declarations and bodies in the order in which they are told: in text order, each declaration known
 -- behind its text.
+-- Rule: docs/LANGUAGE.md, Faults of scopes and types 2 to 11.
 use Rattle.std.specs.Prelude.{ℕ, Bool, true, false, List, [], ◌++◌, map}
 use Rattle.std.specs.List.{filter}
 use Rattle.ob0_scan.specs.declared.fault.Fault.{Fault}
@@ -22,6 +23,7 @@ constant_declared p (declares_constant x e) = do
   v ← told_constant (facts_at p true) e
   right (define p (a_constant v) x)
 
+-- the faults of constants, each known after its right side
 unfoldable pub reported_constants : SoFar → Tree ℕ (items constant) → Reported SoFar
 unfolding constant_declared
 reported_constants p end = right p
@@ -36,6 +38,7 @@ type_declared p (declares_type x t) = do
   u ← told_type p t
   right (define u.behind (a_type u.of) x)
 
+-- the faults of types, each known after its right side
 unfoldable pub told_types : SoFar → Tree ℕ (items type_name) → Reported SoFar
 unfolding type_declared
 told_types p end = right p
@@ -50,6 +53,7 @@ variables_declared p (declares_variable ns t) = do
   u ← told_type p t
   right (define_all u.behind (a_variable u.of) (names_listed ns))
 
+-- the faults of variables, each known after its type
 unfoldable pub told_variables : SoFar → Tree ℕ (items variable) → Reported SoFar
 unfolding variables_declared
 told_variables p end = right p
@@ -66,17 +70,20 @@ pub record Heading : Type 0 where
 abbrev pub with_parameters : Heading → Bool → List ℕ → Typed → Heading
 with_parameters h by_place xs t = record { formals = h.formals ++ map (λ x. record { by_place = by_place; of = t.of }) xs; behind = define_all t.behind (a_variable t.of) xs }
 
+-- the faults of parameters of one type
 unfoldable pub told_parameters : Heading → Bool → Tree ℕ names → Tree ℕ written_type → Reported Heading
 unfolding told_type
 told_parameters h by_place ns t = do
   u ← told_type h.behind t
   right (with_parameters h by_place (names_listed ns) u)
 
+-- the faults of a section of parameters
 unfoldable pub told_section : Heading → Tree ℕ (item further_section) → Reported Heading
 unfolding told_parameters
 told_section h (then_section (value_section ns t)) = told_parameters h false ns t
 told_section h (then_section (variable_section ns t)) = told_parameters h true ns t
 
+-- the faults of a heading's sections
 unfoldable pub told_sections : Heading → Tree ℕ (items further_section) → Reported Heading
 unfolding told_section
 told_sections h end = right h
@@ -88,6 +95,7 @@ told_sections h (more s rest) = do
 abbrev pub behind_heading : ℕ → Heading → SoFar
 behind_heading x h = define h.behind (a_procedure h.formals) x
 
+-- the faults of a body's statements
 unfoldable pub told_body : SoFar → Tree ℕ (maybe body) → Reported SoFar
 unfolding told_sequence
 told_body p none = right p

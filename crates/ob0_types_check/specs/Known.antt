@@ -1,4 +1,5 @@
 -- What is known of types, names and operands while faults are told. A type may be unknown, as a whole or in parts.
+-- Rule: docs/LANGUAGE.md, Faults of scopes and types 2.
 use Rattle.std.specs.Prelude.{ℕ, Bool, List, Option}
 use Rattle.ob0_scan.specs.declared.fault.Fault.{Fault}
 use Rattle.ob0_scan.specs.Scanned.{Scanned}

@@ -1,4 +1,5 @@
 -- The law of what is told of a module: where nothing is told, it fits.
+-- Rule: none; laws of reported faults.
 use Rattle.std.specs.Prelude.{◌≡◌, true, []}
 use Rattle.ob0_scope_rules.specs.Names.{as_names}
 use Rattle.ob0_scope_rules.specs.Resolution.{IsResolution, Resolution}

@@ -1,4 +1,5 @@
 -- What operations, names and selectors ask for: the faults that are told of them, and what is known of what they give.
+-- Rule: docs/LANGUAGE.md, Types 2, 3, Faults of scopes and types 3, 5.
 use Rattle.std.specs.Prelude.{◌≡◌, ℕ, ◌+◌, ◌-◌, nat_lt, Bool, true, false, ◌||◌, List, [], ◌∷◌, ◌++◌, length, if◌then◌else◌, Option, Some, None, option_and_then, pos}
 use Rattle.ob0_scan.specs.declared.fault.Code.{Code}
 use Rattle.ob0_scan.specs.declared.fault.Code.TheVariants as code
@@ -42,6 +43,7 @@ pub record Tells {A : Type 0} (before after : List Fault) (x : A) (t : Reported 
 abbrev pub token_before : ℕ → ℕ
 token_before token = token - 1
 
+-- the token after this one; the end of the text is the last
 abbrev pub token_behind : Scanned → ℕ → ℕ
 token_behind source token = if nat_lt token (length source.tokens) then token + 1 else token
 
@@ -49,12 +51,15 @@ token_behind source token = if nat_lt token (length source.tokens) then token + 
 abbrev pub fault_between : Scanned → Code → ℕ → ℕ → Fault
 fault_between source c first last = record { code = c; span = record { start = (span_at source first).start; end = (span_at source last).end } }
 
+-- a fault from one token to another
 abbrev pub at_tokens : {T : Type 0} → Facts T → Code → ℕ → ℕ → List Fault
 at_tokens facts c first last = fault_between facts.source c first last ∷ []
 
+-- a fault at one token
 abbrev pub at_token : {T : Type 0} → Facts T → Code → ℕ → List Fault
 at_token facts c token = at_tokens facts c token token
 
+-- a fault at an operand
 abbrev pub at_operand : {T : Type 0} → Facts T → Code → Operand T → List Fault
 at_operand facts c o = at_tokens facts c o.first o.last
 
@@ -111,19 +116,23 @@ truth_of types t = if types.same t types.unknown then types.unknown else types.b
 abbrev pub joined : {T : Type 0} → T → Option Value → Operand T → Operand T → Operand T
 joined of value a b = record { of = of; value = value; is_place = false; first = a.first; last = b.last }
 
+-- an operand with its sign
 abbrev pub behind_sign : {T : Type 0} → T → Option Value → Operand T → Operand T
 behind_sign of value o = record { of = of; value = value; is_place = false; first = token_before o.first; last = o.last }
 
+-- the faults of `+`, `-` and OR, and what they give
 abbrev pub added : {T : Type 0} → Facts T → AddOperator → Operand T → Operand T → Reported (Operand T)
 added facts o a b = do
   t ← asked_both facts (wanted_by_add facts.types o) a b
   right (joined t (option_and_then (sum_value o b.value) a.value) a b)
 
+-- the faults of `*`, DIV, MOD and `&`, and what they give
 abbrev pub multiplied : {T : Type 0} → Facts T → MultiplyOperator → Operand T → Operand T → Reported (Operand T)
 multiplied facts o a b = do
   t ← asked_both facts (wanted_by_multiply facts.types o) a b
   right (joined t (option_and_then (product_value o b.value) a.value) a b)
 
+-- the faults of a relation, and what it gives
 abbrev pub related : {T : Type 0} → Facts T → Relation → Operand T → Operand T → Reported (Operand T)
 related facts r a b = do
   t ← asked_both facts (wanted_by_relation facts.types r a.of) a b
@@ -136,6 +145,7 @@ signed facts (Some s) o = do
   t ← required facts facts.types.integer o
   right (behind_sign t (option_and_then (λ x. given_value (with_sign (Some s) x)) o.value) o)
 
+-- the faults of `~`, and what it gives
 abbrev pub complemented : {T : Type 0} → Facts T → Operand T → Reported (Operand T)
 complemented facts o = do
   t ← required facts facts.types.boolean o
@@ -145,6 +155,7 @@ complemented facts o = do
 abbrev pub a_number : {T : Type 0} → Facts T → ℕ → Operand T
 a_number facts token = record { of = facts.types.integer; value = Some (number (pos (value_at facts.source token))); is_place = false; first = token; last = token }
 
+-- an expression in parentheses
 abbrev pub enclosed : {T : Type 0} → Facts T → Operand T → Operand T
 enclosed facts o = record { of = o.of; value = o.value; is_place = false; first = token_before o.first; last = token_behind facts.source o.last }
 
@@ -152,6 +163,7 @@ enclosed facts o = record { of = o.of; value = o.value; is_place = false; first 
 abbrev pub a_name : {T : Type 0} → T → ℕ → Operand T
 a_name of token = record { of = of; value = None; is_place = true; first = token; last = token }
 
+-- a constant is INTEGER or BOOLEAN, by its value
 abbrev pub value_type : {T : Type 0} → Types T → Option Value → T
 value_type types None = types.unknown
 value_type types (Some (number n)) = types.integer
@@ -159,6 +171,7 @@ value_type types (Some (truth b)) = types.boolean
 value_type types (Some (elements vs)) = types.unknown
 value_type types (Some (members k ms)) = types.unknown
 
+-- the name of a constant
 abbrev pub a_constant_name : {T : Type 0} → Types T → Option Value → ℕ → Operand T
 a_constant_name types v token = record { of = value_type types v; value = v; is_place = false; first = token; last = token }
 
@@ -173,6 +186,7 @@ named_value facts token (Some (a_variable t)) =
 named_value facts token (Some (a_type t)) = record { known = a_name facts.types.unknown token; faults = at_token facts code.WrongKind token }
 named_value facts token (Some (a_procedure fs)) = record { known = a_name facts.types.unknown token; faults = at_token facts code.WrongKind token }
 
+-- a name where a value is required
 abbrev pub named : {T : Type 0} → Facts T → ℕ → Reported (Operand T)
 named facts token = named_value facts token (facts.stands_for token)
 
@@ -185,12 +199,14 @@ abbrev pub found_field : {T : Type 0} → Facts T → ℕ → Option T → Repor
 found_field facts token None = record { known = facts.types.unknown; faults = at_token facts code.NoField token }
 found_field facts token (Some t) = right t
 
+-- a field of a type, or the fault that it has none
 abbrev pub field_in : {T : Type 0} → Facts T → ℕ → Form T → Reported T
 field_in facts token (a_record fields) = found_field facts token (fields (text_at facts.source token))
 field_in facts token unknown_form = right facts.types.unknown
 field_in facts token a_scalar = record { known = facts.types.unknown; faults = at_token facts code.NotRecord (token_before token) }
 field_in facts token (an_array t) = record { known = facts.types.unknown; faults = at_token facts code.NotRecord (token_before token) }
 
+-- a designator after one more field
 abbrev pub field_selected : {T : Type 0} → Facts T → Operand T → ℕ → Reported (Operand T)
 field_selected facts o token = do
   t ← field_in facts token (facts.types.form o.of)

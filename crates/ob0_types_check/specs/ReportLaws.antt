@@ -1,4 +1,5 @@
 -- Laws of what is told: expressions and statements of which nothing is told fit. N stands for names.
+-- Rule: none; laws of reported faults.
 use Rattle.std.specs.Prelude.{◌≡◌, ℕ, Bool, true, false, List, [], Option, Some, is_some}
 use Rattle.ob0_tree.specs.Places.{value_at}
 use Rattle.ob0_tree.specs.Tree.{Tree, expression, mapped, sequence}
@@ -43,6 +44,7 @@ pub record ConstantFits {N : Type 0} (meaning : Typed N) (told : Option Value) (
   pub given : constant_value meaning e ≡ Some value
   pub scalar : is_some (value_type value) ≡ true
 
+-- a constant's right side without a reported fault has the value that is known
 abbrev pub ConstantsFit : Type 0 → Type 0
 ConstantsFit N =
     (p : SoFar) (shapes : List Shape) (label : ℕ → N) (meaning : Typed N) (e : Tree ℕ expression)
@@ -57,6 +59,7 @@ pub record LengthFits {N : Type 0} (meaning : Typed N) (told : Option ℕ) (e : 
   pub given : constant_value meaning e ≡ Some value
   pub counted : array_length value ≡ Some length
 
+-- an array's length without a reported fault is the one that is known
 abbrev pub LengthsFit : Type 0 → Type 0
 LengthsFit N =
     (p : SoFar) (shapes : List Shape) (label : ℕ → N) (meaning : Typed N) (e : Tree ℕ expression)

@@ -1,5 +1,6 @@
 -- What is known at a place of a module while its faults are told: of the declarations before it, and of the arrays and records
 -- before it.
+-- Rule: docs/LANGUAGE.md, Scopes 2, Faults of scopes and types 2.
 use Rattle.std.specs.Prelude.{ℕ, nat_le, Bool, true, false, ◌==◌, ◌&&◌, List, [], ◌∷◌, ◌++◌, length, map, slice_get, slice_index_or, slice_set, if◌then◌else◌, Option, Some, None, option_and_then}
 use Rattle.ob0_scan.specs.declared.fault.Code.TheVariants as code
 use Rattle.ob0_scan.specs.Scanned.{Scanned}
@@ -21,6 +22,7 @@ pub data Parts : Type 0 where
   of_elements : TypeId → Parts
   of_fields : (Name → Option TypeId) → Parts
 
+-- an array or record that was made: its parts and its size
 pub record Made : Type 0 where
   pub parts : Parts
   pub size : Size
@@ -42,22 +44,27 @@ same_type (type.Array i) (type.Array j) = i == j
 same_type (type.Record i) (type.Record j) = i == j
 same_type _ _ = false
 
+-- the type of an array's elements
 abbrev pub elements_in : Parts → TypeId
 elements_in (of_elements t) = t
 elements_in (of_fields fields) = type.Unknown
 
+-- the type of an array's elements; unknown where there is no array
 abbrev pub elements_at : Option Made → TypeId
 elements_at None = type.Unknown
 elements_at (Some m) = elements_in m.parts
 
+-- the type of a record's field
 abbrev pub field_in : Parts → Name → Option TypeId
 field_in (of_elements t) x = None
 field_in (of_fields fields) x = fields x
 
+-- the type of a record's field, if there is a record
 abbrev pub field_at : Option Made → Name → Option TypeId
 field_at None x = None
 field_at (Some m) x = field_in m.parts x
 
+-- what a type is: a scalar, an array, a record, or unknown
 abbrev pub form_at : List Made → TypeId → Form TypeId
 form_at made type.Integer = a_scalar
 form_at made type.Boolean = a_scalar
@@ -65,6 +72,7 @@ form_at made (type.Array i) = an_array (elements_at (slice_get made i))
 form_at made (type.Record i) = a_record (field_at (slice_get made i))
 form_at made type.Unknown = unknown_form
 
+-- the types that are known so far
 abbrev pub types_at : List Made → Types TypeId
 types_at made = record { integer = type.Integer; boolean = type.Boolean; unknown = type.Unknown; same = same_type; form = form_at made }
 
@@ -72,6 +80,7 @@ types_at made = record { integer = type.Integer; boolean = type.Boolean; unknown
 abbrev pub stands_at : SoFar → ℕ → Option (Meaning TypeId)
 stands_at p token = option_and_then (λ k. slice_index_or p.declared k None) (ordinal_in p.ordinals token)
 
+-- what is known at a place, everywhere or in constant expressions alone
 abbrev pub facts_at : SoFar → Bool → Facts TypeId
 facts_at p only_constants = record { source = p.source; types = types_at p.made; stands_for = stands_at p; only_constants = only_constants }
 
@@ -80,9 +89,11 @@ abbrev pub with_declared : SoFar → Meaning TypeId → Option ℕ → SoFar
 with_declared p m None = p
 with_declared p m (Some k) = record { source = p.source; ordinals = p.ordinals; declared = slice_set p.declared k (Some m); made = p.made }
 
+-- a declaration becomes known
 abbrev pub define : SoFar → Meaning TypeId → ℕ → SoFar
 define p m token = with_declared p m (ordinal_in p.ordinals token)
 
+-- declarations of one type become known
 abbrev pub define_all : SoFar → Meaning TypeId → List ℕ → SoFar
 define_all p m [] = p
 define_all p m (x ∷ xs) = define_all (define p m x) m xs
@@ -91,13 +102,16 @@ define_all p m (x ∷ xs) = define_all (define p m x) m xs
 abbrev pub one_scalar : Size
 one_scalar = record { scalars = 1; depth = 0 }
 
+-- the size of nothing
 abbrev pub no_scalar : Size
 no_scalar = record { scalars = 0; depth = 0 }
 
+-- the size of an array or record
 abbrev pub size_made : Option Made → Size
 size_made None = one_scalar
 size_made (Some m) = m.size
 
+-- the size of a type; what is unknown counts nothing
 abbrev pub size_at : List Made → TypeId → Size
 size_at made type.Integer = one_scalar
 size_at made type.Boolean = one_scalar
@@ -114,6 +128,7 @@ pub record Typed : Type 0 where
   pub of : TypeId
   pub behind : SoFar
 
+-- the type of the array or record at this place of the list
 abbrev pub type_with : Parts → ℕ → TypeId
 type_with (of_elements t) k = type.Array k
 type_with (of_fields fields) k = type.Record k
@@ -125,9 +140,11 @@ made p parts size = record {
   behind = record { source = p.source; ordinals = p.ordinals; declared = p.declared; made = p.made ++ record { parts = parts; size = size } ∷ [] };
 }
 
+-- `TypeTooLarge` at the word ARRAY or RECORD, and an unknown type
 abbrev pub too_large : SoFar → ℕ → Reported Typed
 too_large p word = record { known = record { of = type.Unknown; behind = p }; faults = at_token (facts_at p false) code.TypeTooLarge word }
 
+-- an array or record of its own, or `TypeTooLarge`
 abbrev pub make : SoFar → ℕ → Parts → Size → Reported Typed
 make p word parts size = if is_within size then right (made p parts size) else too_large p word
 

@@ -1,4 +1,5 @@
 -- The faults of statements in the order in which they are told: those of each part from left to right, statement by statement.
+-- Rule: docs/LANGUAGE.md, Types 2, 5, Faults of scopes and types 5, 7 to 9.
 use Rattle.std.specs.Prelude.{ℕ, nat_eq, ◌&&◌, not, List, [], ◌∷◌, ◌++◌, length, Option, Some, None, if◌then◌else◌}
 use Rattle.ob0_scan.specs.declared.fault.Code.TheVariants as code
 use Rattle.ob0_scan.specs.declared.fault.Fault.{Fault}
@@ -26,6 +27,7 @@ assigned_meaning facts token (Some (a_type t)) = record { known = facts.types.un
 assigned_meaning facts token (Some (a_procedure fs)) = record { known = facts.types.unknown; faults = at_token facts code.WrongKind token }
 assigned_meaning facts token None = right facts.types.unknown
 
+-- what a name may be assigned, and its fault
 abbrev pub assigned : {T : Type 0} → Facts T → ℕ → Reported T
 assigned facts token = assigned_meaning facts token (facts.stands_for token)
 
@@ -46,6 +48,7 @@ passed facts f o =
     if f.by_place && not o.is_place then record { known = facts.types.unknown; faults = at_operand facts code.NotVariable o }
     else required facts f.of o
 
+-- the faults of an argument
 unfoldable pub told_argument : {T : Type 0} → Facts T → Formal T → Tree ℕ expression → List Fault
 unfolding told_expression
 told_argument facts f e = (told_expression facts e >>= passed facts f).faults
@@ -70,6 +73,7 @@ called facts p (Some (a_constant v)) es = at_token facts code.WrongKind p ++ tol
 called facts p (Some (a_variable t)) es = at_token facts code.WrongKind p ++ told_parts facts es
 called facts p None es = told_parts facts es
 
+-- the faults of a call
 abbrev pub reported_call : {T : Type 0} → Facts T → ℕ → List (Tree ℕ expression) → List Fault
 reported_call facts p es = called facts p (facts.stands_for p) es
 

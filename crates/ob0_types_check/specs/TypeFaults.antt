@@ -1,4 +1,5 @@
 -- The faults of types as they are written and of constants, and what is known of them.
+-- Rule: docs/LANGUAGE.md, Faults of scopes and types 4, 6, `ConstFault`, `ArrayLength`.
 use Rattle.std.specs.Prelude.{ℕ, Option, Some, None, if◌then◌else◌}
 use Rattle.ob0_scan.specs.declared.fault.Code.TheVariants as code
 use Rattle.ob0_tree.specs.Tree.{Tree, expression}
@@ -16,6 +17,7 @@ type_meant facts token (Some (a_variable t)) = record { known = facts.types.unkn
 type_meant facts token (Some (a_procedure fs)) = record { known = facts.types.unknown; faults = at_token facts code.WrongKind token }
 type_meant facts token None = right facts.types.unknown
 
+-- a name where a type is required
 abbrev pub type_named : {T : Type 0} → Facts T → ℕ → Reported T
 type_named facts token = type_meant facts token (facts.stands_for token)
 
@@ -24,6 +26,7 @@ abbrev pub valued : {T : Type 0} → Facts T → Operand T → Option Value → 
 valued facts o None = record { known = None; faults = at_operand facts code.ConstFault o }
 valued facts o (Some v) = right (Some v)
 
+-- the value of a constant expression, or `ConstFault`
 abbrev pub evaluated : {T : Type 0} → Facts T → Operand T → Reported (Option Value)
 evaluated facts o = if facts.types.same o.of facts.types.unknown then right None else valued facts o o.value
 
@@ -37,10 +40,12 @@ abbrev pub in_bounds : {T : Type 0} → Facts T → Operand T → Option ℕ →
 in_bounds facts o None = record { known = None; faults = at_operand facts code.ArrayLength o }
 in_bounds facts o (Some n) = right (Some n)
 
+-- a length of 1 to 65,536, or `ArrayLength`
 abbrev pub length_given : {T : Type 0} → Facts T → Operand T → Option Value → Reported (Option ℕ)
 length_given facts o None = record { known = None; faults = at_operand facts code.ConstFault o }
 length_given facts o (Some v) = in_bounds facts o (array_length v)
 
+-- an array's length, or its fault
 abbrev pub length_of : {T : Type 0} → Facts T → Operand T → Reported (Option ℕ)
 length_of facts o = do
   t ← required facts facts.types.integer o

@@ -1,5 +1,6 @@
 -- The faults of types as they are written, in the order in which they are told: those of the parts from left to right, then
 -- that the whole is too large.
+-- Rule: docs/LANGUAGE.md, Faults of scopes and types 2, 4, 10, `TypeTooLarge`.
 use Rattle.std.specs.Prelude.{ℕ, ◌+◌, ◌*◌, max, true, false, List, [], ◌∷◌, if◌then◌else◌, is_some, Option, Some, None}
 use Rattle.ob0_scope_rules.specs.Names.{Name, same_name}
 use Rattle.ob0_scope_rules.specs.Parts.{names_listed}
@@ -29,6 +30,7 @@ pub record Gathered : Type 0 where
   pub size : Size
   pub behind : SoFar
 
+-- no field yet
 abbrev pub nothing_gathered : SoFar → Gathered
 nothing_gathered p = record { fields = λ x. None; size = no_scalar; behind = p }
 
@@ -36,12 +38,15 @@ nothing_gathered p = record { fields = λ x. None; size = no_scalar; behind = p 
 abbrev pub with_field : (Name → Option TypeId) → Name → TypeId → Name → Option TypeId
 with_field known x t = if is_some (known x) then known else (λ y. if same_name x y then Some t else known y)
 
+-- the size of parts side by side
 abbrev pub beside : Size → Size → Size
 beside z w = record { scalars = z.scalars + w.scalars; depth = max z.depth w.depth }
 
+-- one name more of a field's type
 abbrev pub with_name : TypeId → Gathered → ℕ → Gathered
 with_name t g token = record { fields = with_field g.fields (text_at g.behind.source token) t; size = beside g.size (size_at g.behind.made t); behind = g.behind }
 
+-- the names of one group
 abbrev pub with_names : TypeId → Gathered → List ℕ → Gathered
 with_names t g [] = g
 with_names t g (x ∷ xs) = with_names t (with_name t g x) xs
@@ -59,14 +64,17 @@ record_size z = record { scalars = max z.scalars 1; depth = z.depth + 1 }
 abbrev pub first_name : Tree ℕ names → ℕ
 first_name (listed x rest) = x
 
+-- the token before a group of fields
 abbrev pub word_before : Tree ℕ fields → ℕ → ℕ
 word_before (some_fields ns t) behind = token_before (first_name ns)
 word_before no_fields behind = token_before behind
 
+-- the word RECORD
 abbrev pub record_word : Tree ℕ (items further_fields) → ℕ
 record_word end = 0
 record_word (more (then_fields g) rest) = word_before g (record_word rest)
 
+-- a record of its own, or `TypeTooLarge`
 abbrev pub record_made : ℕ → Gathered → Reported Typed
 record_made word g = make g.behind word (of_fields g.fields) (record_size g.size)
 

@@ -1,4 +1,5 @@
-//! Which faults an ill-typed module has, and where.
+//! Which faults a module has that isn't well-typed, and where (docs/LANGUAGE.md, Faults of scopes and types); and the laws
+//! that a module with no reported fault is well-typed.
 #![tactic(auto)]
 
 pub mod laws;

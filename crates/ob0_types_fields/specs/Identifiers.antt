@@ -1,4 +1,5 @@
 -- The identifiers of one field: the one that declares it, and those that select it. The names of these trees are tokens.
+-- Rule: docs/PROTOCOL.md, Requests on documents 4 to 6.
 use Rattle.std.specs.Prelude.{◌≡◌, ℕ, ◌+◌, ◌==◌, ◌&&◌, Bool, true, not, is_some, List, [], ◌∷◌, ◌++◌, length, map, Option, Some, None, if◌then◌else◌}
 use Rattle.std.specs.List.{All, list_any, position_from}
 use Rattle.ob0_scan.specs.Scanned.{Scanned}
@@ -73,6 +74,7 @@ abbrev mutual
 abbrev pub declared_fields : Parsed → List (ℕ × ℕ)
 declared_fields m = declared_in 0 (module_block (tree_of m))
 
+-- the first of a list
 abbrev pub first : List ℕ → Option ℕ
 first [] = None
 first (token ∷ tokens) = Some token

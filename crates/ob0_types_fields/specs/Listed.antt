@@ -1,4 +1,5 @@
 -- The fields of a module in lists, as they are kept with it.
+-- Rule: none; for contracts: fields in lists.
 use Rattle.std.specs.Prelude.{◌≡◌, ◌==◌, ℕ, List, [], length, if◌then◌else◌}
 use Rattle.ob0_tree.specs.Parsed.{tree_of}
 use Rattle.ob0_scope_rules.specs.Resolution.{Resolution}

@@ -1,4 +1,5 @@
 -- Each identifier of a text with the ordinal of the record whose field it is, in text order. The names of these trees are tokens.
+-- Rule: docs/LANGUAGE.md, Scopes 7.
 use Rattle.std.specs.Prelude.{◌≡◌, ℕ, suc, ◌+◌, List, [], ◌∷◌, ◌++◌, map, Some, None, Option, option_and_then, option_map, length, replicate, set}
 use Rattle.ob0_tree.specs.declared.tree.Role.{Role}
 use Rattle.ob0_tree.specs.declared.tree.Role.TheVariants as role
@@ -21,6 +22,7 @@ use Rattle.ob0_rename_laws.specs.Owners.{AreOwners}
 abbrev pub unowned_among : List (Role × ℕ) → List (ℕ × Option ℕ)
 unowned_among xs = map (λ x. (x.1, None)) xs
 
+-- identifiers that aren't fields
 abbrev pub unowned : {s : Sort} → Tree ℕ s → List (ℕ × Option ℕ)
 unowned t = unowned_among (identifiers role.Declaring t)
 
@@ -89,26 +91,32 @@ abbrev pub owned_types : ℕ → Tree ℕ (items type_name) → List (ℕ × Opt
 owned_types k end = []
 owned_types k (more (declares_type x u) ds) = (x, None) ∷ (owned_type k u ++ owned_types (k + constructors u) ds)
 
+-- the identifiers of a TYPE section
 abbrev pub owned_type_section : ℕ → Tree ℕ (maybe type_names) → List (ℕ × Option ℕ)
 owned_type_section k none = []
 owned_type_section k (one (declares_types ts)) = owned_types k ts
 
+-- the identifiers of variables
 abbrev pub owned_variables : ℕ → Tree ℕ (items variable) → List (ℕ × Option ℕ)
 owned_variables k end = []
 owned_variables k (more (declares_variable ns u) gs) = (unowned ns ++ owned_type k u) ++ owned_variables (k + constructors u) gs
 
+-- the identifiers of a VAR section
 abbrev pub owned_variable_section : ℕ → Tree ℕ (maybe variables) → List (ℕ × Option ℕ)
 owned_variable_section k none = []
 owned_variable_section k (one (declares_variables vs)) = owned_variables k vs
 
+-- the identifiers of a section of parameters
 abbrev pub owned_section : ℕ → Tree ℕ section → List (ℕ × Option ℕ)
 owned_section k (value_section ns u) = unowned ns ++ owned_type k u
 owned_section k (variable_section ns u) = unowned ns ++ owned_type k u
 
+-- the identifiers of further sections
 abbrev pub owned_sections : ℕ → Tree ℕ (items further_section) → List (ℕ × Option ℕ)
 owned_sections k end = []
 owned_sections k (more (then_section f) fs) = owned_section k f ++ owned_sections (k + constructors (section_type f)) fs
 
+-- the identifiers of formal parameters
 abbrev pub owned_formals : ℕ → Tree ℕ (maybe formals) → List (ℕ × Option ℕ)
 owned_formals k none = []
 owned_formals k (one no_formals) = []
@@ -129,6 +137,7 @@ abbrev mutual
   owned_procedure m k (declares_procedure x fs b closing) =
       (x, None) ∷ (owned_formals k fs ++ (owned_block m (after_formals k (declares_procedure x fs b closing)) b ++ ((closing, None) ∷ [])))
 
+-- the identifiers of a module, each with the ordinal of the record whose field it is
 abbrev pub owned_module : {P : Type 0} → Meanings ℕ Shape P → Tree ℕ module_text → List (ℕ × Option ℕ)
 owned_module m (is_module x b closing) = (x, None) ∷ (owned_block m 0 b ++ ((closing, None) ∷ []))
 
@@ -233,10 +242,12 @@ abbrev pub marked_types : ℕ → Tree ℕ (items type_name) → List (ℕ × �
 marked_types k end = []
 marked_types k (more (declares_type x u) ds) = marked_type k u ++ marked_types (k + constructors u) ds
 
+-- the fields that are declared with variables
 abbrev pub marked_variables : ℕ → Tree ℕ (items variable) → List (ℕ × ℕ)
 marked_variables k end = []
 marked_variables k (more (declares_variable ns u) gs) = marked_type k u ++ marked_variables (k + constructors u) gs
 
+-- the fields that are declared with parameters
 abbrev pub marked_sections : ℕ → Tree ℕ (items further_section) → List (ℕ × ℕ)
 marked_sections k end = []
 marked_sections k (more (then_section f) fs) = marked_type k (section_type f) ++ marked_sections (k + constructors (section_type f)) fs
@@ -255,6 +266,7 @@ abbrev mutual
   pub marked_procedure : {P : Type 0} → Meanings ℕ Shape P → ℕ → Tree ℕ (item procedure) → List (ℕ × ℕ)
   marked_procedure m k (declares_procedure x fs b closing) = marked_sections k (formal_sections fs) ++ marked_block m (after_formals k (declares_procedure x fs b closing)) b
 
+-- the fields of a module, each with the ordinal of its record
 abbrev pub marked_module : {P : Type 0} → Meanings ℕ Shape P → Tree ℕ module_text → List (ℕ × ℕ)
 marked_module m (is_module x b closing) = marked_block m 0 b
 

@@ -1,4 +1,5 @@
 -- What the walk over a module keeps.
+-- Rule: none; for private contracts of a walk.
 use Rattle.std.specs.Prelude.{ℕ, List, Option}
 use Rattle.ob0_tree.specs.Tree.{Tree, field, index, item, selector}
 use Rattle.ob0_types_rules.specs.Expressions.{Meanings}
@@ -8,6 +9,7 @@ use Rattle.ob0_values.specs.Values.{Shape}
 use Rattle.ob0_types_fields.specs.declared.owning.Owning.{Owning}
 use Rattle.ob0_types_fields.specs.Owned.{mark, marked, owner, token_objects}
 
+-- what identifiers at tokens mean, by the table of declarations
 abbrev pub meaning_in : Owning → Meanings ℕ Shape Signature
 meaning_in w = token_objects (declared_in w.known.now) w.resolved.now
 

@@ -1,4 +1,4 @@
-//! The identifiers of the fields of a module, and which record each belongs to.
+//! The identifiers of a module that are fields, and which record each belongs to.
 #![tactic(auto)]
 
 mod declared;

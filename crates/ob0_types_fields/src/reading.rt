@@ -23,6 +23,7 @@ pub(crate) fn field_on(
 ) -> Option<(usize, usize)>
     ensures { AreInTextOrder tokens.now found.now → result ≡ field_on tokens.now offset found.now }
 {
+    // For the proof: what the contract of this call says.
     let _scanned = tokens.text();
     match found.get(ended_before(tokens, offset, found)) {
         Some(field) => if_on(tokens, offset, *field),

@@ -1,4 +1,5 @@
 -- All that the declarations of a module bind, each in the environment in which it is checked: the latest first.
+-- Rule: docs/LANGUAGE.md, Scopes 2 to 4.
 use Rattle.std.specs.Prelude.{ℕ, ◌+◌, ◌-◌, List, [], ◌++◌, length, take, Some, None, Option}
 use Rattle.ob0_tree.specs.Tree.{Tree, block, declares, declares_procedure, end, has_body, item, items, module_text, more, procedure}
 use Rattle.ob0_scope_rules.specs.Names.{Label, Name, Naming, as_labels, declared}

@@ -1,4 +1,5 @@
 -- The bodies of a module, each with the environment in which its statements are checked.
+-- Rule: docs/LANGUAGE.md, Scopes 2.
 use Rattle.std.specs.Prelude.{◌≡◌, ℕ, ◌+◌, List, [], ◌∷◌, ◌++◌, Some, All}
 use Rattle.ob0_tree.specs.Tree.{Tree, block, body, declares, declares_procedure, end, has_body, item, items, maybe, module_text, more, procedure}
 use Rattle.ob0_scope_rules.specs.Names.{Name, Naming, as_labels}
@@ -34,6 +35,7 @@ unfoldable mutual
   pub procedure_bodies : {N : Type 0} → Naming N → TypeEnvironment N → ℕ → Tree N (item procedure) → List (BodyAt N)
   procedure_bodies naming env k (declares_procedure x fs b closing) = block_bodies naming env (k + formals_constructors (formal_sections fs)) b
 
+-- the bodies of a module, each with its environment
 abbrev pub module_bodies : {N : Type 0} → Naming N → Tree N module_text → List (BodyAt N)
 module_bodies naming m = block_bodies naming (outermost naming) 0 (module_block m)
 

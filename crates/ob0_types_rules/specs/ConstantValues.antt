@@ -1,4 +1,5 @@
 -- What the constants of a module are worth. Of the names around a constant only constants count; other names hide them.
+-- Rule: docs/LANGUAGE.md, Types 6, 7.
 use Rattle.std.specs.Prelude.{None, Option, Some, if◌then◌else◌, map, nat_lt, option_and_then, suc, ℕ, ◌++◌, ◌==◌, ◌∷◌}
 use Rattle.ob0_tree.specs.Tree.{Tree, block, constant, declares, declares_constant, declares_procedure, end, has_body, item, items, module_text, more, procedure}
 use Rattle.ob0_scope_rules.specs.Names.{Name, as_names}
@@ -15,9 +16,11 @@ use Rattle.ob0_types_rules.specs.WellTyped.{bind_names}
 abbrev pub Known : Type 0
 Known = Environment Name (Unit {0}) (Unit {0})
 
+-- what isn't a constant has no value
 abbrev pub no_constant : Object (Unit {0}) (Unit {0})
 no_constant = a_variable tt
 
+-- a declaration, as far as constants count
 abbrev pub known_object : {V P : Type 0} → Object V P → Object (Unit {0}) (Unit {0})
 known_object (a_constant v) = a_constant v
 known_object (a_type s) = no_constant
@@ -25,6 +28,7 @@ known_object (a_variable p) = no_constant
 known_object (a_procedure p) = no_constant
 known_object (a_standard p) = no_constant
 
+-- the predeclared names, as far as constants count
 abbrev pub predeclared_known : Known
 predeclared_known = map (λ b. (b.0, known_object b.1)) (outermost {V = Unit {0}} {P = Unit {0}} as_names)
 

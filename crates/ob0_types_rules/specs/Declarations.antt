@@ -1,4 +1,5 @@
 -- What declarations bind, in a checked module and in a run alike: constants and types; and how types are numbered.
+-- Rule: docs/LANGUAGE.md, Scopes 2, Types 1.
 use Rattle.std.specs.Prelude.{ℕ, ◌+◌, ◌∷◌, Some, Option}
 use Rattle.ob0_tree.specs.Tree.{Tree, block, constant, declares, declares_constant, declares_procedure, declares_type, declares_variable, end, further_section, has_body, item, items, more, procedure, then_section, type_name, variable}
 use Rattle.ob0_scope_rules.specs.Names.{Naming}
@@ -35,10 +36,12 @@ abbrev pub types_constructors : {N : Type 0} → Tree N (items type_name) → �
 types_constructors end = 0
 types_constructors (more (declares_type x u) ds) = constructors u + types_constructors ds
 
+-- how many ARRAY and RECORD are written with variables
 abbrev pub variables_constructors : {N : Type 0} → Tree N (items variable) → ℕ
 variables_constructors end = 0
 variables_constructors (more (declares_variable ns u) gs) = constructors u + variables_constructors gs
 
+-- how many ARRAY and RECORD are written with parameters
 abbrev pub formals_constructors : {N : Type 0} → Tree N (items further_section) → ℕ
 formals_constructors end = 0
 formals_constructors (more (then_section f) fs) = constructors (section_type f) + formals_constructors fs
@@ -59,6 +62,7 @@ abbrev mutual
 abbrev pub after_types : {N : Type 0} → ℕ → Tree N block → ℕ
 after_types k b = k + types_constructors (block_types b)
 
+-- the number of the first ARRAY or RECORD after a block's variables
 abbrev pub after_variables : {N : Type 0} → ℕ → Tree N block → ℕ
 after_variables k b = after_types k b + variables_constructors (block_variables b)
 

@@ -1,4 +1,5 @@
 -- The environments that declarations leave.
+-- Rule: none; for contracts of inlining and renaming.
 use Rattle.std.specs.Prelude.{ℕ, if◌then◌else◌, Some, None, Option}
 use Rattle.ob0_tree.specs.Tree.{Tree, block, item, procedure}
 use Rattle.ob0_scope_rules.specs.Names.{Naming}

@@ -1,4 +1,5 @@
 -- Designators and lists of expressions in labels, and which expressions are a designator alone.
+-- Rule: none; for contracts: trees with labels.
 use Rattle.std.specs.Prelude.{ℕ, List, map, Some, None, Option}
 use Rattle.ob0_tree.specs.Tree.{Tree, designator, end, expression, factor, items, product, selector, simple, sum, term}
 use Rattle.ob0_tree.specs.View.{expression_of}
@@ -13,6 +14,7 @@ use Rattle.ob0_types_rules.specs.Selected.{selectors_in}
 abbrev pub designator_parts : Designator → ℕ × Tree ℕ (items selector)
 designator_parts d = ((out-Designator d).name, selectors_in d)
 
+-- a designator with labels
 abbrev pub designator_in : Resolution → Designator → Label × Tree Label (items selector)
 designator_in r d = (label_in r (out-Designator d).name, in_labels r (selectors_in d))
 
@@ -21,10 +23,12 @@ abbrev pub designated_factor : {N : Type 0} → Tree N factor → Option (N × T
 designated_factor (designator x path) = Some (x, path)
 designated_factor _ = None
 
+-- the designator that a term is, alone
 abbrev pub designated_term : {N : Type 0} → Tree N term → Option (N × Tree N (items selector))
 designated_term (product f end) = designated_factor f
 designated_term _ = None
 
+-- the designator that a simple expression is, alone
 abbrev pub designated_simple : {N : Type 0} → Tree N simple → Option (N × Tree N (items selector))
 designated_simple (sum None t end) = designated_term t
 designated_simple _ = None

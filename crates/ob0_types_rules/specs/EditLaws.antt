@@ -1,4 +1,5 @@
 -- Laws of edits: what keeps a module well-typed.
+-- Rule: none; laws of edits and types.
 use Rattle.std.specs.Prelude.{All, IsTrue, Some, codes, false, true, ℕ, ◌≡◌, ◌≢◌}
 use Rattle.ob0_tree.specs.Tree.{Tree, factor, module_text}
 use Rattle.ob0_scope_rules.specs.Elsewhere.{names_elsewhere}

@@ -1,4 +1,5 @@
 -- Environments: what each visible name is bound to.
+-- Rule: docs/LANGUAGE.md, Scopes 4.
 use Rattle.std.specs.Prelude.{true, false, List, [], ◌∷◌, Some, None, Option}
 use Rattle.ob0_scope_rules.specs.Names.{Naming}
 use Rattle.ob0_types_rules.specs.Expressions.{Meanings, Object, a_constant, a_standard, a_type, reads, writes, writes_line}
@@ -13,6 +14,7 @@ abbrev pub from_binding : {N V P : Type 0} → Naming N → Environment N V P �
 from_binding naming [] x = []
 from_binding naming (b ∷ env) x = elim (naming.same x b.0) [ true ↦ b ∷ env | false ↦ from_binding naming env x ]
 
+-- the newest binding
 abbrev pub newest : {N V P : Type 0} → Environment N V P → Option (Object V P)
 newest [] = None
 newest (b ∷ env) = Some b.1

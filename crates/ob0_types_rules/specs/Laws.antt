@@ -1,4 +1,5 @@
 -- Laws of types, constants and evaluation.
+-- Rule: none; laws of types.
 use Rattle.std.specs.Prelude.{◌≡◌, ℕ, suc, true, ◌↔◌, List, [], ◌∷◌, IsTrue, Some}
 use Rattle.ob0_tree.specs.Tree.{Tree, expression, factor, module_text, occurrences}
 use Rattle.ob0_scope_rules.specs.Inlining.{Uses, inline_in}

@@ -1,4 +1,5 @@
 -- Steps of chains: one operand, one selector.
+-- Rule: none; for contracts: steps of chains.
 use Rattle.std.specs.Prelude.{ℕ, Option, option_and_then}
 use Rattle.ob0_tree.specs.Tree.{Tree, addend, adds, multiplier, multiplies, field, index, item, items, selector}
 use Rattle.ob0_tree.specs.View.{items_of, selector_of}
@@ -26,6 +27,7 @@ unfoldable pub type_added : {N P : Type 0} → Meanings N Shape P → Shape → 
 unfolding type_of
 type_added meaning x (adds o t) = type_of_term meaning t >>= add_type o x
 
+-- the type after one more factor
 unfoldable pub type_multiplied : {N P : Type 0} → Meanings N Shape P → Shape → Tree N (item multiplier) → Option Shape
 unfolding type_of
 type_multiplied meaning x (multiplies o f) = type_of_factor meaning f >>= multiply_type o x

@@ -1,4 +1,5 @@
 -- Types: what a type's text denotes, the types of expressions, the values of constant expressions, and which statements fit.
+-- Rule: docs/LANGUAGE.md, Types 1 to 7, Nesting and limits 2.
 use Rattle.std.specs.Prelude.{ℕ, suc, ◌+◌, ◌*◌, max, ◌&&◌, List, [], ◌∷◌, map, pos, if◌then◌else◌, nat_lt, nat_le, Some, None, Option, option_map, option_and_then}
 use Rattle.ob0_tree.specs.declared.tree.Relation.{Relation}
 use Rattle.ob0_tree.specs.declared.tree.Relation.TheVariants as relation
@@ -14,6 +15,7 @@ use Rattle.ob0_scope_rules.specs.Parts.{names_listed}
 use Rattle.ob0_types_rules.specs.Expressions.{Meanings, Object, a_constant, a_type, a_variable, evaluate}
 use Rattle.ob0_values.specs.Values.{FieldShapes, Outcome, Shape, Value, array_shape, boolean_shape, ends, gives, integer_shape, next_field_shape, no_field_shape, number, record_shape, truth}
 
+-- one step after another, where both give something
 infixl 20 ◌>>=◌
 abbrev pub ◌>>=◌ : {A B : Type 0} → Option A → (A → Option B) → Option B
 ◌>>=◌ o next = option_and_then next o
@@ -47,10 +49,12 @@ sign_type (Some sign.Plus) integer_shape = Some integer_shape
 sign_type (Some sign.Minus) integer_shape = Some integer_shape
 sign_type _ _ = None
 
+-- the type of `~`
 abbrev pub complement_type : Shape → Option Shape
 complement_type boolean_shape = Some boolean_shape
 complement_type _ = None
 
+-- a constant is INTEGER or BOOLEAN, by its value (rule 7)
 abbrev pub value_type : Value → Option Shape
 value_type (number n) = Some integer_shape
 value_type (truth b) = Some boolean_shape
@@ -67,10 +71,12 @@ abbrev pub element_type : Shape → Shape → Option Shape
 element_type (array_shape k n s) integer_shape = Some s
 element_type _ _ = None
 
+-- the type of the first field of this name
 abbrev pub shape_of_field : FieldShapes → Name → Option Shape
 shape_of_field no_field_shape x = None
 shape_of_field (next_field_shape y s rest) x = if same_name x y then Some s else shape_of_field rest x
 
+-- the type of a record's field
 abbrev pub field_type : Shape → Name → Option Shape
 field_type (record_shape k fs) x = shape_of_field fs x
 field_type _ x = None
@@ -133,9 +139,11 @@ abbrev pub constant_of : {V P : Type 0} → Option (Object V P) → Option Value
 constant_of (Some (a_constant v)) = Some v
 constant_of _ = None
 
+-- names mean constants alone, as in constant expressions (rule 6)
 abbrev pub constants_only : {N V P W Q : Type 0} → Meanings N V P → Meanings N W Q
 constants_only meaning = record { stands_for = λ x. option_map a_constant (constant_of (meaning.stands_for x)); written = meaning.written }
 
+-- a value, where the evaluation gives one
 abbrev pub given_value : Outcome Value → Option Value
 given_value (gives v) = Some v
 given_value (ends e) = None
@@ -195,10 +203,12 @@ abbrev mutual
   groups_constructors end = 0
   groups_constructors (more (then_fields g) rest) = group_constructors g + groups_constructors rest
 
+-- the type that a name of a type means
 abbrev pub type_of_name : {V P : Type 0} → Option (Object V P) → Option Shape
 type_of_name (Some (a_type s)) = Some s
 type_of_name _ = None
 
+-- fields of one type before others
 abbrev pub with_fields : List Name → Shape → FieldShapes → FieldShapes
 with_fields [] s rest = rest
 with_fields (x ∷ xs) s rest = next_field_shape x s (with_fields xs s rest)

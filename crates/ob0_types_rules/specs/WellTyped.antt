@@ -1,4 +1,5 @@
 -- Well-typed modules: typing judgements over names and environments.
+-- Rule: docs/LANGUAGE.md, Types 8.
 use Rattle.std.specs.Prelude.{ℕ, ◌+◌, Bool, true, false, ◌&&◌, List, [], ◌∷◌, ◌++◌, map, IsTrue, ◌==◌, Some, None, Option}
 use Rattle.ob0_tree.specs.Tree.{Tree, assigns, begins, block, body, branches, calls, declares, declares_procedure, declares_variable, else_branch, else_part, elsif_branch, elsif_part, empty, end, expression, further_section, further_statement, has_body, item, items, maybe, module_text, more, none, one, procedure, repeat_loop, runs, section, selector, sequence, statement, then_section, then_statement, value_section, variable, variable_section, while_loop}
 use Rattle.ob0_scope_rules.specs.DeclaredOnce.{declared_once}
@@ -39,6 +40,7 @@ pub record Formal : Type 0 where
   pub mode : Mode
   pub shape : Shape
 
+-- the parameters of a procedure, by mode and type
 abbrev pub Signature : Type 0
 Signature = List Formal
 
@@ -46,6 +48,7 @@ Signature = List Formal
 abbrev pub Typed : Type 0 → Type 0
 Typed N = Meanings N Shape Signature
 
+-- what names mean to the checker
 abbrev pub TypeEnvironment : Type 0 → Type 0
 TypeEnvironment N = Environment N Shape Signature
 
@@ -61,6 +64,7 @@ variable_type meaning None = None
 variable_type meaning (Some (x, path)) =
     elim (meaning.stands_for x) [ Some (a_variable s) ↦ type_at meaning s path | _ ↦ None ]
 
+-- the parameters of what a name means, where that is a procedure
 abbrev pub signature_of : Option (Object Shape Signature) → Option Signature
 signature_of (Some (a_procedure signature)) = Some signature
 signature_of (Some (a_standard reads)) = Some (record { mode = by_place; shape = integer_shape } ∷ [])
@@ -74,12 +78,14 @@ unfolding type_of variable_type
 argument_fits meaning f e =
     agree (Some f.shape) (elim f.mode [ by_value ↦ type_of meaning e | by_place ↦ variable_type meaning (designated e) ])
 
+-- as many arguments as parameters, each of them fitting (rules 2 and 5)
 unfoldable pub arguments_fit : {N P : Type 0} → Meanings N Shape P → Signature → List (Tree N expression) → Bool
 unfolding argument_fits
 arguments_fit meaning [] [] = true
 arguments_fit meaning (f ∷ fs) (e ∷ es) = argument_fits meaning f e && arguments_fit meaning fs es
 arguments_fit meaning _ _ = false
 
+-- a call is of a procedure, and its arguments fit
 unfoldable pub call_fits : {N P : Type 0} → Meanings N Shape P → Option Signature → List (Tree N expression) → Bool
 unfolding arguments_fit
 call_fits meaning None es = false
@@ -129,6 +135,7 @@ declare_typed naming k (more (declares_variable ns u) gs) env = do
   s ← denoted (meanings naming env) k u
   declare_typed naming (k + constructors u) gs (bind_names (names_listed ns) (a_variable s) env)
 
+-- a parameter with its name, mode and type
 pub record TypedParameter (N : Type 0) : Type 0 where
   pub name : N
   pub formal : Formal
@@ -142,18 +149,22 @@ typed_parameters naming env k (more (then_section f) fs) = do
   rest ← typed_parameters naming (bind_names (section_names f) (a_variable s) env) (k + constructors (section_type f)) fs
   Some (map (λ x. record { name = x; formal = record { mode = section_mode f; shape = s } }) (section_names f) ++ rest)
 
+-- parameters become visible as variables (rule 4)
 abbrev pub bind_typed : {N : Type 0} → List (TypedParameter N) → TypeEnvironment N → TypeEnvironment N
 bind_typed [] env = env
 bind_typed (p ∷ ps) env = bind_typed ps ((p.name, a_variable p.formal.shape) ∷ env)
 
+-- a procedure becomes visible, and then its parameters
 abbrev pub heading : {N : Type 0} → N → List (TypedParameter N) → TypeEnvironment N → TypeEnvironment N
 heading x ps env = (x, a_procedure (map (λ p. p.formal) ps)) ∷ env
 
+-- the statements of a body fit
 unfoldable pub body_fits : {N : Type 0} → Naming N → TypeEnvironment N → Tree N (maybe body) → Bool
 unfolding statement_fits
 body_fits naming env none = true
 body_fits naming env (one (begins statements)) = sequence_fits (meanings naming env) statements
 
+-- something is there and passes a test
 abbrev pub hold : {A : Type 0} → Option A → (A → Bool) → Bool
 hold None test = false
 hold (Some a) test = test a
@@ -177,6 +188,7 @@ unfoldable mutual
   pub procedure_fits : {N : Type 0} → Naming N → TypeEnvironment N → ℕ → Tree N (item procedure) → Bool
   procedure_fits naming env k (declares_procedure x fs b closing) = block_fits naming env (k + formals_constructors (formal_sections fs)) b
 
+-- all of a module fits: its names, its types, its statements
 unfoldable pub fits_over : {N : Type 0} → Naming N → Tree N module_text → Bool
 unfolding block_fits
 fits_over naming m = block_fits naming (outermost naming) 0 (module_block m)

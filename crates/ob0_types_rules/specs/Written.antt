@@ -1,4 +1,5 @@
 -- What is written for a constant's value.
+-- Rule: docs/PROTOCOL.md, Requests on documents 9.
 use Rattle.std.specs.Prelude.{suc, true, false, ℤ, pos, negsuc, if◌then◌else◌, nat_lt, Some, None, codes, Option}
 use Rattle.ob0_tree.specs.declared.tree.Sign.TheVariants as sign
 use Rattle.ob0_tree.specs.declared.tree.AddOperator.TheVariants as add_operator
@@ -13,6 +14,7 @@ written_number (negsuc n) =
     if nat_lt n 2147483647 then parenthesised (compares (sum (Some sign.Minus) (product (integer (suc n)) end) end) none)
     else parenthesised (compares (sum (Some sign.Minus) (product (integer 2147483647) end) (more (adds add_operator.Subtract (product (integer 1) end)) end)) none)
 
+-- a value of a constant as a factor
 abbrev pub written_value : Value → Option (Tree Name factor)
 written_value (number n) = Some (written_number n)
 written_value (truth true) = Some (designator (codes "TRUE") end)

@@ -1,4 +1,5 @@
 -- The first field of each name of a record, as it is kept.
+-- Rule: none; for contracts: the index of a record's fields.
 use Rattle.std.specs.Prelude.{◌≡◌, ℕ, suc, List, [], ◌∷◌, Option, Some, None, if◌then◌else◌}
 use Rattle.std.specs.Borrow.{Bor}
 use Rattle.std.specs.BTreeMap.{BTreeMap, get_by}
@@ -17,5 +18,6 @@ first_from k (f ∷ fs) x = if same_name x f.name.now then Some (record { place 
 pub record IsIndexFrom (map : BTreeMap (Bor Name) First) (k : ℕ) (fields : List Field) : Type 0 where
   pub found : (x : Name) → get_by (λ key. slice_cmp nat_cmp x key.now) map ≡ first_from k fields x
 
+-- the map has the first field of each name
 abbrev pub IsIndex : BTreeMap (Bor Name) First → List Field → Type 0
 IsIndex map fields = IsIndexFrom map 0 fields

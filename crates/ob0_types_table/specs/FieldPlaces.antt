@@ -1,4 +1,5 @@
 -- Which field of which record a name selects.
+-- Rule: none; for contracts: places of fields.
 use Rattle.std.specs.Prelude.{ℕ, suc, Some, None, Option, option_map, if◌then◌else◌}
 use Rattle.ob0_scope_rules.specs.Names.{Name, same_name}
 use Rattle.ob0_types_table.specs.declared.known.FieldOf.{FieldOf}

@@ -1,4 +1,5 @@
 -- The tables of the checker: the shapes made so far, and the declarations so far.
+-- Rule: none; for contracts of the checker's tables.
 use Rattle.std.specs.Prelude.{ℕ, ◌<◌, IfSome, true, false, ◌==◌, List, [], ◌∷◌, length, All, slice_get, if◌then◌else◌, Some, None, Option, option_and_then}
 use Rattle.ob0_values.specs.Values.{Shape}
 use Rattle.ob0_types_table.specs.declared.known.Shape as code
@@ -16,10 +17,12 @@ use Rattle.ob0_types_rules.specs.Expressions.{Object}
 use Rattle.ob0_types_table.specs.Tables.{AreMadeInOrder, ObjectIsMade, object_in, shapes_from}
 use Rattle.ob0_types_rules.specs.WellTyped.{Signature, Typed}
 
+-- the types that were made, and what was declared at each ordinal
 pub record Tables : Type 0 where
   pub shapes : List code.Shape
   pub entries : List Entry
 
+-- the types of the table, each made over those before it
 abbrev pub shapes_of : Tables → List Shape
 shapes_of t = shapes_from [] t.shapes
 
@@ -28,9 +31,11 @@ abbrev pub SightIsMade : ℕ → Sight → Type 0
 SightIsMade n (sight.Earlier o) = ObjectIsMade n o
 SightIsMade n _ = Unit {0}
 
+-- what an entry names was made before
 abbrev pub EntryIsMade : ℕ → Entry → Type 0
 EntryIsMade n e = ObjectIsMade n e.object × SightIsMade n e.sight
 
+-- types are made in order, and entries name made ones
 pub record AreTables (t : Tables) : Type 0 where
   pub in_order : AreMadeInOrder [] t.shapes
   pub entries_made : All (EntryIsMade (length t.shapes)) t.entries
@@ -41,6 +46,7 @@ in_sight_of last sight.Nothing = None
 in_sight_of last sight.Last = Some last
 in_sight_of last (sight.Earlier o) = Some o
 
+-- what is visible at an entry
 abbrev pub object_seen : Entry → Option declaration.Object
 object_seen e = in_sight_of e.object e.sight
 
@@ -48,6 +54,7 @@ object_seen e = in_sight_of e.object e.sight
 abbrev pub seen_entry : List Shape → Entry → Option (Object Shape Signature)
 seen_entry shapes e = option_and_then (object_in shapes) (object_seen e)
 
+-- what is visible at an ordinal
 abbrev pub seen_in : Tables → ℕ → Option (Object Shape Signature)
 seen_in t k = option_and_then (seen_entry (shapes_of t)) (slice_get t.entries k)
 
@@ -77,6 +84,7 @@ abbrev pub label_object : Tables → Label → Option (Object Shape Signature)
 label_object t (declared k) = seen_in t k
 label_object t (as_written x) = None
 
+-- what labels mean by the tables
 abbrev pub known_meaning : Tables → Typed Label
 known_meaning t = record { stands_for = label_object t; written = label_text }
 

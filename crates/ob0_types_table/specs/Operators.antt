@@ -1,4 +1,5 @@
 -- The steps of a constant's evaluation.
+-- Rule: none; for contracts: steps of docs/LANGUAGE.md, Types 6.
 use Rattle.std.specs.Prelude.{cond, Some, Option, option_and_then}
 use Rattle.ob0_tree.specs.declared.tree.AddOperator.{AddOperator}
 use Rattle.ob0_tree.specs.declared.tree.MultiplyOperator.{MultiplyOperator}
@@ -9,5 +10,6 @@ use Rattle.ob0_values.specs.Values.{Value, add, add_is_settled, multiply, multip
 abbrev pub sum_value : AddOperator → Option Value → Value → Option Value
 sum_value o right x = cond (add_is_settled o x) (Some x) (option_and_then (λ y. given_value (add o x y)) right)
 
+-- the value of a product, where a left operand that settles it is enough
 abbrev pub product_value : MultiplyOperator → Option Value → Value → Option Value
 product_value o right x = cond (multiply_is_settled o x) (Some x) (option_and_then (λ y. given_value (multiply o x y)) right)

@@ -1,4 +1,5 @@
 -- A type with its parts.
+-- Rule: none; for contracts: a type with its parts.
 use Rattle.std.specs.Prelude.{List}
 use Rattle.ob0_types_table.specs.Tables.{made_shape, no_shape}
 use Rattle.ob0_types_table.specs.declared.known.Shape.TheVariants as made

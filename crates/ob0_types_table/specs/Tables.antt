@@ -1,4 +1,5 @@
 -- What the checker's tables stand for: types, shapes and declarations.
+-- Rule: none; for contracts: what the checker's tables mean.
 use Rattle.std.specs.Prelude.{◌≡◌, ℕ, ◌<◌, Bool, true, false, List, [], ◌∷◌, ◌++◌, map, length, slice_index_or, All, Some, None, Option}
 use Rattle.ob0_values.specs.Scalars.{scalar_value}
 use Rattle.ob0_values.specs.Values.{FieldShapes, Shape, array_shape, boolean_shape, integer_shape, next_field_shape, no_field_shape, record_shape}
@@ -20,10 +21,12 @@ use Rattle.ob0_types_rules.specs.WellTyped.{Formal, Mode, Signature, by_place, b
 abbrev pub no_shape : Shape
 no_shape = record_shape 0 no_field_shape
 
+-- an array, or the type without parts
 abbrev pub only_array : Shape → Shape
 only_array (array_shape k n s) = array_shape k n s
 only_array _ = no_shape
 
+-- a record, or the type without parts
 abbrev pub only_record : Shape → Shape
 only_record (record_shape k fs) = record_shape k fs
 only_record _ = no_shape
@@ -67,6 +70,7 @@ abbrev pub IsCounted : code.Shape → Shape → Type 0
 IsCounted (made.Array a) s = (a.scalars ≡ scalars s) × (a.depth ≡ depth s)
 IsCounted (made.Record r) s = (r.scalars ≡ scalars s) × (r.depth ≡ depth s)
 
+-- an array or record whose parts were made before, within the limits
 pub record IsEntry (shapes : List Shape) (m : code.Shape) : Type 0 where
   pub parts : PartsAreMade (length shapes) m
   pub counted : IsCounted m (made_shape shapes m)
@@ -81,9 +85,11 @@ abbrev pub mode_of : Bool → Mode
 mode_of true = by_place
 mode_of false = by_value
 
+-- a parameter of the table
 abbrev pub formal_in : List Shape → formal.Formal → Formal
 formal_in shapes f = record { mode = mode_of f.by_place; shape = type_shape shapes f.of }
 
+-- a predeclared procedure of the code
 abbrev pub standard_of : standard.Standard → Standard
 standard_of standards.Read = reads
 standard_of standards.Write = writes
@@ -98,6 +104,7 @@ object_in shapes (kind.Variable t) = Some (a_variable (type_shape shapes t))
 object_in shapes (kind.Procedure fs) = Some (a_procedure (map (formal_in shapes) fs.items))
 object_in shapes (kind.Standard s) = Some (a_standard (standard_of s))
 
+-- the types of a declaration were made
 abbrev pub ObjectIsMade : ℕ → declaration.Object → Type 0
 ObjectIsMade n (kind.Named t) = IsMade n t
 ObjectIsMade n (kind.Variable t) = IsMade n t

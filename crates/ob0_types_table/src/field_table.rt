@@ -69,6 +69,7 @@ impl<'t> FieldTable<'t> {
         })
     }
 
+    /// The fields, in text order.
     pub fn as_slice(&self) -> &[Field<'t>]
         ensures { result.now ≡ self.now }
     {

@@ -14,6 +14,7 @@ use ob0_values::scalar::{
     add, add_is_settled, multiply, multiply_is_settled, negated, relate, signed,
 };
 
+/// The truth value of a relation; None where a side has no value, or they don't fit.
 pub fn related(relation: Relation, left: Option<Scalar>, right: Option<Scalar>) -> Option<Scalar>
     ensures { option_map scalar_value result ≡ both (λ x y. given_value (values.relate relation x y)) (option_map scalar_value left) (option_map scalar_value right) }
 {
@@ -26,6 +27,7 @@ pub fn related(relation: Relation, left: Option<Scalar>, right: Option<Scalar>) 
     }
 }
 
+/// The value of a first term with its sign, if there is one; None where it overflows.
 pub fn with_sign(sign: Option<Sign>, operand: Option<Scalar>) -> Option<Scalar>
     ensures { option_map scalar_value result ≡ option_and_then (λ x. given_value (values.signed sign x)) (option_map scalar_value operand) }
 {
@@ -35,6 +37,7 @@ pub fn with_sign(sign: Option<Sign>, operand: Option<Scalar>) -> Option<Scalar>
     }
 }
 
+/// The value of `~` with its operand.
 pub fn complement(operand: Option<Scalar>) -> Option<Scalar>
     ensures { option_map scalar_value result ≡ option_and_then (λ x. given_value (values.negated x)) (option_map scalar_value operand) }
 {
@@ -44,6 +47,7 @@ pub fn complement(operand: Option<Scalar>) -> Option<Scalar>
     }
 }
 
+/// The value of a sum, a difference or an OR; None where it has none.
 pub fn added(operator: AddOperator, left: Option<Scalar>, right: Option<Scalar>) -> Option<Scalar>
     ensures { option_map scalar_value result ≡ option_and_then (sum_value operator (option_map scalar_value right)) (option_map scalar_value left) }
 {
@@ -61,6 +65,7 @@ pub fn added(operator: AddOperator, left: Option<Scalar>, right: Option<Scalar>)
     }
 }
 
+/// The value of a product, a quotient, a remainder or an `&`; None where it has none.
 pub fn multiplied(
     operator: MultiplyOperator,
     left: Option<Scalar>,

@@ -169,6 +169,7 @@ pub fn added(operator: AddOperator, left: Option<TypeId>, right: Option<TypeId>)
     }
 }
 
+/// The type of a product: INTEGER or BOOLEAN, None where an operand has another type or none.
 pub fn multiplied(
     operator: MultiplyOperator,
     left: Option<TypeId>,
@@ -185,6 +186,7 @@ pub fn multiplied(
     }
 }
 
+/// The type of a relation, BOOLEAN; None where its sides don't fit, or one has no type.
 pub fn related(relation: Relation, left: Option<TypeId>, right: Option<TypeId>) -> Option<TypeId>
     ensures { (shapes : List Shape) → option_map (type_shape shapes) result ≡ both (relation_type relation) (option_map (type_shape shapes) left) (option_map (type_shape shapes) right) }
 {
@@ -197,6 +199,7 @@ pub fn related(relation: Relation, left: Option<TypeId>, right: Option<TypeId>) 
     }
 }
 
+/// The type of a simple expression's first term with its sign, if there is one.
 pub fn with_sign(sign: Option<Sign>, operand: Option<TypeId>) -> Option<TypeId>
     ensures { (shapes : List Shape) → option_map (type_shape shapes) result ≡ option_and_then (sign_type sign) (option_map (type_shape shapes) operand) }
 {
@@ -206,6 +209,7 @@ pub fn with_sign(sign: Option<Sign>, operand: Option<TypeId>) -> Option<TypeId>
     }
 }
 
+/// The type of `~` with its operand.
 pub fn complement(operand: Option<TypeId>) -> Option<TypeId>
     ensures { (shapes : List Shape) → option_map (type_shape shapes) result ≡ option_and_then complement_type (option_map (type_shape shapes) operand) }
 {

@@ -20,6 +20,7 @@ pub fn text_at(tokens: &Tokens, token: usize) -> &str
 pub fn number_at(tokens: &Tokens, token: usize) -> i32
     ensures { result ≡ pos (value_at tokens.now token) }
 {
+    // For the proof: what the contract of this call says.
     let _scanned = tokens.text();
     let tokens = tokens.tokens();
     if token < tokens.len() {

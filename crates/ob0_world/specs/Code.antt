@@ -1,4 +1,5 @@
 -- What the values of the code stand for.
+-- Rule: none; for contracts: what values of the code mean.
 use Rattle.std.specs.Prelude.{List, map, string_bytes}
 use Rattle.std.specs.Str.{chars}
 use Rattle.ob0_text.specs.OpenDocuments.{reported_change}
@@ -10,6 +11,7 @@ use Rattle.ob0_world.specs.declared.played.Played as played
 use Rattle.ob0_world_rules.specs.Ends.{Applied, Made}
 use Rattle.ob0_world_rules.specs.Events.{Event, open_document, change_document, close_document, ask_about, serve, take_message, apply, discard, Seen, nothing, sent, served, published, answered, applies, drops}
 
+-- an event of the code
 abbrev pub event_of : event.Event → Event
 event_of (event.TheVariants.OpenDoc uri text) = open_document (string_bytes uri) (chars (string_bytes text))
 event_of (event.TheVariants.ChangeDoc uri changes) = change_document (string_bytes uri) (map reported_change changes.items)
@@ -20,6 +22,7 @@ event_of event.TheVariants.Take = take_message
 event_of (event.TheVariants.Apply k) = apply k
 event_of (event.TheVariants.Discard k) = discard k
 
+-- what was seen, of the code
 abbrev pub seen_of : seen.Seen → Seen
 seen_of seen.TheVariants.Nothing = nothing
 seen_of seen.TheVariants.Sent = sent
@@ -29,11 +32,14 @@ seen_of (seen.TheVariants.Answered k edits) = answered k edits
 seen_of (seen.TheVariants.Applied k) = applies k
 seen_of (seen.TheVariants.Dropped k) = drops k
 
+-- a publication of the code
 abbrev pub made_of : made.Made → Made
 made_of m = record { uri = string_bytes m.uri; version = m.version; text = chars (string_bytes m.text); empty = m.empty }
 
+-- the applied edits of the code
 abbrev pub all_applied : played.Played → List Applied
 all_applied p = map applied_of p.applied.items
 
+-- the publications of the code
 abbrev pub all_made : played.Played → List Made
 all_made p = map made_of p.made.items

@@ -1,4 +1,5 @@
 -- The contents that wait at the two ends, and what they say.
+-- Rule: none; for contracts: contents that wait, and what they say.
 use Rattle.std.specs.Prelude.{◌≡◌, ⊤, ℕ, ℤ, List, [], ◌∷◌, ◌++◌, map, All, Bool, true, Option, Some, None, Vec, option_and_then, filter_map}
 use Rattle.std.specs.declared.alloc.Global.{Global}
 use Rattle.ob0_text.specs.OpenDocuments.{OpenDocuments, Document, InStep, OutOfStep, document_at, none_open}
@@ -18,9 +19,11 @@ use Rattle.ob0_world.specs.declared.events.Seen as seen
 use Rattle.ob0_world.specs.declared.played.Made as made
 use Rattle.ob0_world.specs.Code.{made_of, seen_of}
 
+-- contents that wait in a queue
 abbrev pub Contents : Type 0
 Contents = List (Vec ℕ Global)
 
+-- contents as bytes
 abbrev pub bytes : Contents → List (List ℕ)
 bytes contents = map (λ v. v.items) contents
 
@@ -28,6 +31,7 @@ bytes contents = map (λ v. v.items) contents
 abbrev pub all_heard : List Asked → Contents → List ToServer
 all_heard asked contents = filter_map (heard asked) (bytes contents)
 
+-- what the contents that wait say to the editor
 abbrev pub all_understood : List Asked → Contents → List ToEditor
 all_understood asked contents = filter_map (understood asked) (bytes contents)
 
@@ -35,6 +39,7 @@ all_understood asked contents = filter_map (understood asked) (bytes contents)
 abbrev pub IsHeard : List Asked → Vec ℕ Global → Type 0
 IsHeard asked content = (m : ToServer) × Says asked m content.items
 
+-- a content says something to the editor
 abbrev pub IsUnderstood : List Asked → Vec ℕ Global → Type 0
 IsUnderstood asked content = (m : ToEditor) × (understood asked content.items ≡ Some m)
 
@@ -45,6 +50,7 @@ IsUnderstood asked content = (m : ToEditor) × (understood asked content.items �
 abbrev pub IsRunning : State → Type 0
 IsRunning s = (s.phase ≡ Running) × (s.client.takes_document_changes ≡ true) × (s.client.takes_literal_actions ≡ true)
 
+-- the session runs with this editor, or has failed
 abbrev pub Stands : SessionState → Type 0
 Stands (serving s) = IsRunning s
 Stands failed = ⊤
@@ -73,6 +79,7 @@ abbrev pub made_of_document : List ℕ → ℤ → Bool → Document → Option 
 made_of_document uri version empty (InStep held text) = Some (record { uri = uri; version = version; text = text; empty = empty })
 made_of_document uri version empty OutOfStep = None
 
+-- the document that a publication was made for
 abbrev pub made_for : OpenDocuments → ToEditor → Option Made
 made_for held (publishes uri (Some version) empty) = option_and_then (made_of_document uri version empty) (document_at held uri)
 made_for held (publishes uri None empty) = None
@@ -108,6 +115,7 @@ pub record Both : Type 0 where
   pub ends : Ends
   pub session : SessionState
 
+-- client and server from what the code keeps
 abbrev pub both_from : Editor → Contents → SessionState → Contents → List applied.Applied → List made.Made → Both
 both_from e to_server session to_editor applied made = record { ends = ends_from e to_server session to_editor applied made; session = session }
 

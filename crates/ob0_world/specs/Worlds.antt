@@ -1,4 +1,5 @@
 -- The two ends as the code keeps them, and what a list of events makes of them.
+-- Rule: none; for contracts of `World`: a list of events, step by step.
 use Rattle.std.specs.Prelude.{◌≡◌, ◌≤◌, ◌<◌, ◌+◌, ◌⊎◌, ℕ, List, map, take, length, Bool, true, false, Some}
 use Rattle.ob0_text.specs.declared.positions.Unit.{Unit}
 use Rattle.ob0_world.specs.declared.events.Event as event
@@ -13,6 +14,7 @@ use Rattle.ob0_world_rules.specs.Events.{Event, Seen}
 use Rattle.ob0_world_rules.specs.Happens.{Happens, Run}
 use Rattle.ob0_world_rules.specs.Headline.{Holds}
 
+-- client and server with the session, the steps that were made, and whether it has ended
 pub record World : Type 0 where
   pub ends : Ends
   -- the server, as its session stands
@@ -48,6 +50,7 @@ abbrev pub StepsFrom : Bool → World → Event → Seen → World → Type 0
 StepsFrom false old event seen new = Happens old.ends event seen new.ends × (new.steps ≡ old.steps + 1) × (new.ended ≡ false)
 StepsFrom true old event seen new = ⊥
 
+-- a step is what happens at its event, and is counted
 abbrev pub Steps : World → Event → Seen → World → Type 0
 Steps old event seen new = StepsFrom old.ended old event seen new
 
@@ -59,6 +62,7 @@ FailsFrom false old Ended new = ⊥
 FailsFrom true old Memory new = ⊥
 FailsFrom true old Ended new = new ≡ old
 
+-- out of memory ends a world, and an ended world stays as it is
 abbrev pub Fails : World → WorldFault → World → Type 0
 Fails old fault new = FailsFrom old.ended old fault new
 

@@ -154,6 +154,7 @@ impl<T: TextStore> World<T> {
 fn nothing_played(alloc: Global, unit: Unit) -> Played
     ensures { HasCome (start unit) result }
 {
+    // For the proof: what is known of this value.
     let _unit = unit;
     Played {
         applied: Vec::new(alloc),

@@ -1,4 +1,5 @@
 -- The request that begins a conversation (LSP 3.17, initialize).
+-- Rule: LSP 3.17, initialize.
 use Rattle.std.specs.Prelude.{true, false, codes}
 use Rattle.serde_json.specs.Data.{Data, boolean, string, array, object, no_items, item, Members, member, no_members}
 use Rattle.ob0_text.specs.declared.positions.Unit.{Unit}

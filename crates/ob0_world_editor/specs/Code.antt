@@ -1,4 +1,5 @@
 -- What the values of the code stand for.
+-- Rule: none; for contracts: what values of the code mean.
 use Rattle.std.specs.Prelude.{string_bytes}
 use Rattle.std.specs.Str.{chars}
 use Rattle.ob0_world_editor.specs.declared.asks.Ask as ask
@@ -10,21 +11,26 @@ use Rattle.ob0_world_rules.specs.Edited.{replacements}
 use Rattle.ob0_world_rules.specs.Asks.{Ask, rename, inline_here, inline_all, format}
 use Rattle.ob0_world_rules.specs.Ends.{Asked, Answer, Applied, ToEditor, publishes, answers}
 
+-- an ask of the code
 abbrev pub ask_of : ask.Ask → Ask
 ask_of (ask.TheVariants.Rename position name) = rename position (string_bytes name)
 ask_of (ask.TheVariants.InlineHere position) = inline_here position
 ask_of (ask.TheVariants.InlineAll position) = inline_all position
 ask_of (ask.TheVariants.Format indent) = format indent
 
+-- a request that was sent, of the code
 abbrev pub asked_of : asked.Asked → Asked
 asked_of a = record { ask = ask_of a.ask; uri = string_bytes a.uri; opening = a.opening; version = a.version }
 
+-- an answer with edits, of the code
 abbrev pub answer_of : answer.Answer → Answer
 answer_of a = record { number = a.number; edits = replacements a.edits.items }
 
+-- a message to the editor, of the code
 abbrev pub message_of : message.Message → ToEditor
 message_of (message.TheVariants.Published uri version empty) = publishes (string_bytes uri) version empty
 message_of (message.TheVariants.Answered number edits) = answers number (replacements edits.items)
 
+-- an applied edit of the code
 abbrev pub applied_of : applied.Applied → Applied
 applied_of a = record { uri = string_bytes a.uri; before = chars (string_bytes a.before); after = chars (string_bytes a.after) }

@@ -1,4 +1,5 @@
 -- What the stored documents stand for.
+-- Rule: none; for contracts: what values of the code mean.
 use Rattle.std.specs.Prelude.{ℕ, List, map, string_bytes, String, refl}
 use Rattle.std.specs.Str.{chars}
 use Rattle.std.specs.FinMap as map_of
@@ -6,14 +7,18 @@ use Rattle.std.specs.Coded.{Coded, code_by, coded×, coded_ℕ, coded_list}
 use Rattle.ob0_world_editor.specs.declared.documents.Open as stored
 use Rattle.ob0_world_rules.specs.Ends.{Open, Documents}
 
+-- an open document of the code
 abbrev pub open_of : stored.Open → Open
 open_of d = record { version = d.version; text = chars (string_bytes d.text); opening = d.opening }
 
+-- the open documents as a map from uris
 abbrev pub documents_of : {A : Type 0} → List (String A × stored.Open) → Documents
 documents_of entries = map_of.from_entries (map (λ e. (string_bytes e.0, open_of e.1)) entries)
 
+-- the code of an open document
 abbrev pub open_code : Coded Open
 open_code = code_by (ℕ × (List ℕ × ℕ)) (coded× coded_ℕ (coded× (coded_list coded_ℕ) coded_ℕ)) (λ d. (d.version, (d.text, d.opening))) (λ p. record { version = p.0; text = p.1.0; opening = p.1.1 }) (λ d. refl)
 
+-- the code of the open documents
 abbrev pub open_documents_code : Coded Documents
 open_documents_code = map_of.code (coded_list coded_ℕ) open_code

@@ -1,4 +1,5 @@
 -- What a content tells the server, in the words of the protocol's reader.
+-- Rule: docs/PROTOCOL.md, Contents, JSON shapes 4.
 use Rattle.std.specs.Prelude.{◌≡◌, ⊤, ℕ, List, Option, Some, None, Ok, option_and_then, option_map, if◌then◌else◌}
 use Rattle.std.specs.Str.{is_utf8}
 use Rattle.serde_json.specs.Data.{Data, null, boolean, number, string, array, object, unsigned, negative, float}
@@ -15,6 +16,7 @@ use Rattle.ob0_world_editor.specs.Shapes.{method_of, empty_at}
 
 -- ---- as a function: the message in a content, where an ask is known by its number
 
+-- the number that a request has as its id
 abbrev pub number_of : Data → Option ℕ
 number_of (number (unsigned k)) = Some k
 number_of (number (negative z)) = None
@@ -25,6 +27,7 @@ number_of (string s) = None
 number_of (array ds) = None
 number_of (object ms) = None
 
+-- what a notification says to the server
 abbrev pub note_heard : Notification → Option ToServer
 note_heard exits = None
 note_heard (opens uri version text) = Some (tells (Opened uri version text))
@@ -34,9 +37,11 @@ note_heard (unreadable (Some uri)) = Some (tells (Lost uri))
 note_heard (unreadable None) = None
 note_heard other = None
 
+-- the request of this number, as the editor sent it
 abbrev pub ask_heard : List Asked → ℕ → Option ToServer
 ask_heard asked k = option_map (λ a. asks k a.uri a.ask) (numbered asked k)
 
+-- what a message says to the server
 abbrev pub message_heard : List Asked → Meaning → Option ToServer
 message_heard asked (request id method params) = option_and_then (ask_heard asked) (number_of id)
 message_heard asked (notice method params) = note_heard (note_of method params)
@@ -50,12 +55,14 @@ heard asked content = if is_utf8 content then option_and_then (λ d. message_hea
 
 -- ---- as the server reads it
 
+-- the notification by which a document is reported
 abbrev pub told_as : DocumentNote → Notification
 told_as (Opened uri version text) = opens uri version text
 told_as (Changed uri version all) = changes uri version all
 told_as (Lost uri) = unreadable (Some uri)
 told_as (Closed uri) = closes uri
 
+-- the request by which an ask is sent
 abbrev pub call_for : List ℕ → Ask → wire.Ask
 call_for uri (rename position name) = wire.rename (record { uri = uri; position = position }) name
 call_for uri (inline_here position) = wire.code_action uri (empty_at position) None

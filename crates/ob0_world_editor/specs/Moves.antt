@@ -1,4 +1,5 @@
 -- What a call of the editor did.
+-- Rule: none; for contracts: what a call of the editor did.
 use Rattle.std.specs.Prelude.{◌≡◌, ◌<◌, ◌-◌, ◌^◌, ℕ, pos, List, [], ◌∷◌, Vec, Option, Some, None, length, map, option_map, slice_get}
 use Rattle.std.specs.List.{remove}
 use Rattle.std.specs.FinMap as map_of
@@ -54,6 +55,7 @@ with_text e r =
     let a : Applied = applied_of r.applied in
     record e { documents = map_of.insert e.documents a.uri (record { version = r.version; text = a.after; opening = r.opening }) }
 
+-- the notification of a document's new text
 abbrev pub text_told : rewritten.Rewritten → ToServer
 text_told r = let a : Applied = applied_of r.applied in tells (Changed a.uri (pos r.version) (whole_text a.after ∷ []))
 

@@ -1,4 +1,5 @@
 -- The messages that an editor writes, as JSON values (LSP 3.17). Members stand in byte order of their names.
+-- Rule: LSP 3.17, notifications and requests of a client; docs/PROTOCOL.md, JSON shapes 4.
 use Rattle.std.specs.Prelude.{ℕ, List, true, false, Bool, Option, Some, None, codes, string_bytes}
 use Rattle.serde_json.specs.Data.{Data, boolean, number, array, object, unsigned, no_items, member, no_members}
 use Rattle.serde_json.specs.View.{items_of}
@@ -37,6 +38,7 @@ abbrev pub change_by : Option Range → List ℕ → Data
 change_by (Some range) new = object (member (codes "range") (range_value range) (member (codes "text") (text new) no_members))
 change_by None new = object (member (codes "text") (text new) no_members)
 
+-- a change as JSON
 abbrev pub change_value : Change → Data
 change_value c = change_by c.range (string_bytes c.text)
 
@@ -75,6 +77,7 @@ actions_params uri position =
 abbrev pub options_by : Bool → ℕ → Data
 options_by spaces size = object (member (codes "insertSpaces") (boolean spaces) (member (codes "tabSize") (number (unsigned size)) no_members))
 
+-- formatting options as JSON
 abbrev pub options_value : Indent → Data
 options_value Tab = options_by false 1
 options_value (Spaces n) = options_by true n
@@ -90,6 +93,7 @@ method_of (inline_here position) = codes "textDocument/codeAction"
 method_of (inline_all position) = codes "textDocument/codeAction"
 method_of (format indent) = codes "textDocument/formatting"
 
+-- the params of a request
 abbrev pub params_for : List ℕ → Ask → Data
 params_for uri (rename position name) = rename_params uri position name
 params_for uri (inline_here position) = actions_params uri position

@@ -1,4 +1,5 @@
 -- What a content tells the editor: a publication, or the answer to an ask, which is read as what was asked needs it.
+-- Rule: docs/PROTOCOL.md, JSON shapes 2.
 use Rattle.std.specs.Prelude.{ℕ, ℤ, List, [], ◌∷◌, Bool, true, false, Option, Some, None, is_some, option_and_then, option_map, unwrap_or, if◌then◌else◌, codes}
 use Rattle.std.specs.Str.{bytes_eq, chars, is_utf8}
 use Rattle.serde_json.specs.Data.{Data, Items, no_items, item}
@@ -13,15 +14,18 @@ use Rattle.ob0_world_editor.specs.Heard.{number_of}
 
 -- ---- publications
 
+-- a list has no item
 abbrev pub has_none : Items → Bool
 has_none no_items = true
 has_none (item d ds) = false
 
+-- a publication, where its parts can be read
 abbrev pub publication_by : Option (List ℕ) → Option ℤ → Option Items → Option ToEditor
 publication_by (Some uri) version (Some diagnostics) = Some (publishes uri version (has_none diagnostics))
 publication_by (Some uri) version None = None
 publication_by None version diagnostics = None
 
+-- a publication
 abbrev pub publication_understood : Data → Option ToEditor
 publication_understood params =
     publication_by (text_in (codes "uri") params) (option_and_then as_i64 (option_and_then as_number (get (codes "version") params)))
@@ -29,11 +33,13 @@ publication_understood params =
 
 -- ---- edits
 
+-- an edit, where its parts can be read
 abbrev pub edit_by : Option Range → Option (List ℕ) → Option Replacement
 edit_by (Some range) (Some text) = Some (record { range = range; text = chars text })
 edit_by (Some range) None = None
 edit_by None text = None
 
+-- an edit
 abbrev pub edit_in : Data → Option Replacement
 edit_in d = edit_by (range_in (codes "range") d) (text_in (codes "newText") d)
 
@@ -46,6 +52,7 @@ edits_in (item d ds) = option_and_then (λ e. option_map (λ es. e ∷ es) (edit
 abbrev pub workspace_items : Data → Option Items
 workspace_items value = option_and_then as_array (option_and_then (get (codes "edits")) (option_and_then (at 0) (get (codes "documentChanges") value)))
 
+-- an action has this title
 abbrev pub is_titled : List ℕ → Option (List ℕ) → Bool
 is_titled title (Some found) = bytes_eq found title
 is_titled title None = false
@@ -55,6 +62,7 @@ abbrev pub action_in : List ℕ → Items → Option Data
 action_in title no_items = None
 action_in title (item d ds) = if is_titled title (text_in (codes "title") d) then Some d else action_in title ds
 
+-- the edits of the action with this title
 abbrev pub action_items : List ℕ → Data → Option Items
 action_items title value = option_and_then workspace_items (option_and_then (get (codes "edit")) (option_and_then (action_in title) (as_array value)))
 
@@ -69,14 +77,17 @@ items_for (format indent) value = as_array value
 abbrev pub edits_for : Ask → Data → List Replacement
 edits_for ask answer = unwrap_or (option_and_then edits_in (option_and_then (items_for ask) (get (codes "result") answer))) []
 
+-- the answer to the request of this number, with its edits
 abbrev pub answer_to : List Asked → Data → ℕ → Option ToEditor
 answer_to asked answer k = option_map (λ a. answers k (edits_for a.ask answer)) (numbered asked k)
 
+-- an answer to a request that the editor sent
 abbrev pub answer_understood : List Asked → Data → Option ToEditor
 answer_understood asked answer = option_and_then (answer_to asked answer) (option_and_then number_of (get (codes "id") answer))
 
 -- ---- messages
 
+-- what a message says to the editor
 abbrev pub value_understood : List Asked → Data → Option ToEditor
 value_understood asked d =
     if is_some (get (codes "method") d) then option_and_then publication_understood (get (codes "params") d) else answer_understood asked d

@@ -35,6 +35,7 @@ impl Model for OpenDocuments {
 }
 
 impl OpenDocuments {
+    /// No open document.
     pub fn new(alloc: Global) -> OpenDocuments
         ensures { result ≡ map_of.empty }
     {
@@ -43,12 +44,14 @@ impl OpenDocuments {
         }
     }
 
+    /// An open document of the editor.
     pub fn get(&self, uri: &str) -> Option<&Open>
         ensures { option_map (λ d. open_of d.now) result ≡ map_of.get self.now uri.now }
     {
         self.by_uri.get(uri)
     }
 
+    /// Opens a document, or replaces an open one.
     pub fn put(&mut self, uri: String, document: Open) -> Result<(), AllocError>
         ensures { OnOk result (self.new ≡ map_of.insert self.old (string_bytes uri) (open_of document)) }
     {
@@ -56,6 +59,7 @@ impl OpenDocuments {
         Ok(())
     }
 
+    /// Closes a document.
     pub fn close(&mut self, uri: &str)
         ensures { self.new ≡ map_of.remove self.old uri.now }
     {

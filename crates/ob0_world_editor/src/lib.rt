@@ -1,4 +1,4 @@
-//! The editor's end: its documents, what it asks and what it holds, the messages that it writes, and how it reads those of a server.
+//! The client: its documents, what it requests, the messages that it writes, and how it reads those of a server.
 #![tactic(auto)]
 
 mod applied;

@@ -8,6 +8,7 @@ ghost use Rattle.ob0_world_editor.specs.Shapes.{document_value as document_data}
 use serde_json::{Map, Value, put};
 use std::alloc::{AllocError, Global};
 
+/// Puts a member with a text into an object.
 pub fn put_text(
     members: &mut Map<String, Value>,
     alloc: Global,

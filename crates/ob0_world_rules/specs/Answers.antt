@@ -1,4 +1,5 @@
 -- What is answered to what an editor asks for.
+-- Rule: docs/PROTOCOL.md, Requests on documents 6 to 10.
 use Rattle.std.specs.Prelude.{◌≡◌, ◌⊎◌, ℕ, List, [], Bool, Option, Some, None, IsTrue, ◌↔◌, Vec}
 use Rattle.std.specs.declared.alloc.Global.{Global}
 use Rattle.ob0_text.specs.declared.positions.Position.{Position}

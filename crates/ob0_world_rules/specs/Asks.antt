@@ -1,9 +1,11 @@
 -- What an editor may ask for.
+-- Rule: docs/PROTOCOL.md, Requests on documents 6 to 8.
 use Rattle.std.specs.Prelude.{ℕ, List, max, min}
 use Rattle.ob0_text.specs.declared.positions.Position.{Position}
 use Rattle.ob0_text.specs.declared.edits.Indent.{Indent}
 use Rattle.ob0_text.specs.declared.edits.Indent.TheVariants.{Tab, Spaces}
 
+-- what an editor may request of a document
 pub data Ask : Type 0 where
   -- the place, and the bytes of the new name
   rename : Position → List ℕ → Ask

@@ -1,4 +1,5 @@
 -- What edits and changes make of a text.
+-- Rule: LSP 3.17, TextEdit[].
 use Rattle.std.specs.Prelude.{◌≡◌, ℕ, List, map, fold, Option, None, string_bytes}
 use Rattle.std.specs.Str.{chars}
 use Rattle.ob0_text.specs.declared.edits.Edit.{Edit}
@@ -17,6 +18,7 @@ pub record Replacement : Type 0 where
 abbrev pub replacement_of : Edit → Replacement
 replacement_of e = record { range = e.range; text = chars (string_bytes e.text) }
 
+-- edits of the code as replacements
 abbrev pub replacements : List Edit → List Replacement
 replacements edits = map replacement_of edits
 

@@ -1,4 +1,5 @@
 -- What the editor does at each event, and what it sends.
+-- Rule: LSP 3.17, versioned documents: a model of a client.
 use Rattle.std.specs.Prelude.{ℕ, suc, ◌+◌, pos, List, [], ◌∷◌, ◌++◌, Bool, true, false, ◌&&◌, ◌==◌, length, Option, Some, None, if◌then◌else◌}
 use Rattle.std.specs.FinMap as map_of
 use Rattle.ob0_text.specs.OpenDocuments.{TextChange, Opened, Changed, Closed}
@@ -24,29 +25,35 @@ opens_document e uri text None =
 abbrev pub rewritten : Open → List ℕ → Open
 rewritten d text = record { version = d.version + 1; text = text; opening = d.opening }
 
+-- the editor with a document's new text, one version later
 abbrev pub rewrites : Editor → List ℕ → Open → List ℕ → Editor
 rewrites e uri d text = record e { documents = map_of.insert e.documents uri (rewritten d text) }
 
+-- a change that makes this text is sent
 abbrev pub changes_text : Editor → List ℕ → Open → List TextChange → Option (List ℕ) → Move
 changes_text e uri d how (Some text) = sends (rewrites e uri d text) (tells (Changed uri (pos (d.version + 1)) how))
 changes_text e uri d how None = idle
 
+-- an open document is changed
 abbrev pub changes_document : Editor → List ℕ → List TextChange → Option Open → Move
 changes_document e uri how (Some d) = changes_text e uri d how (after_changes e.unit (Some d.text) how)
 changes_document e uri how None = idle
 
+-- an open document is closed
 abbrev pub closes_document : Editor → List ℕ → Option Open → Move
 closes_document e uri (Some d) = sends (record e { documents = map_of.remove e.documents uri }) (tells (Closed uri))
 closes_document e uri None = idle
 
 -- ---- asks and answers
 
+-- a request about an open document is sent, with the next number
 abbrev pub asks_about : Editor → List ℕ → Ask → Option Open → Move
 asks_about e uri ask (Some d) =
     let asked : Asked = record { ask = ask; uri = uri; opening = d.opening; version = d.version } in
     sends (record e { asked = e.asked ++ asked ∷ [] }) (asks (suc (length e.asked)) uri ask)
 asks_about e uri ask None = idle
 
+-- there is an edit
 abbrev pub has_edits : List Replacement → Bool
 has_edits [] = false
 has_edits (e ∷ es) = true
@@ -56,6 +63,7 @@ abbrev pub keeps : Editor → ℕ → List Replacement → Editor
 keeps e number [] = e
 keeps e number (edit ∷ edits) = record e { answers = e.answers ++ record { number = number; edits = edit ∷ edits } ∷ [] }
 
+-- the edits of the answer with this number
 abbrev pub held_answer : ℕ → List Answer → Option (List Replacement)
 held_answer k [] = None
 held_answer k (a ∷ rest) = if a.number == k then Some a.edits else held_answer k rest
@@ -79,6 +87,7 @@ pub data Outcome : Type 0 where
   -- the editor makes the edits, and sends the whole text
   makes : Editor → Applied → ToServer → Outcome
 
+-- an answer is dropped
 abbrev pub discards : Editor → ℕ → Option (List Replacement) → Outcome
 discards e k (Some edits) = lets_go (without_answer e k)
 discards e k None = not_held
@@ -88,16 +97,19 @@ abbrev pub if_same : Asked → Option Open → Option Open
 if_same asked (Some d) = if d.opening == asked.opening && d.version == asked.version then Some d else None
 if_same asked None = None
 
+-- an open document gets the text that edits make
 abbrev pub applies_text : Editor → List ℕ → Open → Option (List ℕ) → Outcome
 applies_text e uri d (Some text) =
     makes (rewrites e uri d text) (record { uri = uri; before = d.text; after = text })
     (tells (Changed uri (pos (d.version + 1)) (whole_text text ∷ [])))
 applies_text e uri d None = lets_go e
 
+-- edits are applied to an open document
 abbrev pub applies_edits : Editor → List Replacement → List ℕ → Option Open → Outcome
 applies_edits e edits uri (Some d) = applies_text e uri d (edited e.unit d.text edits)
 applies_edits e edits uri None = lets_go e
 
+-- edits are applied where the document is as it was when they were requested
 abbrev pub applies_asked : Editor → List Replacement → Option Asked → Outcome
 applies_asked e edits (Some asked) = applies_edits e edits asked.uri (if_same asked (open_at e asked.uri))
 applies_asked e edits None = lets_go e

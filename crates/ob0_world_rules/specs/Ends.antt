@@ -1,4 +1,5 @@
 -- The two ends of a conversation and what stands between them.
+-- Rule: LSP 3.17: a model of client and server.
 use Rattle.std.specs.Prelude.{◌≡◌, ℕ, zero, suc, ℤ, pos, List, [], Bool, Option, None, option_map, slice_get, fold}
 use Rattle.std.specs.Ordering.{nat_cmp}
 use Rattle.std.specs.Cmp.Lexicographic.{slice_cmp}
@@ -32,6 +33,7 @@ pub record Answer : Type 0 where
   pub number : ℕ
   pub edits : List Replacement
 
+-- an editor: its documents, what it requested, and the answers that it has
 pub record Editor : Type 0 where
   -- what positions are counted in
   pub unit : Unit
@@ -42,23 +44,28 @@ pub record Editor : Type 0 where
   pub asked : List Asked
   pub answers : List Answer
 
+-- an editor with no open document
 abbrev pub new_editor : Unit → Editor
 new_editor unit = record { unit = unit; documents = map_of.empty; openings = 0; asked = []; answers = [] }
 
+-- the request of this number, counted from 1
 abbrev pub numbered : List Asked → ℕ → Option Asked
 numbered asked zero = None
 numbered asked (suc k) = slice_get asked k
 
+-- the open document of this uri
 abbrev pub open_at : Editor → List ℕ → Option Open
 open_at e uri = map_of.get e.documents uri
 
 -- ---- the queues
 
+-- a message to the server
 pub data ToServer : Type 0 where
   tells : DocumentNote → ToServer
   -- the ask's number, the uri and what is asked
   asks : ℕ → List ℕ → Ask → ToServer
 
+-- a message to the editor
 pub data ToEditor : Type 0 where
   -- the uri, the version, and whether no diagnostic is in the list; a close sends a list without version
   publishes : List ℕ → Option ℤ → Bool → ToEditor
@@ -82,6 +89,7 @@ pub record Made : Type 0 where
 
 -- ---- the whole
 
+-- client and server: the editor, the server's documents, the two queues, and what has come of it
 pub record Ends : Type 0 where
   pub editor : Editor
   pub to_server : List ToServer
@@ -108,6 +116,7 @@ abbrev pub after_message : OpenDocuments → ToServer → OpenDocuments
 after_message held (tells note) = after_note held note
 after_message held (asks number uri ask) = held
 
+-- the server's documents, once it has taken what waits for it
 abbrev pub will_hold : Ends → OpenDocuments
 will_hold w = fold after_message w.held w.to_server
 

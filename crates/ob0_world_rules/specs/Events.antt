@@ -1,10 +1,12 @@
 -- What may happen at the two ends, what is seen of it, and what the editor's part of it leaves.
+-- Rule: LSP 3.17: a model of client and server.
 use Rattle.std.specs.Prelude.{◌≡◌, ℕ, List, [], ◌∷◌, ◌++◌, Bool}
 use Rattle.ob0_text.specs.OpenDocuments.{TextChange}
 use Rattle.ob0_world_rules.specs.Asks.{Ask}
 use Rattle.ob0_world_rules.specs.Ends.{ToEditor, publishes, answers, Ends}
 use Rattle.ob0_world_rules.specs.Editing.{Move, idle, sends, has_edits, keeps, Outcome, not_held, lets_go, makes}
 
+-- what may happen
 pub data Event : Type 0 where
   -- the uri and the text
   open_document : List ℕ → List ℕ → Event
@@ -19,6 +21,7 @@ pub data Event : Type 0 where
   apply : ℕ → Event
   discard : ℕ → Event
 
+-- what is seen of an event
 pub data Seen : Type 0 where
   nothing : Seen
   sent : Seen
@@ -30,10 +33,12 @@ pub data Seen : Type 0 where
   applies : ℕ → Seen
   drops : ℕ → Seen
 
+-- what is seen, and what comes after
 pub record Step : Type 0 where
   pub seen : Seen
   pub after : Ends
 
+-- nothing changes
 abbrev pub nothing_happens : Ends → Step
 nothing_happens w = record { seen = nothing; after = w }
 
@@ -56,5 +61,6 @@ comes_of w k (lets_go e) = record { seen = drops k; after = record w { editor = 
 comes_of w k (makes e applied message) =
     record { seen = applies k; after = record w { editor = e; to_server = w.to_server ++ message ∷ []; applied = w.applied ++ applied ∷ [] } }
 
+-- this is the step
 abbrev pub Is : Step → Seen → Ends → Type 0
 Is step seen new = (seen ≡ step.seen) × (new ≡ step.after)

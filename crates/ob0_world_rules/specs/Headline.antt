@@ -1,4 +1,5 @@
 -- What holds after every list of events.
+-- Rule: docs/PROMISES.md, the two ends.
 use Rattle.std.specs.Prelude.{◌↔◌, IsTrue, ◌≡◌, ℕ, ℤ, pos, List, [], ◌∷◌, All, Option, Some, None, if◌then◌else◌}
 use Rattle.std.specs.Str.{bytes_eq}
 use Rattle.ob0_text.specs.declared.positions.Unit.{Unit}
@@ -33,6 +34,7 @@ EditsKeepTheRun = (unit : Unit) (text : List ℕ) (ask : Ask) (edits : List Edit
 abbrev pub IsRight : Made → Type 0
 IsRight m = IsTrue m.empty ↔ WellTypedText m.text
 
+-- the later one, if there is one
 abbrev pub or_else : Option Made → Option Made → Option Made
 or_else (Some later) this = Some later
 or_else None this = this
@@ -51,6 +53,7 @@ IsMadeFor version text None = ⊥
 abbrev pub AreUpToDate : Editor → List Made → Type 0
 AreUpToDate e made = (uri : List ℕ) (d : Open) → open_at e uri ≡ Some d → IsMadeFor (pos d.version) d.text (latest uri made)
 
+-- the last publication of each open document is of its present text
 abbrev pub IsUpToDate : Ends → Type 0
 IsUpToDate w = AreUpToDate w.editor w.made
 
@@ -64,5 +67,6 @@ pub record Holds (w : Ends) : Type 0 where
   pub mirror : Mirrors w
   pub latest_made : w.to_server ≡ [] → IsUpToDate w
 
+-- what holds after every list of events
 abbrev pub InEveryInterleaving : Type 0
 InEveryInterleaving = (unit : Unit) (events : List Event) (w : Ends) → Run (start unit) events w → Holds w

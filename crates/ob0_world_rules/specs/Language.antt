@@ -1,4 +1,5 @@
 -- What a text means as a module: whether it is well-typed, and whether two texts have the same run.
+-- Rule: docs/LANGUAGE.md, Types 8, Runs.
 use Rattle.std.specs.Prelude.{◌≡◌, ℕ, List}
 use Rattle.ob0_tree.specs.Tree.{Tree, module_text}
 use Rattle.ob0_scope_rules.specs.Names.{Name}

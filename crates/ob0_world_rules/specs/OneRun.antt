@@ -1,4 +1,5 @@
 -- A list of events has one run.
+-- Rule: none; laws of client and server.
 use Rattle.std.specs.Prelude.{◌≡◌, ℕ, List}
 use Rattle.ob0_text.specs.declared.positions.Unit.{Unit}
 use Rattle.ob0_world_rules.specs.Edited.{Replacement}

@@ -1,4 +1,5 @@
 -- What comes of a list of events, in its one run from the beginning.
+-- Rule: docs/PROMISES.md, the two ends.
 use Rattle.std.specs.Prelude.{◌≡◌, ⊤, ℕ, ℤ, pos, List, [], ◌∷◌, ◌++◌, map, All, Option, Some, None}
 use Rattle.ob0_text.specs.declared.positions.Unit.{Unit}
 use Rattle.ob0_text.specs.OpenDocuments.{Opened, Changed, Lost, Closed}
@@ -36,6 +37,7 @@ pub record Told : Type 0 where
   pub uri : List ℕ
   pub document : Open
 
+-- the document of this uri, where it is open
 abbrev pub told_at : List ℕ → Option Open → List Told
 told_at uri (Some d) = record { uri = uri; document = d } ∷ []
 told_at uri None = []
@@ -48,10 +50,12 @@ told_by e (tells (Lost uri)) = []
 told_by e (tells (Closed uri)) = []
 told_by e (asks number uri ask) = []
 
+-- the documents that a move of the editor sends
 abbrev pub told_in_move : Move → List Told
 told_in_move idle = []
 told_in_move (sends e message) = told_by e message
 
+-- the documents that an applied answer sends
 abbrev pub told_in_outcome : Outcome → List Told
 told_in_outcome not_held = []
 told_in_outcome (lets_go e) = []
@@ -77,6 +81,7 @@ AreTold w (event ∷ events) told =
 
 -- ---- what is published
 
+-- a publication is for this document, at its version and text
 abbrev pub IsMadeOf : Made → Told → Type 0
 IsMadeOf m t = (m.uri ≡ t.uri) × (m.version ≡ pos t.document.version) × (m.text ≡ t.document.text)
 
@@ -95,10 +100,12 @@ named_by (tells (Lost uri)) = []
 named_by (tells (Closed uri)) = []
 named_by (asks number uri ask) = []
 
+-- the uris and versions that waiting messages name
 abbrev pub named_in : List ToServer → List (List ℕ × ℤ)
 named_in [] = []
 named_in (message ∷ queue) = named_by message ++ named_in queue
 
+-- the uri and the version of a document
 abbrev pub name_of : Told → List ℕ × ℤ
 name_of t = (t.uri, pos t.document.version)
 
@@ -130,8 +137,10 @@ MirrorsInTheEnd unit events = (end : Ends) → Run (start unit) events end → M
 
 -- ---- the laws
 
+-- each publication was made for a text that the editor's document had
 abbrev pub MadeForTheEditor : Type 0
 MadeForTheEditor = (unit : Unit) (events : List Event) (end : Ends) → Run (start unit) events end → All (WasMadeFor unit events) end.made
 
+-- the n-th publication was made for the n-th document that the editor sent
 abbrev pub MadeInOrder : Type 0
 MadeInOrder = (unit : Unit) (events : List Event) (end : Ends) → Run (start unit) events end → AreMadeInOrder unit events end.made

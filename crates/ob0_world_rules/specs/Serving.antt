@@ -1,4 +1,5 @@
 -- What a server sends for each message that it takes.
+-- Rule: docs/PROTOCOL.md, Documents, Publishing, Requests on documents.
 use Rattle.std.specs.Prelude.{◌≡◌, ℕ, List, [], ◌∷◌, Bool, true, false, Option, Some, None, is_some}
 use Rattle.ob0_text.specs.OpenDocuments.{OpenDocuments, Document, InStep, OutOfStep, DocumentNote, Opened, Changed, Lost, Closed, document_at, after_note}
 use Rattle.ob0_world_rules.specs.Edited.{Replacement}
@@ -25,6 +26,7 @@ MayTell held (Changed uri version how) sent made = MayPublish uri (document_at (
 MayTell held (Lost uri) sent made = (sent ≡ []) × (made ≡ [])
 MayTell held (Closed uri) sent made = (sent ≡ taken_back uri (is_some (document_at held uri))) × (made ≡ [])
 
+-- what a server sends for a message, and which publications it makes
 abbrev pub MaySend : OpenDocuments → ToServer → List ToEditor → List Made → Type 0
 MaySend held (tells note) sent made = MayTell held note sent made
 MaySend held (asks number uri ask) sent made =

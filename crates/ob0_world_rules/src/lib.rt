@@ -1,4 +1,5 @@
-//! The two ends of a conversation: an editor, a server, and a queue in each direction. What every list of events keeps.
+//! Client and server: an editor, a server, and a queue in each direction; what every list of events keeps. Definitions, and
+//! laws over them.
 #![tactic(auto)]
 
 pub mod editor_laws;

@@ -1,4 +1,4 @@
-// The documents of a session.
+//! The documents of a session.
 ghost use Rattle.std.specs.Prelude.{◌≡◌};
 ghost use Rattle.ob0_session.specs.Answers.{State};
 ghost use Rattle.ob0_session.specs.Standing.{serving};
