@@ -399,6 +399,50 @@ def renamed():
         growth(f"rename {name},", COUNTS, lambda size, on_line=on_line: corpus.uses(size, on_line), each)
 
 
+def halves(what, cost, first, second):
+    """Prints what a pair of sizes costs, and its ratio from half of either: 1 is a cost that grows with that size alone, 0.5 one
+    that doesn't grow with it. A product of both sizes would be 1 each way."""
+    whole, memory = cost(first, second)
+    by_first, by_second = cost(first // 2, second)[0], cost(first, second // 2)[0]
+    said(f"{what}, {first:,} and {second:,}", f"{whole:7.3f} s, ratios {whole / by_first / 2:.2f} and {whole / by_second / 2:.2f}; {megabytes(memory)}")
+
+
+@measure("rename: a long name for one that is used all over 1 MB, beside half of the uses and half of the name")
+def renamed_to_a_long_name():
+    def cost(uses, letters):
+        ask = {"newName": "y" * letters, "position": place(0, 18)}
+        return asked(corpus.uses(uses, False), "rename", ask, b"TooLong", 1)
+
+    halves("uses and letters", cost, COUNTS[1], 8_000_000)
+
+
+@measure("serve: a change on each line in one note, beside half of the changes and half of the lines")
+def changed_on_each_line():
+    def cost(changes, lines):
+        text = "MODULE M; VAR x: INTEGER; BEGIN\n" + "x:=x+1;\n" * lines + "END M.\n"
+        replaced = [{"range": extent(f"{1 + at}:0-{1 + at}:1"), "text": "x"} for at in range(changes)]
+        talk = lambda more: frames([initialize(), did_open(text), *more, SHUTDOWN, EXIT])
+        found, opening = (best(3, lambda more=more: Timed([BINARY, "serve"], talk(more))) for more in ([did_change(replaced, version=2)], []))
+        return max(found.processor - opening.processor, 1e-4), found.memory
+
+    halves("changes and lines", cost, 50_000, 100_000)
+
+
+@measure("serve: one message of 16 MiB, beside one of 8")
+def largest_message():
+    def each(make, size):
+        one = make()
+        content = b"[" + (one + b",") * ((size - 3) // (len(one) + 1)) + b"0]"
+        given = b"Content-Length: %d\r\n\r\n" % len(content) + content
+        found = best(3, lambda: Timed([BINARY, "serve"], given))
+        return found.processor, found.memory
+
+    makes = {"numbers": lambda: b"0", "objects": lambda: b"{}", "objects in 124 others": lambda: b'{"":' * 124 + b"0" + b"}" * 124}
+    for name, make in makes.items():
+        (half, low), (whole, high) = each(make, 8 * MIB), each(make, 16 * MIB - 64)
+        said(f"a message of {name}", f"{whole:7.3f} s, ratio {whole / half / 2:.2f}; {megabytes(high)}, of half of it {megabytes(low)}")
+
+
 @measure("rename: from the request to the end of its answer, on 1 MiB")
 def rename_answered():
     """By the clock, with the document open: a name that stands in a module here and there, and one that is all of the text."""

@@ -1,6 +1,6 @@
 -- Where another name for a declaration isn't free.
 -- Rule: docs/PROTOCOL.md, Refusals of edits.
-use Rattle.std.specs.Prelude.{ℕ, List, Option, Some, None, map, option_and_then, option_map, slice_get}
+use Rattle.std.specs.Prelude.{ℕ, Option, Some, None, option_map, slice_get}
 use Rattle.ob0_scan.specs.declared.lexeme.Span.{Span}
 use Rattle.ob0_tree.specs.Parsed.{Parsed, named_tree_of, tree_of}
 use Rattle.ob0_tree.specs.Tree.{occurrences}
@@ -9,12 +9,21 @@ use Rattle.ob0_scope_rules.specs.Occurrences.{Capture, at_declaration, at_occurr
 use Rattle.ob0_scope_rules.specs.Resolution.{span_at}
 use Rattle.ob0_refs.specs.Places.{declared_at}
 
+-- where an occurrence is, by its number
+abbrev pub occurrence_span : Parsed → ℕ → Option Span
+occurrence_span m k = option_map (span_at m.source) (slice_get (occurrences (tree_of m)) k)
+
+-- the text's start where there is no such identifier
+abbrev pub or_start : Option Span → Span
+or_start None = record { start = 0; end = 0 }
+or_start (Some span) = span
+
 -- the identifier that declares d, or an occurrence by its number
-abbrev pub capture_span : Parsed → ℕ → Capture → Option Span
-capture_span m d at_declaration = declared_at m d
-capture_span m d (at_occurrence k) = option_map (span_at m.source) (slice_get (occurrences (tree_of m)) k)
+abbrev pub capture_span : Parsed → ℕ → Capture → Span
+capture_span m d at_declaration = or_start (declared_at m d)
+capture_span m d (at_occurrence k) = or_start (occurrence_span m k)
 
 -- The identifier that declares d, where another declaration of its block has the new name; else the first occurrence that
 -- would be bound to another declaration, if there is one.
 abbrev pub captured_span : Parsed → ℕ → Name → Option Span
-captured_span m d new = option_and_then (capture_span m d) (first_captured (named_tree_of m) d new)
+captured_span m d new = option_map (capture_span m d) (first_captured (named_tree_of m) d new)

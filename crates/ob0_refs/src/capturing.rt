@@ -1,6 +1,8 @@
 //! Where another name for a declaration isn't free.
 
-ghost use Rattle.std.specs.Prelude.{◌≡◌, IfOk, option_map};
+ghost use Rattle.std.specs.Prelude.{◌≡◌, ◌↔◌, None, IfOk, option_map};
+ghost use Rattle.ob0_tree.specs.Parsed.{named_tree_of};
+ghost use Rattle.ob0_scope_rules.specs.Occurrences.{Free};
 ghost use Rattle.ob0_refs.specs.Parts.{capture_at};
 ghost use Rattle.ob0_refs.specs.Captured.{captured_span};
 
@@ -12,20 +14,20 @@ use std::alloc::{AllocError, Global};
 
 /// Where another name for a declaration isn't free: the identifier that declares it, where another declaration of its
 /// block has the name; else the first occurrence, in text order, that would be bound to another declaration. None where
-/// there is neither.
+/// the name is free.
 pub fn captures(
     alloc: Global,
     names: &Resolved,
     declaration: usize,
     new: &str,
 ) -> Result<Option<Capture>, AllocError>
-    ensures { IfOk result (λ found. option_map capture_at found ≡ captured_span names.now.module_read declaration new.now) }
+    ensures span { IfOk result (λ found. option_map capture_at found ≡ captured_span names.now.module_read declaration new.now) }
+    ensures free { IfOk result (λ found. found ≡ None ↔ Free (named_tree_of names.now.module_read) declaration new.now) }
 {
     match first_capture(alloc, names, declaration, new)? {
         None => Ok(None),
-        Some(capture) => match capture_span(names, declaration, capture) {
-            None => Ok(None),
-            Some(span) => Ok(Some(Capture { span })),
-        },
+        Some(capture) => Ok(Some(Capture {
+            span: capture_span(names, declaration, capture),
+        })),
     }
 }

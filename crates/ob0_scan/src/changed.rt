@@ -16,6 +16,7 @@ use crate::lexeme::{Span, Token};
 use crate::scanner::{MAX_TEXT, Scanner, too_long};
 use crate::tokens::{Rescan, Tokens};
 use std::alloc::{AllocError, Global};
+use thiserror::Error;
 
 /// The `removed` bytes of a text from byte `from` on gave way to `added` other bytes.
 #[derive(Clone, Copy)]
@@ -196,9 +197,11 @@ pub(crate) struct Between {
 }
 
 /// Why a changed text has no tokens; with the old ones, where it has faults.
-#[derive(Debug, Drop)]
+#[derive(Debug, Drop, Error)]
 pub enum NotRescanned {
+    #[error("faults in the text")]
     Faults(Vec<Fault>, Tokens),
+    #[error("out of memory")]
     Memory,
 }
 

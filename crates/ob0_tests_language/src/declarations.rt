@@ -5,6 +5,7 @@ ghost use Rattle.std.specs.Prelude.{⊤};
 use crate::asking::said;
 use ob0_analysis::Question;
 use ob0_refs::captures;
+use ob0_scope::{Resolved, resolve_renamed};
 use ob0_types::{Shape, WellTyped};
 use ob0_types_table::Parts;
 use std::alloc::{AllocError, Global};
@@ -124,6 +125,54 @@ fn captures_are_found(rt: HostRuntime) -> Result<(), Fail> {
         let (declaration, new, wanted) = *row;
         let found = said(rt.alloc(), NAMES, &Free { declaration, new })?;
         assert!(rt; found.as_str() == wanted, "{found} for {new}");
+    }
+    Ok(())
+}
+
+/// What the occurrences are bound to where the declaration with an ordinal has another name.
+#[derive(Drop)]
+struct Renamed {
+    declaration: usize,
+    new: &'static str,
+}
+
+impl Question for Renamed {
+    type Answer = String;
+
+    ghost answers = { λ _ _ _. ⊤ };
+
+    fn answer(&self, alloc: Global, module: &WellTyped<'_, '_>) -> Result<String, AllocError> {
+        let names: &Resolved = module.resolved();
+        let mut out = String::new(alloc);
+        for ordinal in &resolve_renamed(alloc, names, self.declaration, self.new)? {
+            match ordinal {
+                Some(ordinal) => {
+                    let text = format!(in alloc; " {ordinal}")?;
+                    out.push_str(text.as_str())?;
+                }
+                None => out.push_str(" none")?,
+            }
+        }
+        Ok(out)
+    }
+}
+
+static RENAMED_ROWS: &[(usize, &str, &str)] = &[
+    (7, "w", " 0 0 0 10 7 9"),
+    (7, "z", " 0 0 0 10 10 9"),
+    (10, "x", " 0 0 0 10 10 9"),
+    (9, "INTEGER", " 0 0 9 10 7 9"),
+];
+
+#[test]
+fn occurrences_are_bound_with_another_name(rt: HostRuntime) -> Result<(), Fail> {
+    for row in RENAMED_ROWS {
+        let (declaration, new, wanted) = *row;
+        let found = said(rt.alloc(), NAMES, &Renamed { declaration, new })?;
+        assert!(rt;
+            found.as_str() == wanted,
+            "{found} of {declaration} as {new}"
+        );
     }
     Ok(())
 }

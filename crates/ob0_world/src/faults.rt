@@ -1,18 +1,20 @@
 //! What stops the two ends.
 
 use crate::played::Played;
+use thiserror::Error;
 
 /// Why a step wasn't made.
-#[derive(Clone, Copy, Debug, Drop, PartialEq, Eq)]
+#[derive(Clone, Copy, Debug, Drop, PartialEq, Eq, Error)]
 pub enum WorldFault {
-    /// Memory was refused in this step.
+    #[error("out of memory")]
     Memory,
-    /// Memory was refused in an earlier step.
+    #[error("an earlier step ran out of memory")]
     Ended,
 }
 
 /// Memory was refused; what came of the events before stands.
-#[derive(Debug, Drop)]
+#[derive(Debug, Drop, Error)]
+#[error("out of memory")]
 pub struct PlayFault {
     pub played: Played,
 }
