@@ -9,19 +9,12 @@ import tempfile
 import time
 
 import common
-import harness
-from harness import TOP, Skipped, holds, same, test, want
+from harness import TOP, holds, same, test, want, want_proved
 from screen import Screen
 from test_editors import run_plainly, write
 from test_syntax_files import text_of
 
 MODULE = "MODULE N;\nBEGIN x := 1 END N.\n"
-
-
-def want_proved():
-    """Leaves a test out where the program isn't bin/ob0, or that isn't the proved program of these sources."""
-    if os.path.abspath(harness.BINARY) != common.BINARY or not common.is_current():
-        raise Skipped("bin/ob0 is not the proved program of these sources")
 
 
 def made(*words):

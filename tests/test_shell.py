@@ -8,10 +8,9 @@ import shlex
 import tempfile
 import time
 
-from harness import TOP, holds, run, same, test, want
+from harness import TOP, holds, run, same, test, want, want_proved
 from snippets import fenced
 from test_editors import at_home, run_plainly, write
-from test_package import want_proved
 from test_syntax_files import text_of
 
 SHARE = os.path.join(TOP, "share")
