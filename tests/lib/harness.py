@@ -16,6 +16,7 @@ import time
 TOP = os.path.dirname(os.path.dirname(os.path.dirname(os.path.abspath(__file__))))
 sys.path += [os.path.join(TOP, *it) for it in (["tests"], ["tests", "lib"], ["tests", "inputs"], ["tools"], ["bench"])]
 
+import common  # noqa: E402
 import editors  # noqa: E402
 
 BINARY = os.environ.get("OB0") or os.path.join(TOP, "bin", "ob0")
@@ -335,6 +336,12 @@ def want(*names):
     MISSING.update({it: [editors.TOOLS[it][1]] for it in missing})
     if missing:
         leave_out(f"{' and '.join(missing)} missing", any(it in editors.REQUIRED for it in missing))
+
+
+def want_proved():
+    """Leaves a test out where the program isn't bin/ob0, or that isn't the proved program of these sources."""
+    if os.path.abspath(BINARY) != common.BINARY or not common.is_current():
+        raise Skipped("bin/ob0 is not the proved program of these sources")
 
 
 # Texts and files
