@@ -164,7 +164,10 @@ fn a_well_typed_module_is_renamed_alike(rt: HostRuntime) -> Result<(), Fail> {
         let (text, line, character, new, wanted) = *row;
         let place = Position { line, character };
         let found = said(rt.alloc(), text, &Renamed { place, new })?;
-        assert!(rt; found.as_str() == wanted, "{found} by {new} at {line}:{character}");
+        assert!(rt;
+            found.as_str() == wanted,
+            "{found} by {new} at {line}:{character}"
+        );
     }
     Ok(())
 }

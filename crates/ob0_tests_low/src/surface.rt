@@ -77,8 +77,16 @@ fn said(alloc: Global, method: &str, params: &str) -> &'static str {
 }
 
 static NOTES: &[(&str, &str, &str)] = &[
-    ("textDocument/didClose", "{\"textDocument\":{\"uri\":\"u\"}}", "read"),
-    ("textDocument/didChange", "{\"textDocument\":{\"uri\":\"u\"}}", "unreadable, of a document"),
+    (
+        "textDocument/didClose",
+        "{\"textDocument\":{\"uri\":\"u\"}}",
+        "read",
+    ),
+    (
+        "textDocument/didChange",
+        "{\"textDocument\":{\"uri\":\"u\"}}",
+        "unreadable, of a document",
+    ),
     ("textDocument/didOpen", "{}", "unreadable"),
     ("$/cancelRequest", "null", "other"),
 ];

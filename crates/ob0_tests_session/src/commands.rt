@@ -74,7 +74,13 @@ fn a_module_is_run_and_renamed(rt: HostRuntime) {
 fn line_of(alloc: Global, words: &[&str]) -> &'static str {
     match command(alloc, words) {
         Ok(CommandLine::Serve) => "serve",
-        Ok(CommandLine::Run { file: "m", calls: 64, turns: 100_000 }) => "run m",
+        Ok(
+            CommandLine::Run {
+                file: "m",
+                calls: 64,
+                turns: 100_000,
+            },
+        ) => "run m",
         Ok(_other) => "another",
         Err(_fault) => "refused",
     }
