@@ -9,16 +9,8 @@ import tempfile
 import time
 
 import common
-<<<<<<< HEAD
-from harness import TOP, holds, same, test, text_of, want
+from harness import TOP, holds, same, test, text_of, want, want_proved
 from homes import run_plainly, write
-from proved import want_proved
-||||||| 06ae05a4
-import harness
-from harness import TOP, Skipped, holds, same, test, want
-=======
-from harness import TOP, holds, same, test, want, want_proved
->>>>>>> package
 from screen import Screen
 
 MODULE = "MODULE N;\nBEGIN x := 1 END N.\n"

@@ -8,26 +8,10 @@ import shlex
 import tempfile
 import time
 
-<<<<<<< HEAD
 import common
-from harness import TOP, holds, run, same, test, text_of, want
+from harness import TOP, holds, run, same, test, text_of, want, want_proved
 from homes import at_home, run_plainly, write
-from proved import want_proved
-||||||| 06ae05a4
-from harness import TOP, holds, run, same, test, want
-=======
-from harness import TOP, holds, run, same, test, want, want_proved
->>>>>>> package
 from snippets import fenced
-<<<<<<< HEAD
-||||||| 06ae05a4
-from test_editors import at_home, run_plainly, write
-from test_package import want_proved
-from test_syntax_files import text_of
-=======
-from test_editors import at_home, run_plainly, write
-from test_syntax_files import text_of
->>>>>>> package
 
 SHARE = os.path.join(TOP, "share")
 COMMANDS = ["check", "rename", "run", "serve"]
