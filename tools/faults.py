@@ -9,6 +9,7 @@ It runs bin/ob0 (or the program that the variable OB0 names) and the programs of
 crates/NAME/out. OB0_LONG is how many messages the long conversation has (100,000), OB0_RUNS how many random modules are
 run (20,000), OB0_WALK about how many allocations of one test are refused (10,000): of more, each second, third and so on. The
 last line is 'N passed, M failed'."""
+import itertools
 import os
 import subprocess
 import sys
@@ -41,19 +42,36 @@ def tests_of(program):
 
 
 def played(out):
-    """What a test prints of how much was played, as `played A B`."""
+    """What a test prints of how much was played, as `played STEPS APPLIED MADE`."""
     lines = [it for it in out.decode().splitlines() if it.startswith("played ")]
     return [tuple(map(int, it.split()[1:])) for it in lines]
 
 
-def grows(test, found, whole):
-    """Holds what was played, by the number of the refused allocation, to growing from nothing on, up to a part of the whole:
-    the whole itself is played where what was refused isn't needed, or the test allocates it again."""
-    holds(whole, f"{test} doesn't print what was played")
-    parts = [it for it in found if it != whole]
-    holds(all(a <= b for one, two in zip(parts, parts[1:]) for row, other in zip(one, two) for a, b in zip(row, other)), f"{test}: less was played later on")
-    nothing = [(0,) * len(it) for it in whole]
-    holds(parts and parts[0] == nothing and parts[-1] != nothing, f"{test}: {parts[:1]} was played at first, {parts[-1:]} at last")
+# The events that `play` has played, and those that were made one by one, up to the one whose allocation fails.
+PLAYED, STEPPED = "world::a_refused_event_leaves_what_was_played_before", "world::a_refused_step_ends_what_was_played"
+
+
+def plays_exactly(program):
+    """Compares what was played to what was made one by one, with the same allocation refused: it is the same, by the number
+    of events and what came of them. Returns a line with figures."""
+    ones, others = refusals(program, PLAYED), refusals(program, STEPPED)
+    whole = others[-1]
+    same(ones[-1], whole, "what is played where nothing is refused")
+    # (the first test plays what it has played once more)
+    for number, (one, other) in enumerate(itertools.zip_longest(ones, others, fillvalue=whole), 1):
+        same(one, other, f"what was played with allocation {number} refused")
+    holds(len({it[0][0] for it in others}) > whole[0][0] // 2, "hardly any event was refused")
+    return f"{len(others):,} allocations refused"
+
+
+def refusals(program, test):
+    """What a test prints of how much was played, with each of its allocations refused in turn."""
+    plain = failing.undisturbed([program, test])
+    numbers = range(1, plain.calls["memory"] + 1)
+    parts = failing.walk([program, test], b"", None, "memory", numbers)
+    found = [played(it.out) for it in parts for _number in it.numbers]
+    holds(all(found), f"{test} doesn't print what was played")
+    return [*found, played(plain.out)]
 
 
 def walk(program, test):
@@ -61,14 +79,11 @@ def walk(program, test):
     plain = failing.undisturbed([program, test])
     calls = plain.calls["memory"]
     holds(plain.status == 0 and calls, f"{test} fails where nothing is refused, or takes no memory")
-    numbers, found = range(1, calls + 1, max(1, calls // WALK)), []
+    numbers = range(1, calls + 1, max(1, calls // WALK))
     for it in failing.walk([program, test], b"", None, "memory", numbers):
         where = f"{test}, allocation {it.numbers[0]} of {calls}"
         holds(it.is_touched, f"{where} wasn't refused")
         same((it.status, it.out.endswith(b"test result: ok\n")), (0, True), f"{where}: {it.err.decode(errors='replace')}")
-        found.append(played(it.out))
-    if "played" in test:
-        grows(test, found, played(plain.out))
     return f"{len(numbers):,} of {calls:,} allocations refused"
 
 
@@ -86,6 +101,8 @@ def all_of_it():
         if not os.access(program, os.X_OK):
             yield f"refused memory: tests of {crate}", None
             continue
+        if crate == "ob0_tests_top":
+            yield "refused memory: what was played, exactly", lambda program=program: plays_exactly(program)
         for test in tests_of(program):
             yield f"refused memory: {crate}, {test}", lambda program=program, test=test: walk(program, test)
     yield f"a long conversation: {LONG:,} messages", lambda: long_talk.converse(LONG)

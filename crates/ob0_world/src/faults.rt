@@ -1,18 +1,19 @@
-//! What stops the two ends.
+//! What stops client and server.
 
 use crate::played::Played;
 
 /// Why a step wasn't made.
 #[derive(Clone, Copy, Debug, Drop, PartialEq, Eq)]
 pub enum WorldFault {
-    /// Memory was refused in this step.
+    /// An allocation failed in this step.
     Memory,
-    /// Memory was refused in an earlier step.
+    /// An allocation failed in an earlier step.
     Ended,
 }
 
-/// Memory was refused; what came of the events before stands.
+/// An allocation failed: what had come of the events before, and how many these are.
 #[derive(Debug, Drop)]
 pub struct PlayFault {
     pub played: Played,
+    pub steps: u64,
 }

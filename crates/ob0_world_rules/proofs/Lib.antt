@@ -7,7 +7,7 @@ mod OneInlining
 mod OneFields
 mod OneRenaming
 mod OneAnswer
-pub mod OneRun
+pub mod OneCourse
 mod Keeping
 pub mod Interleavings
 pub mod MadeFor

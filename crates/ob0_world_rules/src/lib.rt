@@ -1,4 +1,4 @@
-//! The two ends of a conversation: an editor, a server, and a queue in each direction. What every list of events keeps.
+//! Client and server with a queue of messages in each direction: definitions, and what every list of events keeps.
 #![tactic(auto)]
 
 pub mod editor_laws;
