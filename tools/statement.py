@@ -67,7 +67,7 @@ class File:
         self.title, self.blocks, self.uses, self.passed_on = "", [], {}, {}
         text = lines_of(path)
         while text and text[0].startswith("--"):
-            self.title += (" " if self.title else "") + text.pop(0).lstrip("- ")
+            self.title = (self.title + " " + text.pop(0).lstrip("- ")).strip()
         for line in [it for it in text if re.match(r"^(pub )?use ", it)]:
             self.take_use(line)
         self.cut([it for it in text if not re.match(r"^(pub )?(use|mod) ", it)])
@@ -416,9 +416,13 @@ def page():
         "The first part says that an applied edit keeps the run and that diagnostics are right. The second says which edits answer an",
         "ask, and when there are none: so it is needed only to know that the server returns exactly these, and refuses nothing else.",
         "",
-        "A definition is read as an equation, and a `record` as a list of facts that all hold; `×` is 'and', `⊎` is 'or', `→` is",
-        "'implies' or 'for all', `≡` is equality. A text is the list of its bytes or of its characters, as the comments say.",
-        "Names of the standard library are listed at the end.",
+        "How to read them: `name : type` and then equations, by cases. `data` lists the cases of a type; a `record` is a value with",
+        "named parts, or a list of facts that all hold. `(x : A) → B` is 'for all x', `A → B` 'if A then B', `A × B` 'A and B',",
+        "`(x : A) × B` 'some x with B', `A ⊎ B` 'A or B', `¬ A` 'not A', `A ↔ B` 'A exactly if B', `≡` is equality; `⊤` and `Unit`",
+        "always hold, `⊥` never. `List`, `Option`, `Bool`, ℕ and ℤ are lists, optional values, truth values and numbers; `x ∷ xs` is a",
+        "list with a first element, `xs ++ ys` joins two, `codes` gives the bytes of a text. In `reserved.Module` the word before the",
+        "dot stands for the type whose case it is, of the same name. A text is the list of its bytes or of its characters, as the",
+        "comments say. Names of the standard library are listed at the end.",
         "",
         "## What the headline says",
         "",

@@ -8,7 +8,7 @@ use Rattle.ob0_session_offers.specs.Texts.{utf8}
 
 -- A text is here the list of its characters.
 
--- the text is a module, and its tree is well-typed (LANGUAGE.md, Names and types)
+-- the text is a module, and its tree is well-typed (LANGUAGE.md, Scopes and Types)
 abbrev pub WellTypedText : List ℕ → Type 0
 WellTypedText text = IsWellTypedModule (utf8 text)
 

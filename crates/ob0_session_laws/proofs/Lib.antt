@@ -1,0 +1,5 @@
+mod SameTables
+mod Reports
+mod NamesShown
+mod Sayings
+mod Conversations
