@@ -105,7 +105,7 @@ begins_other (x ∷ xs) ys (z ∷ zs) ws e =
 
 -- ---- all that is written
 
-abbrev OneFeed : Type 0
+abbrev pub OneFeed : Type 0
 OneFeed = (from r q : Rest) (piece : List ℕ) (c d : Contents) → Feeds from piece c r → Feeds from piece d q → (c ≡ d) × (r ≡ q)
 
 module _ (one : OneAnswer) (feeds : OneFeed) (taken : List ℕ) where

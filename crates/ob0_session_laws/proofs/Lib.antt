@@ -1,3 +1,4 @@
+mod Tables
 mod SameTables
 mod Reports
 mod NamesShown

@@ -123,6 +123,7 @@ record_like word g h like =
     (make_like g.behind h.behind word (of_fields g.fields) (record_size g.size) like.behind))
 
 unfolding told_type
+
 mutual
   type_like : (p q : SoFar) (t : Tree ℕ written_type) → Like p q → Both TypedLike (told_type p t) (told_type q t)
   type_like p q (named_type x) like =
@@ -151,34 +152,40 @@ mutual
 -- ---- declarations
 
 unfolding constant_declared
+
 constant_like : (p q : SoFar) (d : Tree ℕ (item constant)) → Like p q → Both Like (constant_declared p d) (constant_declared q d)
 constant_like p q (declares_constant x e) like =
     bind (λ (a b : Option _). a ≡ b) Like _ _ _ _ (same_both _ _ (ap (λ (f : Facts TypeId). told_constant f e) (same_facts p q true like)))
     (λ same. right_both Like _ _ (subst (λ v. Like _ (define q (a_constant v) x)) same (define_like p q _ x like)))
 
 unfolding reported_constants
+
 constants_like : (p q : SoFar) (ds : Tree ℕ (items constant)) → Like p q → Both Like (reported_constants p ds) (reported_constants q ds)
 constants_like p q end like = right_both Like p q like
 constants_like p q (more d rest) like = bind Like Like _ _ _ _ (constant_like p q d like) (λ next. constants_like _ _ rest next)
 
 unfolding type_declared
+
 type_declared_like : (p q : SoFar) (d : Tree ℕ (item type_name)) → Like p q → Both Like (type_declared p d) (type_declared q d)
 type_declared_like p q (declares_type x t) like =
     bind TypedLike Like _ _ _ _ (type_like p q t like)
     (λ typed. right_both Like _ _ (subst (λ u. Like _ (define _ (a_type u) x)) typed.of (define_like _ _ _ x typed.behind)))
 
 unfolding told_types
+
 types_like : (p q : SoFar) (ds : Tree ℕ (items type_name)) → Like p q → Both Like (told_types p ds) (told_types q ds)
 types_like p q end like = right_both Like p q like
 types_like p q (more d rest) like = bind Like Like _ _ _ _ (type_declared_like p q d like) (λ next. types_like _ _ rest next)
 
 unfolding variables_declared
+
 variables_declared_like : (p q : SoFar) (d : Tree ℕ (item variable)) → Like p q → Both Like (variables_declared p d) (variables_declared q d)
 variables_declared_like p q (declares_variable ns t) like =
     bind TypedLike Like _ _ _ _ (type_like p q t like)
     (λ typed. right_both Like _ _ (subst (λ u. Like _ (define_all _ (a_variable u) (names_listed ns))) typed.of (define_all_like _ _ _ (names_listed ns) typed.behind)))
 
 unfolding told_variables
+
 variables_like : (p q : SoFar) (ds : Tree ℕ (items variable)) → Like p q → Both Like (told_variables p ds) (told_variables q ds)
 variables_like p q end like = right_both Like p q like
 variables_like p q (more d rest) like = bind Like Like _ _ _ _ (variables_declared_like p q d like) (λ next. variables_like _ _ rest next)
@@ -190,17 +197,20 @@ parameters_with g h by_place xs t u like typed = record {
 }
 
 unfolding told_parameters
+
 parameters_like : (g h : Heading) (by_place : Bool) (ns : Tree ℕ names) (t : Tree ℕ written_type) → HeadingLike g h → Both HeadingLike (told_parameters g by_place ns t) (told_parameters h by_place ns t)
 parameters_like g h by_place ns t like =
     bind TypedLike HeadingLike _ _ _ _ (type_like g.behind h.behind t like.behind)
     (λ typed. right_both HeadingLike _ _ (parameters_with g h by_place (names_listed ns) _ _ like typed))
 
 unfolding told_section
+
 section_like : (g h : Heading) (s : Tree ℕ (item further_section)) → HeadingLike g h → Both HeadingLike (told_section g s) (told_section h s)
 section_like g h (then_section (value_section ns t)) like = parameters_like g h false ns t like
 section_like g h (then_section (variable_section ns t)) like = parameters_like g h true ns t like
 
 unfolding told_sections
+
 sections_like : (g h : Heading) (ss : Tree ℕ (items further_section)) → HeadingLike g h → Both HeadingLike (told_sections g ss) (told_sections h ss)
 sections_like g h end like = right_both HeadingLike g h like
 sections_like g h (more s rest) like = bind HeadingLike HeadingLike _ _ _ _ (section_like g h s like) (λ next. sections_like _ _ rest next)
@@ -209,11 +219,13 @@ heading_like : (x : ℕ) (g h : Heading) → HeadingLike g h → Like (behind_he
 heading_like x g h like = subst (λ fs. Like _ (define h.behind (a_procedure fs) x)) like.formals (define_like g.behind h.behind (a_procedure g.formals) x like.behind)
 
 unfolding told_body
+
 body_like : (p q : SoFar) (b : Tree ℕ (maybe body)) → Like p q → Both Like (told_body p b) (told_body q b)
 body_like p q none like = right_both Like p q like
 body_like p q (one (begins statements)) like = record { known = like; faults = ap (λ (f : Facts TypeId). told_sequence f statements) (same_facts p q false like) }
 
 unfolding told_block
+
 mutual
   pub block_like : (p q : SoFar) (b : Tree ℕ block) → Like p q → Both Like (told_block p b) (told_block q b)
   block_like p q (has_body (declares cs ts vs ps) statements) like =

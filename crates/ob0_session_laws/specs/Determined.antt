@@ -1,6 +1,8 @@
 -- What the server sends is determined: there is one list of diagnostics, one list of replies, one list of bytes.
-use Rattle.std.specs.Prelude.{◌≡◌, ⊤, ℕ, List, Bool, Result, Ok, Err}
+use Rattle.std.specs.Prelude.{◌≡◌, ◌==◌, ⊤, ℕ, List, Bool, false, None, Result, Ok, Err}
+use Rattle.std.specs.List.{list_any}
 use Rattle.ob0_scope_rules.specs.Resolution.{Resolution, IsResolution, ordinal_in}
+use Rattle.ob0_tree.specs.Order.{leaves}
 use Rattle.ob0_tree.specs.Parsed.{tree_of}
 use Rattle.ob0_analysis.specs.Diagnosed.{Complaint, Tells}
 use Rattle.ob0_session.specs.Answers.{State, Say, Says, Answers}
@@ -9,6 +11,15 @@ use Rattle.ob0_session.specs.declared.serving.ServeFault.{ServeFault}
 use Rattle.ob0_session.specs.declared.serving.ServeFault.TheVariants.{BadHead, Truncated, Read, Write, Memory, TooManyReads}
 
 -- ---- diagnostics
+
+-- one of some identifiers is at this token
+abbrev pub is_identifier : List ℕ → ℕ → Bool
+is_identifier tokens token = list_any (λ i. i == token) tokens
+
+-- the table of a module has no ordinal at a token that is no identifier of the module
+abbrev pub IdentifiersAlone : Type 0
+IdentifiersAlone =
+    (r : Resolution) → IsResolution r → (token : ℕ) → is_identifier (leaves (tree_of r.module_read)) token ≡ false → ordinal_in r.ordinals token ≡ None
 
 -- two tables of ordinals of one module agree at each token
 abbrev pub OneTable : Type 0

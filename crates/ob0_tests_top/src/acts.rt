@@ -408,11 +408,7 @@ pub fn left(alloc: Global, story: &Story) -> Option<Counts> {
     let extent = played(alloc, story.unit, events.as_slice());
     let found = counted(story, &extent)?;
     let wanted = counted_again(alloc, story, events.as_slice(), extent.steps)?;
-    if found == wanted {
-        Some(found)
-    } else {
-        None
-    }
+    if found == wanted { Some(found) } else { None }
 }
 
 /// The same, where the events are made one by one from the beginning on; nothing where no world can be made.

@@ -73,7 +73,10 @@ fn a_refused_event_leaves_what_was_played_before(rt: HostRuntime) {
     let found = first_left(rt.alloc());
     assert!(rt; found.is_some());
     let counts = found.unwrap_or(NOTHING);
-    let _ = println!(rt; "played {} {} {}", counts.steps, counts.applied, counts.made);
+    let _ = println!(rt;
+        "played {} {} {}",
+        counts.steps, counts.applied, counts.made
+    );
 }
 
 #[test]
@@ -81,5 +84,8 @@ fn a_refused_step_ends_what_was_played(rt: HostRuntime) {
     let found = first_left_by_steps(rt.alloc());
     assert!(rt; found.is_some());
     let counts = found.unwrap_or(NOTHING);
-    let _ = println!(rt; "played {} {} {}", counts.steps, counts.applied, counts.made);
+    let _ = println!(rt;
+        "played {} {} {}",
+        counts.steps, counts.applied, counts.made
+    );
 }
