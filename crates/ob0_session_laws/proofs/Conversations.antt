@@ -1,18 +1,16 @@
 -- A conversation is determined where each reply is, and so are the bytes that are written.
-use Rattle.std.proofs.Common.{◌≡◌, ◌∙◌, ℕ, ◌⊎◌, Bool, Option, Some, None, List, [], ◌∷◌, ◌++◌, Result, Ok, Err, refl, sym, ap, subst, inl, inr, append_assoc, append-nil}
+use Rattle.std.proofs.Common.{◌≡◌, ◌∙◌, ℕ, ◌⊎◌, Option, Some, None, List, [], ◌∷◌, ◌++◌, refl, sym, ap, subst, inl, inr, append_assoc, append-nil}
 use Rattle.std.specs.List.{flat_map}
 use Rattle.serde_json.specs.Data.{Data}
 use Rattle.ob0_frame.specs.Frames.{frame}
-use Rattle.ob0_frame.specs.Framing.{Rest, Open, Broken, Feeds}
+use Rattle.ob0_frame.specs.Framing.{Rest, Open, Feeds}
 use Rattle.ob0_rpc.specs.Messages.{Reads, meaning}
 use Rattle.ob0_session.specs.Answers.{State, Says, start, reacts, Answers, AnswersIn, AnswersGoingOn, Conversation}
-use Rattle.ob0_session.specs.Serving.{Served, AllServed, EndsWith, Serves}
+use Rattle.ob0_session.specs.Serving.{Served, AllServed, EndsWith}
 use Rattle.ob0_session.specs.Steps.{IsGoingOn}
 use Rattle.ob0_session.specs.declared.server.Phase.{Phase}
 use Rattle.ob0_session.specs.declared.server.Phase.TheVariants.{Starting, Running, ShutDown, Ended}
-use Rattle.ob0_session.specs.declared.serving.ServeFault.{ServeFault}
-use Rattle.ob0_session.specs.declared.serving.ServeFault.TheVariants.{BadHead, Truncated, Read, Write, Memory, TooManyReads}
-use Rattle.ob0_session_laws.specs.Determined.{OneAnswer, OneSay, IsWhole, OneOutput}
+use Rattle.ob0_session_laws.specs.Determined.{OneAnswer, OneSay, WritesAll, OneOutput}
 
 abbrev Contents : Type 0
 Contents = List (List ℕ)
@@ -29,11 +27,8 @@ module _ (says : OneSay) where
   going_on_one : (before : State) (content : List ℕ) (sent more : Contents) (after other : State) → AnswersGoingOn before content sent after → AnswersGoingOn before content more other → (sent ≡ more) × (after ≡ other)
   going_on_one before content sent more after other (json, reads, is, saying) (another, reads_too, is_too, saying_too) =
       let same : json ≡ another = one_json content json another reads reads_too in
-      let there = subst (λ j. (other ≡ (reacts before (meaning j)).after) × Says_of j more) (sym same) (is_too, saying_too) in
+      let there = subst (λ j. (other ≡ (reacts before (meaning j)).after) × Says (reacts before (meaning j)).say more) (sym same) (is_too, saying_too) in
       (says (reacts before (meaning json)).say sent more saying there.1, is ∙ sym there.0)
-    where
-      abbrev Says_of : Option Data → Contents → Type 0
-      Says_of j xs = Says (reacts before (meaning j)).say xs
 
   in_phase_one : (phase : Phase) (before : State) (content : List ℕ) (sent more : Contents) (after other : State) → AnswersIn phase before content sent after → AnswersIn phase before content more other → (sent ≡ more) × (after ≡ other)
   in_phase_one (Ended status) before content sent more after other h k = (h.0 ∙ sym k.0, h.1 ∙ sym k.1)
@@ -145,25 +140,11 @@ module _ (one : OneAnswer) (feeds : OneFeed) (taken : List ℕ) where
       let end : k.after ≡ h.after = (longer status h.served.answered h.waiting h.served.sent k.served.sent h.after k.after h.ended h.served.conversation (subst (λ cs. Conversation start cs k.served.sent k.after) (sym fed) k.served.conversation)).1 in
       ended_goes_on status k.after (ap (λ (s : State). s.phase) end ∙ h.ended) k.going
 
-  abbrev Whole : List ℕ → Type 0
-  Whole put = ((status : ℕ) × EndsWith status taken put) ⊎ ((rest : Rest) × AllServed taken rest put)
-
-  whole_one : (put other : List ℕ) → Whole put → Whole other → put ≡ other
+  whole_one : (put other : List ℕ) → WritesAll taken put → WritesAll taken other → put ≡ other
   whole_one put other (inl (s, h)) (inl (t, k)) = end_one s t put other h k
   whole_one put other (inl (s, h)) (inr (q, k)) = absurd (never_both s q put other h k)
   whole_one put other (inr (r, h)) (inl (t, k)) = absurd (never_both t r other put k h)
   whole_one put other (inr (r, h)) (inr (q, k)) = all_one r q put other h k
 
-  is_whole : (result : Result ℕ ServeFault) (put : List ℕ) (at_end : Type 0) (read_failed write_failed : Bool) (flushed : Type 0) → IsWhole result → Serves result taken put at_end read_failed write_failed flushed → Whole put
-  is_whole (Ok status) put at_end rf wf flushed w (inl ends, none) = inl (status, ends)
-  is_whole (Ok status) put at_end rf wf flushed w (inr all, none) = inr (Open [], all.0)
-  is_whole (Err BadHead) put at_end rf wf flushed w h = inr (Broken, h.0)
-  is_whole (Err Truncated) put at_end rf wf flushed w ((left, all, some, at), none) = inr (Open left, all)
-  is_whole (Err Read) put at_end rf wf flushed w ((left, all), failed) = inr (Open left, all)
-  is_whole (Err TooManyReads) put at_end rf wf flushed w ((left, all, many), none) = inr (Open left, all)
-  is_whole (Err Write) put at_end rf wf flushed w h = absurd w
-  is_whole (Err Memory) put at_end rf wf flushed w h = absurd w
-
 pub one_output : OneAnswer → OneFeed → OneOutput
-one_output one feeds taken put other result another at_end at_end_too rf wf rf_too wf_too flushed flushed_too whole whole_too h k =
-    whole_one one feeds taken put other (is_whole one feeds taken result put at_end rf wf flushed whole h) (is_whole one feeds taken another other at_end_too rf_too wf_too flushed_too whole_too k)
+one_output one feeds taken put other h k = whole_one one feeds taken put other h k

@@ -1,5 +1,6 @@
 -- A text has one list of diagnostics.
-use Rattle.std.proofs.Common.{◌≡◌, ◌∙◌, ◌⊎◌, ℕ, ◌+◌, None, Bool, true, false, cond, List, [], ◌∷◌, ◌++◌, map, take, drop, length, filter, replicate, refl, sym, ap, subst, inl, inr, arith}
+use Rattle.std.proofs.Common.{◌≡◌, ◌∙◌, ◌⊎◌, ℕ, suc, ◌+◌, None, Bool, true, false, cond, List, [], ◌∷◌, ◌++◌, map, take, drop, length, filter, replicate, refl, sym, ap, subst, inl, inr, arith}
+use Rattle.std.specs.Prelude.{slice_index_or}
 use Rattle.std.specs.List.{sum_by}
 use Rattle.std.specs.Cmp.{IsStrictWeakOrder, IsTotalOrder, nat_cmp_total, on_total, then_total}
 use Rattle.std.specs.List.Sorted.{IsPermutation, IsSorted, ties}
@@ -64,26 +65,15 @@ not_refused s Memory c tree by is module_is = is
 
 -- ---- faults in order
 
-code_with : ℕ → Code
-code_with 1 = code.TooLong
-code_with 2 = code.BadChar
-code_with 3 = code.OpenComment
-code_with 4 = code.NumberTooLarge
-code_with 5 = code.NumberJoinsLetter
-code_with 10 = code.Duplicate
-code_with 11 = code.Undeclared
-code_with 12 = code.EndName
-code_with 13 = code.WrongKind
-code_with 14 = code.TypeMismatch
-code_with 15 = code.NotConstant
-code_with 16 = code.ConstFault
-code_with 17 = code.ArrayLength
-code_with 18 = code.TypeTooLarge
-code_with 19 = code.ArgumentCount
-code_with 20 = code.NotVariable
-code_with 21 = code.NoField
-code_with 22 = code.NotArray
-code_with n = code.NotRecord
+-- the codes in the order of their numbers
+abbrev codes_in_order : List Code
+codes_in_order =
+    code.TooLong ∷ code.TooLong ∷ code.BadChar ∷ code.OpenComment ∷ code.NumberTooLarge ∷ code.NumberJoinsLetter ∷ code.TooLong ∷ code.TooLong ∷ code.TooLong ∷ code.TooLong
+    ∷ code.Duplicate ∷ code.Undeclared ∷ code.EndName ∷ code.WrongKind ∷ code.TypeMismatch ∷ code.NotConstant ∷ code.ConstFault ∷ code.ArrayLength ∷ code.TypeTooLarge
+    ∷ code.ArgumentCount ∷ code.NotVariable ∷ code.NoField ∷ code.NotArray ∷ code.NotRecord ∷ []
+
+abbrev code_with : ℕ → Code
+code_with n = slice_index_or codes_in_order n code.TooLong
 
 coded : (x : Code) → code_with (code_number x) ≡ x
 coded x =
@@ -165,16 +155,22 @@ tied_same x y h = go (fault_cmp x y) refl (is_below y x) refl
 abbrev counts : Fault → Fault → ℕ
 counts q x = cond (ties is_below q x) 1 0
 
+one_more : (n : ℕ) → 1 + n ≡ suc n
+one_more n = omega arith
+
+none_more : (n : ℕ) → 0 + n ≡ n
+none_more n = omega arith
+
 copies : (q : Fault) (xs : List Fault) → filter (ties is_below q) xs ≡ replicate (sum_by (counts q) xs) q
 copies q [] = refl
 copies q (x ∷ xs) = go (ties is_below q x) refl (copies q xs)
   where
     go : (b : Bool) → ties is_below q x ≡ b → filter (ties is_below q) xs ≡ replicate (sum_by (counts q) xs) q → filter (ties is_below q) (x ∷ xs) ≡ replicate (sum_by (counts q) (x ∷ xs)) q
     go true t more =
-        let count : sum_by (counts q) (x ∷ xs) ≡ 1 + sum_by (counts q) xs = sum_by-cons (counts q) x xs ∙ ap (λ b. cond b 1 0 + sum_by (counts q) xs) t in
+        let count : sum_by (counts q) (x ∷ xs) ≡ suc (sum_by (counts q) xs) = sum_by-cons (counts q) x xs ∙ ap (λ b. cond b 1 0 + sum_by (counts q) xs) t ∙ one_more (sum_by (counts q) xs) in
         ap (λ b. cond b (x ∷ filter (ties is_below q) xs) (filter (ties is_below q) xs)) t ∙ (λ i. tied_same q x t i ∷ more i) ∙ sym (ap (λ n. replicate n q) count)
     go false t more =
-        let count : sum_by (counts q) (x ∷ xs) ≡ sum_by (counts q) xs = sum_by-cons (counts q) x xs ∙ ap (λ b. cond b 1 0 + sum_by (counts q) xs) t in
+        let count : sum_by (counts q) (x ∷ xs) ≡ sum_by (counts q) xs = sum_by-cons (counts q) x xs ∙ ap (λ b. cond b 1 0 + sum_by (counts q) xs) t ∙ none_more (sum_by (counts q) xs) in
         ap (λ b. cond b (x ∷ filter (ties is_below q) xs) (filter (ties is_below q) xs)) t ∙ more ∙ sym (ap (λ n. replicate n q) count)
 
 -- a list of faults is sorted in one way

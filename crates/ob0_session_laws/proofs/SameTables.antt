@@ -122,10 +122,9 @@ record_like word g h like =
     (subst (λ z. Both TypedLike (record_made word g) (make h.behind word (of_fields g.fields) (record_size z))) like.size
     (make_like g.behind h.behind word (of_fields g.fields) (record_size g.size) like.behind))
 
-unfolding told_type
-
 mutual
   type_like : (p q : SoFar) (t : Tree ℕ written_type) → Like p q → Both TypedLike (told_type p t) (told_type q t)
+  unfolding told_type
   type_like p q (named_type x) like =
       bind (λ (a b : TypeId). a ≡ b) TypedLike _ _ _ _ (same_both _ _ (ap (λ (f : Facts TypeId). type_named f x) (same_facts p q false like)))
       (λ same. right_both TypedLike _ _ (record { of = same; behind = like }))
@@ -139,95 +138,86 @@ mutual
       (λ first. bind GatheredLike TypedLike _ _ _ _ (groups_like _ _ rest first) (record_like (word_before g (record_word rest)) _ _))
 
   fields_like : (g h : Gathered) (t : Tree ℕ fields) → GatheredLike g h → Both GatheredLike (told_fields g t) (told_fields h t)
+  unfolding told_type
   fields_like g h no_fields like = right_both GatheredLike g h like
   fields_like g h (some_fields ns t) like =
       bind TypedLike GatheredLike _ _ _ _ (type_like g.behind h.behind t like.behind)
       (λ typed. right_both GatheredLike _ _ (gathered_like g h (names_listed ns) _ _ like typed))
 
   groups_like : (g h : Gathered) (t : Tree ℕ (items further_fields)) → GatheredLike g h → Both GatheredLike (told_groups g t) (told_groups h t)
+  unfolding told_type
   groups_like g h end like = right_both GatheredLike g h like
   groups_like g h (more (then_fields t) rest) like =
       bind GatheredLike GatheredLike _ _ _ _ (fields_like g h t like) (λ next. groups_like _ _ rest next)
 
 -- ---- declarations
 
-unfolding constant_declared
-
 constant_like : (p q : SoFar) (d : Tree ℕ (item constant)) → Like p q → Both Like (constant_declared p d) (constant_declared q d)
+unfolding constant_declared
 constant_like p q (declares_constant x e) like =
     bind (λ (a b : Option _). a ≡ b) Like _ _ _ _ (same_both _ _ (ap (λ (f : Facts TypeId). told_constant f e) (same_facts p q true like)))
     (λ same. right_both Like _ _ (subst (λ v. Like _ (define q (a_constant v) x)) same (define_like p q _ x like)))
 
-unfolding reported_constants
-
 constants_like : (p q : SoFar) (ds : Tree ℕ (items constant)) → Like p q → Both Like (reported_constants p ds) (reported_constants q ds)
+unfolding reported_constants
 constants_like p q end like = right_both Like p q like
 constants_like p q (more d rest) like = bind Like Like _ _ _ _ (constant_like p q d like) (λ next. constants_like _ _ rest next)
 
-unfolding type_declared
-
 type_declared_like : (p q : SoFar) (d : Tree ℕ (item type_name)) → Like p q → Both Like (type_declared p d) (type_declared q d)
+unfolding type_declared
 type_declared_like p q (declares_type x t) like =
     bind TypedLike Like _ _ _ _ (type_like p q t like)
     (λ typed. right_both Like _ _ (subst (λ u. Like _ (define _ (a_type u) x)) typed.of (define_like _ _ _ x typed.behind)))
 
-unfolding told_types
-
 types_like : (p q : SoFar) (ds : Tree ℕ (items type_name)) → Like p q → Both Like (told_types p ds) (told_types q ds)
+unfolding told_types
 types_like p q end like = right_both Like p q like
 types_like p q (more d rest) like = bind Like Like _ _ _ _ (type_declared_like p q d like) (λ next. types_like _ _ rest next)
 
-unfolding variables_declared
-
 variables_declared_like : (p q : SoFar) (d : Tree ℕ (item variable)) → Like p q → Both Like (variables_declared p d) (variables_declared q d)
+unfolding variables_declared
 variables_declared_like p q (declares_variable ns t) like =
     bind TypedLike Like _ _ _ _ (type_like p q t like)
     (λ typed. right_both Like _ _ (subst (λ u. Like _ (define_all _ (a_variable u) (names_listed ns))) typed.of (define_all_like _ _ _ (names_listed ns) typed.behind)))
 
-unfolding told_variables
-
 variables_like : (p q : SoFar) (ds : Tree ℕ (items variable)) → Like p q → Both Like (told_variables p ds) (told_variables q ds)
+unfolding told_variables
 variables_like p q end like = right_both Like p q like
 variables_like p q (more d rest) like = bind Like Like _ _ _ _ (variables_declared_like p q d like) (λ next. variables_like _ _ rest next)
 
 parameters_with : (g h : Heading) (by_place : Bool) (xs : List ℕ) (t u : Typed) → HeadingLike g h → TypedLike t u → HeadingLike (with_parameters g by_place xs t) (with_parameters h by_place xs u)
 parameters_with g h by_place xs t u like typed = record {
   formals = λ i. like.formals i ++ map (λ x. record { by_place = by_place; of = typed.of i }) xs;
-  behind = subst (λ z. Like _ (define_all u.behind (a_variable z) xs)) typed.of (define_all_like t.behind u.behind (a_variable t.of) xs typed.behind);
+  behind = subst (λ z. Like (define_all t.behind (a_variable t.of) xs) (define_all u.behind (a_variable z) xs)) typed.of (define_all_like t.behind u.behind (a_variable t.of) xs typed.behind);
 }
 
-unfolding told_parameters
-
 parameters_like : (g h : Heading) (by_place : Bool) (ns : Tree ℕ names) (t : Tree ℕ written_type) → HeadingLike g h → Both HeadingLike (told_parameters g by_place ns t) (told_parameters h by_place ns t)
+unfolding told_parameters
 parameters_like g h by_place ns t like =
     bind TypedLike HeadingLike _ _ _ _ (type_like g.behind h.behind t like.behind)
     (λ typed. right_both HeadingLike _ _ (parameters_with g h by_place (names_listed ns) _ _ like typed))
 
-unfolding told_section
-
 section_like : (g h : Heading) (s : Tree ℕ (item further_section)) → HeadingLike g h → Both HeadingLike (told_section g s) (told_section h s)
+unfolding told_section
 section_like g h (then_section (value_section ns t)) like = parameters_like g h false ns t like
 section_like g h (then_section (variable_section ns t)) like = parameters_like g h true ns t like
 
-unfolding told_sections
-
 sections_like : (g h : Heading) (ss : Tree ℕ (items further_section)) → HeadingLike g h → Both HeadingLike (told_sections g ss) (told_sections h ss)
+unfolding told_sections
 sections_like g h end like = right_both HeadingLike g h like
 sections_like g h (more s rest) like = bind HeadingLike HeadingLike _ _ _ _ (section_like g h s like) (λ next. sections_like _ _ rest next)
 
 heading_like : (x : ℕ) (g h : Heading) → HeadingLike g h → Like (behind_heading x g) (behind_heading x h)
-heading_like x g h like = subst (λ fs. Like _ (define h.behind (a_procedure fs) x)) like.formals (define_like g.behind h.behind (a_procedure g.formals) x like.behind)
-
-unfolding told_body
+heading_like x g h like = subst (λ fs. Like (behind_heading x g) (define h.behind (a_procedure fs) x)) like.formals (define_like g.behind h.behind (a_procedure g.formals) x like.behind)
 
 body_like : (p q : SoFar) (b : Tree ℕ (maybe body)) → Like p q → Both Like (told_body p b) (told_body q b)
+unfolding told_body
 body_like p q none like = right_both Like p q like
 body_like p q (one (begins statements)) like = record { known = like; faults = ap (λ (f : Facts TypeId). told_sequence f statements) (same_facts p q false like) }
 
-unfolding told_block
-
 mutual
   pub block_like : (p q : SoFar) (b : Tree ℕ block) → Like p q → Both Like (told_block p b) (told_block q b)
+  unfolding told_block
   block_like p q (has_body (declares cs ts vs ps) statements) like =
       bind Like Like _ _ _ _ (constants_like p q (section_constants cs) like)
       (λ constants. bind Like Like _ _ _ _ (types_like _ _ (section_types ts) constants)
@@ -235,10 +225,12 @@ mutual
       (λ variables. bind Like Like _ _ _ _ (procedures_like _ _ ps variables) (λ procedures. body_like _ _ statements procedures))))
 
   procedures_like : (p q : SoFar) (ds : Tree ℕ (items procedure)) → Like p q → Both Like (told_procedures p ds) (told_procedures q ds)
+  unfolding told_block
   procedures_like p q end like = right_both Like p q like
   procedures_like p q (more d rest) like = bind Like Like _ _ _ _ (procedure_like p q d like) (λ next. procedures_like _ _ rest next)
 
   procedure_like : (p q : SoFar) (d : Tree ℕ (item procedure)) → Like p q → Both Like (told_procedure p d) (told_procedure q d)
+  unfolding told_block
   procedure_like p q (declares_procedure x fs b closing) like =
       bind HeadingLike Like _ _ _ _ (sections_like _ _ (formal_sections fs) (record { formals = refl; behind = like }))
       (λ heading. block_like _ _ b (heading_like x _ _ heading))

@@ -36,7 +36,7 @@ use Rattle.ob0_world_rules.proofs.OneInlining.{inlines_or_refused, inlines_parts
 use Rattle.ob0_world_rules.proofs.OneLayout.{lays_out_or_long, lays_out_said}
 use Rattle.ob0_world_rules.proofs.OneRenaming.{refuses_one, renames_or_refused, renames_parts}
 use Rattle.ob0_session_laws.specs.Determined.{OneReport, OneSay, OneTable}
-use Rattle.ob0_session_laws.proofs.NamesShown.{is_module, name_one}
+use Rattle.ob0_session_laws.proofs.NamesShown.{name_one}
 
 sends_one : (message another : Data) (sent other : List (List ℕ)) → message ≡ another → Sends message sent → Sends another other → sent ≡ other
 sends_one message another sent other same (bytes, is, writes) (more, is_too, writes_too) =
@@ -106,7 +106,7 @@ module _ (unit : Unit) (asked : RenameAsked) (text : List ℕ) where
 -- ---- actions
 
 module _ (unit : Unit) (asked : ActionsAsked) (text : List ℕ) where
-  offset : ℕ
+  abbrev offset : ℕ
   offset = place_of unit text asked.range
 
   offered_one : (how : Inlining) (a b : Option (Vec Edit Global)) → Offers how unit text offset a → Offers how unit text offset b → action_values asked how a ≡ action_values asked how b

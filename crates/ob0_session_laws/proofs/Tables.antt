@@ -1,5 +1,5 @@
 -- Two tables of ordinals of one module agree at each token.
-use Rattle.std.proofs.Common.{◌≡◌, ◌∙◌, ◌==◌, ℕ, Bool, true, false, Option, None, List, [], ◌∷◌, map, refl, sym, ap, subst, eqb-true}
+use Rattle.std.proofs.Common.{◌≡◌, ◌∙◌, ◌==◌, ◌||◌, ℕ, Bool, true, false, Option, None, List, [], ◌∷◌, map, refl, sym, ap, subst, eqb-true}
 use Rattle.std.specs.List.{list_any}
 use Rattle.ob0_scan.specs.Scanned.{Scanned}
 use Rattle.ob0_tree.specs.Order.{leaves}
@@ -21,11 +21,11 @@ tail_of e = cc
 -- at one of some tokens
 among : (s : Scanned) (a b : List (Option ℕ)) (tokens : List ℕ) (token : ℕ) → is_identifier tokens token ≡ true → map (bound_at s a) tokens ≡ map (bound_at s b) tokens → ordinal_in a token ≡ ordinal_in b token
 among s a b [] token is same = absurd (cc)
-among s a b (x ∷ xs) token is same = go (x == token) refl
+among s a b (x ∷ xs) token is same = go (x == token) refl (λ later. among s a b xs token later (tail_of same))
   where
-    go : (c : Bool) → (x == token) ≡ c → ordinal_in a token ≡ ordinal_in b token
-    go true here = subst (λ i. ordinal_in a i ≡ ordinal_in b i) (eqb-true x token here) (ap (λ (p : Option ℕ × Name). p.0) (head_of same))
-    go false here = among s a b xs token (rw here at is) (tail_of same)
+    go : (c : Bool) → (x == token) ≡ c → (is_identifier xs token ≡ true → ordinal_in a token ≡ ordinal_in b token) → ordinal_in a token ≡ ordinal_in b token
+    go true here next = subst (λ i. ordinal_in a i ≡ ordinal_in b i) (eqb-true x token here) (ap (λ (p : Option ℕ × Name). p.0) (head_of same))
+    go false here next = next (sym (ap (λ c. c || is_identifier xs token) here) ∙ is)
 
 module _ (alone : IdentifiersAlone) (r q : Resolution) (h : IsResolution r) (k : IsResolution q) (source : r.module_read.source ≡ q.module_read.source) (tree : tree_of r.module_read ≡ tree_of q.module_read) where
   same_bound : map (bound_at r.module_read.source r.ordinals) (leaves (tree_of r.module_read)) ≡ map (bound_at r.module_read.source q.ordinals) (leaves (tree_of r.module_read))

@@ -1,14 +1,13 @@
 -- What the server sends is determined: there is one list of diagnostics, one list of replies, one list of bytes.
-use Rattle.std.specs.Prelude.{◌≡◌, ◌==◌, ⊤, ℕ, List, Bool, false, None, Result, Ok, Err}
+use Rattle.std.specs.Prelude.{◌≡◌, ◌==◌, ◌⊎◌, ℕ, List, Bool, false, None}
 use Rattle.std.specs.List.{list_any}
 use Rattle.ob0_scope_rules.specs.Resolution.{Resolution, IsResolution, ordinal_in}
 use Rattle.ob0_tree.specs.Order.{leaves}
 use Rattle.ob0_tree.specs.Parsed.{tree_of}
 use Rattle.ob0_analysis.specs.Diagnosed.{Complaint, Tells}
+use Rattle.ob0_frame.specs.Framing.{Rest}
 use Rattle.ob0_session.specs.Answers.{State, Say, Says, Answers}
-use Rattle.ob0_session.specs.Serving.{Serves}
-use Rattle.ob0_session.specs.declared.serving.ServeFault.{ServeFault}
-use Rattle.ob0_session.specs.declared.serving.ServeFault.TheVariants.{BadHead, Truncated, Read, Write, Memory, TooManyReads}
+use Rattle.ob0_session.specs.Serving.{AllServed, EndsWith}
 
 -- ---- diagnostics
 
@@ -45,19 +44,11 @@ OneAnswer =
 
 -- ---- bytes
 
--- All replies to what was read were written: only a failed allocation and a failed writer leave some out.
-abbrev pub IsWhole : Result ℕ ServeFault → Type 0
-IsWhole (Ok status) = ⊤
-IsWhole (Err BadHead) = ⊤
-IsWhole (Err Truncated) = ⊤
-IsWhole (Err Read) = ⊤
-IsWhole (Err TooManyReads) = ⊤
-IsWhole (Err Write) = ⊥
-IsWhole (Err Memory) = ⊥
+-- All replies to what was read were written, up to an `exit`. So it is where `serve` returns `Ok`, `BadHead`, `Truncated`, `Read` or
+-- `TooManyReads` (`Serves`): only a failed allocation and a failed writer leave some out.
+abbrev pub WritesAll : List ℕ → List ℕ → Type 0
+WritesAll taken put = ((status : ℕ) × EndsWith status taken put) ⊎ ((rest : Rest) × AllServed taken rest put)
 
 -- for the same bytes read, the same bytes are written
 abbrev pub OneOutput : Type 0
-OneOutput =
-    (taken put other : List ℕ) (result another : Result ℕ ServeFault) (at_end at_end_too : Type 0) (read_failed write_failed read_failed_too write_failed_too : Bool)
-    (flushed flushed_too : Type 0) → IsWhole result → IsWhole another → Serves result taken put at_end read_failed write_failed flushed
-    → Serves another taken other at_end_too read_failed_too write_failed_too flushed_too → put ≡ other
+OneOutput = (taken put other : List ℕ) → WritesAll taken put → WritesAll taken other → put ≡ other
