@@ -25,10 +25,10 @@ one_json content None None p q = refl
 
 module _ (says : OneSay) where
   going_on_one : (before : State) (content : List ℕ) (sent more : Contents) (after other : State) → AnswersGoingOn before content sent after → AnswersGoingOn before content more other → (sent ≡ more) × (after ≡ other)
-  going_on_one before content sent more after other (json, reads, is, saying) (another, reads_too, is_too, saying_too) =
+  going_on_one before content sent more after other (json, reads, h) (another, reads_too, k) =
       let same : json ≡ another = one_json content json another reads reads_too in
-      let there = subst (λ j. (other ≡ (reacts before (meaning j)).after) × Says (reacts before (meaning j)).say more) (sym same) (is_too, saying_too) in
-      (says (reacts before (meaning json)).say sent more saying there.1, is ∙ sym there.0)
+      let there = subst (λ j. (other ≡ (reacts before (meaning j)).after) × Says (reacts before (meaning j)).say more) (sym same) k in
+      (says (reacts before (meaning json)).say sent more h.1 there.1, h.0 ∙ sym there.0)
 
   in_phase_one : (phase : Phase) (before : State) (content : List ℕ) (sent more : Contents) (after other : State) → AnswersIn phase before content sent after → AnswersIn phase before content more other → (sent ≡ more) × (after ≡ other)
   in_phase_one (Ended status) before content sent more after other h k = (h.0 ∙ sym k.0, h.1 ∙ sym k.1)

@@ -3,6 +3,7 @@ use Rattle.std.proofs.Common.{◌≡◌, ◌∙◌, ℕ, ◌+◌, Bool, true, fa
 use Rattle.std.specs.Prelude.{option_and_then, slice_index_or, slice_set}
 use Rattle.ob0_scan.specs.declared.fault.Code.TheVariants as code
 use Rattle.ob0_scan.specs.declared.fault.Fault.{Fault}
+use Rattle.ob0_values.specs.Values.{Value}
 use Rattle.ob0_scope_rules.specs.Parts.{formal_sections, names_listed, section_constants, section_types, section_variables}
 use Rattle.ob0_scope_rules.specs.Resolution.{ordinal_in}
 use Rattle.ob0_types_table.specs.declared.types.TypeId.{TypeId}
@@ -16,7 +17,7 @@ use Rattle.ob0_types_check.specs.Operations.{at_token, right, token_before, ◌>
 use Rattle.ob0_types_check.specs.SoFar.{Parts, Size, SoFar, Typed, define, define_all, facts_at, is_within, made, make, of_elements, of_fields, size_at, too_large, type_with, types_at, with_declared}
 use Rattle.ob0_types_check.specs.StatementFaults.{told_sequence}
 use Rattle.ob0_types_check.specs.TypeFaults.{length_of, told_constant, type_named}
-use Rattle.ob0_types_check.specs.WrittenTypeFaults.{Gathered, array_made, array_size, beside, gathered_behind, record_made, record_size, record_word, told_fields, told_groups, told_type, with_field, with_name, with_names, word_before}
+use Rattle.ob0_types_check.specs.WrittenTypeFaults.{Gathered, array_made, array_size, beside, gathered_behind, nothing_gathered, record_made, record_size, record_word, told_fields, told_groups, told_type, with_field, with_name, with_names, word_before}
 
 -- ---- the same but for tables that have the same ordinals
 
@@ -50,11 +51,10 @@ pub record Both {A : Type 0} (R : A → A → Type 0) (x y : Reported A) : Type 
 right_both : {A : Type 0} (R : A → A → Type 0) (x y : A) → R x y → Both R (right x) (right y)
 right_both R x y h = record { known = h; faults = refl }
 
-same_both : {A : Type 0} (x y : Reported A) → x ≡ y → Both (λ (a b : A). a ≡ b) x y
-same_both x y h = record { known = ap (λ (r : Reported _). r.known) h; faults = ap (λ (r : Reported _). r.faults) h }
-
-bind : {A B : Type 0} (R : A → A → Type 0) (S : B → B → Type 0) (x y : Reported A) (f g : A → Reported B) → Both R x y → (R x.known y.known → Both S (f x.known) (g y.known)) → Both S (x >>= f) (y >>= g)
-bind R S x y f g h k = record { known = (k h.known).known; faults = λ i. h.faults i ++ (k h.known).faults i }
+-- one after the other
+after : {B : Type 0} {S : B → B → Type 0} {before behind : List Fault} {u v : Reported B} → before ≡ behind → Both S u v
+    → Both S (record { known = u.known; faults = before ++ u.faults }) (record { known = v.known; faults = behind ++ v.faults })
+after first next = record { known = next.known; faults = λ i. first i ++ next.faults i }
 
 -- ---- what is known
 
@@ -102,6 +102,10 @@ array_like o (Some n) t u like =
     (subst (λ z. Both TypedLike (array_made o (Some n) t) (make u.behind (token_before o.first) (of_elements t.of) z)) size
     (make_like t.behind u.behind (token_before o.first) (of_elements t.of) (array_size n (size_at t.behind.made t.of)) like.behind))
 
+arrays_like : (o p : Operand TypeId) (n m : Option ℕ) (t u : Typed) → o ≡ p → n ≡ m → TypedLike t u → Both TypedLike (array_made o n t) (array_made p m u)
+arrays_like o p n m t u same sized like =
+    subst (λ x. Both TypedLike (array_made o n t) (array_made x m u)) same (subst (λ x. Both TypedLike (array_made o n t) (array_made o x u)) sized (array_like o n t u like))
+
 name_like : (t u : TypeId) (g h : Gathered) (token : ℕ) → t ≡ u → GatheredLike g h → GatheredLike (with_name t g token) (with_name u h token)
 name_like t u g h token same like = record {
   fields = λ i. with_field (like.fields i) (text_at (like.behind.source i) token) (same i);
@@ -123,79 +127,101 @@ record_like word g h like =
     (make_like g.behind h.behind word (of_fields g.fields) (record_size g.size) like.behind))
 
 mutual
-  type_like : (p q : SoFar) (t : Tree ℕ written_type) → Like p q → Both TypedLike (told_type p t) (told_type q t)
   unfolding told_type
+
+  type_like : (p q : SoFar) (t : Tree ℕ written_type) → Like p q → Both TypedLike (told_type p t) (told_type q t)
   type_like p q (named_type x) like =
-      bind (λ (a b : TypeId). a ≡ b) TypedLike _ _ _ _ (same_both _ _ (ap (λ (f : Facts TypeId). type_named f x) (same_facts p q false like)))
-      (λ same. right_both TypedLike _ _ (record { of = same; behind = like }))
+      let same : type_named (facts_at p false) x ≡ type_named (facts_at q false) x = ap (λ (f : Facts TypeId). type_named f x) (same_facts p q false like) in
+      after (ap (λ (r : Reported TypeId). r.faults) same) (right_both TypedLike _ _ (record { of = ap (λ (r : Reported TypeId). r.known) same; behind = like }))
   type_like p q (array_type e u) like =
-      bind (λ (a b : Operand TypeId). a ≡ b) TypedLike _ _ _ _ (same_both _ _ (ap (λ (f : Facts TypeId). told_expression f e) (same_facts p q true like)))
-      (λ operand. bind (λ (a b : Option ℕ). a ≡ b) TypedLike _ _ _ _ (same_both _ _ (λ i. length_of (same_facts p q false like i) (operand i)))
-      (λ size. bind TypedLike TypedLike _ _ _ _ (type_like p q u like)
-      (λ element. subst (λ o. Both TypedLike _ (array_made o _ _)) operand (subst (λ n. Both TypedLike _ (array_made _ n _)) size (array_like _ _ _ _ element)))))
+      let same : told_expression (facts_at p true) e ≡ told_expression (facts_at q true) e = ap (λ (f : Facts TypeId). told_expression f e) (same_facts p q true like) in
+      let operand : (told_expression (facts_at p true) e).known ≡ (told_expression (facts_at q true) e).known = ap (λ (r : Reported (Operand TypeId)). r.known) same in
+      let sized : length_of (facts_at p false) (told_expression (facts_at p true) e).known ≡ length_of (facts_at q false) (told_expression (facts_at q true) e).known =
+      λ i. length_of (same_facts p q false like i) (operand i) in
+      let element : Both TypedLike (told_type p u) (told_type q u) = type_like p q u like in
+      after (ap (λ (r : Reported (Operand TypeId)). r.faults) same)
+      (after (ap (λ (r : Reported (Option ℕ)). r.faults) sized)
+      (after element.faults (arrays_like _ _ _ _ _ _ operand (ap (λ (r : Reported (Option ℕ)). r.known) sized) element.known)))
   type_like p q (record_type g rest) like =
-      bind GatheredLike TypedLike _ _ _ _ (fields_like _ _ g (record { fields = refl; size = refl; behind = like }))
-      (λ first. bind GatheredLike TypedLike _ _ _ _ (groups_like _ _ rest first) (record_like (word_before g (record_word rest)) _ _))
+      let first : Both GatheredLike (told_fields (nothing_gathered p) g) (told_fields (nothing_gathered q) g) = fields_like (nothing_gathered p) (nothing_gathered q) g (record { fields = refl; size = refl; behind = like }) in
+      let all : Both GatheredLike (told_groups (told_fields (nothing_gathered p) g).known rest) (told_groups (told_fields (nothing_gathered q) g).known rest) =
+      groups_like (told_fields (nothing_gathered p) g).known (told_fields (nothing_gathered q) g).known rest first.known in
+      after first.faults (after all.faults (record_like (word_before g (record_word rest)) _ _ all.known))
 
   fields_like : (g h : Gathered) (t : Tree ℕ fields) → GatheredLike g h → Both GatheredLike (told_fields g t) (told_fields h t)
-  unfolding told_type
   fields_like g h no_fields like = right_both GatheredLike g h like
   fields_like g h (some_fields ns t) like =
-      bind TypedLike GatheredLike _ _ _ _ (type_like g.behind h.behind t like.behind)
-      (λ typed. right_both GatheredLike _ _ (gathered_like g h (names_listed ns) _ _ like typed))
+      let typed : Both TypedLike (told_type g.behind t) (told_type h.behind t) = type_like g.behind h.behind t like.behind in
+      after typed.faults (right_both GatheredLike _ _ (gathered_like g h (names_listed ns) _ _ like typed.known))
 
   groups_like : (g h : Gathered) (t : Tree ℕ (items further_fields)) → GatheredLike g h → Both GatheredLike (told_groups g t) (told_groups h t)
-  unfolding told_type
   groups_like g h end like = right_both GatheredLike g h like
   groups_like g h (more (then_fields t) rest) like =
-      bind GatheredLike GatheredLike _ _ _ _ (fields_like g h t like) (λ next. groups_like _ _ rest next)
+      let next : Both GatheredLike (told_fields g t) (told_fields h t) = fields_like g h t like in
+      after next.faults (groups_like (told_fields g t).known (told_fields h t).known rest next.known)
 
 -- ---- declarations
+
+constant_defined : (p q : SoFar) (x : ℕ) (v w : Option Value) → v ≡ w → Like p q → Like (define p (a_constant v) x) (define q (a_constant w) x)
+constant_defined p q x v w same like = subst (λ z. Like (define p (a_constant v) x) (define q (a_constant z) x)) same (define_like p q (a_constant v) x like)
+
+type_defined : (x : ℕ) (t u : Typed) → TypedLike t u → Like (define t.behind (a_type t.of) x) (define u.behind (a_type u.of) x)
+type_defined x t u typed = subst (λ z. Like (define t.behind (a_type t.of) x) (define u.behind (a_type z) x)) typed.of (define_like t.behind u.behind (a_type t.of) x typed.behind)
+
+variables_defined : (xs : List ℕ) (t u : Typed) → TypedLike t u → Like (define_all t.behind (a_variable t.of) xs) (define_all u.behind (a_variable u.of) xs)
+variables_defined xs t u typed =
+    subst (λ z. Like (define_all t.behind (a_variable t.of) xs) (define_all u.behind (a_variable z) xs)) typed.of (define_all_like t.behind u.behind (a_variable t.of) xs typed.behind)
 
 constant_like : (p q : SoFar) (d : Tree ℕ (item constant)) → Like p q → Both Like (constant_declared p d) (constant_declared q d)
 unfolding constant_declared
 constant_like p q (declares_constant x e) like =
-    bind (λ (a b : Option _). a ≡ b) Like _ _ _ _ (same_both _ _ (ap (λ (f : Facts TypeId). told_constant f e) (same_facts p q true like)))
-    (λ same. right_both Like _ _ (subst (λ v. Like _ (define q (a_constant v) x)) same (define_like p q _ x like)))
+    let same : told_constant (facts_at p true) e ≡ told_constant (facts_at q true) e = ap (λ (f : Facts TypeId). told_constant f e) (same_facts p q true like) in
+    after (ap (λ (r : Reported (Option Value)). r.faults) same) (right_both Like _ _ (constant_defined p q x _ _ (ap (λ (r : Reported (Option Value)). r.known) same) like))
 
 constants_like : (p q : SoFar) (ds : Tree ℕ (items constant)) → Like p q → Both Like (reported_constants p ds) (reported_constants q ds)
 unfolding reported_constants
 constants_like p q end like = right_both Like p q like
-constants_like p q (more d rest) like = bind Like Like _ _ _ _ (constant_like p q d like) (λ next. constants_like _ _ rest next)
+constants_like p q (more d rest) like =
+    let next : Both Like (constant_declared p d) (constant_declared q d) = constant_like p q d like in
+    after next.faults (constants_like (constant_declared p d).known (constant_declared q d).known rest next.known)
 
 type_declared_like : (p q : SoFar) (d : Tree ℕ (item type_name)) → Like p q → Both Like (type_declared p d) (type_declared q d)
 unfolding type_declared
 type_declared_like p q (declares_type x t) like =
-    bind TypedLike Like _ _ _ _ (type_like p q t like)
-    (λ typed. right_both Like _ _ (subst (λ u. Like _ (define _ (a_type u) x)) typed.of (define_like _ _ _ x typed.behind)))
+    let typed : Both TypedLike (told_type p t) (told_type q t) = type_like p q t like in
+    after typed.faults (right_both Like _ _ (type_defined x _ _ typed.known))
 
 types_like : (p q : SoFar) (ds : Tree ℕ (items type_name)) → Like p q → Both Like (told_types p ds) (told_types q ds)
 unfolding told_types
 types_like p q end like = right_both Like p q like
-types_like p q (more d rest) like = bind Like Like _ _ _ _ (type_declared_like p q d like) (λ next. types_like _ _ rest next)
+types_like p q (more d rest) like =
+    let next : Both Like (type_declared p d) (type_declared q d) = type_declared_like p q d like in
+    after next.faults (types_like (type_declared p d).known (type_declared q d).known rest next.known)
 
 variables_declared_like : (p q : SoFar) (d : Tree ℕ (item variable)) → Like p q → Both Like (variables_declared p d) (variables_declared q d)
 unfolding variables_declared
 variables_declared_like p q (declares_variable ns t) like =
-    bind TypedLike Like _ _ _ _ (type_like p q t like)
-    (λ typed. right_both Like _ _ (subst (λ u. Like _ (define_all _ (a_variable u) (names_listed ns))) typed.of (define_all_like _ _ _ (names_listed ns) typed.behind)))
+    let typed : Both TypedLike (told_type p t) (told_type q t) = type_like p q t like in
+    after typed.faults (right_both Like _ _ (variables_defined (names_listed ns) _ _ typed.known))
 
 variables_like : (p q : SoFar) (ds : Tree ℕ (items variable)) → Like p q → Both Like (told_variables p ds) (told_variables q ds)
 unfolding told_variables
 variables_like p q end like = right_both Like p q like
-variables_like p q (more d rest) like = bind Like Like _ _ _ _ (variables_declared_like p q d like) (λ next. variables_like _ _ rest next)
+variables_like p q (more d rest) like =
+    let next : Both Like (variables_declared p d) (variables_declared q d) = variables_declared_like p q d like in
+    after next.faults (variables_like (variables_declared p d).known (variables_declared q d).known rest next.known)
 
 parameters_with : (g h : Heading) (by_place : Bool) (xs : List ℕ) (t u : Typed) → HeadingLike g h → TypedLike t u → HeadingLike (with_parameters g by_place xs t) (with_parameters h by_place xs u)
 parameters_with g h by_place xs t u like typed = record {
   formals = λ i. like.formals i ++ map (λ x. record { by_place = by_place; of = typed.of i }) xs;
-  behind = subst (λ z. Like (define_all t.behind (a_variable t.of) xs) (define_all u.behind (a_variable z) xs)) typed.of (define_all_like t.behind u.behind (a_variable t.of) xs typed.behind);
+  behind = variables_defined xs t u typed;
 }
 
 parameters_like : (g h : Heading) (by_place : Bool) (ns : Tree ℕ names) (t : Tree ℕ written_type) → HeadingLike g h → Both HeadingLike (told_parameters g by_place ns t) (told_parameters h by_place ns t)
 unfolding told_parameters
 parameters_like g h by_place ns t like =
-    bind TypedLike HeadingLike _ _ _ _ (type_like g.behind h.behind t like.behind)
-    (λ typed. right_both HeadingLike _ _ (parameters_with g h by_place (names_listed ns) _ _ like typed))
+    let typed : Both TypedLike (told_type g.behind t) (told_type h.behind t) = type_like g.behind h.behind t like.behind in
+    after typed.faults (right_both HeadingLike _ _ (parameters_with g h by_place (names_listed ns) _ _ like typed.known))
 
 section_like : (g h : Heading) (s : Tree ℕ (item further_section)) → HeadingLike g h → Both HeadingLike (told_section g s) (told_section h s)
 unfolding told_section
@@ -205,7 +231,9 @@ section_like g h (then_section (variable_section ns t)) like = parameters_like g
 sections_like : (g h : Heading) (ss : Tree ℕ (items further_section)) → HeadingLike g h → Both HeadingLike (told_sections g ss) (told_sections h ss)
 unfolding told_sections
 sections_like g h end like = right_both HeadingLike g h like
-sections_like g h (more s rest) like = bind HeadingLike HeadingLike _ _ _ _ (section_like g h s like) (λ next. sections_like _ _ rest next)
+sections_like g h (more s rest) like =
+    let next : Both HeadingLike (told_section g s) (told_section h s) = section_like g h s like in
+    after next.faults (sections_like (told_section g s).known (told_section h s).known rest next.known)
 
 heading_like : (x : ℕ) (g h : Heading) → HeadingLike g h → Like (behind_heading x g) (behind_heading x h)
 heading_like x g h like = subst (λ fs. Like (behind_heading x g) (define h.behind (a_procedure fs) x)) like.formals (define_like g.behind h.behind (a_procedure g.formals) x like.behind)
@@ -216,21 +244,23 @@ body_like p q none like = right_both Like p q like
 body_like p q (one (begins statements)) like = record { known = like; faults = ap (λ (f : Facts TypeId). told_sequence f statements) (same_facts p q false like) }
 
 mutual
-  pub block_like : (p q : SoFar) (b : Tree ℕ block) → Like p q → Both Like (told_block p b) (told_block q b)
   unfolding told_block
+
+  pub block_like : (p q : SoFar) (b : Tree ℕ block) → Like p q → Both Like (told_block p b) (told_block q b)
   block_like p q (has_body (declares cs ts vs ps) statements) like =
-      bind Like Like _ _ _ _ (constants_like p q (section_constants cs) like)
-      (λ constants. bind Like Like _ _ _ _ (types_like _ _ (section_types ts) constants)
-      (λ types. bind Like Like _ _ _ _ (variables_like _ _ (section_variables vs) types)
-      (λ variables. bind Like Like _ _ _ _ (procedures_like _ _ ps variables) (λ procedures. body_like _ _ statements procedures))))
+      let constants : Both Like (reported_constants p (section_constants cs)) (reported_constants q (section_constants cs)) = constants_like p q (section_constants cs) like in
+      let types = types_like _ _ (section_types ts) constants.known in
+      let variables = variables_like _ _ (section_variables vs) types.known in
+      let procedures = procedures_like _ _ ps variables.known in
+      after constants.faults (after types.faults (after variables.faults (after procedures.faults (body_like _ _ statements procedures.known))))
 
   procedures_like : (p q : SoFar) (ds : Tree ℕ (items procedure)) → Like p q → Both Like (told_procedures p ds) (told_procedures q ds)
-  unfolding told_block
   procedures_like p q end like = right_both Like p q like
-  procedures_like p q (more d rest) like = bind Like Like _ _ _ _ (procedure_like p q d like) (λ next. procedures_like _ _ rest next)
+  procedures_like p q (more d rest) like =
+      let next : Both Like (told_procedure p d) (told_procedure q d) = procedure_like p q d like in
+      after next.faults (procedures_like (told_procedure p d).known (told_procedure q d).known rest next.known)
 
   procedure_like : (p q : SoFar) (d : Tree ℕ (item procedure)) → Like p q → Both Like (told_procedure p d) (told_procedure q d)
-  unfolding told_block
   procedure_like p q (declares_procedure x fs b closing) like =
-      bind HeadingLike Like _ _ _ _ (sections_like _ _ (formal_sections fs) (record { formals = refl; behind = like }))
-      (λ heading. block_like _ _ b (heading_like x _ _ heading))
+      let sections = sections_like (record { formals = []; behind = p }) (record { formals = []; behind = q }) (formal_sections fs) (record { formals = refl; behind = like }) in
+      after sections.faults (block_like _ _ b (heading_like x _ _ sections.known))

@@ -212,7 +212,7 @@ answered asked k uri ask answer of = ap (option_map (λ (a : Asked). answers k (
 record Answered (asked : List Asked) (k : ℕ) (ask : Ask) (unit : Unit) (o : Option Document) (sent : List (List ℕ)) : Type 0 where
   edits : List Replacement
   heard : Heard asked sent (answers k edits ∷ [])
-  may : IsAnswer unit o ask edits
+  replies : IsAnswer unit o ask edits
 
 -- a refusal has no edits
 refused : (asked : List Asked) (k : ℕ) (uri : List ℕ) (ask : Ask) (unit : Unit) (o : Option Document) (code : ℤ) (why : List ℕ) (sent : List (List ℕ)) → IsAsk asked k uri ask → Sends (error_message (number (unsigned k)) code why) sent
@@ -226,7 +226,7 @@ refused asked k uri ask unit o code why sent of sends none =
 
 -- nothing is handed out for a text that is no well-typed module
 unfit_answer : (unit : Unit) (text : List ℕ) (ask : Ask) → ¬ IsWellTypedModule (utf8 text) → AnswersFor unit text ask []
-unfit_answer unit text ask unfit = inr (inr (λ well_typed. unfit (module_of text well_typed)), refl)
+unfit_answer unit text ask unfit = inr (inr unfit, refl)
 
 formatted : (asked : List Asked) (k : ℕ) (uri : List ℕ) (indent : Indent) (unit : Unit) (version : ℤ) (text : List ℕ) (sent : List (List ℕ)) → IsAsk asked k uri (format indent)
     → Says (lays_out unit (number (unsigned k)) (indent_read indent) text) sent → Answered asked k (format indent) unit (Some (InStep version text)) sent

@@ -72,7 +72,9 @@ impl<T: TextStore> Ends<T> {
     /// The contents say the messages of the model: a call for the prover.
     pub fn is_tied(&self)
         ensures { IsTied self.now }
-    {}
+    {
+        let _waiting = self.to_server.len();
+    }
 
     /// What has come of the events.
     pub fn into_played(self) -> Played

@@ -1,4 +1,4 @@
-use Rattle.std.proofs.Common.{◌∙◌, ◌+◌, map, refl, ap, subst, inr}
+use Rattle.std.proofs.Common.{◌∙◌, ◌+◌, [], map, refl, ap, subst, inr}
 use Rattle.std.proofs.lemmas.List.{take_all}
 use Rattle.ob0_world_rules.specs.Ends.{start}
 use Rattle.ob0_world_rules.specs.Happens.{Course}
@@ -9,7 +9,7 @@ use Rattle.ob0_world.proofs.Stepping.{step_made, step_failed}
 
 -- memory ran out before the first event
 pub returns-in-Err-clause-err : goal.returns-in-Err-clause-err
-returns-in-Err-clause-err g c = (inr refl, plays c.args.unit _ _ _ refl (c.nothing_played.ensures c.args.unit))
+returns-in-Err-clause-err g c = (inr refl, plays c.args.unit [] (start c.args.unit) c.nothing_played.result refl (c.nothing_played.ensures c.args.unit))
 
 -- memory ran out at an event: what had come of those before is returned
 pub returns-in-Err-step-clause-err : goal.returns-in-Err-step-clause-err
