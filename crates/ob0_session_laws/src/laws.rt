@@ -3,7 +3,7 @@ ghost use Rattle.ob0_session_laws.specs.Determined.{IdentifiersAlone, OneAnswer,
 
 use ob0_analysis::laws::one_refusal;
 use ob0_frame::laws::feeding_is_determined;
-use ob0_scan::laws::{one_report as one_scan_report, one_scan};
+use ob0_scan::laws::one_scan;
 
 /// A module has one table of ordinals.
 pub fn one_table()
@@ -16,7 +16,7 @@ pub fn one_report()
 {
     one_table();
     one_scan();
-    one_scan_report();
+    ob0_scan::laws::one_report();
     one_refusal();
 }
 
