@@ -15,11 +15,12 @@
 #   make faults            what takes longer: memory refused at each allocation, one long conversation, many random runs; WORDS=".." names some
 #   make wrong-bodies      tries each crate's wrong bodies, all at once where that can be; CRATE="NAME.." names some
 #   make surface           the public functions, who uses them and their wrong bodies: docs/SURFACE.md
+#   make statement         all definitions that the headline is made of, in reading order: docs/STATEMENT.md
 #   make bench             times the program; nothing fails by time
 PREFIX ?= /usr/local
 PYTHON ?= python3
 
-.PHONY: demo help test build editors try end-to-end faults wrong-bodies surface bench package install uninstall python
+.PHONY: demo help test build editors try end-to-end faults wrong-bodies surface statement bench package install uninstall python
 
 demo: python
 	@$(PYTHON) tools/demo.py
@@ -50,6 +51,9 @@ wrong-bodies: python
 
 surface: python
 	@$(PYTHON) tools/public_functions.py
+
+statement: python
+	@$(PYTHON) tools/statement.py
 
 bench: build
 	@$(PYTHON) bench/run.py

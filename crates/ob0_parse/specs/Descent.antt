@@ -1,7 +1,6 @@
--- The descent: how a text is read, from left to right, by the productions of the grammar. What a construct is made of
--- is chosen by its next token, or its next two. So the token at which the descent stops, and what it expects there,
--- hang on the tokens alone.
--- Rule: docs/LANGUAGE.md, Grammar 1, Nesting and limits 1, Syntax faults.
+-- The predictive descent: how a text is read, from left to right, by the productions of the grammar (LANGUAGE.md, Grammar and
+-- Syntax faults). The next token, or the next two, choose the production of each construct. So the token at which the descent
+-- stops, and what it expects there, depend on the tokens alone.
 use Rattle.std.specs.Prelude.{◌≡◌, ◌==◌, ℕ, zero, suc, ◌+◌, List, [], ◌∷◌, ◌++◌, Option, Some, None, Bool, true, false, drop, if◌then◌else◌}
 use Rattle.ob0_scan.specs.declared.lexeme.TokenKind.{TokenKind}
 use Rattle.ob0_scan.specs.declared.lexeme.TokenKind.TheVariants as kind
@@ -26,8 +25,8 @@ pub data Part : Type 0 where
 
 -- ---- which production is read
 
--- What a construct is made of, where these tokens are next: the parts of a production, none at all where it is left
--- out, or a fault.
+-- What a construct consists of when these tokens are next: the parts of a production (none when the construct is left
+-- out), or a fault.
 pub data Choice : Type 0 where
   parts : List Part → Choice
   missing : Expected → Choice
@@ -41,7 +40,7 @@ word w = token (kind.Reserved w)
 abbrev pub sign : Symbol → Part
 sign s = token (kind.Symbol s)
 
--- What counts for nesting has one level less inside it.
+-- A construct that counts for nesting leaves one level less for what is inside it (LANGUAGE.md, Nesting and limits).
 abbrev pub nested : ℕ → (ℕ → List Part) → Choice
 nested zero inside = too_deep
 nested (suc room) inside = parts (inside room)
@@ -69,12 +68,12 @@ abbrev pub is_assigned : List (Lexeme ℕ) → Bool
 is_assigned (Mark (kind.Symbol symbol.Becomes) ∷ tokens) = true
 is_assigned tokens = is_next selector tokens
 
--- an operator, whichever is next, and its right side
+-- the operator that is next, and its right side
 abbrev pub operation : Sort → ℕ → List (Lexeme ℕ) → Choice
 operation s room (Mark k ∷ tokens) = parts (token k ∷ node s room ∷ [])
 operation s room tokens = missing expected.Expression
 
--- The production of an item. It is asked only where the item is next, so what it says elsewhere doesn't count.
+-- The production of an item. It is used only when the item is next, so its value for other tokens doesn't matter.
 abbrev pub chosen_item : Item → (room : ℕ) → List (Lexeme ℕ) → Choice
 -- selector = "[" expression "]" | "." ident
 chosen_item selector room (Mark (kind.Symbol symbol.LeftBracket) ∷ tokens) = nested room (λ inner. sign symbol.LeftBracket ∷ node expression inner ∷ sign symbol.RightBracket ∷ [])
@@ -126,7 +125,7 @@ chosen_item procedure room tokens = nested room (λ inner. word reserved.Procedu
 -- [BEGIN sequence]
 chosen_item body room tokens = parts (word reserved.Begin ∷ node sequence room ∷ [])
 
--- the production of a construct (in names nothing counts for nesting, so they need no level)
+-- the production of a construct (nothing in a list of names counts for nesting, so it needs no level)
 abbrev pub chosen : Sort → (room : ℕ) → List (Lexeme ℕ) → Choice
 chosen (item i) room tokens = chosen_item i room tokens
 chosen (items i) room tokens = if is_next i tokens then parts (node (item i) room ∷ node (items i) room ∷ []) else parts []
@@ -180,7 +179,7 @@ chosen block room tokens = parts (node declarations room ∷ node (maybe body) r
 -- module = MODULE ident ";" declarations [BEGIN sequence] END ident "."
 chosen module_text room tokens = parts (word reserved.Module ∷ name ∷ sign symbol.Semicolon ∷ node block room ∷ word reserved.End ∷ name ∷ sign symbol.Dot ∷ [])
 
--- ---- where the descent stops
+-- ---- the stop
 
 -- the token is this part
 abbrev pub IsPart : Part → Lexeme ℕ → Type 0
@@ -190,7 +189,7 @@ IsPart number x = (n : ℕ) × (x ≡ Number n)
 IsPart (node s room) x = ⊥
 IsPart finish x = x ≡ EndOfText
 
--- what is expected where a part that is one token is missing
+-- what is expected when a part that is one token is missing
 abbrev pub expected_part : Part → Option Expected
 expected_part (token k) = Some (expected.Token k)
 expected_part name = Some expected.Identifier
@@ -198,14 +197,14 @@ expected_part number = Some expected.Expression
 expected_part (node s room) = None
 expected_part finish = Some expected.EndOfText
 
--- how the descent ends: all is read, or something else is expected at the token with an index, or that token opens
--- a construct that is too deep
+-- how the descent ends: all is read; or something else is expected at the token with this index; or that token opens
+-- a construct that is nested too deep
 pub data Stop : Type 0 where
   Done : Stop
   Expects : ℕ → Expected → Stop
   Deep : ℕ → Stop
 
--- These parts are read from these tokens, of which the first has this index, and end in this stop.
+-- These parts are read from these tokens, the first of which has this index, and the descent ends in this stop.
 pub data Descends : List Part → ℕ → List (Lexeme ℕ) → Stop → Type 0 where
   -- no part is left
   done : {i : ℕ} {tokens : List (Lexeme ℕ)} → Descends [] i tokens Done
@@ -215,20 +214,20 @@ pub data Descends : List Part → ℕ → List (Lexeme ℕ) → Stop → Type 0 
   -- it isn't
   other : {p : Part} {ps : List Part} {i : ℕ} {x : Lexeme ℕ} {tokens : List (Lexeme ℕ)} {e : Expected}
       → ¬ IsPart p x → expected_part p ≡ Some e → Descends (p ∷ ps) i (x ∷ tokens) (Expects i e)
-  -- the next part is made of parts itself
+  -- the next part is a construct: its own parts come first
   made : {s : Sort} {room : ℕ} {ps : List Part} {i : ℕ} {tokens : List (Lexeme ℕ)} {o : Stop} (qs : List Part)
       → chosen s room tokens ≡ parts qs → Descends (qs ++ ps) i tokens o → Descends (node s room ∷ ps) i tokens o
   -- it can't begin with the next token
   absent : {s : Sort} {room : ℕ} {ps : List Part} {i : ℕ} {tokens : List (Lexeme ℕ)} {e : Expected}
       → chosen s room tokens ≡ missing e → Descends (node s room ∷ ps) i tokens (Expects i e)
-  -- no level is left for it
+  -- it opens a level of nesting, and none is left
   deep : {s : Sort} {room : ℕ} {ps : List Part} {i : ℕ} {tokens : List (Lexeme ℕ)}
       → chosen s room tokens ≡ too_deep → Descends (node s room ∷ ps) i tokens (Deep i)
 
--- the same parts and tokens have one stop
+-- there is one stop
 abbrev pub OneStop : Type 0
 OneStop = (ps : List Part) (i : ℕ) (tokens : List (Lexeme ℕ)) (a b : Stop) → Descends ps i tokens a → Descends ps i tokens b → a ≡ b
 
--- a whole text's tokens, the end counted as one, are read so
+-- the descent through the tokens of a whole text, the end counted as one, at nesting at most 100
 abbrev pub DescendsText : List (Lexeme ℕ) → Stop → Type 0
 DescendsText tokens o = Descends (node module_text 100 ∷ finish ∷ []) 0 tokens o

@@ -280,19 +280,51 @@ fn events_again(alloc: Global, story: &Story) -> Result<Vec<Event>, AllocError> 
     }
 }
 
-fn play(alloc: Global, unit: Unit, events: Vec<Event>) -> Result<Played, PlayFault> {
+fn play(alloc: Global, unit: Unit, events: &[Event]) -> Result<Played, PlayFault> {
     match unit {
-        Unit::Utf16 => World::<Lines>::play(alloc, events.as_slice()),
-        Unit::Utf8 => World::<Lines>::play_in(alloc, unit, events.as_slice()),
+        Unit::Utf16 => World::<Lines>::play(alloc, events),
+        Unit::Utf8 => World::<Lines>::play_in(alloc, unit, events),
     }
 }
 
-/// What events leave that are played up to one whose memory is refused, or to their end.
-fn played(alloc: Global, unit: Unit, events: Vec<Event>) -> Played {
+/// What came of the first events of a list.
+#[derive(Drop)]
+struct Extent {
+    steps: u64,
+    played: Played,
+}
+
+/// What events leave that are played up to one whose allocation fails, or to their end.
+fn played(alloc: Global, unit: Unit, events: &[Event]) -> Extent {
     match play(alloc, unit, events) {
-        Ok(played) => played,
-        Err(fault) => fault.played,
+        Ok(played) => Extent {
+            steps: events.len() as u64,
+            played,
+        },
+        Err(fault) => Extent {
+            steps: fault.steps,
+            played: fault.played,
+        },
     }
+}
+
+/// What so many events leave, made one by one, or those before one whose allocation fails; None where no world can be made.
+fn stepped_through(alloc: Global, unit: Unit, events: &[Event], most: u64) -> Option<Extent> {
+    let mut world: World<Lines> = match begun(alloc, unit) {
+        Ok(world) => world,
+        Err(_fault) => return None,
+    };
+    let mut goes_on = true;
+    for event in events {
+        if goes_on && world.steps() < most {
+            let seen = stepped(&mut world, event);
+            goes_on = seen != Sight::Refused;
+        }
+    }
+    Some(Extent {
+        steps: world.steps(),
+        played: world.into_played(),
+    })
 }
 
 fn is_edit(found: &Applied, wanted: &Edited) -> bool {
@@ -333,23 +365,63 @@ fn are_first_publications(found: &[Made], wanted: &[Published]) -> bool {
     true
 }
 
-/// How many edits and publications stand, where they are the first that a story is to leave.
-fn counted(story: &Story, played: &Played) -> Option<(usize, usize)> {
-    if !are_first_edits(played.applied.as_slice(), story.applied) {
-        return None;
-    }
-    if !are_first_publications(played.made.as_slice(), story.made) {
-        return None;
-    }
-    Some((played.applied.len(), played.made.len()))
+/// How many events were made, and how many edits and publications came of them.
+#[derive(Clone, Copy, PartialEq, Eq)]
+pub struct Counts {
+    pub steps: u64,
+    pub applied: usize,
+    pub made: usize,
 }
 
-/// How many edits and publications a story leaves where it is played up to an event whose memory is refused, or to its end;
-/// None where they aren't the first that it is to leave.
-pub fn left(alloc: Global, story: &Story) -> Option<(usize, usize)> {
+/// These counts, where the edits and publications are the first that a story is to leave.
+fn counted(story: &Story, extent: &Extent) -> Option<Counts> {
+    if !are_first_edits(extent.played.applied.as_slice(), story.applied) {
+        return None;
+    }
+    if !are_first_publications(extent.played.made.as_slice(), story.made) {
+        return None;
+    }
+    Some(Counts {
+        steps: extent.steps,
+        applied: extent.played.applied.len(),
+        made: extent.played.made.len(),
+    })
+}
+
+/// What comes of so many events, made one by one; it is made for a second time where an allocation fails in the first.
+fn counted_again(alloc: Global, story: &Story, events: &[Event], steps: u64) -> Option<Counts> {
+    if let Some(extent) = stepped_through(alloc, story.unit, events, steps) {
+        if extent.steps == steps {
+            return counted(story, &extent);
+        }
+    }
+    let extent = stepped_through(alloc, story.unit, events, steps)?;
+    counted(story, &extent)
+}
+
+/// What comes of a story that is played up to an event whose allocation fails, or to its end. None where it isn't what comes
+/// of as many events made one by one, or not the first that the story is to leave.
+pub fn left(alloc: Global, story: &Story) -> Option<Counts> {
     let Ok(events) = events_again(alloc, story) else {
         return None;
     };
-    let played = played(alloc, story.unit, events);
-    counted(story, &played)
+    let extent = played(alloc, story.unit, events.as_slice());
+    let found = counted(story, &extent)?;
+    let wanted = counted_again(alloc, story, events.as_slice(), extent.steps)?;
+    if found == wanted { Some(found) } else { None }
+}
+
+/// The same, where the events are made one by one from the beginning on; nothing where no world can be made.
+pub fn left_by_steps(alloc: Global, story: &Story) -> Option<Counts> {
+    let Ok(events) = events_again(alloc, story) else {
+        return None;
+    };
+    match stepped_through(alloc, story.unit, events.as_slice(), events.len() as u64) {
+        Some(extent) => counted(story, &extent),
+        None => Some(Counts {
+            steps: 0,
+            applied: 0,
+            made: 0,
+        }),
+    }
 }

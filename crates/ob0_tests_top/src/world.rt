@@ -1,6 +1,6 @@
 //! Whole lists of events at both ends, step by step and played, in both units of positions, over both stores.
 
-use crate::acts::{Story, Way, left, way_of};
+use crate::acts::{Counts, Story, Way, left, left_by_steps, way_of};
 use crate::stories::stories;
 use ob0_text::{Lines, Whole};
 use std::alloc::Global;
@@ -9,7 +9,7 @@ use std::process::Abort;
 /// Whether a story leaves all that it is to leave.
 fn leaves_all(alloc: Global, story: &Story) -> bool {
     match left(alloc, story) {
-        Some((applied, made)) => applied == story.applied.len() && made == story.made.len(),
+        Some(counts) => counts.applied == story.applied.len() && counts.made == story.made.len(),
         None => false,
     }
 }
@@ -52,19 +52,40 @@ fn a_refused_event_ends_a_world(rt: HostRuntime) {
     assert!(rt; name.is_empty(), "{name}");
 }
 
-fn first_left(alloc: Global) -> Option<(usize, usize)> {
-    match stories().first() {
-        Some(story) => left(alloc, story),
-        None => None,
-    }
+fn first_left(alloc: Global) -> Option<Counts> {
+    left(alloc, stories().first()?)
 }
 
-// What is printed grows with the number of the allocation that is refused, up to what is printed where none is: `make faults`
-// looks at that, since nothing here knows which event was refused.
+fn first_left_by_steps(alloc: Global) -> Option<Counts> {
+    left_by_steps(alloc, stories().first()?)
+}
+
+const NOTHING: Counts = Counts {
+    steps: 0,
+    applied: 0,
+    made: 0,
+};
+
+// With the same allocation refused this prints what the test below prints: `make faults` compares the two, since nothing here
+// knows at which event it was refused.
 #[test]
 fn a_refused_event_leaves_what_was_played_before(rt: HostRuntime) {
     let found = first_left(rt.alloc());
     assert!(rt; found.is_some());
-    let (applied, made) = found.unwrap_or((0, 0));
-    let _ = println!(rt; "played {applied} {made}");
+    let counts = found.unwrap_or(NOTHING);
+    let _ = println!(rt;
+        "played {} {} {}",
+        counts.steps, counts.applied, counts.made
+    );
+}
+
+#[test]
+fn a_refused_step_ends_what_was_played(rt: HostRuntime) {
+    let found = first_left_by_steps(rt.alloc());
+    assert!(rt; found.is_some());
+    let counts = found.unwrap_or(NOTHING);
+    let _ = println!(rt;
+        "played {} {} {}",
+        counts.steps, counts.applied, counts.made
+    );
 }

@@ -40,10 +40,9 @@ use Rattle.ob0_world_editor.specs.Understood.{understood, value_understood, edit
 use Rattle.ob0_world_editor.proofs.Hearing.{understood_as}
 use Rattle.ob0_world_rules.specs.Edited.{Replacement, replacement_of, replacements}
 use Rattle.ob0_world_rules.specs.Asks.{Ask, rename, inline_here, inline_all, format, indent_read}
-use Rattle.ob0_world_rules.specs.Answers.{place_at, AnswersFor, IsAnswer, TellsOf}
+use Rattle.ob0_world_rules.specs.Answers.{place_at, AnswersFor, IsAnswer, IsEmptyIfCorrect}
 use Rattle.ob0_world_rules.specs.Ends.{Asked, numbered, ToServer, tells, asks, ToEditor, publishes, answers, after_message}
-use Rattle.ob0_world_rules.specs.Serving.{MayPublish, taken_back, MaySend}
-use Rattle.ob0_world_rules.proofs.Trees.{fits, module_of}
+use Rattle.ob0_world_rules.specs.Serving.{Publishes, cleared, Replies}
 use Rattle.ob0_world_rules.proofs.UriLaws.{get_put, uri_itself}
 use Rattle.ob0_world.specs.Queues.{IsRunning, made_of_document, made_first}
 
@@ -99,13 +98,13 @@ some_told text told (inr (inr types)) none = go types.faults types.some (sym typ
 empty_of : List Diagnostic → Bool
 empty_of ds = has_none (items_of (map diagnostic_value ds))
 
-tells_right : (unit : Unit) (text : List ℕ) (ds : List Diagnostic) → Diagnoses unit text ds → TellsOf text (has_none (items_of (map diagnostic_value ds)))
+tells_right : (unit : Unit) (text : List ℕ) (ds : List Diagnostic) → Diagnoses unit text ds → IsEmptyIfCorrect text (has_none (items_of (map diagnostic_value ds)))
 tells_right unit text ds (told, telling, is) =
-    subst (λ ds. TellsOf text (has_none (items_of (map diagnostic_value ds)))) (sym is) (go telling)
+    subst (λ ds. IsEmptyIfCorrect text (has_none (items_of (map diagnostic_value ds)))) (sym is) (go telling)
   where
-    go : Tells (utf8 text) told → TellsOf text (has_none (items_of (map diagnostic_value (map (diagnostic_of unit text) told))))
-    go (inl (found, none)) = (λ empty. fits text found, λ well_typed. empty_none (diagnostic_of unit text) told none)
-    go (inr (unfit, faults)) = (λ empty. absurd (some_told (utf8 text) told faults (none_empty (diagnostic_of unit text) told empty)), λ well_typed. absurd (unfit (module_of text well_typed)))
+    go : Tells (utf8 text) told → IsEmptyIfCorrect text (has_none (items_of (map diagnostic_value (map (diagnostic_of unit text) told))))
+    go (inl (found, none)) = (λ empty. found, λ well_typed. empty_none (diagnostic_of unit text) told none)
+    go (inr (unfit, faults)) = (λ empty. absurd (some_told (utf8 text) told faults (none_empty (diagnostic_of unit text) told empty)), λ well_typed. absurd (unfit well_typed))
 
 -- ---- publications
 
@@ -113,7 +112,7 @@ tells_right unit text ds (told, telling, is) =
 pub record Noted (asked : List Asked) (held : OpenDocuments) (uri : List ℕ) (o : Option Document) (sent : List (List ℕ)) : Type 0 where
   pub said : List ToEditor
   pub heard : Heard asked sent said
-  pub may : MayPublish uri o said (option_to_list (made_first held said))
+  pub replies : Publishes uri o said (option_to_list (made_first held said))
 
 publishes_step : (asked : List Asked) (held : OpenDocuments) (uri : List ℕ) (version : ℤ) (text : List ℕ) (sent : List (List ℕ)) → document_at held uri ≡ Some (InStep version text) → as_i64 (of_integer version) ≡ Some version
     → Says (published held.unit uri (Some (InStep version text))) sent → Noted asked held uri (Some (InStep version text)) sent
@@ -122,13 +121,13 @@ publishes_step asked held uri version text sent at fits (ds, diagnoses, sends) =
     record {
       said = publishes uri (Some version) empty ∷ [];
       heard = heard_one asked sent (publication uri (Some version) ds) (publishes uri (Some version) empty) sends (ap (λ v. Some (publishes uri v empty)) fits);
-      may = (empty, tells_right held.unit text ds diagnoses, refl, ap (λ o. option_to_list (option_and_then (made_of_document uri version empty) o)) at);
+      replies = (empty, tells_right held.unit text ds diagnoses, refl, ap (λ o. option_to_list (option_and_then (made_of_document uri version empty) o)) at);
     }
 
 publishes_now : (asked : List Asked) (held : OpenDocuments) (uri : List ℕ) (version : ℤ) (t : Option (List ℕ)) (sent : List (List ℕ)) → document_at held uri ≡ Some (document version t) → as_i64 (of_integer version) ≡ Some version
     → Says (published held.unit uri (Some (document version t))) sent → Noted asked held uri (Some (document version t)) sent
 publishes_now asked held uri version (Some text) sent at fits saying = publishes_step asked held uri version text sent at fits saying
-publishes_now asked held uri version None sent at fits saying = record { said = []; heard = heard_none asked sent saying; may = (refl, refl) }
+publishes_now asked held uri version None sent at fits saying = record { said = []; heard = heard_none asked sent saying; replies = (refl, refl) }
 
 -- a document that was changed
 changed_at : (held : OpenDocuments) (uri : List ℕ) (version : ℤ) (how : List TextChange) → document_at (changed held uri version how) uri ≡ option_map (changed_document held.unit version how) (document_at held uri)
@@ -161,7 +160,7 @@ pub record Served (asked : List Asked) (m : ToServer) (before after : State) (se
   pub held : after.held ≡ after_message before.held m
   pub said : List ToEditor
   pub heard : Heard asked sent said
-  pub may : MaySend before.held m said (option_to_list (made_first after.held said))
+  pub replies : Replies before.held m said (option_to_list (made_first after.held said))
 
 -- the reaction to a note, and what it saying
 note_served : (asked : List Asked) (note : DocumentNote) (before after : State) (sent : List (List ℕ)) → IsRunning before → HasVersion note → after ≡ (reaction_to before (told_as note)).after → Says (reaction_to before (told_as note)).say sent
@@ -171,21 +170,21 @@ note_served asked (Opened uri version text) before after sent running fits is sa
     let noted : Noted asked held uri (document_at held uri) sent =
     noted_at asked held uri (Some (InStep version text)) sent (opened_at before.held uri version text) (publishes_step asked held uri version text sent (opened_at before.held uri version text) fits) saying in
     subst (λ a. Served asked (tells (Opened uri version text)) before a sent) (sym is)
-    (record { running = running; held = refl; said = noted.said; heard = noted.heard; may = noted.may })
+    (record { running = running; held = refl; said = noted.said; heard = noted.heard; replies = noted.replies })
 note_served asked (Changed uri version how) before after sent running fits is saying =
     let held : OpenDocuments = changed before.held uri version how in
     let noted : Noted asked held uri (document_at held uri) sent = go held (document_at before.held uri) (changed_at before.held uri version how) saying in
     subst (λ a. Served asked (tells (Changed uri version how)) before a sent) (sym is)
-    (record { running = running; held = refl; said = noted.said; heard = noted.heard; may = noted.may })
+    (record { running = running; held = refl; said = noted.said; heard = noted.heard; replies = noted.replies })
   where
     go : (held : OpenDocuments) (o : Option Document) → document_at held uri ≡ option_map (changed_document before.held.unit version how) o → Says (published held.unit uri (document_at held uri)) sent → Noted asked held uri (document_at held uri) sent
-    go held None at saying = noted_at asked held uri None sent at (λ saying. record { said = []; heard = heard_none asked sent saying; may = (refl, refl) }) saying
+    go held None at saying = noted_at asked held uri None sent at (λ saying. record { said = []; heard = heard_none asked sent saying; replies = (refl, refl) }) saying
     go held (Some d) at saying =
         let t : Option (List ℕ) = fold (changed_text before.held.unit) (text_of d) how in
         noted_at asked held uri (Some (document version t)) sent at (publishes_now asked held uri version t sent at fits) saying
 note_served asked (Lost uri) before after sent running fits is saying =
     subst (λ a. Served asked (tells (Lost uri)) before a sent) (sym is)
-    (record { running = running; held = refl; said = []; heard = heard_none asked sent saying; may = (refl, refl) })
+    (record { running = running; held = refl; said = []; heard = heard_none asked sent saying; replies = (refl, refl) })
 note_served asked (Closed uri) before after sent running fits is saying =
     subst (λ a. Served asked (tells (Closed uri)) before a sent) (sym is) (go (is_some (document_at before.held uri)) refl saying)
   where
@@ -195,9 +194,9 @@ note_served asked (Closed uri) before after sent running fits is saying =
       held = refl;
       said = publishes uri None true ∷ [];
       heard = heard_one asked sent (publication uri None []) (publishes uri None true) saying refl;
-      may = (sym (ap (taken_back uri) was), refl);
+      replies = (sym (ap (cleared uri) was), refl);
     }
-    go false was saying = record { running = running; held = refl; said = []; heard = heard_none asked sent saying; may = (sym (ap (taken_back uri) was), refl) }
+    go false was saying = record { running = running; held = refl; said = []; heard = heard_none asked sent saying; replies = (sym (ap (cleared uri) was), refl) }
 
 -- ---- edits
 
@@ -213,7 +212,7 @@ answered asked k uri ask answer of = ap (option_map (λ (a : Asked). answers k (
 record Answered (asked : List Asked) (k : ℕ) (ask : Ask) (unit : Unit) (o : Option Document) (sent : List (List ℕ)) : Type 0 where
   edits : List Replacement
   heard : Heard asked sent (answers k edits ∷ [])
-  may : IsAnswer unit o ask edits
+  replies : IsAnswer unit o ask edits
 
 -- a refusal has no edits
 refused : (asked : List Asked) (k : ℕ) (uri : List ℕ) (ask : Ask) (unit : Unit) (o : Option Document) (code : ℤ) (why : List ℕ) (sent : List (List ℕ)) → IsAsk asked k uri ask → Sends (error_message (number (unsigned k)) code why) sent
@@ -222,12 +221,12 @@ refused asked k uri ask unit o code why sent of sends none =
     record {
       edits = [];
       heard = heard_one asked sent (error_message (number (unsigned k)) code why) (answers k []) sends (answered asked k uri ask (error_message (number (unsigned k)) code why) of);
-      may = none;
+      replies = none;
     }
 
 -- nothing is handed out for a text that is no well-typed module
 unfit_answer : (unit : Unit) (text : List ℕ) (ask : Ask) → ¬ IsWellTypedModule (utf8 text) → AnswersFor unit text ask []
-unfit_answer unit text ask unfit = inr (inr (λ well_typed. unfit (module_of text well_typed)), refl)
+unfit_answer unit text ask unfit = inr (inr unfit, refl)
 
 formatted : (asked : List Asked) (k : ℕ) (uri : List ℕ) (indent : Indent) (unit : Unit) (version : ℤ) (text : List ℕ) (sent : List (List ℕ)) → IsAsk asked k uri (format indent)
     → Says (lays_out unit (number (unsigned k)) (indent_read indent) text) sent → Answered asked k (format indent) unit (Some (InStep version text)) sent
@@ -240,7 +239,7 @@ formatted asked k uri indent unit version text sent of (message, how, sends) = g
         record {
           edits = replacements edits;
           heard = heard_one asked sent answer (answers k (replacements edits)) (subst (λ m. Sends m sent) is sends) (answered asked k uri (format indent) answer of ∙ ap (λ es. Some (answers k es)) these);
-          may = inl (edits, laid, refl);
+          replies = inl (edits, laid, refl);
         }
     go (inr (inl (long, is))) = refused asked k uri (format indent) unit (Some (InStep version text)) (minus 32803) (refusal_text TooLong) sent of (subst (λ m. Sends m sent) is sends) (inr (inl long, refl))
     go (inr (inr (unfit, is))) = refused asked k uri (format indent) unit (Some (InStep version text)) (minus 32803) (codes "ill-typed") sent of (subst (λ m. Sends m sent) is sends) (unfit_answer unit text (format indent) unfit)
@@ -276,7 +275,7 @@ renamed asked k uri position name client unit version text sent takes of (messag
         record {
           edits = replacements edits;
           heard = heard_one asked sent answer (answers k (replacements edits)) (subst (λ m. Sends m sent) is sends) (answered asked k uri (rename position name) answer of ∙ ap (λ es. Some (answers k es)) these);
-          may = inl (edits, found, refl);
+          replies = inl (edits, found, refl);
         }
     go (inr (inl (refusal, why, is))) = refused asked k uri (rename position name) unit (Some (InStep version text)) (minus 32803) (refusal_text refusal) sent of (subst (λ m. Sends m sent) is sends) (inr (inl (refusal, why), refl))
     go (inr (inr (unfit, is))) = refused asked k uri (rename position name) unit (Some (InStep version text)) (minus 32803) (codes "ill-typed") sent of (subst (λ m. Sends m sent) is sends) (unfit_answer unit text (rename position name) unfit)
@@ -353,7 +352,7 @@ inlined how asked k uri position client unit version text sent takes literal of 
         record {
           edits = edits;
           heard = heard_one asked sent answer (answers k edits) (subst (λ m. Sends m sent) is sends) (answered asked k uri (inlining_at how position) answer of ∙ ap (λ es. Some (answers k es)) these);
-          may = answer_is;
+          replies = answer_is;
         }
 
     -- this editor wants actions that are no commands
@@ -379,7 +378,7 @@ asks_served : (asked : List Asked) (k : ℕ) (uri : List ℕ) (ask : Ask) (befor
     → Served asked (asks k uri ask) before after sent
 asks_served asked k uri ask before after sent running same answer =
     subst (λ a. Served asked (asks k uri ask) before a sent) (sym same)
-    (record { running = running; held = refl; said = answers k answer.edits ∷ []; heard = answer.heard; may = (answer.edits, answer.may, refl, refl) })
+    (record { running = running; held = refl; said = answers k answer.edits ∷ []; heard = answer.heard; replies = (answer.edits, answer.replies, refl, refl) })
 
 -- an ask about a document, where its answer is known for the text of one that is in step
 about_document : (asked : List Asked) (k : ℕ) (uri : List ℕ) (ask : Ask) (say : ℤ → List ℕ → Say) (before after : State) (sent : List (List ℕ)) → IsRunning before → IsAsk asked k uri ask

@@ -7,7 +7,8 @@ use Rattle.ob0_rpc.specs.Messages.{Reads, meaning_of}
 use Rattle.ob0_session.specs.Answers.{State, start, begins, reacts, Answers}
 use Rattle.ob0_session.specs.Standing.{SessionState, serving, failed}
 use Rattle.ob0_world_editor.specs.Beginning.{initialize_message, client_for}
-use Rattle.ob0_world.specs.Queues.{Contents, bytes, Stands, held_by, IsInitialized, new_session, Both, new_both, IsAnswered}
+use Rattle.ob0_world.specs.Queues.{Contents, bytes, Stands, held_by}
+use Rattle.ob0_world.specs.Worlds.{IsAnswered}
 use Rattle.ob0_world.proofs.Answering.{reacts_so}
 
 begun : (unit : Unit) → (reacts start (meaning_of (initialize_message unit))).after ≡ begins (client_for unit)
@@ -18,22 +19,16 @@ holds_none : (unit : Unit) → (begins (client_for unit)).held ≡ none_open uni
 holds_none Utf16 = refl
 holds_none Utf8 = refl
 
-is_initialized : (unit : Unit) → IsInitialized unit (new_session unit)
-is_initialized unit = record { state = begins (client_for unit); serves = refl; runs = (refl, refl, refl); holds_none = holds_none unit }
-
-pub begins_initialized : (unit : Unit) (w : Both) → w ≡ new_both unit → IsInitialized unit w.session
-begins_initialized unit w is = subst (λ (w : Both). IsInitialized unit w.session) (sym is) (is_initialized unit)
-
 abbrev state_of : SessionState → State → State
 state_of (serving s) other = s
 state_of failed other = other
 
 pub record Begun (unit : Unit) (session : SessionState) : Type 0 where
-  pub is : session ≡ new_session unit
+  pub is : session ≡ serving (begins (client_for unit))
   pub stands : Stands session
   pub held : held_by session ≡ none_open unit
 
-pub begins_so : (unit : Unit) (content : List ℕ) (sent : Contents) (session : SessionState) → Reads content (Some (initialize_message unit)) → IsAnswered (serving start) content sent session → Begun unit session
+pub begins_so : (unit : Unit) (content : List ℕ) (sent : Contents) (session : SessionState) → Reads content (Some (initialize_message unit)) → IsAnswered (serving start) content (bytes sent) session → Begun unit session
 begins_so unit content sent session reads (before, after, was, is, how) =
     let same : start ≡ before = ap (λ s. state_of s start) was in
     let from_start : Answers start content (bytes sent) after = subst (λ s. Answers s content (bytes sent) after) (sym same) how in

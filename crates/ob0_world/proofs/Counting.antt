@@ -15,7 +15,7 @@ use Rattle.ob0_world_rules.specs.Events.{Event, open_document, change_document, 
 use Rattle.ob0_world_rules.specs.Happens.{Serves, Happens}
 use Rattle.ob0_world_rules.proofs.SameDocument.{found, left, same_from, Same}
 use Rattle.ob0_world_editor.specs.Moves.{AreFew}
-use Rattle.ob0_world.specs.Worlds.{Within}
+use Rattle.ob0_world.specs.Queues.{Within}
 
 pub few : (n : ℕ) (e : Editor) → Within n e → n < 2 ^ 63 - 1 → AreFew e
 few n e within h =

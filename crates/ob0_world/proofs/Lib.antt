@@ -4,5 +4,6 @@ mod Moved
 mod Serving
 mod Beginning
 mod Counting
-mod RunLaws
+mod Courses
+mod Tied
 mod Stepping

@@ -17,7 +17,7 @@ use Rattle.ob0_world_editor.proofs.Moving.{none_goes}
 use Rattle.ob0_world_rules.specs.Edited.{Replacement, edited, after_changes}
 use Rattle.ob0_world_rules.specs.Asks.{Ask}
 use Rattle.ob0_world_rules.specs.Ends.{Open, Asked, Editor, numbered, open_at, ToServer, ToEditor, publishes, answers, Ends}
-use Rattle.ob0_world_rules.specs.Editing.{Move, idle, sends, opens_document, changes_text, changes_document, closes_document, asks_about, keeps, has_edits, Outcome, not_held, lets_go, makes, held_answer, without_answer, discards, if_same, applies_text, applies_edits, applies_asked, applies_answer}
+use Rattle.ob0_world_rules.specs.Editing.{Move, idle, sends, opens_document, changes_text, changes_document, closes_document, asks_about, keeps, has_edits, Outcome, not_held, drops_answer, makes, held_answer, without_answer, discards, if_same, applies_text, applies_edits, applies_asked, applies_answer}
 use Rattle.ob0_world_rules.specs.Events.{Is, moved, comes_of, takes, applies, drops, nothing, published, answered}
 use Rattle.ob0_world.specs.declared.events.Seen as seen
 use Rattle.ob0_world.specs.declared.played.Made as made
@@ -121,7 +121,7 @@ moved_happens e new (sends f m) (Some c) q q' r s ap_list md shown extends is se
 -- the asks stay
 abbrev pub KeepsAsks : Editor → Outcome → Type 0
 KeepsAsks e not_held = ⊤
-KeepsAsks e (lets_go f) = f.asked ≡ e.asked
+KeepsAsks e (drops_answer f) = f.asked ≡ e.asked
 KeepsAsks e (makes f a m) = f.asked ≡ e.asked
 
 pub apply_keeps_asks : (e : Editor) (k : ℕ) (o : Option (List Replacement)) → KeepsAsks e (applies_answer e k o)
@@ -147,23 +147,23 @@ apply_keeps_asks e k (Some edits) = of_asked (numbered e.asked k)
 pub let_go_happens : (e new : Editor) (k : ℕ) (o : Outcome) (q r : Contents) (s : SessionState) (ap_list : List applied.Applied) (md : List made.Made) → KeepsAsks e o → ComesOf o e applying.TheVariants.Dropped new
     → Is (comes_of (ends_from e q s r ap_list md) k o) (drops k) (ends_from new q s r ap_list md)
 let_go_happens e new k not_held q r s ap_list md keeps is = absurd is
-let_go_happens e new k (lets_go f) q r s ap_list md keeps is =
+let_go_happens e new k (drops_answer f) q r s ap_list md keeps is =
     (refl, (λ i. ends_from (is i) q s r ap_list md) ∙ (λ i. record (ends_from e q s r ap_list md) { editor = f; to_server = all_heard (keeps i) q; to_editor = all_understood (keeps i) r }))
 let_go_happens e new k (makes f a m) q r s ap_list md keeps is = absurd is
 
 pub not_held_happens : (e new : Editor) (k : ℕ) (o : Outcome) (q r : Contents) (s : SessionState) (ap_list : List applied.Applied) (md : List made.Made) → ComesOf o e applying.TheVariants.NotHeld new
     → Is (comes_of (ends_from e q s r ap_list md) k o) nothing (ends_from new q s r ap_list md)
 not_held_happens e new k not_held q r s ap_list md is = (refl, (λ i. ends_from (is i) q s r ap_list md))
-not_held_happens e new k (lets_go f) q r s ap_list md is = absurd is
+not_held_happens e new k (drops_answer f) q r s ap_list md is = absurd is
 not_held_happens e new k (makes f a m) q r s ap_list md is = absurd is
 
 pub comes_asks : (e new : Editor) (o : Outcome) (made : applying.Applying) → KeepsAsks e o → ComesOf o e made new → new.asked ≡ e.asked
 comes_asks e new not_held applying.TheVariants.NotHeld keeps is = ap (λ (x : Editor). x.asked) is
 comes_asks e new not_held applying.TheVariants.Dropped keeps is = absurd is
 comes_asks e new not_held (applying.TheVariants.Made a c) keeps is = absurd is
-comes_asks e new (lets_go f) applying.TheVariants.NotHeld keeps is = absurd is
-comes_asks e new (lets_go f) applying.TheVariants.Dropped keeps is = ap (λ (x : Editor). x.asked) is ∙ keeps
-comes_asks e new (lets_go f) (applying.TheVariants.Made a c) keeps is = absurd is
+comes_asks e new (drops_answer f) applying.TheVariants.NotHeld keeps is = absurd is
+comes_asks e new (drops_answer f) applying.TheVariants.Dropped keeps is = ap (λ (x : Editor). x.asked) is ∙ keeps
+comes_asks e new (drops_answer f) (applying.TheVariants.Made a c) keeps is = absurd is
 comes_asks e new (makes f a m) applying.TheVariants.NotHeld keeps is = absurd is
 comes_asks e new (makes f a m) applying.TheVariants.Dropped keeps is = absurd is
 comes_asks e new (makes f a m) (applying.TheVariants.Made b c) keeps is = ap (λ (x : Editor). x.asked) is.0 ∙ keeps
@@ -171,13 +171,13 @@ comes_asks e new (makes f a m) (applying.TheVariants.Made b c) keeps is = ap (λ
 -- the content of what was made says something
 pub made_says : (e new : Editor) (o : Outcome) (a : applied.Applied) (c : Vec ℕ Global) → ComesOf o e (applying.TheVariants.Made a c) new → IsHeard new.asked c
 made_says e new not_held a c is = absurd is
-made_says e new (lets_go f) a c is = absurd is
+made_says e new (drops_answer f) a c is = absurd is
 made_says e new (makes f b m) a c (is_new, is_a, says) = (m, subst (λ (x : Editor). Says x.asked m c.items) (sym is_new) says)
 
 pub made_happens : (e new : Editor) (k : ℕ) (o : Outcome) (a : applied.Applied) (c : Vec ℕ Global) (q q' r : Contents) (s : SessionState) (ap_list ap_new : List applied.Applied) (md : List made.Made) → KeepsAsks e o → ComesOf o e (applying.TheVariants.Made a c) new
     → q' ≡ q ++ c ∷ [] → ap_new ≡ ap_list ++ a ∷ [] → Is (comes_of (ends_from e q s r ap_list md) k o) (applies k) (ends_from new q' s r ap_new md)
 made_happens e new k not_held a c q q' r s ap_list ap_new md keeps is is_q is_ap = absurd is
-made_happens e new k (lets_go f) a c q q' r s ap_list ap_new md keeps is is_q is_ap = absurd is
+made_happens e new k (drops_answer f) a c q q' r s ap_list ap_new md keeps is is_q is_ap = absurd is
 made_happens e new k (makes f b m) a c q q' r s ap_list ap_new md keeps (is_new, is_a, says) is_q is_ap =
     let same : new.asked ≡ e.asked = ap (λ (x : Editor). x.asked) is_new ∙ keeps in
     let pushed : all_heard new.asked q' ≡ all_heard e.asked q ++ m ∷ [] =

@@ -15,13 +15,14 @@ use Rattle.ob0_world_editor.specs.Understood.{understood}
 use Rattle.ob0_world_editor.specs.declared.applied.Applied as applied
 use Rattle.ob0_world_editor.proofs.Hearing.{says_heard}
 use Rattle.ob0_world_rules.specs.Ends.{Asked, Editor, ToServer, ToEditor, Made, Ends, after_message}
-use Rattle.ob0_world_rules.specs.Serving.{MaySend}
+use Rattle.ob0_world_rules.specs.Serving.{Replies}
 use Rattle.ob0_world_rules.specs.Happens.{Serves}
 use Rattle.ob0_world_rules.specs.Events.{nothing}
 use Rattle.ob0_world_rules.specs.Events as events
 use Rattle.ob0_world.specs.declared.played.Made as made
 use Rattle.ob0_world.specs.Code.{made_of}
-use Rattle.ob0_world.specs.Queues.{Contents, bytes, all_heard, all_understood, IsHeard, IsUnderstood, Sound, IsRunning, Stands, held_by, ends_from, IsAnswered, made_first, made_for, made_sent}
+use Rattle.ob0_world.specs.Queues.{Contents, bytes, all_heard, all_understood, IsHeard, IsUnderstood, Sound, IsRunning, Stands, held_by, ends_from, both_from, made_first, made_for, made_sent}
+use Rattle.ob0_world.specs.Worlds.{IsAnswered, TakesFirst}
 use Rattle.ob0_world.proofs.Answering.{Served, served}
 use Rattle.ob0_world.proofs.Waiting.{said_append, said_first, all_appended}
 
@@ -57,7 +58,7 @@ pub record Turn (e : Editor) (q rest : Contents) (s s' : SessionState) (content 
   pub is : s' ≡ serving after
   pub served_so : Served e.asked message before after (bytes sent)
 
-pub turn : (e : Editor) (q rest r : Contents) (s s' : SessionState) (content : Vec ℕ Global) (sent : Contents) → q ≡ content ∷ rest → Sound e.asked q r s → IsAnswered s content.items sent s' → Turn e q rest s s' content sent
+pub turn : (e : Editor) (q rest r : Contents) (s s' : SessionState) (content : Vec ℕ Global) (sent : Contents) → q ≡ content ∷ rest → Sound e.asked q r s → IsAnswered s content.items (bytes sent) s' → Turn e q rest s s' content sent
 turn e q rest r s s' content sent first sound (before, after, was, is, how) =
     let heard_first : IsHeard e.asked content = All-head (IsHeard e.asked) content rest (subst (All (IsHeard e.asked)) first sound.heard_all) in
     record {
@@ -106,7 +107,7 @@ turn_happens e q rest r r' s s' ap_list md md' content sent held o n first t len
     let this : Serves w (t.message ∷ all_heard e.asked rest) (events.served n) (ends_from e rest s' r' ap_list md') = (
       said,
       option_to_list (made_first t.after.held said),
-      subst (λ h. MaySend h t.message said (option_to_list (made_first t.after.held said))) (sym held_before) t.served_so.may,
+      subst (λ h. Replies h t.message said (option_to_list (made_first t.after.held said))) (sym held_before) t.served_so.replies,
       ap events.served (count ∙ sym (length-map sent (λ v. v.items)) ∙ t.served_so.heard.count),
       (λ i. record w {
         to_server = all_heard e.asked rest;
@@ -118,6 +119,18 @@ turn_happens e q rest r r' s s' ap_list md md' content sent held o n first t len
     subst (λ x. Serves w x (events.served n) (ends_from e rest s' r' ap_list md'))
     (sym (ap (all_heard e.asked) first ∙ said_first (heard e.asked) content rest t.message (says_heard e.asked t.message content.items t.says))) this
 
-pub answered_so : (old : SessionState) (content : List ℕ) (step : Step) (new : SessionState) → Steps old content step new → IsAnswered old content step.send.items new
+pub answered_so : (old : SessionState) (content : List ℕ) (step : Step) (new : SessionState) → Steps old content step new → IsAnswered old content (bytes step.send.items) new
 answered_so (serving before) content step new (after, is, how, next) = (before, after, refl, is, how)
 answered_so failed content step new h = absurd h
+
+-- ---- the server is the session
+
+pub turn_taken : (e f : Editor) (q rest r r' : Contents) (s s' : SessionState) (ap_list ap_new : List applied.Applied) (md md' : List made.Made) (content : Vec ℕ Global) (sent : Contents) → q ≡ content ∷ rest → IsAnswered s content.items (bytes sent) s' → r' ≡ r ++ sent
+    → TakesFirst (bytes q) (both_from e q s r ap_list md) (both_from f rest s' r' ap_new md')
+turn_taken e f q rest r r' s s' ap_list ap_new md md' content sent first answered grown =
+    subst (λ x. TakesFirst (bytes x) (both_from e q s r ap_list md) (both_from f rest s' r' ap_new md')) (sym first)
+    (bytes sent, answered, refl, ap bytes grown ∙ map-append (λ v. v.items) r sent)
+
+pub none_taken : (e f : Editor) (q q' r : Contents) (s : SessionState) (ap_list ap_new : List applied.Applied) (md md' : List made.Made) → q ≡ [] → q' ≡ q → TakesFirst (bytes q) (both_from e q s r ap_list md) (both_from f q' s r ap_new md')
+none_taken e f q q' r s ap_list ap_new md md' none same =
+    subst (λ x. TakesFirst (bytes x) (both_from e q s r ap_list md) (both_from f q' s r ap_new md')) (sym none) (refl, ap bytes (same ∙ none), refl)

@@ -1,23 +1,24 @@
--- The contents that wait at the two ends, and what they say.
--- Rule: none; for contracts: contents that wait, and what they say.
-use Rattle.std.specs.Prelude.{◌≡◌, ⊤, ℕ, ℤ, List, [], ◌∷◌, ◌++◌, map, All, Bool, true, Option, Some, None, Vec, option_and_then, filter_map}
+-- What the code stores of client and server, and what it means: the view of the code, what it keeps from step to step, and the
+-- clauses of private functions. No promise of a public function names these.
+use Rattle.std.specs.Prelude.{◌≡◌, ◌≤◌, ⊤, ℕ, ℤ, List, [], ◌∷◌, ◌++◌, map, length, All, Bool, true, Option, Some, None, Vec, option_and_then, filter_map}
 use Rattle.std.specs.declared.alloc.Global.{Global}
 use Rattle.ob0_text.specs.OpenDocuments.{OpenDocuments, Document, InStep, OutOfStep, document_at, none_open}
 use Rattle.ob0_text.specs.declared.positions.Unit.{Unit}
 use Rattle.ob0_text.specs.declared.positions.Unit.TheVariants.{Utf16}
-use Rattle.ob0_session.specs.Answers.{State, begins, Answers}
+use Rattle.ob0_session.specs.Answers.{State}
 use Rattle.ob0_session.specs.Standing.{SessionState, serving, failed}
 use Rattle.ob0_session.specs.declared.server.Phase.TheVariants.{Running}
-use Rattle.ob0_world_editor.specs.Beginning.{client_for}
 use Rattle.ob0_world_editor.specs.Heard.{heard, Says}
 use Rattle.ob0_world_editor.specs.Understood.{understood}
 use Rattle.ob0_world_editor.specs.Code.{applied_of}
 use Rattle.ob0_world_editor.specs.declared.applied.Applied as applied
-use Rattle.ob0_world_rules.specs.Ends.{Asked, Editor, ToServer, ToEditor, publishes, answers, Made, Ends, start}
-use Rattle.ob0_world_rules.specs.Events.{nothing, sent}
+use Rattle.ob0_world_rules.specs.Ends.{Open, Asked, Editor, open_at, ToServer, ToEditor, publishes, answers, Made, Ends, start}
+use Rattle.ob0_world_rules.specs.Events.{Event, nothing, sent}
+use Rattle.ob0_world_rules.specs.Happens.{Course}
 use Rattle.ob0_world.specs.declared.events.Seen as seen
 use Rattle.ob0_world.specs.declared.played.Made as made
 use Rattle.ob0_world.specs.Code.{made_of, seen_of}
+use Rattle.ob0_world.specs.Worlds.{Both}
 
 -- contents that wait in a queue
 abbrev pub Contents : Type 0
@@ -45,8 +46,8 @@ IsUnderstood asked content = (m : ToEditor) × (understood asked content.items �
 
 -- ---- the session
 
--- A session that has begun with this editor and isn't at its end: it writes a workspace's edits with the versions of
--- their documents, and offers actions that are no commands.
+-- A session that has begun with this editor and isn't at its end: it writes the edits of a workspace with the versions of
+-- their documents, and offers code actions as literals.
 abbrev pub IsRunning : State → Type 0
 IsRunning s = (s.phase ≡ Running) × (s.client.takes_document_changes ≡ true) × (s.client.takes_literal_actions ≡ true)
 
@@ -55,26 +56,14 @@ abbrev pub Stands : SessionState → Type 0
 Stands (serving s) = IsRunning s
 Stands failed = ⊤
 
--- the documents that it holds, of which nothing is said once memory was refused
+-- its documents, of which nothing is said once an allocation has failed
 abbrev pub held_by : SessionState → OpenDocuments
 held_by (serving s) = s.held
 held_by failed = none_open Utf16
 
--- A session that was initialized by this editor, and was told nothing else: it runs with such a client, counts positions in
--- this unit and holds no document.
-pub record IsInitialized (unit : Unit) (session : SessionState) : Type 0 where
-  pub state : State
-  pub serves : session ≡ serving state
-  pub runs : IsRunning state
-  pub holds_none : state.held ≡ none_open unit
-
--- the session that the editor's `initialize` makes
-abbrev pub new_session : Unit → SessionState
-new_session unit = serving (begins (client_for unit))
-
 -- ---- publications
 
--- what a publication with a version was made for: the text that is held now
+-- what a publication with a version was made for: the present text of the document
 abbrev pub made_of_document : List ℕ → ℤ → Bool → Document → Option Made
 made_of_document uri version empty (InStep held text) = Some (record { uri = uri; version = version; text = text; empty = empty })
 made_of_document uri version empty OutOfStep = None
@@ -85,20 +74,20 @@ made_for held (publishes uri (Some version) empty) = option_and_then (made_of_do
 made_for held (publishes uri None empty) = None
 made_for held (answers k edits) = None
 
--- a server answers with one message at most
+-- a server replies with one message at most
 abbrev pub made_first : OpenDocuments → List ToEditor → Option Made
 made_first held [] = None
 made_first held (m ∷ ms) = made_for held m
 
 -- ---- the whole
 
--- what waits at both ends says something, and the session serves if memory wasn't refused
+-- what waits says something, and the session serves unless an allocation has failed
 pub record Sound (asked : List Asked) (to_server to_editor : Contents) (session : SessionState) : Type 0 where
   pub heard_all : All (IsHeard asked) to_server
   pub understood_all : All (IsUnderstood asked) to_editor
   pub stands : Stands session
 
--- the two ends, from what the code keeps of them
+-- client and server, from what the code stores of them
 abbrev pub ends_from : Editor → Contents → SessionState → Contents → List applied.Applied → List made.Made → Ends
 ends_from e to_server session to_editor applied made =
     record {
@@ -110,32 +99,30 @@ ends_from e to_server session to_editor applied made =
       made = map made_of made;
     }
 
--- both ends, and the session that the server is
-pub record Both : Type 0 where
-  pub ends : Ends
-  pub session : SessionState
-
--- client and server from what the code keeps
 abbrev pub both_from : Editor → Contents → SessionState → Contents → List applied.Applied → List made.Made → Both
-both_from e to_server session to_editor applied made = record { ends = ends_from e to_server session to_editor applied made; session = session }
+both_from e to_server session to_editor applied made =
+    record { ends = ends_from e to_server session to_editor applied made; session = session; to_server = bytes to_server; to_editor = bytes to_editor }
 
--- nothing has happened yet
-abbrev pub new_both : Unit → Both
-new_both unit = record { ends = start unit; session = new_session unit }
+-- ---- what a world keeps
 
--- ---- the steps of a server's turn
+-- what is counted has risen by one a step at most
+pub record Within (n : ℕ) (e : Editor) : Type 0 where
+  pub openings : e.openings ≤ n
+  pub asks : length e.asked ≤ n
+  pub versions : (uri : List ℕ) (d : Open) → open_at e uri ≡ Some d → d.version ≤ n
 
--- the session has answered a content
-abbrev pub IsAnswered : SessionState → List ℕ → Contents → SessionState → Type 0
-IsAnswered old content replies new =
-    (before : State) × (after : State) × (old ≡ serving before) × (new ≡ serving after) × Answers before content (bytes replies) after
+-- some events lead from the beginning to this
+abbrev pub IsReached : Ends → Type 0
+IsReached w = (unit : Unit) × (events : List Event) × Course (start unit) events w
+
+-- ---- the steps of the server's turn
 
 -- the publication with a version that the first of these contents is
 abbrev pub made_sent : OpenDocuments → List Asked → Contents → Option Made
 made_sent held asked [] = None
 made_sent held asked (content ∷ contents) = option_and_then (made_for held) (understood asked content.items)
 
--- a content, if there is one, waits behind the others
+-- a content, if there is one, waits after the others
 abbrev pub IsSent : Contents → Option (Vec ℕ Global) → seen.Seen → Contents → Type 0
 IsSent old None seen new = (seen_of seen ≡ nothing) × (new ≡ old)
 IsSent old (Some content) seen new = (seen_of seen ≡ sent) × (new ≡ old ++ content ∷ [])

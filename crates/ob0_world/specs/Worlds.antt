@@ -1,63 +1,102 @@
--- The two ends as the code keeps them, and what a list of events makes of them.
--- Rule: none; for contracts of `World`: a list of events, step by step.
-use Rattle.std.specs.Prelude.{◌≡◌, ◌≤◌, ◌<◌, ◌+◌, ◌⊎◌, ℕ, List, map, take, length, Bool, true, false, Some}
+-- Client and server as the code stores them, and what a list of events makes of them.
+use Rattle.std.specs.Prelude.{◌≡◌, ◌<◌, ◌+◌, ◌++◌, ◌⊎◌, ⊤, ℕ, List, [], ◌∷◌, map, take, length, Bool, true, false, Some}
 use Rattle.ob0_text.specs.declared.positions.Unit.{Unit}
+use Rattle.ob0_session.specs.Answers.{State, begins, Answers}
+use Rattle.ob0_session.specs.Standing.{SessionState, serving}
+use Rattle.ob0_world_editor.specs.Beginning.{client_for}
+use Rattle.ob0_world_editor.specs.Heard.{Says}
+use Rattle.ob0_world_editor.specs.Understood.{understood}
+use Rattle.ob0_world_rules.specs.Ends.{Asked, ToServer, Ends, start}
+use Rattle.ob0_world_rules.specs.Events.{Event, open_document, change_document, close_document, ask_about, serve, take_message, apply, discard, Seen}
+use Rattle.ob0_world_rules.specs.Happens.{Happens}
+use Rattle.ob0_world_rules.specs.Headline.{Headline}
+use Rattle.ob0_world.specs.Code.{event_of, all_applied, all_made}
 use Rattle.ob0_world.specs.declared.events.Event as event
-use Rattle.ob0_world.specs.declared.played.Played as played
+use Rattle.ob0_world.specs.declared.faults.PlayFault.{PlayFault}
 use Rattle.ob0_world.specs.declared.faults.WorldFault.{WorldFault}
 use Rattle.ob0_world.specs.declared.faults.WorldFault.TheVariants.{Memory, Ended}
-use Rattle.ob0_session.specs.Standing.{SessionState}
-use Rattle.ob0_world.specs.Code.{event_of, all_applied, all_made}
-use Rattle.ob0_world.specs.Queues.{new_session}
-use Rattle.ob0_world_rules.specs.Ends.{Open, Editor, open_at, Ends, start}
-use Rattle.ob0_world_rules.specs.Events.{Event, Seen}
-use Rattle.ob0_world_rules.specs.Happens.{Happens, Run}
-use Rattle.ob0_world_rules.specs.Headline.{Holds}
+use Rattle.ob0_world.specs.declared.played.Played as played
+
+-- Client and server with the messages between them, the session that is the server, and the contents of those messages.
+pub record Both : Type 0 where
+  pub ends : Ends
+  pub session : SessionState
+  pub to_server : List (List ℕ)
+  pub to_editor : List (List ℕ)
 
 -- client and server with the session, the steps that were made, and whether it has ended
 pub record World : Type 0 where
-  pub ends : Ends
-  -- the server, as its session stands
-  pub session : SessionState
+  pub both : Both
   -- how many steps were made
   pub steps : ℕ
-  -- whether memory was refused
+  -- whether an allocation failed
   pub ended : Bool
 
--- nothing was done yet but that the editor has initialized the session
+-- Nothing was done yet, except that the editor has initialized the session.
+abbrev pub new_both : Unit → Both
+new_both unit = record { ends = start unit; session = serving (begins (client_for unit)); to_server = []; to_editor = [] }
+
 abbrev pub new_world : Unit → World
-new_world unit = record { ends = start unit; session = new_session unit; steps = 0; ended = false }
+new_world unit = record { both = new_both unit; steps = 0; ended = false }
 
--- what is counted has risen by one a step at most
-pub record Within (n : ℕ) (e : Editor) : Type 0 where
-  pub openings : e.openings ≤ n
-  pub asks : length e.asked ≤ n
-  pub versions : (uri : List ℕ) (d : Open) → open_at e uri ≡ Some d → d.version ≤ n
+-- ---- the server is the session
 
--- some events make these ends of the beginning
-abbrev pub IsReached : Ends → Type 0
-IsReached w = (unit : Unit) × (events : List Event) × Run (start unit) events w
+-- the session replies to a content with these
+abbrev pub IsAnswered : SessionState → List ℕ → List (List ℕ) → SessionState → Type 0
+IsAnswered old content sent new = (before : State) × (after : State) × (old ≡ serving before) × (new ≡ serving after) × Answers before content sent after
+
+-- the session takes the first content that waits, and its replies wait for the editor
+abbrev pub TakesFirst : List (List ℕ) → Both → Both → Type 0
+TakesFirst [] old new = (new.session ≡ old.session) × (new.to_server ≡ []) × (new.to_editor ≡ old.to_editor)
+TakesFirst (content ∷ rest) old new =
+    (sent : List (List ℕ)) × IsAnswered old.session content sent new.session × (new.to_server ≡ rest) × (new.to_editor ≡ old.to_editor ++ sent)
+
+-- only its own turn moves it
+abbrev pub MovesServer : Event → Both → Both → Type 0
+MovesServer serve old new = TakesFirst old.to_server old new
+MovesServer (open_document uri text) old new = new.session ≡ old.session
+MovesServer (change_document uri how) old new = new.session ≡ old.session
+MovesServer (close_document uri) old new = new.session ≡ old.session
+MovesServer (ask_about uri ask) old new = new.session ≡ old.session
+MovesServer take_message old new = new.session ≡ old.session
+MovesServer (apply k) old new = new.session ≡ old.session
+MovesServer (discard k) old new = new.session ≡ old.session
+
+-- each content says its message: as many contents as messages
+abbrev pub AllSay : List Asked → List ToServer → List (List ℕ) → Type 0
+AllSay asked [] [] = ⊤
+AllSay asked (m ∷ messages) (content ∷ contents) = Says asked m content × AllSay asked messages contents
+AllSay asked [] (content ∷ contents) = ⊥
+AllSay asked (m ∷ messages) [] = ⊥
+
+-- The messages are those that the contents say, in both directions, and the server's documents are those of the session.
+pub record IsTied (w : Both) : Type 0 where
+  pub says : AllSay w.ends.editor.asked w.ends.to_server w.to_server
+  pub means : map (understood w.ends.editor.asked) w.to_editor ≡ map Some w.ends.to_editor
+  pub documents : (s : State) → w.session ≡ serving s → w.ends.held ≡ s.held
 
 -- ---- one step
 
--- memory was refused: what has come of the events before stays
-pub record SameHistory (old new : Ends) : Type 0 where
-  pub applied : new.applied ≡ old.applied
-  pub made : new.made ≡ old.made
-
 -- A world that hasn't ended makes the step, and counts it; one that has ended makes none.
 abbrev pub StepsFrom : Bool → World → Event → Seen → World → Type 0
-StepsFrom false old event seen new = Happens old.ends event seen new.ends × (new.steps ≡ old.steps + 1) × (new.ended ≡ false)
+StepsFrom false old event seen new =
+    Happens old.both.ends event seen new.both.ends × MovesServer event old.both new.both × IsTied new.both
+    × (new.steps ≡ old.steps + 1) × (new.ended ≡ false)
 StepsFrom true old event seen new = ⊥
 
 -- a step is what happens at its event, and is counted
 abbrev pub Steps : World → Event → Seen → World → Type 0
 Steps old event seen new = StepsFrom old.ended old event seen new
 
--- A step isn't made where memory is refused, which ends the world: what has come so far stays, and nothing is counted.
--- A world that has ended says so at each step, and stays as it is.
+-- an allocation failed: what has come of the events before stays
+pub record SameHistory (old new : Ends) : Type 0 where
+  pub applied : new.applied ≡ old.applied
+  pub made : new.made ≡ old.made
+
+-- A step whose allocation fails isn't made and not counted, and ends the world: what has come so far stays. A world that has
+-- ended says so at each step, and stays as it is.
 abbrev pub FailsFrom : Bool → World → WorldFault → World → Type 0
-FailsFrom false old Memory new = SameHistory old.ends new.ends × (new.steps ≡ old.steps) × (new.ended ≡ true)
+FailsFrom false old Memory new = SameHistory old.both.ends new.both.ends × (new.steps ≡ old.steps) × (new.ended ≡ true)
 FailsFrom false old Ended new = ⊥
 FailsFrom true old Memory new = ⊥
 FailsFrom true old Ended new = new ≡ old
@@ -68,19 +107,14 @@ Fails old fault new = FailsFrom old.ended old fault new
 
 -- ---- lists of events
 
--- this is what has come of it at these ends
+-- this is what has come of the events
 abbrev pub HasCome : Ends → played.Played → Type 0
 HasCome w p = (all_applied p ≡ w.applied) × (all_made p ≡ w.made)
 
--- The two ends have a run by these events, in which just these edits are applied and these publications sent. After it
--- the server holds, once it has taken what waits for it, the editor's documents, and where nothing waits for it, the last
--- publication of an open document is that of its present text and version.
-pub record Plays (unit : Unit) (events : List event.Event) (p : played.Played) : Type 0 where
-  pub end : Ends
-  pub run : Run (start unit) (map event_of events) end
-  pub has_come : HasCome end p
-  pub holds : Holds end
+-- The headline of a list of events, with the edits and publications that the code returns.
+abbrev pub Plays : Unit → List event.Event → played.Played → Type 0
+Plays unit events p = Headline unit (map event_of events) (all_applied p) (all_made p)
 
--- the same for a beginning of the list: fewer events than it has, or none
-abbrev pub PlaysBefore : Unit → List event.Event → played.Played → Type 0
-PlaysBefore unit events p = (n : ℕ) × ((n < length events) ⊎ (n ≡ 0)) × Plays unit (take n events) p
+-- The headline of the events before the one at which an allocation failed, which the fault counts; none of an empty list.
+abbrev pub PlaysBefore : Unit → List event.Event → PlayFault → Type 0
+PlaysBefore unit events fault = ((fault.steps < length events) ⊎ (fault.steps ≡ 0)) × Plays unit (take fault.steps events) fault.played

@@ -1,5 +1,5 @@
-//! Both ends, and what stands between them.
-ghost use Rattle.std.specs.Prelude.{◌≡◌, IfOk, OnErr, map, option_map, option_and_then, string_bytes};
+//! Client and server, and the messages between them.
+ghost use Rattle.std.specs.Prelude.{◌≡◌, IfOk, OnErr, OnOk, map, option_map, option_and_then, string_bytes};
 ghost use Rattle.std.specs.Str.{chars};
 ghost use Rattle.ob0_text.specs.OpenDocuments.{reported_change, document_at};
 ghost use Rattle.ob0_session.specs.Standing.{failed};
@@ -10,8 +10,8 @@ ghost use Rattle.ob0_world_rules.specs.Events as events;
 ghost use Rattle.ob0_world_rules.specs.Happens.{Happens};
 ghost use Rattle.ob0_world_rules.specs.Events.{open_document, change_document, close_document, ask_about, take_message};
 ghost use Rattle.ob0_world.specs.Code.{event_of, seen_of, made_of};
-ghost use Rattle.ob0_world.specs.Queues.{new_both, IsAnswered, IsSent, made_for, made_of_document, made_sent};
-ghost use Rattle.ob0_world.specs.Worlds.{HasCome, SameHistory};
+ghost use Rattle.ob0_world.specs.Queues.{bytes, IsSent, made_for, made_of_document, made_sent};
+ghost use Rattle.ob0_world.specs.Worlds.{new_both, HasCome, IsAnswered, IsTied, MovesServer, SameHistory, TakesFirst};
 
 use crate::events::{Event, Seen};
 use crate::played::{Made, Played};
@@ -22,7 +22,7 @@ use std::alloc::{AllocError, Global};
 use std::collections::VecDeque;
 use std::marker::Model;
 
-/// An editor and a server, and the contents that wait for each.
+/// An editor and a session, and the contents of the messages that wait for each.
 #[derive(Drop)]
 pub struct Ends<T: TextStore> {
     alloc: Global,
@@ -38,7 +38,8 @@ impl<T: TextStore> Model for Ends<T> {
     ghost use Rattle.std.specs.Coded.{codes};
     ghost use Rattle.ob0_text.specs.OpenDocuments.{documents_code};
     ghost use Rattle.ob0_world_editor.specs.Entries.{open_documents_code};
-    ghost use Rattle.ob0_world.specs.Queues.{Sound, Both, both_from};
+    ghost use Rattle.ob0_world.specs.Queues.{Sound, both_from};
+    ghost use Rattle.ob0_world.specs.Worlds.{Both};
 
     ghost Value = { Both };
 
@@ -50,7 +51,7 @@ impl<T: TextStore> Model for Ends<T> {
 }
 
 impl<T: TextStore> Ends<T> {
-    /// An editor with no document and a session that has begun, both of which count positions in this unit.
+    /// An editor without documents and a session that it has initialized; both count positions in this unit.
     pub fn new(alloc: Global, unit: Unit) -> Result<Ends<T>, AllocError>
         ensures { IfOk result (λ w. w ≡ new_both unit) }
     {
@@ -68,6 +69,13 @@ impl<T: TextStore> Ends<T> {
         })
     }
 
+    /// The contents say the messages of the model: a call for the prover.
+    pub fn is_tied(&self)
+        ensures { IsTied self.now }
+    {
+        let _waiting = self.to_server.len();
+    }
+
     /// What has come of the events.
     pub fn into_played(self) -> Played
         ensures { HasCome self.ends result }
@@ -78,10 +86,11 @@ impl<T: TextStore> Ends<T> {
         }
     }
 
-    /// What an event does.
+    /// Makes an event happen.
     pub fn make(&mut self, event: &Event) -> Result<Seen, AllocError>
         requires { AreFew self.old.ends.editor }
         ensures ok { IfOk result (λ seen. Happens self.old.ends (event_of event.now) (seen_of seen) self.new.ends) }
+        ensures server { OnOk result (MovesServer (event_of event.now) self.old self.new) }
         ensures err { OnErr result (SameHistory self.old.ends self.new.ends) }
     {
         match event {
@@ -99,6 +108,7 @@ impl<T: TextStore> Ends<T> {
     fn open(&mut self, uri: &str, text: &str) -> Result<Seen, AllocError>
         requires { AreFew self.old.ends.editor }
         ensures ok { IfOk result (λ seen. Happens self.old.ends (open_document uri.now (chars text.now)) (seen_of seen) self.new.ends) }
+        ensures server { OnOk result (self.new.session ≡ self.old.session) }
         ensures err { OnErr result (SameHistory self.old.ends self.new.ends) }
     {
         let content = self.editor.open(uri, text)?;
@@ -108,6 +118,7 @@ impl<T: TextStore> Ends<T> {
     fn change(&mut self, uri: &str, changes: &[Change]) -> Result<Seen, AllocError>
         requires { AreFew self.old.ends.editor }
         ensures ok { IfOk result (λ seen. Happens self.old.ends (change_document uri.now (map reported_change changes.now)) (seen_of seen) self.new.ends) }
+        ensures server { OnOk result (self.new.session ≡ self.old.session) }
         ensures err { OnErr result (SameHistory self.old.ends self.new.ends) }
     {
         let content = self.editor.change(uri, changes)?;
@@ -116,6 +127,7 @@ impl<T: TextStore> Ends<T> {
 
     fn close(&mut self, uri: &str) -> Result<Seen, AllocError>
         ensures ok { IfOk result (λ seen. Happens self.old.ends (close_document uri.now) (seen_of seen) self.new.ends) }
+        ensures server { OnOk result (self.new.session ≡ self.old.session) }
         ensures err { OnErr result (SameHistory self.old.ends self.new.ends) }
     {
         let content = self.editor.close(uri)?;
@@ -125,16 +137,18 @@ impl<T: TextStore> Ends<T> {
     fn ask(&mut self, uri: &str, ask: &Ask) -> Result<Seen, AllocError>
         requires { AreFew self.old.ends.editor }
         ensures ok { IfOk result (λ seen. Happens self.old.ends (ask_about uri.now (ask_of ask.now)) (seen_of seen) self.new.ends) }
+        ensures server { OnOk result (self.new.session ≡ self.old.session) }
         ensures err { OnErr result (SameHistory self.old.ends self.new.ends) }
     {
         let content = self.editor.ask(uri, ask)?;
         send(&mut self.to_server, content)
     }
 
-    /// The server takes one message, and sends what it answers. What it publishes with a version is made for the text
-    /// that it holds then.
+    /// The session takes one message, and its replies wait for the editor. What it publishes with a version is made for the
+    /// text that the document has then.
     fn serve(&mut self) -> Result<Seen, AllocError>
         ensures ok { IfOk result (λ seen. Happens self.old.ends events.serve (seen_of seen) self.new.ends) }
+        ensures server { OnOk result (TakesFirst self.old.to_server self.old self.new) }
         ensures err { OnErr result (SameHistory self.old.ends self.new.ends) }
     {
         let Some(content) = self.to_server.pop_front() else {
@@ -157,6 +171,7 @@ impl<T: TextStore> Ends<T> {
 
     fn take(&mut self) -> Result<Seen, AllocError>
         ensures ok { IfOk result (λ seen. Happens self.old.ends take_message (seen_of seen) self.new.ends) }
+        ensures server { OnOk result (self.new.session ≡ self.old.session) }
         ensures err { OnErr result (SameHistory self.old.ends self.new.ends) }
     {
         let Some(content) = self.to_editor.pop_front() else {
@@ -181,6 +196,7 @@ impl<T: TextStore> Ends<T> {
     fn apply(&mut self, k: u64) -> Result<Seen, AllocError>
         requires { AreFew self.old.ends.editor }
         ensures ok { IfOk result (λ seen. Happens self.old.ends (events.apply k) (seen_of seen) self.new.ends) }
+        ensures server { OnOk result (self.new.session ≡ self.old.session) }
         ensures err { OnErr result (SameHistory self.old.ends self.new.ends) }
     {
         match self.editor.apply(k)? {
@@ -195,7 +211,8 @@ impl<T: TextStore> Ends<T> {
     }
 
     fn discard(&mut self, k: u64) -> Seen
-        ensures { Happens self.old.ends (events.discard k) (seen_of result) self.new.ends }
+        ensures ok { Happens self.old.ends (events.discard k) (seen_of result) self.new.ends }
+        ensures server { self.new.session ≡ self.old.session }
     {
         if self.editor.discard(k) {
             Seen::Dropped { k }
@@ -205,7 +222,7 @@ impl<T: TextStore> Ends<T> {
     }
 }
 
-/// Puts a content, if there is one, behind those that wait.
+/// Puts a content, if there is one, after those that wait.
 fn send(queue: &mut VecDeque<Vec<u8>>, content: Option<Vec<u8>>) -> Result<Seen, AllocError>
     ensures ok { IfOk result (λ seen. IsSent queue.old.items content seen queue.new.items) }
     ensures err { OnErr result (queue.new.items ≡ queue.old.items) }
@@ -219,12 +236,12 @@ fn send(queue: &mut VecDeque<Vec<u8>>, content: Option<Vec<u8>>) -> Result<Seen,
     }
 }
 
-/// What the session sends for a content.
+/// Steps the session with a content, and returns its replies.
 fn answer<T: TextStore>(
     session: &mut Session<T>,
     content: &[u8],
 ) -> Result<Vec<Vec<u8>>, AllocError>
-    ensures ok { IfOk result (λ sent. IsAnswered session.old content.now sent.items session.new) }
+    ensures ok { IfOk result (λ sent. IsAnswered session.old content.now (bytes sent.items) session.new) }
     ensures err { OnErr result (session.new ≡ failed) }
 {
     match session.step(content) {
@@ -278,7 +295,7 @@ fn made_of_content<T: TextStore>(
     }
 }
 
-/// The publication of the text that is held now.
+/// The publication, with the present text of its document.
 fn made_with<T: TextStore>(
     alloc: Global,
     documents: &Documents<T>,

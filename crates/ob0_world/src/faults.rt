@@ -1,4 +1,4 @@
-//! What stops the two ends.
+//! What stops client and server.
 
 use crate::played::Played;
 use thiserror::Error;
@@ -17,4 +17,5 @@ pub enum WorldFault {
 #[error("out of memory")]
 pub struct PlayFault {
     pub played: Played,
+    pub steps: u64,
 }

@@ -1,12 +1,10 @@
-//! The two ends, and whole lists of events.
-ghost use Rattle.std.specs.Prelude.{◌≡◌, ◌<◌, ◌-◌, ◌^◌, length, map, IfOk, OnOk, IfErr};
+//! Client and server, and whole lists of events.
+ghost use Rattle.std.specs.Prelude.{◌≡◌, ◌<◌, ◌-◌, ◌^◌, length, IfOk, OnOk, IfErr};
 ghost use Rattle.ob0_text.specs.declared.positions.Unit as units;
 ghost use Rattle.ob0_text.specs.declared.positions.Unit.TheVariants.{Utf16};
 ghost use Rattle.ob0_world_rules.specs.Ends.{start};
 ghost use Rattle.ob0_world_rules.specs.Headline.{Holds};
-ghost use Rattle.ob0_world_rules.specs.Played.{AreApplied, ArePublished, AreLatest, MirrorsInTheEnd};
-ghost use Rattle.ob0_world.specs.Code.{event_of, seen_of, all_applied, all_made};
-ghost use Rattle.ob0_world.specs.Queues.{IsInitialized};
+ghost use Rattle.ob0_world.specs.Code.{event_of, seen_of};
 ghost use Rattle.ob0_world.specs.Worlds.{new_world, HasCome, Plays, PlaysBefore, Steps, Fails};
 ghost use Rattle.ob0_world.specs.declared.faults.WorldFault.TheVariants.{Memory};
 
@@ -32,32 +30,30 @@ impl<T: TextStore> Model for World<T> {
     ghost use Rattle.ob0_text.specs.OpenDocuments.{documents_code};
     ghost use Rattle.ob0_world_editor.specs.Entries.{open_documents_code};
     ghost use Rattle.ob0_world.specs.Worlds as worlds;
-    ghost use Rattle.ob0_world.specs.Worlds.{Within, IsReached};
+    ghost use Rattle.ob0_world.specs.Queues.{Within, IsReached};
 
     ghost Value = { worlds.World };
 
     ghost coded = { Prim.hlevel (codes, documents_code, open_documents_code) };
 
-    ghost view = { λ w. record { ends = w.ends.ends; session = w.ends.session; steps = w.steps; ended = w.has_ended } };
+    ghost view = { λ w. record { both = w.ends; steps = w.steps; ended = w.has_ended } };
 
     ghost invariant = { λ w. w.has_ended ≡ false → Within w.steps w.ends.ends.editor × IsReached w.ends.ends };
 }
 
 impl<T: TextStore> World<T> {
-    /// No document is open and nothing waits. The editor has initialized the session, which writes edits with the versions of
-    /// their documents and offers code actions as literals. Both ends count positions in UTF-16 units.
+    /// No document is open and no message waits. The editor has initialized the session, as a client that takes edits with the
+    /// versions of their documents and code actions as literals. Both count positions in UTF-16 units.
     pub fn new(alloc: Global) -> Result<World<T>, WorldFault>
         ensures start { IfOk result (λ w. w ≡ new_world Utf16) }
-        ensures initialized { IfOk result (λ w. IsInitialized Utf16 w.session) }
         ensures err { IfErr result (λ fault. fault ≡ Memory) }
     {
         World::new_in(alloc, Unit::Utf16)
     }
 
-    /// The same, where both ends count positions in this unit.
+    /// The same, with positions in this unit.
     pub fn new_in(alloc: Global, unit: Unit) -> Result<World<T>, WorldFault>
         ensures start { IfOk result (λ w. w ≡ new_world unit) }
-        ensures initialized { IfOk result (λ w. IsInitialized unit w.session) }
         ensures err { IfErr result (λ fault. fault ≡ Memory) }
     {
         match Ends::new(alloc, unit) {
@@ -77,12 +73,11 @@ impl<T: TextStore> World<T> {
         self.steps
     }
 
-    /// Makes one event happen. After it the server holds, once it has taken what waits for it, the editor's documents, and
-    /// where nothing waits for it, the last publication of an open document is that of its present text and version.
+    /// Makes one event happen. The server is a session: its turn is one `Session::step` on the first content that waits.
     pub fn step(&mut self, event: &Event) -> Result<Seen, WorldFault>
         requires few { self.old.steps < 2 ^ 63 - 1 }
         ensures ok { IfOk result (λ seen. Steps self.old (event_of event.now) (seen_of seen) self.new) }
-        ensures holds { OnOk result (Holds self.new.ends) }
+        ensures holds { OnOk result (Holds self.new.both.ends) }
         ensures err { IfErr result (λ fault. Fails self.old fault self.new) }
     {
         if self.has_ended {
@@ -90,6 +85,7 @@ impl<T: TextStore> World<T> {
         }
         match self.ends.make(event) {
             Ok(seen) => {
+                self.ends.is_tied();
                 self.steps += 1;
                 Ok(seen)
             }
@@ -100,8 +96,9 @@ impl<T: TextStore> World<T> {
         }
     }
 
-    fn into_played(self) -> Played
-        ensures { HasCome self.ends result }
+    /// The edits that were applied and the publications that were made, up to the last step that was made.
+    pub fn into_played(self) -> Played
+        ensures { HasCome self.both.ends result }
     {
         self.ends.into_played()
     }
@@ -109,12 +106,8 @@ impl<T: TextStore> World<T> {
     /// Plays a list of events from the beginning, with positions in UTF-16 units.
     pub fn play(alloc: Global, events: &[Event]) -> Result<Played, PlayFault>
         requires few { length events.now < 2 ^ 63 - 1 }
-        ensures run { IfOk result (λ played. Plays Utf16 events.now played) }
-        ensures applied { IfOk result (λ played. AreApplied Utf16 (map event_of events.now) (all_applied played)) }
-        ensures published { IfOk result (λ played. ArePublished Utf16 (map event_of events.now) (all_made played)) }
-        ensures latest { IfOk result (λ played. AreLatest Utf16 (map event_of events.now) (all_made played)) }
-        ensures mirror { IfOk result (λ _. MirrorsInTheEnd Utf16 (map event_of events.now)) }
-        ensures err { IfErr result (λ fault. PlaysBefore Utf16 events.now fault.played) }
+        ensures ok { IfOk result (λ played. Plays Utf16 events.now played) }
+        ensures err { IfErr result (λ fault. PlaysBefore Utf16 events.now fault) }
     {
         World::<T>::play_in(alloc, Unit::Utf16, events)
     }
@@ -126,36 +119,36 @@ impl<T: TextStore> World<T> {
     /// the text they were made for is a well-typed module.
     pub fn play_in(alloc: Global, unit: Unit, events: &[Event]) -> Result<Played, PlayFault>
         requires few { length events.now < 2 ^ 63 - 1 }
-        ensures run { IfOk result (λ played. Plays unit events.now played) }
-        ensures applied { IfOk result (λ played. AreApplied unit (map event_of events.now) (all_applied played)) }
-        ensures published { IfOk result (λ played. ArePublished unit (map event_of events.now) (all_made played)) }
-        ensures latest { IfOk result (λ played. AreLatest unit (map event_of events.now) (all_made played)) }
-        ensures mirror { IfOk result (λ _. MirrorsInTheEnd unit (map event_of events.now)) }
-        ensures err { IfErr result (λ fault. PlaysBefore unit events.now fault.played) }
+        ensures ok { IfOk result (λ played. Plays unit events.now played) }
+        ensures err { IfErr result (λ fault. PlaysBefore unit events.now fault) }
     {
         let mut world: World<T> = match World::new_in(alloc, unit) {
             Ok(world) => world,
             Err(_fault) => return Err(PlayFault {
-                played: nothing_played(alloc, unit),
+                played: nothing_played(alloc),
+                steps: 0,
             }),
         };
         for event in events {
             match world.step(event) {
                 Ok(_seen) => {}
-                Err(_fault) => return Err(PlayFault {
-                    played: world.into_played(),
-                }),
+                Err(_fault) => {
+                    let steps = world.steps();
+                    return Err(PlayFault {
+                        played: world.into_played(),
+                        steps,
+                    });
+                }
             }
         }
         Ok(world.into_played())
     }
 }
 
-fn nothing_played(alloc: Global, unit: Unit) -> Played
-    ensures { HasCome (start unit) result }
+fn nothing_played(alloc: Global) -> Played
+    ensures { (unit : units.Unit) → HasCome (start unit) result }
 {
     // For the proof: what is known of this value.
-    let _unit = unit;
     Played {
         applied: Vec::new(alloc),
         made: Vec::new(alloc),

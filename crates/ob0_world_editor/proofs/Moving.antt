@@ -12,7 +12,7 @@ use Rattle.ob0_world_editor.specs.declared.applied.Applying as applying
 use Rattle.ob0_world_rules.specs.Edited.{Replacement}
 use Rattle.ob0_world_rules.specs.Asks.{Ask}
 use Rattle.ob0_world_rules.specs.Ends.{Open, Asked, Answer, Editor, numbered, open_at}
-use Rattle.ob0_world_rules.specs.Editing.{asks_about, held_answer, all_but, without_answer, applies_answer, Outcome, not_held, lets_go, makes}
+use Rattle.ob0_world_rules.specs.Editing.{asks_about, held_answer, all_but, without_answer, applies_answer, Outcome, not_held, drops_answer, makes}
 use Rattle.ob0_world_editor.specs.Code.{asked_of, answer_of}
 use Rattle.ob0_world_rules.specs.Edited.{replacements}
 use Rattle.ob0_world_editor.specs.Heard.{IsRequest, Says}
@@ -82,12 +82,12 @@ none_goes k (a ∷ rest) h = go (a.number == k) h (none_goes k rest)
 
 pub comes_dropped : (e old : Editor) (o : Outcome) → IsRewritten e o None → ComesOf o old applying.TheVariants.Dropped e
 comes_dropped e old not_held h = h
-comes_dropped e old (lets_go f) h = sym h
+comes_dropped e old (drops_answer f) h = sym h
 comes_dropped e old (makes f a m) h = h
 
 pub comes_made : (e old new : Editor) (o : Outcome) (r : rewritten.Rewritten) (made : applying.Applying) → IsRewritten e o (Some r) → IsMade e r made new → ComesOf o old made new
 comes_made e old new not_held r made h is = absurd h
-comes_made e old new (lets_go f) r made h is = absurd h
+comes_made e old new (drops_answer f) r made h is = absurd h
 comes_made e old new (makes f a m) r applying.TheVariants.NotHeld h is = is
 comes_made e old new (makes f a m) r applying.TheVariants.Dropped h is = is
 comes_made e old new (makes f a m) r (applying.TheVariants.Made applied content) (is_f, is_a, is_m, few) (is_new, is_applied, says) = (

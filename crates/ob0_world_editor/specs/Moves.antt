@@ -7,7 +7,7 @@ use Rattle.std.specs.declared.alloc.Global.{Global}
 use Rattle.ob0_text.specs.OpenDocuments.{Changed}
 use Rattle.ob0_world_rules.specs.Edited.{whole_text}
 use Rattle.ob0_world_rules.specs.Ends.{Open, Applied, Editor, open_at, ToServer, tells}
-use Rattle.ob0_world_rules.specs.Editing.{Move, idle, sends, Outcome, not_held, lets_go, makes, held_answer, all_but}
+use Rattle.ob0_world_rules.specs.Editing.{Move, idle, sends, Outcome, not_held, drops_answer, makes, held_answer, all_but}
 use Rattle.ob0_world_editor.specs.Code.{answer_of, applied_of}
 use Rattle.ob0_world_rules.specs.Edited.{replacements}
 use Rattle.ob0_world_editor.specs.Heard.{Says}
@@ -33,9 +33,9 @@ abbrev pub ComesOf : Outcome → Editor → applying.Applying → Editor → Typ
 ComesOf not_held old applying.TheVariants.NotHeld new = new ≡ old
 ComesOf not_held old applying.TheVariants.Dropped new = ⊥
 ComesOf not_held old (applying.TheVariants.Made applied content) new = ⊥
-ComesOf (lets_go e) old applying.TheVariants.NotHeld new = ⊥
-ComesOf (lets_go e) old applying.TheVariants.Dropped new = new ≡ e
-ComesOf (lets_go e) old (applying.TheVariants.Made applied content) new = ⊥
+ComesOf (drops_answer e) old applying.TheVariants.NotHeld new = ⊥
+ComesOf (drops_answer e) old applying.TheVariants.Dropped new = new ≡ e
+ComesOf (drops_answer e) old (applying.TheVariants.Made applied content) new = ⊥
 ComesOf (makes e a message) old applying.TheVariants.NotHeld new = ⊥
 ComesOf (makes e a message) old applying.TheVariants.Dropped new = ⊥
 ComesOf (makes e a message) old (applying.TheVariants.Made applied content) new = (new ≡ e) × (applied_of applied ≡ a) × Says e.asked message content.items
@@ -62,8 +62,8 @@ text_told r = let a : Applied = applied_of r.applied in tells (Changed a.uri (po
 -- this document gets a new text, if any does
 abbrev pub IsRewritten : Editor → Outcome → Option rewritten.Rewritten → Type 0
 IsRewritten e not_held r = ⊥
-IsRewritten e (lets_go f) None = f ≡ e
-IsRewritten e (lets_go f) (Some r) = ⊥
+IsRewritten e (drops_answer f) None = f ≡ e
+IsRewritten e (drops_answer f) (Some r) = ⊥
 IsRewritten e (makes f a message) None = ⊥
 IsRewritten e (makes f a message) (Some r) = (f ≡ with_text e r) × (a ≡ applied_of r.applied) × (message ≡ text_told r) × (r.version < 2 ^ 63)
 

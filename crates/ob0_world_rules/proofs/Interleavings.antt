@@ -16,11 +16,12 @@ use Rattle.ob0_world_rules.specs.Edited.{Replacement, edited, whole_text, after_
 use Rattle.ob0_world_rules.specs.Asks.{Ask}
 use Rattle.ob0_world_rules.specs.Answers.{IsAnswer}
 use Rattle.ob0_world_rules.specs.Ends.{Open, Asked, Answer, Editor, numbered, open_at, ToServer, tells, asks, ToEditor, publishes, answers, Applied, Made, Ends, start, after_message, will_hold, as_held}
-use Rattle.ob0_world_rules.specs.Editing.{opens_document, changes_text, changes_document, closes_document, asks_about, keeps, held_answer, all_but, without_answer, discards, if_same, applies_text, applies_edits, applies_asked, applies_answer, Move, idle, sends, Outcome, not_held, lets_go, makes}
-use Rattle.ob0_world_rules.specs.Serving.{MayPublish, taken_back, MayTell, MaySend}
+use Rattle.ob0_world_rules.specs.Editing.{opens_document, changes_text, changes_document, closes_document, asks_about, keeps, held_answer, all_but, without_answer, discards, if_same, applies_text, applies_edits, applies_asked, applies_answer, Move, idle, sends, Outcome, not_held, drops_answer, makes}
+use Rattle.ob0_world_rules.specs.Serving.{Publishes, cleared, RepliesToNotification, Replies}
 use Rattle.ob0_world_rules.specs.Events.{Event, open_document, change_document, close_document, ask_about, serve, take_message, apply, discard, Seen, moved, takes, comes_of}
-use Rattle.ob0_world_rules.specs.Happens.{Serves, Happens, Run}
-use Rattle.ob0_world_rules.specs.Headline.{KeepTheRun, KeepsTheRun, IsRight, IsMadeFor, latest, IsUpToDate, Holds}
+use Rattle.ob0_world_rules.specs.Happens.{Serves, Happens, Course}
+use Rattle.ob0_world_rules.specs.Headline.{KeepsTheRun, IsRight, IsMadeFor, latest, AreUpToDate, Holds}
+use Rattle.ob0_world_rules.specs.Laws.{EditsPreserveRun}
 use Rattle.ob0_world_rules.proofs.UriLaws.{get_put, get_removed, same_uri, uri_itself}
 use Rattle.ob0_world_rules.proofs.Latest.{latest_push}
 use Rattle.ob0_world_rules.proofs.SameDocument.{Known, Same, same_from, still_known, later_answers, later_open, later_close, later_ask, slice_get_last, found, left}
@@ -81,10 +82,10 @@ module _ (unit : Unit) where
       record { counts = kept.counts; holds = kept.holds; mirror = kept.mirror; openings = kept.openings; asked = kept.asked; answered = fit; answers_held = kept.answers_held; applied = kept.applied; made = kept.made }
 
   -- an answer with edits fits the document that was asked about
-  with_edits : (e : Editor) (k : ℕ) (edit : Replacement) (edits : List Replacement) → Known e k (Fits unit (edit ∷ edits)) → Known e k (λ d. KeepTheRun unit d.text (edit ∷ edits))
+  with_edits : (e : Editor) (k : ℕ) (edit : Replacement) (edits : List Replacement) → Known e k (Fits unit (edit ∷ edits)) → Known e k (λ d. EditsPreserveRun unit d.text (edit ∷ edits))
   with_edits e k edit edits known = record { asked = known.asked; is = known.is; past = known.past; still = λ d same. go d (known.still d same) }
     where
-      go : (d : Open) → Fits unit (edit ∷ edits) d → KeepTheRun unit d.text (edit ∷ edits)
+      go : (d : Open) → Fits unit (edit ∷ edits) d → EditsPreserveRun unit d.text (edit ∷ edits)
       go d (inl none) = absurd (cc)
       go d (inr keep) = keep
 
@@ -127,7 +128,7 @@ module _ (unit : Unit) where
 
   -- e is the editor once it has let the answer go
   text_kept : (w : Ends) (e : Editor) (k : ℕ) (uri : List ℕ) (d : Open) (edits : List Replacement) (o : Option (List ℕ)) → edited unit d.text edits ≡ o → open_at e uri ≡ Some d → Kept unit (record w { editor = e })
-      → KeepTheRun unit d.text edits → Kept unit (comes_of w k (applies_text e uri d o)).after
+      → EditsPreserveRun unit d.text edits → Kept unit (comes_of w k (applies_text e uri d o)).after
   text_kept w e k uri d edits None is_made at kept keep = kept
   text_kept w e k uri d edits (Some text) is_made at kept keep =
       let a : Applied = record { uri = uri; before = d.text; after = text } in
@@ -137,26 +138,26 @@ module _ (unit : Unit) where
       (applied_kept (record w { editor = e }) a kept keeps) at (whole e.unit d.text text)
 
   edits_kept : (w : Ends) (e : Editor) (k : ℕ) (edits : List Replacement) (a : Asked) (o : Option Open) → if_same a (open_at e a.uri) ≡ o → Kept unit (record w { editor = e })
-      → ((d : Open) → Same e a d → KeepTheRun unit d.text edits) → Kept unit (comes_of w k (applies_edits e edits a.uri o)).after
+      → ((d : Open) → Same e a d → EditsPreserveRun unit d.text edits) → Kept unit (comes_of w k (applies_edits e edits a.uri o)).after
   edits_kept w e k edits a None is kept keep = kept
   edits_kept w e k edits a (Some d) is kept keep =
       let same : Same e a d = same_from e a d is in
       text_kept w e k a.uri d edits (edited e.unit d.text edits) (ap (λ u. edited u d.text edits) (sym kept.counts)) same.at kept (keep d same)
 
-  asked_kept : (w : Ends) (e : Editor) (k : ℕ) (edits : List Replacement) (o : Option Asked) → numbered e.asked k ≡ o → Kept unit (record w { editor = e }) → Known e k (λ d. KeepTheRun unit d.text edits)
+  asked_kept : (w : Ends) (e : Editor) (k : ℕ) (edits : List Replacement) (o : Option Asked) → numbered e.asked k ≡ o → Kept unit (record w { editor = e }) → Known e k (λ d. EditsPreserveRun unit d.text edits)
       → Kept unit (comes_of w k (applies_asked e edits o)).after
   asked_kept w e k edits None is kept known = kept
   asked_kept w e k edits (Some a) is kept known =
       let same : known.asked ≡ a = same_Some known.asked a (sym known.is ∙ is) in
-      edits_kept w e k edits a (if_same a (open_at e a.uri)) refl kept (subst (λ x. (d : Open) → Same e x d → KeepTheRun unit d.text edits) same known.still)
+      edits_kept w e k edits a (if_same a (open_at e a.uri)) refl kept (subst (λ x. (d : Open) → Same e x d → EditsPreserveRun unit d.text edits) same known.still)
 
   apply_kept : (w : Ends) (k : ℕ) (o : Option (List Replacement)) → held_answer k w.editor.answers ≡ o → Kept unit w → Kept unit (comes_of w k (applies_answer w.editor k o)).after
   apply_kept w k None is kept = kept
   apply_kept w k (Some edits) is kept =
       let e : Editor = without_answer w.editor k in
-      let known : Known w.editor k (λ d. KeepTheRun unit d.text edits) = held_known unit w.editor k w.editor.answers edits is kept.answers_held in
+      let known : Known w.editor k (λ d. EditsPreserveRun unit d.text edits) = held_known unit w.editor k w.editor.answers edits is kept.answers_held in
       asked_kept w e k edits (numbered w.editor.asked k) refl (without_kept w k kept)
-      (still_known w.editor e k (λ d. KeepTheRun unit d.text edits) (later_answers w.editor e.answers) known)
+      (still_known w.editor e k (λ d. EditsPreserveRun unit d.text edits) (later_answers w.editor e.answers) known)
 
   -- ---- the server's events
 
@@ -207,7 +208,7 @@ module _ (unit : Unit) where
       (subst (λ m. Sound e held [] made m) (sym none_made)
       (record { fit = All-nil (AnswerFits unit e); right = All-nil IsRight; now = subst (AreLatest held) (sym (append-nil made)) now }))
 
-  publish_sound : (e : Editor) (held : OpenDocuments) (uri : List ℕ) (o : Option Document) (said : List ToEditor) (made more : List Made) → document_at held uri ≡ o → Others held uri made → MayPublish uri o said more → Sound e held said made more
+  publish_sound : (e : Editor) (held : OpenDocuments) (uri : List ℕ) (o : Option Document) (said : List ToEditor) (made more : List Made) → document_at held uri ≡ o → Others held uri made → Publishes uri o said more → Sound e held said made more
   publish_sound e held uri (Some (InStep version text)) said made more at others (empty, right, is_said, is_made) =
       let m : Made = record { uri = uri; version = version; text = text; empty = empty } in
       subst (λ s. Sound e held s made more) (sym is_said)
@@ -224,7 +225,7 @@ module _ (unit : Unit) where
       silent e held made said more h.0 h.1
       (others_and_this held uri made others (λ q version text same found_at. absurd (none-some (InStep version text) (sym at ∙ ap (document_at held) same ∙ found_at))))
 
-  taken_back_fits : (e : Editor) (uri : List ℕ) (b : Bool) → All (AnswerFits unit e) (taken_back uri b)
+  taken_back_fits : (e : Editor) (uri : List ℕ) (b : Bool) → All (AnswerFits unit e) (cleared uri b)
   taken_back_fits e uri true = All-push (AnswerFits unit e) [] (publishes uri None true) (All-nil (AnswerFits unit e)) tt
   taken_back_fits e uri false = All-nil (AnswerFits unit e)
 
@@ -266,7 +267,7 @@ module _ (unit : Unit) where
       go true h = absurd (none-some (InStep version text) h)
       go false h = now q version text h
 
-  note_sound : (e : Editor) (held : OpenDocuments) (note : DocumentNote) (said : List ToEditor) (made more : List Made) → AreLatest held made → MayTell held note said more → Sound e (after_note held note) said made more
+  note_sound : (e : Editor) (held : OpenDocuments) (note : DocumentNote) (said : List ToEditor) (made more : List Made) → AreLatest held made → RepliesToNotification held note said more → Sound e (after_note held note) said made more
   note_sound e held (Opened uri version text) said made more now h =
       publish_sound e (after_note held (Opened uri version text)) uri (document_at (after_note held (Opened uri version text)) uri) said made more refl (put_others held uri (InStep version text) made now) h
   note_sound e held (Changed uri version how) said made more now h =
@@ -294,7 +295,7 @@ module _ (unit : Unit) where
   abbrev Meets : Editor → OpenDocuments → ToServer → Type 0
   Meets e held m = AsksSee e held (m ∷ [])
 
-  message_sound : (e : Editor) (held : OpenDocuments) (m : ToServer) (said : List ToEditor) (made more : List Made) → held.unit ≡ unit → Meets e held m → AreLatest held made → MaySend held m said more → Sound e (after_message held m) said made more
+  message_sound : (e : Editor) (held : OpenDocuments) (m : ToServer) (said : List ToEditor) (made more : List Made) → held.unit ≡ unit → Meets e held m → AreLatest held made → Replies held m said more → Sound e (after_message held m) said made more
   message_sound e held (tells note) said made more same_unit meets now h = note_sound e held note said made more now h
   message_sound e held (asks k uri ask) said made more same_unit meets now (edits, may, is_said, is_made) =
       let quiet : Sound e held [] made more = silent e held made [] more refl is_made now in
@@ -349,7 +350,7 @@ module _ (unit : Unit) where
 
   outcome_unmoved : (w : Ends) (k : ℕ) (o : Outcome) → Unmoved w (comes_of w k o).after
   outcome_unmoved w k not_held = (refl, refl)
-  outcome_unmoved w k (lets_go e) = (refl, refl)
+  outcome_unmoved w k (drops_answer e) = (refl, refl)
   outcome_unmoved w k (makes e a m) = (refl, refl)
 
   -- an event at the editor
@@ -381,7 +382,7 @@ module _ (unit : Unit) where
   event_kept w (discard k) seen new (kept, now) h =
       let o : Option (List Replacement) = held_answer k w.editor.answers in outcome_kept w k (discards w.editor k o) new h.1 (discard_kept w k o kept) now
 
-  run_kept : (events : List Event) (w new : Ends) → Both w → Run w events new → Both new
+  run_kept : (events : List Event) (w new : Ends) → Both w → Course w events new → Both new
   run_kept [] w new both h = subst Both (sym h) both
   run_kept (event ∷ events) w new both (seen, between, happens, run) = run_kept events between new (event_kept w event seen between both happens) run
 
@@ -404,12 +405,12 @@ module _ (unit : Unit) where
     λ uri version text at. nothing_at uri (InStep version text) (IsMadeFor version text None) at,
   )
 
-  up_to_date : (w : Ends) → Both w → w.to_server ≡ [] → IsUpToDate w
+  up_to_date : (w : Ends) → Both w → w.to_server ≡ [] → AreUpToDate w.editor w.made
   up_to_date w (kept, now) nothing_waits uri d at =
       let held : document_at w.held uri ≡ Some (as_held d) = subst (λ q. document_at (fold after_message w.held q) uri ≡ Some (as_held d)) nothing_waits (kept.mirror uri ∙ ap (option_map as_held) at) in
       now uri (pos d.version) d.text held
 
-pub in_every_interleaving : (unit : Unit) (events : List Event) (w : Ends) → Run (start unit) events w → Holds w
+pub in_every_interleaving : (unit : Unit) (events : List Event) (w : Ends) → Course (start unit) events w → Holds w
 in_every_interleaving unit events w run =
     let both : Both unit w = run_kept unit events (start unit) w (start_kept unit) run in
     record { applied = both.0.applied; made = both.0.made; mirror = both.0.mirror; latest_made = up_to_date unit w both }

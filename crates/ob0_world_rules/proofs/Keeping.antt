@@ -13,13 +13,14 @@ use Rattle.ob0_text.proofs.EntryLaws.{updated-some}
 use Rattle.ob0_world_rules.specs.Edited.{Replacement, after_changes}
 use Rattle.ob0_world_rules.specs.Ends.{Open, Answer, Editor, open_at, ToServer, tells, asks, ToEditor, publishes, answers, Ends, after_message, will_hold, as_held, Mirrors}
 use Rattle.ob0_world_rules.specs.Editing.{held_answer, rewritten, rewrites}
-use Rattle.ob0_world_rules.specs.Headline.{KeepTheRun, KeepsTheRun, IsRight}
+use Rattle.ob0_world_rules.specs.Headline.{KeepsTheRun, IsRight}
+use Rattle.ob0_world_rules.specs.Laws.{EditsPreserveRun}
 use Rattle.ob0_world_rules.proofs.UriLaws.{get_put, get_removed, mapped_choice}
 use Rattle.ob0_world_rules.proofs.SameDocument.{Known, Later, still_known, later_answers, later_rewrite, found}
 
 -- no edits, or edits that keep the run of this document
 abbrev pub Fits : Unit → List Replacement → Open → Type 0
-Fits unit edits d = (edits ≡ []) ⊎ KeepTheRun unit d.text edits
+Fits unit edits d = (edits ≡ []) ⊎ EditsPreserveRun unit d.text edits
 
 -- an answer on its way fits the document that was asked about, where that is still the same
 abbrev pub AnswerFits : Unit → Editor → ToEditor → Type 0
@@ -28,7 +29,7 @@ AnswerFits unit e (answers k edits) = Known e k (Fits unit edits)
 
 -- and so does one that the editor holds, which has edits
 abbrev pub HeldFits : Unit → Editor → Answer → Type 0
-HeldFits unit e a = Known e a.number (λ d. KeepTheRun unit d.text a.edits)
+HeldFits unit e a = Known e a.number (λ d. EditsPreserveRun unit d.text a.edits)
 
 -- the server, as it takes an ask, will hold the document that was asked about, where that is still the same
 abbrev pub AsksSee : Editor → OpenDocuments → List ToServer → Type 0
@@ -78,7 +79,7 @@ answers_later unit e e' later ms h = All-weaker (AnswerFits unit e) (AnswerFits 
 
 pub held_later : (unit : Unit) (e e' : Editor) → Later e e' → (list : List Answer) → All (HeldFits unit e) list → All (HeldFits unit e') list
 held_later unit e e' later list h =
-    All-weaker (HeldFits unit e) (HeldFits unit e') (λ a known. still_known e e' a.number (λ d. KeepTheRun unit d.text a.edits) later known) list h
+    All-weaker (HeldFits unit e) (HeldFits unit e') (λ a known. still_known e e' a.number (λ d. EditsPreserveRun unit d.text a.edits) later known) list h
 
 pub asks_later : (e e' : Editor) → Later e e' → (held : OpenDocuments) (q : List ToServer) → AsksSee e held q → AsksSee e' held q
 asks_later e e' later held [] h = h
@@ -171,13 +172,13 @@ answers_kept unit w list queue kept held fit =
       made = kept.made;
     }
 
-pub held_known : (unit : Unit) (e : Editor) (k : ℕ) (list : List Answer) (edits : List Replacement) → held_answer k list ≡ Some edits → All (HeldFits unit e) list → Known e k (λ d. KeepTheRun unit d.text edits)
+pub held_known : (unit : Unit) (e : Editor) (k : ℕ) (list : List Answer) (edits : List Replacement) → held_answer k list ≡ Some edits → All (HeldFits unit e) list → Known e k (λ d. EditsPreserveRun unit d.text edits)
 held_known unit e k [] edits h all = absurd (none-some edits h)
 held_known unit e k (a ∷ rest) edits h all =
     go (a.number == k) refl h (λ later. held_known unit e k rest edits later (All-tail (HeldFits unit e) a rest all))
   where
-    go : (b : Bool) → a.number == k ≡ b → cond b (Some a.edits) (held_answer k rest) ≡ Some edits → (held_answer k rest ≡ Some edits → Known e k (λ d. KeepTheRun unit d.text edits)) → Known e k (λ d. KeepTheRun unit d.text edits)
+    go : (b : Bool) → a.number == k ≡ b → cond b (Some a.edits) (held_answer k rest) ≡ Some edits → (held_answer k rest ≡ Some edits → Known e k (λ d. EditsPreserveRun unit d.text edits)) → Known e k (λ d. EditsPreserveRun unit d.text edits)
     go true is h next =
-        subst (λ n. Known e n (λ d. KeepTheRun unit d.text edits)) (eqb-true a.number k is)
-        (subst (λ es. Known e a.number (λ d. KeepTheRun unit d.text es)) (same_Some a.edits edits h) (All-head (HeldFits unit e) a rest all))
+        subst (λ n. Known e n (λ d. EditsPreserveRun unit d.text edits)) (eqb-true a.number k is)
+        (subst (λ es. Known e a.number (λ d. EditsPreserveRun unit d.text es)) (same_Some a.edits edits h) (All-head (HeldFits unit e) a rest all))
     go false is h next = next h

@@ -11,33 +11,27 @@ use Rattle.ob0_world_rules.specs.Edited.{Replacement, replacements}
 use Rattle.ob0_world_rules.proofs.EditedTexts.{edited_as_patched}
 use Rattle.ob0_world_rules.specs.Asks.{Ask, rename, inline_here, inline_all, format}
 use Rattle.ob0_world_rules.specs.Answers.{HandsOut, AnswersFor}
-use Rattle.ob0_world_rules.specs.Headline.{KeepTheRun}
-use Rattle.ob0_world_rules.proofs.Trees.{the_tree, fits}
+use Rattle.ob0_world_rules.specs.Laws.{EditsPreserveRun}
+use Rattle.ob0_world_rules.proofs.Trees.{same_run}
 
 -- edits that leave a text which runs as before
-runs_kept : (unit : Unit) (text after : List ℕ) (edits : List Edit) → patched (width_of unit) text edits ≡ Some after → RunsAsBefore (utf8 text) (utf8 after) → KeepTheRun unit text (replacements edits)
+runs_kept : (unit : Unit) (text after : List ℕ) (edits : List Edit) → patched (width_of unit) text edits ≡ Some after → RunsAsBefore (utf8 text) (utf8 after) → EditsPreserveRun unit text (replacements edits)
 runs_kept unit text after edits made runs =
     record {
-      before_fits = fits text runs.old;
+      before_fits = runs.old;
       after = after;
       makes = edited_as_patched unit text edits ∙ made;
-      after_fits = fits after runs.new;
-      same = record {
-        before = runs.old.tree;
-        before_of = the_tree text runs.old.tree runs.old.text_of;
-        after = runs.new.tree;
-        after_of = the_tree after runs.new.tree runs.new.text_of;
-        same = λ input c t. sym (runs.same input c t);
-      };
+      after_fits = runs.new;
+      same = same_run text after runs;
     }
 
-pub edits_keep_the_run : (unit : Unit) (text : List ℕ) (ask : Ask) (edits : List Edit) → HandsOut unit text ask edits → KeepTheRun unit text (replacements edits)
+pub edits_keep_the_run : (unit : Unit) (text : List ℕ) (ask : Ask) (edits : List Edit) → HandsOut unit text ask edits → EditsPreserveRun unit text (replacements edits)
 edits_keep_the_run unit text (rename position name) edits found = runs_kept unit text found.after edits found.made found.runs
-edits_keep_the_run unit text (inline_here position) edits (list, found, is) = subst (λ es. KeepTheRun unit text (replacements es)) (sym is) (runs_kept unit text found.after list.items found.made found.runs)
-edits_keep_the_run unit text (inline_all position) edits (list, found, is) = subst (λ es. KeepTheRun unit text (replacements es)) (sym is) (runs_kept unit text found.after list.items found.made found.runs)
+edits_keep_the_run unit text (inline_here position) edits (list, found, is) = subst (λ es. EditsPreserveRun unit text (replacements es)) (sym is) (runs_kept unit text found.after list.items found.made found.runs)
+edits_keep_the_run unit text (inline_all position) edits (list, found, is) = subst (λ es. EditsPreserveRun unit text (replacements es)) (sym is) (runs_kept unit text found.after list.items found.made found.runs)
 edits_keep_the_run unit text (format indent) edits found = runs_kept unit text found.after edits found.made found.runs
 
 -- what is answered about a text has no edits, or they keep its run
-pub answer_keeps : (unit : Unit) (text : List ℕ) (ask : Ask) (given : List Replacement) → AnswersFor unit text ask given → (given ≡ []) ⊎ KeepTheRun unit text given
-answer_keeps unit text ask given (inl (edits, found, is)) = inr (subst (KeepTheRun unit text) (sym is) (edits_keep_the_run unit text ask edits found))
+pub answer_keeps : (unit : Unit) (text : List ℕ) (ask : Ask) (given : List Replacement) → AnswersFor unit text ask given → (given ≡ []) ⊎ EditsPreserveRun unit text given
+answer_keeps unit text ask given (inl (edits, found, is)) = inr (subst (EditsPreserveRun unit text) (sym is) (edits_keep_the_run unit text ask edits found))
 answer_keeps unit text ask given (inr (why, none)) = inl none

@@ -1,13 +1,13 @@
 mod Latest
 pub mod Trees
 pub mod KeptRuns
-mod OneModule
-mod OneLayout
-mod OneInlining
-mod OneFields
-mod OneRenaming
+pub mod OneModule
+pub mod OneLayout
+pub mod OneInlining
+pub mod OneFields
+pub mod OneRenaming
 mod OneAnswer
-pub mod OneRun
+pub mod OneCourse
 mod Keeping
 pub mod Interleavings
 pub mod MadeFor

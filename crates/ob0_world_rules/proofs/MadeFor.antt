@@ -7,17 +7,17 @@ use Rattle.std.proofs.lemmas.List.Elements.{All-nil, All-push, All-append, All-w
 use Rattle.ob0_text.specs.declared.positions.Unit.{Unit}
 use Rattle.ob0_text.specs.OpenDocuments.{OpenDocuments, Document, InStep, OutOfStep, DocumentNote, Opened, Changed, Lost, Closed, after_note, document_at}
 use Rattle.ob0_world_rules.specs.Ends.{Open, open_at, ToServer, tells, asks, ToEditor, publishes, answers, Made, Ends, start, after_message, will_hold, as_held}
-use Rattle.ob0_world_rules.specs.Editing.{Move, idle, sends, opens_document, changes_document, closes_document, asks_about, held_answer, Outcome, not_held, lets_go, makes, discards, applies_answer}
-use Rattle.ob0_world_rules.specs.Serving.{MayPublish, MayTell, MaySend}
+use Rattle.ob0_world_rules.specs.Editing.{Move, idle, sends, opens_document, changes_document, closes_document, asks_about, held_answer, Outcome, not_held, drops_answer, makes, discards, applies_answer}
+use Rattle.ob0_world_rules.specs.Serving.{Publishes, RepliesToNotification, Replies}
 use Rattle.ob0_world_rules.specs.Events.{Event, open_document, change_document, close_document, ask_about, serve, take_message, apply, discard, Seen, Step, Is, moved, takes, comes_of}
-use Rattle.ob0_world_rules.specs.Happens.{Serves, Happens, Run}
-use Rattle.ob0_world_rules.specs.Played.{WasOpen, WasMadeFor}
+use Rattle.ob0_world_rules.specs.Happens.{Serves, Happens, Course}
+use Rattle.ob0_world_rules.specs.Headline.{WasOpen, WasMadeFor}
 use Rattle.ob0_world_rules.proofs.Interleavings.{in_every_interleaving}
 
 -- one event more at the end
-pub run_push : (w : Ends) (events : List Event) (between : Ends) (e : Event) (seen : Seen) (new : Ends) → Run w events between → Happens between e seen new → Run w (events ++ e ∷ []) new
-run_push w [] between e seen new run happens = let from_w : Happens w e seen new = subst (λ x. Happens x e seen new) run happens in (seen, new, from_w, refl)
-run_push w (x ∷ events) between e seen new (s, mid, first, rest) happens = (s, mid, first, run_push mid events between e seen new rest happens)
+pub course_push : (w : Ends) (events : List Event) (between : Ends) (e : Event) (seen : Seen) (new : Ends) → Course w events between → Happens between e seen new → Course w (events ++ e ∷ []) new
+course_push w [] between e seen new run happens = let from_w : Happens w e seen new = subst (λ x. Happens x e seen new) run happens in (seen, new, from_w, refl)
+course_push w (x ∷ events) between e seen new (s, mid, first, rest) happens = (s, mid, first, course_push mid events between e seen new rest happens)
 
 same_version : (v w : ℤ) (t u : List ℕ) → InStep v t ≡ InStep w u → v ≡ w
 same_version v w t u h = cc
@@ -65,7 +65,7 @@ module _ (unit : Unit) where
   made_more events more made all = All-weaker (WasMadeFor unit events) (WasMadeFor unit (events ++ more)) (λ m was. was_open_more events more m.uri m.version m.text was) made all
 
   -- once it has taken what waits for it the server holds what the editor has
-  at_last : (events : List Event) (w : Ends) → Run (start unit) events w → WereOpenIn events (will_hold w)
+  at_last : (events : List Event) (w : Ends) → Course (start unit) events w → WereOpenIn events (will_hold w)
   at_last events w run uri version text at = go (open_at w.editor uri) refl
     where
       mirror : document_at (will_hold w) uri ≡ option_map as_held (open_at w.editor uri)
@@ -88,13 +88,13 @@ module _ (unit : Unit) where
           }
 
   record WereOpen (events : List Event) (w : Ends) : Type 0 where
-    pub reached : Run (start unit) events w
+    pub reached : Course (start unit) events w
     pub held : WereOpenBy events w.held w.to_server
     pub made : All (WasMadeFor unit events) w.made
 
   -- ---- the editor's events
 
-  moved_open : (events : List Event) (e : Event) (w : Ends) (move : Move) → WereOpen events w → Run (start unit) (events ++ e ∷ []) (moved w move).after → WereOpen (events ++ e ∷ []) (moved w move).after
+  moved_open : (events : List Event) (e : Event) (w : Ends) (move : Move) → WereOpen events w → Course (start unit) (events ++ e ∷ []) (moved w move).after → WereOpen (events ++ e ∷ []) (moved w move).after
   moved_open events e w idle was run =
       record { reached = run; held = by_more events (e ∷ []) w.held w.to_server was.held; made = made_more events (e ∷ []) w.made was.made }
   moved_open events e w (sends editor m) was run =
@@ -104,7 +104,7 @@ module _ (unit : Unit) where
         made = made_more events (e ∷ []) w.made was.made;
       }
 
-  takes_open : (events : List Event) (e : Event) (w : Ends) (queue : List ToEditor) → WereOpen events w → Run (start unit) (events ++ e ∷ []) (takes w queue).after → WereOpen (events ++ e ∷ []) (takes w queue).after
+  takes_open : (events : List Event) (e : Event) (w : Ends) (queue : List ToEditor) → WereOpen events w → Course (start unit) (events ++ e ∷ []) (takes w queue).after → WereOpen (events ++ e ∷ []) (takes w queue).after
   takes_open events e w [] was run =
       record { reached = run; held = by_more events (e ∷ []) w.held w.to_server was.held; made = made_more events (e ∷ []) w.made was.made }
   takes_open events e w (publishes uri version empty ∷ rest) was run =
@@ -112,10 +112,10 @@ module _ (unit : Unit) where
   takes_open events e w (answers k edits ∷ rest) was run =
       record { reached = run; held = by_more events (e ∷ []) w.held w.to_server was.held; made = made_more events (e ∷ []) w.made was.made }
 
-  comes_open : (events : List Event) (e : Event) (w : Ends) (k : ℕ) (outcome : Outcome) → WereOpen events w → Run (start unit) (events ++ e ∷ []) (comes_of w k outcome).after → WereOpen (events ++ e ∷ []) (comes_of w k outcome).after
+  comes_open : (events : List Event) (e : Event) (w : Ends) (k : ℕ) (outcome : Outcome) → WereOpen events w → Course (start unit) (events ++ e ∷ []) (comes_of w k outcome).after → WereOpen (events ++ e ∷ []) (comes_of w k outcome).after
   comes_open events e w k not_held was run =
       record { reached = run; held = by_more events (e ∷ []) w.held w.to_server was.held; made = made_more events (e ∷ []) w.made was.made }
-  comes_open events e w k (lets_go editor) was run =
+  comes_open events e w k (drops_answer editor) was run =
       record { reached = run; held = by_more events (e ∷ []) w.held w.to_server was.held; made = made_more events (e ∷ []) w.made was.made }
   comes_open events e w k (makes editor applied m) was run =
       record {
@@ -128,14 +128,14 @@ module _ (unit : Unit) where
   -- ---- the server's events
 
   publish_open : (events : List Event) (uri : List ℕ) (o : Option Document) (said : List ToEditor) (made : List Made) → ((version : ℤ) (text : List ℕ) → o ≡ Some (InStep version text) → WasOpen unit events uri version text)
-      → MayPublish uri o said made → All (WasMadeFor unit events) made
+      → Publishes uri o said made → All (WasMadeFor unit events) made
   publish_open events uri (Some (InStep version text)) said made was (empty, right, is_said, is_made) =
       let m : Made = record { uri = uri; version = version; text = text; empty = empty } in
       subst (All (WasMadeFor unit events)) (sym is_made) (All-push (WasMadeFor unit events) [] m (All-nil (WasMadeFor unit events)) (was version text refl))
   publish_open events uri (Some OutOfStep) said made was h = subst (All (WasMadeFor unit events)) (sym h.1) (All-nil (WasMadeFor unit events))
   publish_open events uri None said made was h = subst (All (WasMadeFor unit events)) (sym h.1) (All-nil (WasMadeFor unit events))
 
-  note_open : (events : List Event) (held : OpenDocuments) (note : DocumentNote) (said : List ToEditor) (made : List Made) → WereOpenIn events (after_note held note) → MayTell held note said made → All (WasMadeFor unit events) made
+  note_open : (events : List Event) (held : OpenDocuments) (note : DocumentNote) (said : List ToEditor) (made : List Made) → WereOpenIn events (after_note held note) → RepliesToNotification held note said made → All (WasMadeFor unit events) made
   note_open events held (Opened uri version text) said made were h =
       publish_open events uri (document_at (after_note held (Opened uri version text)) uri) said made (were uri) h
   note_open events held (Changed uri version how) said made were h =
@@ -143,19 +143,19 @@ module _ (unit : Unit) where
   note_open events held (Lost uri) said made were h = subst (All (WasMadeFor unit events)) (sym h.1) (All-nil (WasMadeFor unit events))
   note_open events held (Closed uri) said made were h = subst (All (WasMadeFor unit events)) (sym h.1) (All-nil (WasMadeFor unit events))
 
-  sent_open : (events : List Event) (held : OpenDocuments) (m : ToServer) (said : List ToEditor) (made : List Made) → WereOpenIn events (after_message held m) → MaySend held m said made → All (WasMadeFor unit events) made
+  sent_open : (events : List Event) (held : OpenDocuments) (m : ToServer) (said : List ToEditor) (made : List Made) → WereOpenIn events (after_message held m) → Replies held m said made → All (WasMadeFor unit events) made
   sent_open events held (tells note) said made were h = note_open events held note said made were h
   sent_open events held (asks k uri ask) said made were (edits, answer, is_said, none) = subst (All (WasMadeFor unit events)) (sym none) (All-nil (WasMadeFor unit events))
 
-  serve_open : (events : List Event) (e : Event) (w : Ends) (queue : List ToServer) (seen : Seen) (new : Ends) → w.to_server ≡ queue → WereOpen events w → Run (start unit) (events ++ e ∷ []) new → Serves w queue seen new → WereOpen (events ++ e ∷ []) new
+  serve_open : (events : List Event) (e : Event) (w : Ends) (queue : List ToServer) (seen : Seen) (new : Ends) → w.to_server ≡ queue → WereOpen events w → Course (start unit) (events ++ e ∷ []) new → Serves w queue seen new → WereOpen (events ++ e ∷ []) new
   serve_open events e w [] seen new is was run h =
-      let still : Run (start unit) (events ++ e ∷ []) w = subst (Run (start unit) (events ++ e ∷ [])) h.1 run in
+      let still : Course (start unit) (events ++ e ∷ []) w = subst (Course (start unit) (events ++ e ∷ [])) h.1 run in
       subst (WereOpen (events ++ e ∷ [])) (sym h.1) (record { reached = still; held = by_more events (e ∷ []) w.held w.to_server was.held; made = made_more events (e ∷ []) w.made was.made })
   serve_open events e w (m ∷ rest) seen new is was run (said, made, may, is_seen, is_new) =
       let waits : WereOpenBy (events ++ e ∷ []) (after_message w.held m) rest = by_more events (e ∷ []) (after_message w.held m) rest (subst (WereOpenBy events w.held) is was.held).1 in
       subst (WereOpen (events ++ e ∷ [])) (sym is_new)
       (record {
-        reached = subst (Run (start unit) (events ++ e ∷ [])) is_new run;
+        reached = subst (Course (start unit) (events ++ e ∷ [])) is_new run;
         held = waits;
         made = All-append (WasMadeFor unit (events ++ e ∷ [])) w.made made (made_more events (e ∷ []) w.made was.made)
             (sent_open (events ++ e ∷ []) w.held m said made (by_now (events ++ e ∷ []) (after_message w.held m) rest waits) may);
@@ -163,10 +163,10 @@ module _ (unit : Unit) where
 
   -- ---- every event
 
-  stepped : (events : List Event) (e : Event) (step : Step) (seen : Seen) (new : Ends) → (Run (start unit) (events ++ e ∷ []) step.after → WereOpen (events ++ e ∷ []) step.after) → Run (start unit) (events ++ e ∷ []) new → Is step seen new → WereOpen (events ++ e ∷ []) new
-  stepped events e step seen new so run is = subst (WereOpen (events ++ e ∷ [])) (sym is.1) (so (subst (Run (start unit) (events ++ e ∷ [])) is.1 run))
+  stepped : (events : List Event) (e : Event) (step : Step) (seen : Seen) (new : Ends) → (Course (start unit) (events ++ e ∷ []) step.after → WereOpen (events ++ e ∷ []) step.after) → Course (start unit) (events ++ e ∷ []) new → Is step seen new → WereOpen (events ++ e ∷ []) new
+  stepped events e step seen new so run is = subst (WereOpen (events ++ e ∷ [])) (sym is.1) (so (subst (Course (start unit) (events ++ e ∷ [])) is.1 run))
 
-  event_open : (events : List Event) (w : Ends) (e : Event) (seen : Seen) (new : Ends) → WereOpen events w → Happens w e seen new → Run (start unit) (events ++ e ∷ []) new → WereOpen (events ++ e ∷ []) new
+  event_open : (events : List Event) (w : Ends) (e : Event) (seen : Seen) (new : Ends) → WereOpen events w → Happens w e seen new → Course (start unit) (events ++ e ∷ []) new → WereOpen (events ++ e ∷ []) new
   event_open events w (open_document uri text) seen new was h run =
       let move : Move = opens_document w.editor uri text (open_at w.editor uri) in
       stepped events (open_document uri text) (moved w move) seen new (moved_open events (open_document uri text) w move was) run h
@@ -189,13 +189,13 @@ module _ (unit : Unit) where
       let outcome : Outcome = discards w.editor k (held_answer k w.editor.answers) in
       stepped events (discard k) (comes_of w k outcome) seen new (comes_open events (discard k) w k outcome was) run h
 
-  run_open : (more events : List Event) (w new : Ends) → WereOpen events w → Run w more new → WereOpen (events ++ more) new
+  run_open : (more events : List Event) (w new : Ends) → WereOpen events w → Course w more new → WereOpen (events ++ more) new
   run_open [] events w new was is = subst (λ x. WereOpen (events ++ []) x) (sym is) (subst (λ es. WereOpen es w) (sym (append-nil events)) was)
   run_open (e ∷ more) events w new was (seen, between, happens, run) =
       subst (λ es. WereOpen es new) (append_assoc events (e ∷ []) more)
-      (run_open more (events ++ e ∷ []) between new (event_open events w e seen between was happens (run_push (start unit) events w e seen between was.reached happens)) run)
+      (run_open more (events ++ e ∷ []) between new (event_open events w e seen between was happens (course_push (start unit) events w e seen between was.reached happens)) run)
 
-pub made_for : (unit : Unit) (events : List Event) (w : Ends) → Run (start unit) events w → All (WasMadeFor unit events) w.made
+pub made_for : (unit : Unit) (events : List Event) (w : Ends) → Course (start unit) events w → All (WasMadeFor unit events) w.made
 made_for unit events w run =
     let first : WereOpen unit [] (start unit) = record { reached = refl; held = at_last unit [] (start unit) refl; made = All-nil (WasMadeFor unit []) } in
     (run_open unit events [] (start unit) w first run).made

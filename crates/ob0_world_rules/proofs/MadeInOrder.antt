@@ -1,5 +1,5 @@
--- The n-th publication was made for the n-th document that the editor told of: for each message that tells of a text, the server
--- will hold, once it has taken it, the document as it was in the editor when the message was sent.
+-- The n-th publication was made for the n-th document that the editor announced: for each message that announces a document, the
+-- server will hold, once it has taken it, the document as it was in the editor when the message was sent.
 use Rattle.std.proofs.Common.{◌≡◌, ◌∙◌, ℕ, ◌+◌, cond, List, [], ◌∷◌, ◌++◌, map, append-nil, append_assoc, refl, sym, ap, subst}
 use Rattle.std.specs.Prelude.{⊤, pos, fold, Option, Some, None, option_map}
 use Rattle.std.specs.FinMap as map_of
@@ -10,47 +10,47 @@ use Rattle.ob0_text.specs.OpenDocuments.{OpenDocuments, TextChange, Opened, Chan
 use Rattle.ob0_world_rules.specs.Ends.{Open, Documents, Asked, Editor, numbered, open_at, ToServer, tells, asks, ToEditor, publishes, answers, Made, Ends, start, after_message, as_held, Mirrors}
 use Rattle.ob0_world_rules.specs.Edited.{Replacement, edited, after_changes}
 use Rattle.ob0_world_rules.specs.Asks.{Ask}
-use Rattle.ob0_world_rules.specs.Editing.{Move, idle, sends, opens_document, rewritten, changes_text, changes_document, closes_document, asks_about, held_answer, without_answer, Outcome, not_held, lets_go, makes, discards, if_same, applies_text, applies_edits, applies_asked, applies_answer}
-use Rattle.ob0_world_rules.specs.Serving.{MayPublish, MaySend}
+use Rattle.ob0_world_rules.specs.Editing.{Move, idle, sends, opens_document, rewritten, changes_text, changes_document, closes_document, asks_about, held_answer, without_answer, Outcome, not_held, drops_answer, makes, discards, if_same, applies_text, applies_edits, applies_asked, applies_answer}
+use Rattle.ob0_world_rules.specs.Serving.{Publishes, Replies}
 use Rattle.ob0_world_rules.specs.Events.{Event, open_document, change_document, close_document, ask_about, serve, take_message, apply, discard, Seen, Step, Is, moved, takes, comes_of}
-use Rattle.ob0_world_rules.specs.Happens.{Serves, Happens, Run}
-use Rattle.ob0_world_rules.specs.Played.{Told, told_at, told_by, told_in_move, told_in_outcome, told_at_event, AreTold, named_by, named_in, name_of, AreMadeOf, AreMadeInOrder}
+use Rattle.ob0_world_rules.specs.Happens.{Serves, Happens, Course}
+use Rattle.ob0_world_rules.specs.MadeInOrder.{Announced, announced_at, announced_by, announced_in_move, announced_in_outcome, announced_at_event, AreAnnounced, named_by, named_in, name_of, AreMadeOf, AreMadeInOrder}
 use Rattle.ob0_world_rules.proofs.UriLaws.{get_put, uri_itself}
 use Rattle.ob0_world_rules.proofs.Interleavings.{in_every_interleaving}
-use Rattle.ob0_world_rules.proofs.MadeFor.{run_push}
-use Rattle.ob0_world_rules.proofs.OneRun.{one_run}
+use Rattle.ob0_world_rules.proofs.MadeFor.{course_push}
+use Rattle.ob0_world_rules.proofs.OneCourse.{one_course}
 
--- ---- what is told of in a run that ends so
+-- ---- what is announced in a course with this end
 
-abbrev Telling : Ends → List Event → List Told → Ends → Type 0
-Telling w [] told end = (told ≡ []) × (end ≡ w)
-Telling w (event ∷ events) told end =
-    (seen : Seen) × (between : Ends) × (later : List Told) × Happens w event seen between × Telling between events later end × (told ≡ told_at_event w event ++ later)
+abbrev Announcing : Ends → List Event → List Announced → Ends → Type 0
+Announcing w [] announced end = (announced ≡ []) × (end ≡ w)
+Announcing w (event ∷ events) announced end =
+    (seen : Seen) × (between : Ends) × (later : List Announced) × Happens w event seen between × Announcing between events later end × (announced ≡ announced_at_event w event ++ later)
 
-are_told : (events : List Event) (w : Ends) (told : List Told) (end : Ends) → Telling w events told end → AreTold w events told
-are_told [] w told end h = h.0
-are_told (event ∷ events) w told end (seen, between, later, happens, rest, is) = (seen, between, later, happens, are_told events between later end rest, is)
+are_announced : (events : List Event) (w : Ends) (announced : List Announced) (end : Ends) → Announcing w events announced end → AreAnnounced w events announced
+are_announced [] w announced end h = h.0
+are_announced (event ∷ events) w announced end (seen, between, later, happens, rest, is) = (seen, between, later, happens, are_announced events between later end rest, is)
 
 -- one event more at the end
-telling_push : (events : List Event) (w : Ends) (told : List Told) (between : Ends) (e : Event) (seen : Seen) (new : Ends) → Telling w events told between → Happens between e seen new
-    → Telling w (events ++ e ∷ []) (told ++ told_at_event between e) new
-telling_push [] w told between e seen new h happens =
+announcing_push : (events : List Event) (w : Ends) (announced : List Announced) (between : Ends) (e : Event) (seen : Seen) (new : Ends) → Announcing w events announced between → Happens between e seen new
+    → Announcing w (events ++ e ∷ []) (announced ++ announced_at_event between e) new
+announcing_push [] w announced between e seen new h happens =
     let from_w : Happens w e seen new = subst (λ x. Happens x e seen new) h.1 happens in
-    let is : told ++ told_at_event between e ≡ told_at_event w e ++ [] = ap (λ ts. ts ++ told_at_event between e) h.0 ∙ ap (λ x. told_at_event x e) h.1 ∙ sym (append-nil (told_at_event w e)) in
+    let is : announced ++ announced_at_event between e ≡ announced_at_event w e ++ [] = ap (λ ts. ts ++ announced_at_event between e) h.0 ∙ ap (λ x. announced_at_event x e) h.1 ∙ sym (append-nil (announced_at_event w e)) in
     (seen, new, [], from_w, (refl, refl), is)
-telling_push (x ∷ events) w told between e seen new (s, mid, later, first, rest, is) happens = (
+announcing_push (x ∷ events) w announced between e seen new (s, mid, later, first, rest, is) happens = (
   s,
   mid,
-  later ++ told_at_event between e,
+  later ++ announced_at_event between e,
   first,
-  telling_push events mid later between e seen new rest happens,
-  ap (λ ts. ts ++ told_at_event between e) is ∙ append_assoc (told_at_event w x) later (told_at_event between e),
+  announcing_push events mid later between e seen new rest happens,
+  ap (λ ts. ts ++ announced_at_event between e) is ∙ append_assoc (announced_at_event w x) later (announced_at_event between e),
 )
 
 -- ---- a message names the document that it tells of
 
 abbrev Names : Editor → ToServer → Type 0
-Names e m = map name_of (told_by e m) ≡ named_by m
+Names e m = map name_of (announced_by e m) ≡ named_by m
 
 abbrev MoveNames : Move → Type 0
 MoveNames idle = ⊤
@@ -58,12 +58,12 @@ MoveNames (sends e m) = Names e m
 
 abbrev OutcomeNames : Outcome → Type 0
 OutcomeNames not_held = ⊤
-OutcomeNames (lets_go e) = ⊤
+OutcomeNames (drops_answer e) = ⊤
 OutcomeNames (makes e applied m) = Names e m
 
-put_named : (docs : Documents) (uri : List ℕ) (d : Open) → map name_of (told_at uri (map_of.get (map_of.insert docs uri d) uri)) ≡ (uri, pos d.version) ∷ []
+put_named : (docs : Documents) (uri : List ℕ) (d : Open) → map name_of (announced_at uri (map_of.get (map_of.insert docs uri d) uri)) ≡ (uri, pos d.version) ∷ []
 put_named docs uri d =
-    ap (λ o. map name_of (told_at uri o)) (get_put docs uri d uri ∙ ap (λ b. cond b (Some d) (map_of.get docs uri)) (uri_itself uri))
+    ap (λ o. map name_of (announced_at uri o)) (get_put docs uri d uri ∙ ap (λ b. cond b (Some d) (map_of.get docs uri)) (uri_itself uri))
 
 opens_names : (e : Editor) (uri text : List ℕ) (o : Option Open) → MoveNames (opens_document e uri text o)
 opens_names e uri text (Some d) = tt
@@ -107,11 +107,11 @@ discards_names e k (Some edits) = tt
 
 -- ---- what waits for the server
 
-abbrev AwaitedAt : OpenDocuments → List ℕ → List Told → Type 0
-AwaitedAt held uri now = (o : Option Open) × (document_at held uri ≡ option_map as_held o) × (now ≡ told_at uri o)
+abbrev AwaitedAt : OpenDocuments → List ℕ → List Announced → Type 0
+AwaitedAt held uri now = (o : Option Open) × (document_at held uri ≡ option_map as_held o) × (now ≡ announced_at uri o)
 
 -- the documents that will be published for as this message is taken, where these were held before
-abbrev Awaits : OpenDocuments → ToServer → List Told → Type 0
+abbrev Awaits : OpenDocuments → ToServer → List Announced → Type 0
 Awaits held (tells (Opened uri version text)) now = AwaitedAt (after_note held (Opened uri version text)) uri now
 Awaits held (tells (Changed uri version how)) now = AwaitedAt (after_note held (Changed uri version how)) uri now
 Awaits held (tells (Lost uri)) now = now ≡ []
@@ -119,54 +119,54 @@ Awaits held (tells (Closed uri)) now = now ≡ []
 Awaits held (asks number uri ask) now = now ≡ []
 
 -- and as each message that waits is taken
-abbrev Pending : OpenDocuments → List ToServer → List Told → Type 0
+abbrev Pending : OpenDocuments → List ToServer → List Announced → Type 0
 Pending held [] waiting = waiting ≡ []
 Pending held (m ∷ queue) waiting =
-    (now : List Told) × (later : List Told) × (waiting ≡ now ++ later) × (Awaits held m now × (map name_of now ≡ named_by m)) × Pending (after_message held m) queue later
+    (now : List Announced) × (later : List Announced) × (waiting ≡ now ++ later) × (Awaits held m now × (map name_of now ≡ named_by m)) × Pending (after_message held m) queue later
 
-pending_push : (held : OpenDocuments) (queue : List ToServer) (m : ToServer) (waiting now : List Told) → Pending held queue waiting → Awaits (fold after_message held queue) m now × (map name_of now ≡ named_by m) → Pending held (queue ++ m ∷ []) (waiting ++ now)
+pending_push : (held : OpenDocuments) (queue : List ToServer) (m : ToServer) (waiting now : List Announced) → Pending held queue waiting → Awaits (fold after_message held queue) m now × (map name_of now ≡ named_by m) → Pending held (queue ++ m ∷ []) (waiting ++ now)
 pending_push held [] m waiting now is awaits = (now, [], ap (λ ts. ts ++ now) is ∙ sym (append-nil now), awaits, refl)
 pending_push held (x ∷ queue) m waiting now (first, later, is, so, rest) awaits =
     (first, later ++ now, ap (λ ts. ts ++ now) is ∙ append_assoc first later now, so, pending_push (after_message held x) queue m later now rest awaits)
 
 -- what the editor has as it sends the message
-sent_awaits : (held : OpenDocuments) (e : Editor) (m : ToServer) → ((uri : List ℕ) → document_at (after_message held m) uri ≡ option_map as_held (open_at e uri)) → Awaits held m (told_by e m)
+sent_awaits : (held : OpenDocuments) (e : Editor) (m : ToServer) → ((uri : List ℕ) → document_at (after_message held m) uri ≡ option_map as_held (open_at e uri)) → Awaits held m (announced_by e m)
 sent_awaits held e (tells (Opened uri version text)) mirror = (open_at e uri, mirror uri, refl)
 sent_awaits held e (tells (Changed uri version how)) mirror = (open_at e uri, mirror uri, refl)
 sent_awaits held e (tells (Lost uri)) mirror = refl
 sent_awaits held e (tells (Closed uri)) mirror = refl
 sent_awaits held e (asks number uri ask) mirror = refl
 
-pending_sent : (held : OpenDocuments) (queue : List ToServer) (e : Editor) (m : ToServer) (waiting : List Told) → Pending held queue waiting → Names e m
-    → ((uri : List ℕ) → document_at (fold after_message held (queue ++ m ∷ [])) uri ≡ option_map as_held (open_at e uri)) → Pending held (queue ++ m ∷ []) (waiting ++ told_by e m)
+pending_sent : (held : OpenDocuments) (queue : List ToServer) (e : Editor) (m : ToServer) (waiting : List Announced) → Pending held queue waiting → Names e m
+    → ((uri : List ℕ) → document_at (fold after_message held (queue ++ m ∷ [])) uri ≡ option_map as_held (open_at e uri)) → Pending held (queue ++ m ∷ []) (waiting ++ announced_by e m)
 pending_sent held queue e m waiting pending names mirror =
-    pending_push held queue m waiting (told_by e m) pending
+    pending_push held queue m waiting (announced_by e m) pending
     (sent_awaits (fold after_message held queue) e m (λ uri. sym (ap (λ h. document_at h uri) (fold_push after_message held queue m)) ∙ mirror uri), names)
 
-pending_named : (held : OpenDocuments) (queue : List ToServer) (waiting : List Told) → Pending held queue waiting → map name_of waiting ≡ named_in queue
+pending_named : (held : OpenDocuments) (queue : List ToServer) (waiting : List Announced) → Pending held queue waiting → map name_of waiting ≡ named_in queue
 pending_named held [] waiting is = ap (map name_of) is
 pending_named held (m ∷ queue) waiting (now, later, is, so, rest) =
     ap (map name_of) is ∙ map-append name_of now later ∙ ap (λ ns. ns ++ map name_of later) so.1 ∙ ap (λ ns. named_by m ++ ns) (pending_named (after_message held m) queue later rest)
 
 -- ---- what is made as a message is taken
 
-made_append : (made more : List Made) (told later : List Told) → AreMadeOf made told → AreMadeOf more later → AreMadeOf (made ++ more) (told ++ later)
+made_append : (made more : List Made) (announced later : List Announced) → AreMadeOf made announced → AreMadeOf more later → AreMadeOf (made ++ more) (announced ++ later)
 made_append [] more [] later h k = k
-made_append (m ∷ made) more (t ∷ told) later h k = (h.0, made_append made more told later h.1 k)
-made_append [] more (t ∷ told) later h k = absurd h
+made_append (m ∷ made) more (t ∷ announced) later h k = (h.0, made_append made more announced later h.1 k)
+made_append [] more (t ∷ announced) later h k = absurd h
 made_append (m ∷ made) more [] later h k = absurd h
 
-published : (uri : List ℕ) (o : Option Open) (said : List ToEditor) (made : List Made) → MayPublish uri (option_map as_held o) said made → AreMadeOf made (told_at uri o)
-published uri (Some d) said made (empty, right, is_said, is_made) = subst (λ ms. AreMadeOf ms (told_at uri (Some d))) (sym is_made) ((refl, refl, refl), tt)
+published : (uri : List ℕ) (o : Option Open) (said : List ToEditor) (made : List Made) → Publishes uri (option_map as_held o) said made → AreMadeOf made (announced_at uri o)
+published uri (Some d) said made (empty, right, is_said, is_made) = subst (λ ms. AreMadeOf ms (announced_at uri (Some d))) (sym is_made) ((refl, refl, refl), tt)
 published uri None said made h = subst (λ ms. AreMadeOf ms []) (sym h.1) tt
 
-awaited : (held : OpenDocuments) (uri : List ℕ) (said : List ToEditor) (made : List Made) (now : List Told) → MayPublish uri (document_at held uri) said made → AwaitedAt held uri now → AreMadeOf made now
-awaited held uri said made now may (o, at, is) = subst (AreMadeOf made) (sym is) (published uri o said made (subst (λ d. MayPublish uri d said made) at may))
+awaited : (held : OpenDocuments) (uri : List ℕ) (said : List ToEditor) (made : List Made) (now : List Announced) → Publishes uri (document_at held uri) said made → AwaitedAt held uri now → AreMadeOf made now
+awaited held uri said made now may (o, at, is) = subst (AreMadeOf made) (sym is) (published uri o said made (subst (λ d. Publishes uri d said made) at may))
 
-none_made : (made : List Made) (now : List Told) → made ≡ [] → now ≡ [] → AreMadeOf made now
-none_made made now no_made none_told = subst (AreMadeOf made) (sym none_told) (subst (λ ms. AreMadeOf ms []) (sym no_made) tt)
+none_made : (made : List Made) (now : List Announced) → made ≡ [] → now ≡ [] → AreMadeOf made now
+none_made made now no_made none_announced = subst (AreMadeOf made) (sym none_announced) (subst (λ ms. AreMadeOf ms []) (sym no_made) tt)
 
-message_made : (held : OpenDocuments) (m : ToServer) (said : List ToEditor) (made : List Made) (now : List Told) → MaySend held m said made → Awaits held m now → AreMadeOf made now
+message_made : (held : OpenDocuments) (m : ToServer) (said : List ToEditor) (made : List Made) (now : List Announced) → Replies held m said made → Awaits held m now → AreMadeOf made now
 message_made held (tells (Opened uri version text)) said made now may awaits = awaited (after_note held (Opened uri version text)) uri said made now may awaits
 message_made held (tells (Changed uri version how)) said made now may awaits = awaited (after_note held (Changed uri version how)) uri said made now may awaits
 message_made held (tells (Lost uri)) said made now may awaits = none_made made now may.1 awaits
@@ -175,123 +175,123 @@ message_made held (asks number uri ask) said made now (edits, answer, is_said, n
 
 -- ---- every event
 
--- These are told of now, behind those that publications were made for and those that wait: so it stands after the event.
-record Next (told waiting now : List Told) (new : Ends) : Type 0 where
-  pub done : List Told
-  pub awaits : List Told
-  pub parts : (told ++ waiting) ++ now ≡ done ++ awaits
+-- These are announced of now, behind those that publications were made for and those that wait: so it stands after the event.
+record Next (announced waiting now : List Announced) (new : Ends) : Type 0 where
+  pub done : List Announced
+  pub awaits : List Announced
+  pub parts : (announced ++ waiting) ++ now ≡ done ++ awaits
   pub made_of : AreMadeOf new.made done
   pub pending : Pending new.held new.to_server awaits
 
-module _ (told waiting : List Told) where
-  -- nothing is told, and the queue and the publications stay
-  stays : (w : Ends) → AreMadeOf w.made told → Pending w.held w.to_server waiting → Next told waiting [] w
-  stays w made_of pending = record { done = told; awaits = waiting; parts = append-nil (told ++ waiting); made_of = made_of; pending = pending }
+module _ (announced waiting : List Announced) where
+  -- nothing is announced, and the queue and the publications stay
+  stays : (w : Ends) → AreMadeOf w.made announced → Pending w.held w.to_server waiting → Next announced waiting [] w
+  stays w made_of pending = record { done = announced; awaits = waiting; parts = append-nil (announced ++ waiting); made_of = made_of; pending = pending }
 
-  move_next : (w : Ends) (move : Move) → MoveNames move → AreMadeOf w.made told → Pending w.held w.to_server waiting → Mirrors (moved w move).after → Next told waiting (told_in_move move) (moved w move).after
+  move_next : (w : Ends) (move : Move) → MoveNames move → AreMadeOf w.made announced → Pending w.held w.to_server waiting → Mirrors (moved w move).after → Next announced waiting (announced_in_move move) (moved w move).after
   move_next w idle names made_of pending mirror = stays w made_of pending
   move_next w (sends e m) names made_of pending mirror =
       record {
-        done = told;
-        awaits = waiting ++ told_by e m;
-        parts = append_assoc told waiting (told_by e m);
+        done = announced;
+        awaits = waiting ++ announced_by e m;
+        parts = append_assoc announced waiting (announced_by e m);
         made_of = made_of;
         pending = pending_sent w.held w.to_server e m waiting pending names mirror;
       }
 
-  comes_next : (w : Ends) (k : ℕ) (outcome : Outcome) → OutcomeNames outcome → AreMadeOf w.made told → Pending w.held w.to_server waiting → Mirrors (comes_of w k outcome).after → Next told waiting (told_in_outcome outcome) (comes_of w k outcome).after
+  comes_next : (w : Ends) (k : ℕ) (outcome : Outcome) → OutcomeNames outcome → AreMadeOf w.made announced → Pending w.held w.to_server waiting → Mirrors (comes_of w k outcome).after → Next announced waiting (announced_in_outcome outcome) (comes_of w k outcome).after
   comes_next w k not_held names made_of pending mirror = stays w made_of pending
-  comes_next w k (lets_go e) names made_of pending mirror = stays (record w { editor = e }) made_of pending
+  comes_next w k (drops_answer e) names made_of pending mirror = stays (record w { editor = e }) made_of pending
   comes_next w k (makes e applied m) names made_of pending mirror =
       record {
-        done = told;
-        awaits = waiting ++ told_by e m;
-        parts = append_assoc told waiting (told_by e m);
+        done = announced;
+        awaits = waiting ++ announced_by e m;
+        parts = append_assoc announced waiting (announced_by e m);
         made_of = made_of;
         pending = pending_sent w.held w.to_server e m waiting pending names mirror;
       }
 
-  takes_next : (w : Ends) (queue : List ToEditor) → AreMadeOf w.made told → Pending w.held w.to_server waiting → Next told waiting [] (takes w queue).after
+  takes_next : (w : Ends) (queue : List ToEditor) → AreMadeOf w.made announced → Pending w.held w.to_server waiting → Next announced waiting [] (takes w queue).after
   takes_next w [] made_of pending = stays w made_of pending
   takes_next w (publishes uri version empty ∷ rest) made_of pending = stays (takes w (publishes uri version empty ∷ rest)).after made_of pending
   takes_next w (answers k edits ∷ rest) made_of pending = stays (takes w (answers k edits ∷ rest)).after made_of pending
 
-  serve_next : (w : Ends) (queue : List ToServer) (seen : Seen) (new : Ends) → AreMadeOf w.made told → Pending w.held queue waiting → w.to_server ≡ queue → Serves w queue seen new → Next told waiting [] new
+  serve_next : (w : Ends) (queue : List ToServer) (seen : Seen) (new : Ends) → AreMadeOf w.made announced → Pending w.held queue waiting → w.to_server ≡ queue → Serves w queue seen new → Next announced waiting [] new
   serve_next w [] seen new made_of pending is h =
-      subst (Next told waiting []) (sym h.1) (stays w made_of (subst (λ q. Pending w.held q waiting) (sym is) pending))
+      subst (Next announced waiting []) (sym h.1) (stays w made_of (subst (λ q. Pending w.held q waiting) (sym is) pending))
   serve_next w (m ∷ rest) seen new made_of (now, later, parts, awaits, behind) is (said, made, may, is_seen, is_new) =
-      subst (Next told waiting []) (sym is_new)
+      subst (Next announced waiting []) (sym is_new)
       (record {
-        done = told ++ now;
+        done = announced ++ now;
         awaits = later;
-        parts = append-nil (told ++ waiting) ∙ ap (λ ts. told ++ ts) parts ∙ sym (append_assoc told now later);
-        made_of = made_append w.made made told now made_of (message_made w.held m said made now may awaits.0);
+        parts = append-nil (announced ++ waiting) ∙ ap (λ ts. announced ++ ts) parts ∙ sym (append_assoc announced now later);
+        made_of = made_append w.made made announced now made_of (message_made w.held m said made now may awaits.0);
         pending = behind;
       })
 
-  stepped : (now : List Told) (step : Step) (seen : Seen) (new : Ends) → (Mirrors step.after → Next told waiting now step.after) → Mirrors new → Is step seen new → Next told waiting now new
-  stepped now step seen new so mirror is = subst (Next told waiting now) (sym is.1) (so (subst Mirrors is.1 mirror))
+  stepped : (now : List Announced) (step : Step) (seen : Seen) (new : Ends) → (Mirrors step.after → Next announced waiting now step.after) → Mirrors new → Is step seen new → Next announced waiting now new
+  stepped now step seen new so mirror is = subst (Next announced waiting now) (sym is.1) (so (subst Mirrors is.1 mirror))
 
-  event_next : (w : Ends) (e : Event) (seen : Seen) (new : Ends) → AreMadeOf w.made told → Pending w.held w.to_server waiting → Mirrors new → Happens w e seen new → Next told waiting (told_at_event w e) new
+  event_next : (w : Ends) (e : Event) (seen : Seen) (new : Ends) → AreMadeOf w.made announced → Pending w.held w.to_server waiting → Mirrors new → Happens w e seen new → Next announced waiting (announced_at_event w e) new
   event_next w (open_document uri text) seen new made_of pending mirror h =
       let move : Move = opens_document w.editor uri text (open_at w.editor uri) in
-      stepped (told_in_move move) (moved w move) seen new (move_next w move (opens_names w.editor uri text (open_at w.editor uri)) made_of pending) mirror h
+      stepped (announced_in_move move) (moved w move) seen new (move_next w move (opens_names w.editor uri text (open_at w.editor uri)) made_of pending) mirror h
   event_next w (change_document uri how) seen new made_of pending mirror h =
       let move : Move = changes_document w.editor uri how (open_at w.editor uri) in
-      stepped (told_in_move move) (moved w move) seen new (move_next w move (changes_names w.editor uri how (open_at w.editor uri)) made_of pending) mirror h
+      stepped (announced_in_move move) (moved w move) seen new (move_next w move (changes_names w.editor uri how (open_at w.editor uri)) made_of pending) mirror h
   event_next w (close_document uri) seen new made_of pending mirror h =
       let move : Move = closes_document w.editor uri (open_at w.editor uri) in
-      stepped (told_in_move move) (moved w move) seen new (move_next w move (closes_names w.editor uri (open_at w.editor uri)) made_of pending) mirror h
+      stepped (announced_in_move move) (moved w move) seen new (move_next w move (closes_names w.editor uri (open_at w.editor uri)) made_of pending) mirror h
   event_next w (ask_about uri ask) seen new made_of pending mirror h =
       let move : Move = asks_about w.editor uri ask (open_at w.editor uri) in
-      stepped (told_in_move move) (moved w move) seen new (move_next w move (asks_names w.editor uri ask (open_at w.editor uri)) made_of pending) mirror h
+      stepped (announced_in_move move) (moved w move) seen new (move_next w move (asks_names w.editor uri ask (open_at w.editor uri)) made_of pending) mirror h
   event_next w serve seen new made_of pending mirror h = serve_next w w.to_server seen new made_of pending refl h
   event_next w take_message seen new made_of pending mirror h =
       stepped [] (takes w w.to_editor) seen new (λ _. takes_next w w.to_editor made_of pending) mirror h
   event_next w (apply k) seen new made_of pending mirror h =
       let outcome : Outcome = applies_answer w.editor k (held_answer k w.editor.answers) in
-      stepped (told_in_outcome outcome) (comes_of w k outcome) seen new (comes_next w k outcome (applies_names w.editor k (held_answer k w.editor.answers)) made_of pending) mirror h
+      stepped (announced_in_outcome outcome) (comes_of w k outcome) seen new (comes_next w k outcome (applies_names w.editor k (held_answer k w.editor.answers)) made_of pending) mirror h
   event_next w (discard k) seen new made_of pending mirror h =
       let outcome : Outcome = discards w.editor k (held_answer k w.editor.answers) in
-      stepped (told_in_outcome outcome) (comes_of w k outcome) seen new (comes_next w k outcome (discards_names w.editor k (held_answer k w.editor.answers)) made_of pending) mirror h
+      stepped (announced_in_outcome outcome) (comes_of w k outcome) seen new (comes_next w k outcome (discards_names w.editor k (held_answer k w.editor.answers)) made_of pending) mirror h
 
 -- ---- every run
 
 record InOrder (unit : Unit) (events : List Event) (w : Ends) : Type 0 where
-  pub reached : Run (start unit) events w
-  pub told : List Told
-  pub waiting : List Told
-  pub telling : Telling (start unit) events (told ++ waiting) w
-  pub made_of : AreMadeOf w.made told
+  pub reached : Course (start unit) events w
+  pub announced : List Announced
+  pub waiting : List Announced
+  pub announcing : Announcing (start unit) events (announced ++ waiting) w
+  pub made_of : AreMadeOf w.made announced
   pub pending : Pending w.held w.to_server waiting
 
 event_in_order : (unit : Unit) (events : List Event) (w : Ends) (e : Event) (seen : Seen) (new : Ends) → InOrder unit events w → Happens w e seen new → InOrder unit (events ++ e ∷ []) new
 event_in_order unit events w e seen new was happens =
-    let reached : Run (start unit) (events ++ e ∷ []) new = run_push (start unit) events w e seen new was.reached happens in
-    let next : Next was.told was.waiting (told_at_event w e) new = event_next was.told was.waiting w e seen new was.made_of was.pending (in_every_interleaving unit (events ++ e ∷ []) new reached).mirror happens in
+    let reached : Course (start unit) (events ++ e ∷ []) new = course_push (start unit) events w e seen new was.reached happens in
+    let next : Next was.announced was.waiting (announced_at_event w e) new = event_next was.announced was.waiting w e seen new was.made_of was.pending (in_every_interleaving unit (events ++ e ∷ []) new reached).mirror happens in
     record {
       reached = reached;
-      told = next.done;
+      announced = next.done;
       waiting = next.awaits;
-      telling = subst (λ ts. Telling (start unit) (events ++ e ∷ []) ts new) next.parts (telling_push events (start unit) (was.told ++ was.waiting) w e seen new was.telling happens);
+      announcing = subst (λ ts. Announcing (start unit) (events ++ e ∷ []) ts new) next.parts (announcing_push events (start unit) (was.announced ++ was.waiting) w e seen new was.announcing happens);
       made_of = next.made_of;
       pending = next.pending;
     }
 
-run_in_order : (unit : Unit) (more events : List Event) (w new : Ends) → InOrder unit events w → Run w more new → InOrder unit (events ++ more) new
+run_in_order : (unit : Unit) (more events : List Event) (w new : Ends) → InOrder unit events w → Course w more new → InOrder unit (events ++ more) new
 run_in_order unit [] events w new was is = subst (λ x. InOrder unit (events ++ []) x) (sym is) (subst (λ es. InOrder unit es w) (sym (append-nil events)) was)
 run_in_order unit (e ∷ more) events w new was (seen, between, happens, run) =
     subst (λ es. InOrder unit es new) (append_assoc events (e ∷ []) more)
     (run_in_order unit more (events ++ e ∷ []) between new (event_in_order unit events w e seen between was happens) run)
 
-pub made_in_order : (unit : Unit) (events : List Event) (w : Ends) → Run (start unit) events w → AreMadeInOrder unit events w.made
+pub made_in_order : (unit : Unit) (events : List Event) (w : Ends) → Course (start unit) events w → AreMadeInOrder unit events w.made
 made_in_order unit events w run =
-    let first : InOrder unit [] (start unit) = record { reached = refl; told = []; waiting = []; telling = (refl, refl); made_of = tt; pending = refl } in
+    let first : InOrder unit [] (start unit) = record { reached = refl; announced = []; waiting = []; announcing = (refl, refl); made_of = tt; pending = refl } in
     let last : InOrder unit events w = run_in_order unit events [] (start unit) w first run in
     record {
-      told = last.told;
+      announced = last.announced;
       waiting = last.waiting;
-      all = are_told events (start unit) (last.told ++ last.waiting) w last.telling;
+      all = are_announced events (start unit) (last.announced ++ last.waiting) w last.announcing;
       made_of = last.made_of;
-      still_wait = λ end other. pending_named w.held w.to_server last.waiting last.pending ∙ ap (λ (x : Ends). named_in x.to_server) (one_run unit events w end run other);
+      still_wait = λ end other. pending_named w.held w.to_server last.waiting last.pending ∙ ap (λ (x : Ends). named_in x.to_server) (one_course (start unit) events w end run other);
     }

@@ -9,7 +9,7 @@ use Rattle.ob0_session_offers.specs.Inlinings.{IsNotInlinedIn}
 use Rattle.ob0_world_rules.specs.Edited.{replacements}
 use Rattle.ob0_world_rules.specs.Asks.{Ask, rename, inline_here, inline_all, format, indent_read}
 use Rattle.ob0_world_rules.specs.Answers.{place_at, InlinesAt, HandsOut, Refuses}
-use Rattle.ob0_world_rules.specs.OneRun.{AnswersAreOne}
+use Rattle.ob0_world_rules.specs.Laws.{AnswersAreOne}
 use Rattle.ob0_world_rules.proofs.KeptRuns.{edits_keep_the_run}
 use Rattle.ob0_world_rules.proofs.OneLayout.{lays_out_one, lays_out_or_long}
 use Rattle.ob0_world_rules.proofs.OneRenaming.{renames_one, renames_or_refused}

@@ -72,7 +72,7 @@ names_relabelled f g (Number n ∷ xs) = names_relabelled f g xs
 names_relabelled f g (Mark k ∷ xs) = names_relabelled f g xs
 names_relabelled f g (EndOfText ∷ xs) = names_relabelled f g xs
 
-leaves_mapped : {N M : Type 0} {s : Sort} (f : N → M) (g : ℕ → ℕ) (t : Tree N s) → leaves (mapped f g t) ≡ map f (leaves t)
+pub leaves_mapped : {N M : Type 0} {s : Sort} (f : N → M) (g : ℕ → ℕ) (t : Tree N s) → leaves (mapped f g t) ≡ map f (leaves t)
 leaves_mapped f g t =
     leaves_spelled role.Declaring (mapped f g t)
     ∙ (ap lexeme_names (spell_mapped f g t) ∙ (names_relabelled f g (spell t) ∙ ap (map f) (sym (leaves_spelled role.Declaring t))))

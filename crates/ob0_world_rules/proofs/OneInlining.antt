@@ -16,7 +16,7 @@ use Rattle.ob0_tree.specs.Tree.{Tree, identifiers, module_text, nesting, occurre
 use Rattle.ob0_tree.proofs.Leaves.{leaves_ascend, occurrences_ascend}
 use Rattle.ob0_edits.specs.Ranges.{range_of}
 use Rattle.ob0_edits.specs.Removed.{span_over, without_text}
-use Rattle.ob0_edits.specs.Replaced.{edit_at, with_text_at}
+use Rattle.ob0_edits.specs.Replaced.{edit_at, parts, with_text_at}
 use Rattle.ob0_scope_rules.specs.Inlining.{inlined, inlined_everywhere, only}
 use Rattle.ob0_scope_rules.specs.Names.{declared, same_label}
 use Rattle.ob0_scope_rules.specs.Occurrences.{bindings}
@@ -95,9 +95,9 @@ use_there e offset u at = record {
 }
 
 module _ {m n : Parsed} (e : Same m n) (parsed : IsParsed n) (unit : Unit) (text : List ℕ) (offset : ℕ) (xs : Vec Edit Global) where
-  here_one : (ys : Vec Edit Global) → AnswersHere unit text m offset (Ok xs) → AnswersHere unit text n offset (Ok ys) → replacements xs.items ≡ replacements ys.items
+  here_one : (ys : Vec Edit Global) → AnswersHere unit text m offset (Ok xs) → AnswersHere unit text n offset (Ok ys) → map parts xs.items ≡ map parts ys.items
   here_one ys (inl (u, at, (free, h))) (inl (v, also, (free_too, k))) =
-      same_parts xs.items ys.items (h.here ∙ (ap (λ z. z ∷ []) (same_edit_here e parsed offset u v at also unit text) ∙ sym k.here))
+      h.here ∙ (ap (λ z. z ∷ []) (same_edit_here e parsed offset u v at also unit text) ∙ sym k.here)
   here_one ys (inr (bad, none)) k = absurd (cc)
   here_one ys (inl h) (inr (bad, none)) = absurd (cc)
 
@@ -148,9 +148,9 @@ module _ {m n : Parsed} (e : Same m n) (offset : ℕ) (c d : Constant) (at : IsC
       ∷ map (edit_at unit text ((e.source i).tokens) (value_text (constant_value i))) (uses_in (e.source i) (e.tree i) (constant_ordinal i))
 
 module _ {m n : Parsed} (e : Same m n) (unit : Unit) (text : List ℕ) (offset : ℕ) (xs : Vec Edit Global) where
-  everywhere_one : (ys : Vec Edit Global) → AnswersEverywhere unit text m offset (Ok xs) → AnswersEverywhere unit text n offset (Ok ys) → replacements xs.items ≡ replacements ys.items
+  everywhere_one : (ys : Vec Edit Global) → AnswersEverywhere unit text m offset (Ok xs) → AnswersEverywhere unit text n offset (Ok ys) → map parts xs.items ≡ map parts ys.items
   everywhere_one ys (inl (c, at, (free, h))) (inl (d, also, (free_too, k))) =
-      same_parts xs.items ys.items (h.everywhere ∙ (same_edits_everywhere e offset c d at also unit text ∙ sym k.everywhere))
+      h.everywhere ∙ (same_edits_everywhere e offset c d at also unit text ∙ sym k.everywhere)
   everywhere_one ys (inr (bad, none)) k = absurd (cc)
   everywhere_one ys (inl h) (inr (bad, none)) = absurd (cc)
 
@@ -167,11 +167,15 @@ module _ {m n : Parsed} (e : Same m n) (unit : Unit) (text : List ℕ) (offset :
 -- ---- in a text
 
 module _ (unit : Unit) (text : List ℕ) (offset : ℕ) (xs : Vec Edit Global) where
-  pub inlines_one : (how : Inlining) (ys : Vec Edit Global) → InlinesIn how unit text offset xs → InlinesIn how unit text offset ys → replacements xs.items ≡ replacements ys.items
-  inlines_one Here ys h k =
+  -- by the bytes of their texts too
+  pub inlines_parts : (how : Inlining) (ys : Vec Edit Global) → InlinesIn how unit text offset xs → InlinesIn how unit text offset ys → map parts xs.items ≡ map parts ys.items
+  inlines_parts Here ys h k =
       here_one (same_module (utf8 text) h.module_read k.module_read h.read.scan h.read.parsed k.read.scan k.read.parsed) k.read.parsed unit text offset xs ys h.inlines k.inlines
-  inlines_one Everywhere ys h k =
+  inlines_parts Everywhere ys h k =
       everywhere_one (same_module (utf8 text) h.module_read k.module_read h.read.scan h.read.parsed k.read.scan k.read.parsed) unit text offset xs ys h.inlines k.inlines
+
+  pub inlines_one : (how : Inlining) (ys : Vec Edit Global) → InlinesIn how unit text offset xs → InlinesIn how unit text offset ys → replacements xs.items ≡ replacements ys.items
+  inlines_one how ys h k = same_parts xs.items ys.items (inlines_parts how ys h k)
 
   pub inlines_or_refused : (how : Inlining) → InlinesIn how unit text offset xs → IsNotInlinedIn how unit text offset → ⊥
   inlines_or_refused Here h k =

@@ -46,8 +46,12 @@ module _ (text : List ℕ) (m n : IsWellTypedModule (utf8 text)) where
   one_change : (unit : Unit) (indent : Indent) → changes_of unit indent text m ≡ changes_of unit indent text n
   one_change unit indent = λ i. map (edit_of indent (width_of unit) text) (changed_sites indent (one_source i).text (all_sites (line_roles 0 (one_module i)) (one_lexing i)))
 
+-- by the bytes of their texts too
+pub lays_out_said : (unit : Unit) (indent : Indent) (text : List ℕ) (xs ys : List Edit) → LaysOut unit indent text xs → LaysOut unit indent text ys → map said xs ≡ map said ys
+lays_out_said unit indent text xs ys h k = h.changes ∙ (one_change text h.before k.before unit indent ∙ sym k.changes)
+
 pub lays_out_one : (unit : Unit) (indent : Indent) (text : List ℕ) (xs ys : List Edit) → LaysOut unit indent text xs → LaysOut unit indent text ys → replacements xs ≡ replacements ys
-lays_out_one unit indent text xs ys h k = same_said xs ys (h.changes ∙ (one_change text h.before k.before unit indent ∙ sym k.changes))
+lays_out_one unit indent text xs ys h k = same_said xs ys (lays_out_said unit indent text xs ys h k)
 
 -- a text that has a module is short enough
 short_enough : (text : List ℕ) (tree : Tree Name module_text) → IsTextOf tree text → length text ≤ max_text

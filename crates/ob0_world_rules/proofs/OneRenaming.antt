@@ -1,10 +1,12 @@
 -- Another name is written in one way: the edits are one list, and there are none where the name is refused.
 use Rattle.std.proofs.Common.{◌≡◌, ◌∙◌, ℕ, ◌<◌, ◌≤◌, Bool, true, false, Some, None, List, [], map, length, refl, sym, ap, arith, subst, inl, inr, if◌then◌else◌}
-use Rattle.std.specs.Prelude.{◌⊎◌}
+use Rattle.std.specs.Prelude.{◌⊎◌, option_and_then, option_map, slice_get}
 use Rattle.std.specs.List.{filter}
+use Rattle.ob0_scan.specs.Classes.{IsIdentifier}
 use Rattle.ob0_scan.specs.Scanned.{Scanned, max_text}
 use Rattle.ob0_text.specs.declared.edits.Edit.{Edit}
 use Rattle.ob0_text.specs.declared.positions.Position.{Position}
+use Rattle.ob0_text.specs.declared.positions.Range.{Range}
 use Rattle.ob0_text.specs.declared.positions.Unit.{Unit}
 use Rattle.ob0_text.specs.declared.refusals.EditRefusal.{EditRefusal}
 use Rattle.ob0_text.specs.declared.refusals.EditRefusal.TheVariants as refusal
@@ -12,19 +14,22 @@ use Rattle.ob0_text.specs.Texts.{offset_of}
 use Rattle.ob0_text.specs.Units.{width_of}
 use Rattle.ob0_tree.specs.declared.tree.Role.TheVariants as role
 use Rattle.ob0_tree.specs.Parsed.{named_tree_of}
-use Rattle.ob0_tree.specs.Places.{text_at}
-use Rattle.ob0_tree.specs.Tree.{Tree, identifiers, module_text}
-use Rattle.ob0_edits.specs.Replaced.{edit_at, with_text_at}
+use Rattle.ob0_tree.specs.Places.{named, text_at}
+use Rattle.ob0_tree.specs.Tree.{Tree, identifiers, module_text, occurrences}
+use Rattle.ob0_edits.specs.Replaced.{edit_at, parts, with_text_at}
 use Rattle.ob0_scope_rules.specs.Names.{Name, same_name}
-use Rattle.ob0_scope_rules.specs.Occurrences.{Capture, Free, at_declaration, first_captured}
-use Rattle.ob0_scope_rules.specs.Resolution.{Resolution, declaring_only, token_declaring}
+use Rattle.ob0_scope_rules.specs.Occurrences.{Capture, Free, at_declaration, at_occurrence, first_captured}
+use Rattle.ob0_scope_rules.specs.Parts.{module_block}
+use Rattle.ob0_scope_rules.specs.Resolution.{Resolution, declaring_only, span_at, token_declaring}
 use Rattle.ob0_scope.proofs.FirstCaptures.{captured_where_not_free-holds}
+use Rattle.ob0_scope.specs.Renames.{namesake}
 use Rattle.ob0_scope.specs.Standing.{refers}
+use Rattle.ob0_edits.specs.Ranges.{range_of}
 use Rattle.ob0_rename_laws.specs.Renaming.{is_duplicate_field}
-use Rattle.ob0_types_fields.specs.Identifiers.{field_identifiers, field_on, tokens_among}
+use Rattle.ob0_types_fields.specs.Identifiers.{declared_in, field_identifiers, field_on, first, tokens_among}
 use Rattle.ob0_session_offers.specs.Analysed.{IsModuleIn}
 use Rattle.ob0_session_offers.specs.Texts.{utf8}
-use Rattle.ob0_rename.specs.Renaming.{Meant, Renaming, declaration, field_of, field_tokens_renamed, meant, meant_by, nothing, predeclared, text_with, tokens_renamed}
+use Rattle.ob0_rename.specs.Renaming.{Meant, Renaming, declaration, field_of, field_tokens_renamed, meant, meant_by, nothing, occurrence_range, other_field_range, other_range, predeclared, text_with, tokens_renamed}
 use Rattle.ob0_rename.specs.Answers.{AreEdits, IsRefused, IsRefusedTo, IsRefusedToField, IsRefusedToNamed, Renames, RenamesField, Writes}
 use Rattle.ob0_rename.specs.InTexts.{IsRefusedIn, RenamesIn, renaming_of}
 use Rattle.ob0_world_rules.specs.Edited.{replacements}
@@ -37,6 +42,70 @@ is_declared_in s t d new = elim (token_declaring (declaring_only (identifiers ro
 
 abbrev tokens_in : Scanned → Tree ℕ module_text → ℕ → Name → List ℕ
 tokens_in s t d new = if is_declared_in s t d new then [] else map (λ x. x.0.1) (filter (refers true d) (standing_of s t))
+
+-- ---- the refusals, by what they say
+
+module _ (unit : Unit) (text : List ℕ) (place : Position) (new : Name) (names : Resolution) where
+  abbrev of_names : Renaming
+  of_names = renaming_of unit text names place new
+
+  abbrev here : Tree Name module_text
+  here = named_tree_of names.module_read
+
+  abbrev IsBadName : EditRefusal → Type 0
+  IsBadName why = ¬ IsIdentifier new × (why ≡ refusal.BadName)
+
+  abbrev IsTwice : ℕ → EditRefusal → Type 0
+  IsTwice d why = (range : Range) × (first_captured here d new ≡ Some at_declaration) × (other_range of_names d ≡ Some range) × (why ≡ refusal.Duplicate range)
+
+  abbrev IsCaptured : ℕ → EditRefusal → Type 0
+  IsCaptured d why = (k : ℕ) × (range : Range) × (first_captured here d new ≡ Some (at_occurrence k)) × (occurrence_range of_names k ≡ Some range) × (why ≡ refusal.Captures range)
+
+  abbrev IsLong : ℕ → EditRefusal → Type 0
+  IsLong d why = Free here d new × (why ≡ refusal.TooLong)
+
+  declared_view : (d : ℕ) (why : EditRefusal) → IsRefusedTo of_names d why → IsBadName why ⊎ (IsIdentifier new × (IsTwice d why ⊎ (IsCaptured d why ⊎ IsLong d why)))
+  declared_view d refusal.NoName h = absurd h
+  declared_view d refusal.Predeclared h = absurd h
+  declared_view d refusal.BadName h = inl (h, refl)
+  declared_view d (refusal.Duplicate range) h = inr (h.0, inl (range, h.1, h.2, refl))
+  declared_view d (refusal.Captures range) h = inr (h.0, inr (inl (h.1.0, range, h.1.1, h.1.2, refl)))
+  declared_view d refusal.TooLong h = inr (h.0, inr (inr (h.1, refl)))
+  declared_view d refusal.TooDeep h = absurd h
+  declared_view d refusal.Shadowed h = absurd h
+  declared_view d refusal.CommentInside h = absurd h
+  declared_view d refusal.Memory h = absurd h
+
+  abbrev IsTwiceField : ℕ → Name → EditRefusal → Type 0
+  IsTwiceField k f why = (range : Range) × (is_duplicate_field here k f new ≡ true) × (other_field_range of_names k ≡ Some range) × (why ≡ refusal.Duplicate range)
+
+  abbrev IsLongField : ℕ → Name → EditRefusal → Type 0
+  IsLongField k f why = (is_duplicate_field here k f new ≡ false) × (why ≡ refusal.TooLong)
+
+  field_view : (k : ℕ) (f : Name) (why : EditRefusal) → IsRefusedToField of_names k f why → IsBadName why ⊎ (IsIdentifier new × (IsTwiceField k f why ⊎ IsLongField k f why))
+  field_view k f refusal.NoName h = absurd h
+  field_view k f refusal.Predeclared h = absurd h
+  field_view k f refusal.BadName h = inl (h, refl)
+  field_view k f (refusal.Duplicate range) h = inr (h.0, inl (range, h.1, h.2, refl))
+  field_view k f (refusal.Captures range) h = absurd h
+  field_view k f refusal.TooLong h = inr (h.0, inr (h.1, refl))
+  field_view k f refusal.TooDeep h = absurd h
+  field_view k f refusal.Shadowed h = absurd h
+  field_view k f refusal.CommentInside h = absurd h
+  field_view k f refusal.Memory h = absurd h
+
+  refused_view : (why : EditRefusal) → IsRefused of_names why
+      → ((meant of_names ≡ nothing) × (why ≡ refusal.NoName)) ⊎ (((meant of_names ≡ predeclared) × (why ≡ refusal.Predeclared)) ⊎ IsRefusedToNamed of_names why)
+  refused_view refusal.NoName h = inl (h, refl)
+  refused_view refusal.Predeclared h = inr (inl (h, refl))
+  refused_view refusal.BadName h = inr (inr h)
+  refused_view (refusal.Duplicate range) h = inr (inr h)
+  refused_view (refusal.Captures range) h = inr (inr h)
+  refused_view refusal.TooLong h = inr (inr h)
+  refused_view refusal.TooDeep h = absurd h
+  refused_view refusal.Shadowed h = absurd h
+  refused_view refusal.CommentInside h = absurd h
+  refused_view refusal.Memory h = absurd h
 
 module _ (unit : Unit) (text : List ℕ) (place : Position) (new : Name) (names others : Resolution) (read : IsModuleIn (utf8 text) names) (again : IsModuleIn (utf8 text) others) where
   abbrev r : Renaming
@@ -67,9 +136,9 @@ module _ (unit : Unit) (text : List ℕ) (place : Position) (new : Name) (names 
   one_text xs ys same = λ i. with_text_at (e.source i) (same i) new
 
   -- edits that write the new name at tokens
-  one_writing : (xs ys : List ℕ) (t u : Tree Name module_text) (es fs : List Edit) → xs ≡ ys → Writes r xs t es → Writes q ys u fs → replacements es ≡ replacements fs
+  one_writing : (xs ys : List ℕ) (t u : Tree Name module_text) (es fs : List Edit) → xs ≡ ys → Writes r xs t es → Writes q ys u fs → map parts es ≡ map parts fs
   one_writing xs ys t u es fs same h k =
-      same_parts es fs (h.changes ∙ ((λ i. map (edit_at unit text ((e.source i).tokens) new) (same i)) ∙ sym k.changes))
+      h.changes ∙ ((λ i. map (edit_at unit text ((e.source i).tokens) new) (same i)) ∙ sym k.changes)
 
   one_declaration : {c d : ℕ} → declaration c ≡ declaration d → c ≡ d
   one_declaration h = cc
@@ -80,7 +149,7 @@ module _ (unit : Unit) (text : List ℕ) (place : Position) (new : Name) (names 
   one_field : {k l : ℕ} {f g : Name} → field_of k f ≡ field_of l g → f ≡ g
   one_field h = cc
 
-  edits_one : (es fs : List Edit) → AreEdits r es → AreEdits q fs → replacements es ≡ replacements fs
+  edits_one : (es fs : List Edit) → AreEdits r es → AreEdits q fs → map parts es ≡ map parts fs
   edits_one es fs (inl (c, means, h)) (inl (d, also, k)) =
       let same : c ≡ d = one_declaration (sym means ∙ (one_meaning ∙ also)) in
       one_writing _ _ _ _ es fs (one_place_list c ∙ ap (λ x. tokens_renamed others.module_read x new) same) h.writes k.writes
@@ -156,10 +225,126 @@ module _ (unit : Unit) (text : List ℕ) (place : Position) (new : Name) (names 
   edits_or_refused es refusal.CommentInside h bad = bad
   edits_or_refused es refusal.Memory h bad = bad
 
+  -- ---- one refusal
+
+  same_other : (d : ℕ) → other_range r d ≡ other_range q d
+  same_other d = λ i.
+      option_map (λ token. range_of (width_of unit) text (span_at (e.source i) token))
+      (option_and_then (token_declaring (declaring_only (identifiers role.Declaring (e.tree i)))) (namesake (named (e.source i) (e.tree i)) d new))
+
+  same_occurrence : (k : ℕ) → occurrence_range r k ≡ occurrence_range q k
+  same_occurrence k = λ i. option_map (λ token. range_of (width_of unit) text (span_at (e.source i) token)) (slice_get (occurrences (e.tree i)) k)
+
+  same_other_field : (k : ℕ) → other_field_range r k ≡ other_field_range q k
+  same_other_field k = λ i.
+      option_map (λ token. range_of (width_of unit) text (span_at (e.source i) token)) (first (tokens_among (e.source i) k new (declared_in 0 (module_block (e.tree i)))))
+
+  same_captured : (d : ℕ) → first_captured (named_tree_of names.module_read) d new ≡ first_captured (named_tree_of others.module_read) d new
+  same_captured d = ap (λ t. first_captured t d new) one_tree
+
+  one_range : {x y : Range} → Some x ≡ Some y → x ≡ y
+  one_range h = cc
+
+  one_index : {k l : ℕ} → Some (at_occurrence k) ≡ Some (at_occurrence l) → k ≡ l
+  one_index h = cc
+
+  not_both : (k : ℕ) → Some at_declaration ≡ Some (at_occurrence k) → ⊥
+  not_both k h = cc
+
+  not_free : (d : ℕ) (x : Capture) → first_captured (named_tree_of others.module_read) d new ≡ Some x → Free (named_tree_of others.module_read) d new → ⊥
+  not_free d x captured free = let both : None ≡ Some x = sym ((captured_where_not_free-holds (named_tree_of others.module_read) d new).1 free) ∙ captured in cc
+
+  declared_refusal : (d : ℕ) (why other : EditRefusal) → IsRefusedTo r d why → IsRefusedTo q d other → why ≡ other
+  declared_refusal d why other h k = go (declared_view unit text place new names d why h) (declared_view unit text place new others d other k)
+    where
+      go : IsBadName unit text place new names why ⊎ (IsIdentifier new × (IsTwice unit text place new names d why ⊎ (IsCaptured unit text place new names d why ⊎ IsLong unit text place new names d why)))
+          → IsBadName unit text place new others other ⊎ (IsIdentifier new × (IsTwice unit text place new others d other ⊎ (IsCaptured unit text place new others d other ⊎ IsLong unit text place new others d other)))
+          → why ≡ other
+      go (inl (bad, is)) (inl (also, too)) = is ∙ sym too
+      go (inl (bad, is)) (inr (good, more)) = absurd (bad good)
+      go (inr (good, more)) (inl (bad, is)) = absurd (bad good)
+      go (inr (good, inl (x, twice, at, is))) (inr (fine, inl (y, also, there, too))) = is ∙ ap refusal.Duplicate (one_range (sym at ∙ same_other d ∙ there)) ∙ sym too
+      go (inr (good, inl (x, twice, at, is))) (inr (fine, inr (inl (n, y, also, there, too)))) = absurd (not_both n (sym twice ∙ same_captured d ∙ also))
+      go (inr (good, inl (x, twice, at, is))) (inr (fine, inr (inr (free, too)))) = absurd (not_free d at_declaration (sym (same_captured d) ∙ twice) free)
+      go (inr (good, inr (inl (n, x, captured, at, is)))) (inr (fine, inl (y, also, there, too))) = absurd (not_both n (sym also ∙ sym (same_captured d) ∙ captured))
+      go (inr (good, inr (inl (n, x, captured, at, is)))) (inr (fine, inr (inl (l, y, also, there, too)))) =
+          let index : n ≡ l = one_index (sym captured ∙ same_captured d ∙ also) in
+          is ∙ ap refusal.Captures (one_range (sym at ∙ same_occurrence n ∙ ap (occurrence_range q) index ∙ there)) ∙ sym too
+      go (inr (good, inr (inl (n, x, captured, at, is)))) (inr (fine, inr (inr (free, too)))) = absurd (not_free d (at_occurrence n) (sym (same_captured d) ∙ captured) free)
+      go (inr (good, inr (inr (free, is)))) (inr (fine, inl (y, also, there, too))) = absurd (not_captured d at_declaration free also)
+      go (inr (good, inr (inr (free, is)))) (inr (fine, inr (inl (n, y, also, there, too)))) = absurd (not_captured d (at_occurrence n) free also)
+      go (inr (good, inr (inr (free, is)))) (inr (fine, inr (inr (free_too, too)))) = is ∙ sym too
+
+  field_refusal : (k : ℕ) (f : Name) (why other : EditRefusal) → IsRefusedToField r k f why → IsRefusedToField q k f other → why ≡ other
+  field_refusal k f why other h l = go (field_view unit text place new names k f why h) (field_view unit text place new others k f other l)
+    where
+      same_duplicate : is_duplicate_field (named_tree_of names.module_read) k f new ≡ is_duplicate_field (named_tree_of others.module_read) k f new
+      same_duplicate = ap (λ t. is_duplicate_field t k f new) one_tree
+
+      apart : {A : Type 0} → true ≡ false → A
+      apart h = absurd (cc)
+
+      go : IsBadName unit text place new names why ⊎ (IsIdentifier new × (IsTwiceField unit text place new names k f why ⊎ IsLongField unit text place new names k f why))
+          → IsBadName unit text place new others other ⊎ (IsIdentifier new × (IsTwiceField unit text place new others k f other ⊎ IsLongField unit text place new others k f other)) → why ≡ other
+      go (inl (bad, is)) (inl (also, too)) = is ∙ sym too
+      go (inl (bad, is)) (inr (good, more)) = absurd (bad good)
+      go (inr (good, more)) (inl (bad, is)) = absurd (bad good)
+      go (inr (good, inl (x, twice, at, is))) (inr (fine, inl (y, also, there, too))) = is ∙ ap refusal.Duplicate (one_range (sym at ∙ same_other_field k ∙ there)) ∙ sym too
+      go (inr (good, inl (x, twice, at, is))) (inr (fine, inr (free, too))) = apart (sym twice ∙ same_duplicate ∙ free)
+      go (inr (good, inr (free, is))) (inr (fine, inl (y, also, there, too))) = apart (sym also ∙ sym same_duplicate ∙ free)
+      go (inr (good, inr (free, is))) (inr (fine, inr (free_too, too))) = is ∙ sym too
+
+  named_refusal : (why other : EditRefusal) → IsRefusedToNamed r why → IsRefusedToNamed q other → why ≡ other
+  named_refusal why other (inl (c, means, h)) (inl (d, also, k)) =
+      let same : c ≡ d = one_declaration (sym means ∙ (one_meaning ∙ also)) in
+      declared_refusal c why other h (subst (λ x. IsRefusedTo q x other) (sym same) k)
+  named_refusal why other (inl (c, means, h)) (inr (l, (g, also, k))) = let both : declaration c ≡ field_of l g = sym means ∙ (one_meaning ∙ also) in absurd (cc)
+  named_refusal why other (inr (l, (g, means, h))) (inl (d, also, k)) = let both : field_of l g ≡ declaration d = sym means ∙ (one_meaning ∙ also) in absurd (cc)
+  named_refusal why other (inr (l, (g, means, h))) (inr (l₂, (g₂, also, k))) =
+      let both : field_of l g ≡ field_of l₂ g₂ = sym means ∙ (one_meaning ∙ also) in
+      field_refusal l g why other h (subst (λ x. IsRefusedToField q l x other) (sym (one_field both)) (subst (λ x. IsRefusedToField q x g₂ other) (sym (one_record both)) k))
+
+  unnamed : {A : Type 0} (why : EditRefusal) (m : Meant) → IsRefusedToNamed q why → meant r ≡ m → (m ≡ nothing) ⊎ (m ≡ predeclared) → A
+  unnamed why m (inl (d, also, k)) is (inl none) = let both : declaration d ≡ nothing = sym also ∙ (sym one_meaning ∙ (is ∙ none)) in absurd (cc)
+  unnamed why m (inl (d, also, k)) is (inr none) = let both : declaration d ≡ predeclared = sym also ∙ (sym one_meaning ∙ (is ∙ none)) in absurd (cc)
+  unnamed why m (inr (l, (g, also, k))) is (inl none) = let both : field_of l g ≡ nothing = sym also ∙ (sym one_meaning ∙ (is ∙ none)) in absurd (cc)
+  unnamed why m (inr (l, (g, also, k))) is (inr none) = let both : field_of l g ≡ predeclared = sym also ∙ (sym one_meaning ∙ (is ∙ none)) in absurd (cc)
+
+  unnamed_too : {A : Type 0} (why : EditRefusal) (m : Meant) → IsRefusedToNamed r why → meant q ≡ m → (m ≡ nothing) ⊎ (m ≡ predeclared) → A
+  unnamed_too why m (inl (d, means, k)) is (inl none) = let both : declaration d ≡ nothing = sym means ∙ (one_meaning ∙ (is ∙ none)) in absurd (cc)
+  unnamed_too why m (inl (d, means, k)) is (inr none) = let both : declaration d ≡ predeclared = sym means ∙ (one_meaning ∙ (is ∙ none)) in absurd (cc)
+  unnamed_too why m (inr (l, (g, means, k))) is (inl none) = let both : field_of l g ≡ nothing = sym means ∙ (one_meaning ∙ (is ∙ none)) in absurd (cc)
+  unnamed_too why m (inr (l, (g, means, k))) is (inr none) = let both : field_of l g ≡ predeclared = sym means ∙ (one_meaning ∙ (is ∙ none)) in absurd (cc)
+
+  one_refusal : (why other : EditRefusal) → IsRefused r why → IsRefused q other → why ≡ other
+  one_refusal why other h k = go (refused_view unit text place new names why h) (refused_view unit text place new others other k)
+    where
+      apart : {A : Type 0} → nothing ≡ predeclared → A
+      apart h = absurd (cc)
+
+      go : ((meant r ≡ nothing) × (why ≡ refusal.NoName)) ⊎ (((meant r ≡ predeclared) × (why ≡ refusal.Predeclared)) ⊎ IsRefusedToNamed r why)
+          → ((meant q ≡ nothing) × (other ≡ refusal.NoName)) ⊎ (((meant q ≡ predeclared) × (other ≡ refusal.Predeclared)) ⊎ IsRefusedToNamed q other) → why ≡ other
+      go (inl (none, is)) (inl (nor, too)) = is ∙ sym too
+      go (inl (none, is)) (inr (inl (before, too))) = apart (sym none ∙ (one_meaning ∙ before))
+      go (inl (none, is)) (inr (inr b)) = unnamed other nothing b none (inl refl)
+      go (inr (inl (before, is))) (inl (none, too)) = apart (sym none ∙ (sym one_meaning ∙ before))
+      go (inr (inl (before, is))) (inr (inl (also, too))) = is ∙ sym too
+      go (inr (inl (before, is))) (inr (inr b)) = unnamed other predeclared b before (inr refl)
+      go (inr (inr a)) (inl (none, too)) = unnamed_too why nothing a none (inl refl)
+      go (inr (inr a)) (inr (inl (before, too))) = unnamed_too why predeclared a before (inr refl)
+      go (inr (inr a)) (inr (inr b)) = named_refusal why other a b
+
 -- ---- in a text
 
+-- by the bytes of their texts too
+pub renames_parts : (unit : Unit) (text : List ℕ) (place : Position) (new : Name) (es fs : List Edit) → RenamesIn unit text place new es → RenamesIn unit text place new fs → map parts es ≡ map parts fs
+renames_parts unit text place new es fs h k = edits_one unit text place new h.names k.names h.read k.read es fs h.are_edits k.are_edits
+
 pub renames_one : (unit : Unit) (text : List ℕ) (place : Position) (new : Name) (es fs : List Edit) → RenamesIn unit text place new es → RenamesIn unit text place new fs → replacements es ≡ replacements fs
-renames_one unit text place new es fs h k = edits_one unit text place new h.names k.names h.read k.read es fs h.are_edits k.are_edits
+renames_one unit text place new es fs h k = same_parts es fs (renames_parts unit text place new es fs h k)
 
 pub renames_or_refused : (unit : Unit) (text : List ℕ) (place : Position) (new : Name) (es : List Edit) (why : EditRefusal) → RenamesIn unit text place new es → IsRefusedIn unit text place new why → ⊥
 renames_or_refused unit text place new es why h k = edits_or_refused unit text place new h.names k.names h.read k.read es why h.are_edits k.refused
+
+pub refuses_one : (unit : Unit) (text : List ℕ) (place : Position) (new : Name) (why other : EditRefusal) → IsRefusedIn unit text place new why → IsRefusedIn unit text place new other → why ≡ other
+refuses_one unit text place new why other h k = one_refusal unit text place new h.names k.names h.read k.read why other h.refused k.refused

@@ -5,10 +5,12 @@ use Rattle.ob0_scan.proofs.Spans.{one_scan}
 use Rattle.ob0_tree.specs.Module.{ModuleOf}
 use Rattle.ob0_tree.specs.Tree.{Tree, module_text, spell}
 use Rattle.ob0_scope_rules.specs.Names.{Name}
+use Rattle.ob0_run_rules.specs.EditLaws.{SameRuns}
 use Rattle.ob0_parse.proofs.Unique.{same}
-use Rattle.ob0_session_offers.specs.Diagnosed.{IsTextOf, IsWellTypedModule}
+use Rattle.ob0_session_offers.specs.Diagnosed.{IsTextOf}
+use Rattle.ob0_session_offers.specs.RunsKept.{RunsAsBefore}
 use Rattle.ob0_session_offers.specs.Texts.{utf8}
-use Rattle.ob0_world_rules.specs.Language.{IsTheTree, WellTypedText}
+use Rattle.ob0_world_rules.specs.Language.{SameRun}
 
 pub one_tree : (s : Scanned) (a b : Tree Name module_text) → ModuleOf s a → ModuleOf s b → a ≡ b
 one_tree s a b p q = (same a b [] [] tt tt (append-nil (spell a) ∙ (sym p.spelled ∙ (q.spelled ∙ sym (append-nil (spell b)))))).0
@@ -18,12 +20,7 @@ same_tree text a b p q =
     let scans : p.scanned ≡ q.scanned = one_scan p.scanned q.scanned p.scan.scan q.scan.scan (p.scan.of ∙ sym q.scan.of) in
     one_tree q.scanned a b (subst (λ s. ModuleOf s a) scans p.module_of) q.module_of
 
-pub the_tree : (text : List ℕ) (tree : Tree Name module_text) → IsTextOf tree (utf8 text) → IsTheTree tree text
-the_tree text tree is = record { is = is; only = λ other is_too. same_tree (utf8 text) other tree is_too is }
-
--- a text is well-typed where it is a well-typed module, by whichever tree
-pub fits : (text : List ℕ) → IsWellTypedModule (utf8 text) → WellTypedText text
-fits text m = record { tree = m.tree; tree_of = the_tree text m.tree m.text_of; well_typed = m.well_typed }
-
-pub module_of : (text : List ℕ) → WellTypedText text → IsWellTypedModule (utf8 text)
-module_of text m = record { tree = m.tree; text_of = m.tree_of.is; well_typed = m.well_typed }
+pub same_run : (text after : List ℕ) → RunsAsBefore (utf8 text) (utf8 after) → SameRun text after
+same_run text after runs s t is also =
+    subst (λ x. SameRuns x t) (same_tree (utf8 text) runs.old.tree s runs.old.text_of is)
+    (subst (λ x. SameRuns runs.old.tree x) (same_tree (utf8 after) runs.new.tree t runs.new.text_of also) (λ input c n. sym (runs.same input c n)))

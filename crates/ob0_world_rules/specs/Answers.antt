@@ -1,5 +1,4 @@
--- What is answered to what an editor asks for.
--- Rule: docs/PROTOCOL.md, Requests on documents 6 to 10.
+-- The answer to each request of an editor.
 use Rattle.std.specs.Prelude.{◌≡◌, ◌⊎◌, ℕ, List, [], Bool, Option, Some, None, IsTrue, ◌↔◌, Vec}
 use Rattle.std.specs.declared.alloc.Global.{Global}
 use Rattle.ob0_text.specs.declared.positions.Position.{Position}
@@ -18,40 +17,40 @@ use Rattle.ob0_world_rules.specs.Language.{WellTypedText}
 use Rattle.ob0_world_rules.specs.Edited.{Replacement, replacements}
 use Rattle.ob0_world_rules.specs.Asks.{Ask, rename, inline_here, inline_all, format, indent_read}
 
--- the place in bytes at which a position stands
+-- the place of a position, in bytes
 abbrev pub place_at : Unit → List ℕ → Position → ℕ
 place_at unit text position = offset_of (width_of unit) text position
 
--- these edits inline, here or everywhere, what is named at a position
+-- these edits inline the constant that is named at a position, here or everywhere
 abbrev pub InlinesAt : Inlining → Unit → List ℕ → Position → List Edit → Type 0
 InlinesAt how unit text position edits = (found : Vec Edit Global) × InlinesIn how unit text (place_at unit text position) found × (edits ≡ found.items)
 
--- These edits are what was asked for: they write the new name, inline here or everywhere, or lay out the text.
+-- These edits are the ones requested: they write the new name, inline here or everywhere, or format the text.
 abbrev pub HandsOut : Unit → List ℕ → Ask → List Edit → Type 0
 HandsOut unit text (rename position name) edits = RenamesIn unit text position name edits
 HandsOut unit text (inline_here position) edits = InlinesAt Here unit text position edits
 HandsOut unit text (inline_all position) edits = InlinesAt Everywhere unit text position edits
 HandsOut unit text (format indent) edits = LaysOut unit (indent_read indent) text edits
 
--- there are none, for a reason: the one refusal of the new name, or of the inlining that was asked for, or a layout that is too long
+-- there are none, for a reason: the new name is refused, or the inlining, or the layout is too long
 abbrev pub Refuses : Unit → List ℕ → Ask → Type 0
 Refuses unit text (rename position name) = (refusal : EditRefusal) × IsRefusedIn unit text position name refusal
 Refuses unit text (inline_here position) = IsNotInlinedIn Here unit text (place_at unit text position)
 Refuses unit text (inline_all position) = IsNotInlinedIn Everywhere unit text (place_at unit text position)
 Refuses unit text (format indent) = IsTooLongLaidOut (indent_read indent) text
 
--- what is answered about a text: the edits that were asked for; none where they are refused, or it is no well-typed module
+-- the answer about a text: the requested edits; none when they are refused, or the text isn't a well-typed module
 abbrev pub AnswersFor : Unit → List ℕ → Ask → List Replacement → Type 0
 AnswersFor unit text ask given =
     ((edits : List Edit) × HandsOut unit text ask edits × (given ≡ replacements edits))
     ⊎ ((Refuses unit text ask ⊎ ¬ WellTypedText text) × (given ≡ []))
 
--- what is answered about a document: nothing, where it isn't held or is out of step
+-- the answer about a document: no edits when it isn't open, or is out of step
 abbrev pub IsAnswer : Unit → Option Document → Ask → List Replacement → Type 0
 IsAnswer unit (Some (InStep version text)) ask given = AnswersFor unit text ask given
 IsAnswer unit (Some OutOfStep) ask given = given ≡ []
 IsAnswer unit None ask given = given ≡ []
 
--- a list of diagnostics is empty exactly where the text is well-typed
-abbrev pub TellsOf : List ℕ → Bool → Type 0
-TellsOf text empty = IsTrue empty ↔ WellTypedText text
+-- a list of diagnostics of the text: it is empty exactly when the text is a well-typed module
+abbrev pub IsEmptyIfCorrect : List ℕ → Bool → Type 0
+IsEmptyIfCorrect text empty = IsTrue empty ↔ WellTypedText text

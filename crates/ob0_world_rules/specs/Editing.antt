@@ -82,14 +82,14 @@ without_answer e k = record e { answers = all_but k e.answers }
 -- what becomes of an answer that is to be applied or dropped
 pub data Outcome : Type 0 where
   not_held : Outcome
-  -- the editor lets it go
-  lets_go : Editor → Outcome
+  -- the editor drops it
+  drops_answer : Editor → Outcome
   -- the editor makes the edits, and sends the whole text
   makes : Editor → Applied → ToServer → Outcome
 
 -- an answer is dropped
 abbrev pub discards : Editor → ℕ → Option (List Replacement) → Outcome
-discards e k (Some edits) = lets_go (without_answer e k)
+discards e k (Some edits) = drops_answer (without_answer e k)
 discards e k None = not_held
 
 -- the document, where it is the same opening with the same version as when it was asked about
@@ -102,17 +102,17 @@ abbrev pub applies_text : Editor → List ℕ → Open → Option (List ℕ) →
 applies_text e uri d (Some text) =
     makes (rewrites e uri d text) (record { uri = uri; before = d.text; after = text })
     (tells (Changed uri (pos (d.version + 1)) (whole_text text ∷ [])))
-applies_text e uri d None = lets_go e
+applies_text e uri d None = drops_answer e
 
 -- edits are applied to an open document
 abbrev pub applies_edits : Editor → List Replacement → List ℕ → Option Open → Outcome
 applies_edits e edits uri (Some d) = applies_text e uri d (edited e.unit d.text edits)
-applies_edits e edits uri None = lets_go e
+applies_edits e edits uri None = drops_answer e
 
 -- edits are applied where the document is as it was when they were requested
 abbrev pub applies_asked : Editor → List Replacement → Option Asked → Outcome
 applies_asked e edits (Some asked) = applies_edits e edits asked.uri (if_same asked (open_at e asked.uri))
-applies_asked e edits None = lets_go e
+applies_asked e edits None = drops_answer e
 
 -- the edits of answer k are made of the document, where that is the same as when it was asked about; else the answer is dropped
 abbrev pub applies_answer : Editor → ℕ → Option (List Replacement) → Outcome

@@ -1,5 +1,4 @@
--- The two ends of a conversation and what stands between them.
--- Rule: LSP 3.17: a model of client and server.
+-- Client and server, and the messages between them.
 use Rattle.std.specs.Prelude.{◌≡◌, ℕ, zero, suc, ℤ, pos, List, [], Bool, Option, None, option_map, slice_get, fold}
 use Rattle.std.specs.Ordering.{nat_cmp}
 use Rattle.std.specs.Cmp.Lexicographic.{slice_cmp}
@@ -72,7 +71,7 @@ pub data ToEditor : Type 0 where
   -- the ask's number and the edits; a refusal has none
   answers : ℕ → List Replacement → ToEditor
 
--- ---- what has come of it so far
+-- ---- what has come of the events so far
 
 -- an edit that the editor applied
 pub record Applied : Type 0 where
@@ -99,7 +98,7 @@ pub record Ends : Type 0 where
   pub applied : List Applied
   pub made : List Made
 
--- nothing was opened yet, and both ends count positions in this unit
+-- nothing was opened yet, and both count positions in this unit
 abbrev pub start : Unit → Ends
 start unit =
     record {

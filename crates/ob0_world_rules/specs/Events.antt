@@ -1,10 +1,9 @@
--- What may happen at the two ends, what is seen of it, and what the editor's part of it leaves.
--- Rule: LSP 3.17: a model of client and server.
+-- What may happen at client and server, what is seen of it, and what the editor's part of it leaves.
 use Rattle.std.specs.Prelude.{◌≡◌, ℕ, List, [], ◌∷◌, ◌++◌, Bool}
 use Rattle.ob0_text.specs.OpenDocuments.{TextChange}
 use Rattle.ob0_world_rules.specs.Asks.{Ask}
 use Rattle.ob0_world_rules.specs.Ends.{ToEditor, publishes, answers, Ends}
-use Rattle.ob0_world_rules.specs.Editing.{Move, idle, sends, has_edits, keeps, Outcome, not_held, lets_go, makes}
+use Rattle.ob0_world_rules.specs.Editing.{Move, idle, sends, has_edits, keeps, Outcome, not_held, drops_answer, makes}
 
 -- what may happen
 pub data Event : Type 0 where
@@ -57,7 +56,7 @@ takes w (answers number edits ∷ rest) =
 -- what becomes of answer k
 abbrev pub comes_of : Ends → ℕ → Outcome → Step
 comes_of w k not_held = nothing_happens w
-comes_of w k (lets_go e) = record { seen = drops k; after = record w { editor = e } }
+comes_of w k (drops_answer e) = record { seen = drops k; after = record w { editor = e } }
 comes_of w k (makes e applied message) =
     record { seen = applies k; after = record w { editor = e; to_server = w.to_server ++ message ∷ []; applied = w.applied ++ applied ∷ [] } }
 

@@ -1,19 +1,18 @@
--- What each event does to the two ends, and what is seen of it.
--- Rule: LSP 3.17: a model of client and server.
+-- What each event does to client and server, and what is seen of it.
 use Rattle.std.specs.Prelude.{◌≡◌, List, [], ◌∷◌, ◌++◌, length}
 use Rattle.ob0_world_rules.specs.Ends.{open_at, ToServer, ToEditor, Made, Ends, after_message}
 use Rattle.ob0_world_rules.specs.Editing.{opens_document, changes_document, closes_document, asks_about, held_answer, discards, applies_answer}
 use Rattle.ob0_world_rules.specs.Events.{Event, open_document, change_document, close_document, ask_about, serve, take_message, apply, discard, Seen, nothing, served, Is, moved, takes, comes_of}
-use Rattle.ob0_world_rules.specs.Serving.{MaySend}
+use Rattle.ob0_world_rules.specs.Serving.{Replies}
 
--- the server takes the first message that waits for it, and sends all that it answers
+-- the server takes the first message that waits for it, and sends what it replies
 abbrev pub Serves : Ends → List ToServer → Seen → Ends → Type 0
 Serves w [] seen new = (seen ≡ nothing) × (new ≡ w)
 Serves w (message ∷ rest) seen new =
-    (said : List ToEditor) × (made : List Made) × MaySend w.held message said made × (seen ≡ served (length said))
+    (said : List ToEditor) × (made : List Made) × Replies w.held message said made × (seen ≡ served (length said))
     × (new ≡ record w { to_server = rest; held = after_message w.held message; to_editor = w.to_editor ++ said; made = w.made ++ made })
 
--- From the ends w this event may show this, and leave those.
+-- At w this event shows what is seen, and leaves what is new.
 abbrev pub Happens : Ends → Event → Seen → Ends → Type 0
 Happens w (open_document uri text) seen new = Is (moved w (opens_document w.editor uri text (open_at w.editor uri))) seen new
 Happens w (change_document uri how) seen new = Is (moved w (changes_document w.editor uri how (open_at w.editor uri))) seen new
@@ -24,7 +23,7 @@ Happens w take_message seen new = Is (takes w w.to_editor) seen new
 Happens w (apply k) seen new = Is (comes_of w k (applies_answer w.editor k (held_answer k w.editor.answers))) seen new
 Happens w (discard k) seen new = Is (comes_of w k (discards w.editor k (held_answer k w.editor.answers))) seen new
 
--- a run of the two ends: these events, one after another
-abbrev pub Run : Ends → List Event → Ends → Type 0
-Run w [] new = new ≡ w
-Run w (event ∷ events) new = (seen : Seen) × (between : Ends) × Happens w event seen between × Run between events new
+-- these events, one after another, lead from one state to the other
+abbrev pub Course : Ends → List Event → Ends → Type 0
+Course w [] new = new ≡ w
+Course w (event ∷ events) new = (seen : Seen) × (between : Ends) × Happens w event seen between × Course between events new

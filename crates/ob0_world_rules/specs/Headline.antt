@@ -1,38 +1,42 @@
--- What holds after every list of events.
--- Rule: docs/PROMISES.md, the two ends.
-use Rattle.std.specs.Prelude.{◌↔◌, IsTrue, ◌≡◌, ℕ, ℤ, pos, List, [], ◌∷◌, All, Option, Some, None, if◌then◌else◌}
+-- What holds of every list of events: the headline.
+use Rattle.std.specs.Prelude.{◌≡◌, ℕ, ℤ, pos, List, [], ◌∷◌, ◌++◌, All, Option, Some, None, if◌then◌else◌}
 use Rattle.std.specs.Str.{bytes_eq}
 use Rattle.ob0_text.specs.declared.positions.Unit.{Unit}
-use Rattle.ob0_text.specs.declared.edits.Edit.{Edit}
 use Rattle.ob0_world_rules.specs.Language.{WellTypedText, SameRun}
-use Rattle.ob0_world_rules.specs.Edited.{Replacement, replacements, edited}
-use Rattle.ob0_world_rules.specs.Asks.{Ask}
-use Rattle.ob0_world_rules.specs.Answers.{HandsOut}
+use Rattle.ob0_world_rules.specs.Answers.{IsEmptyIfCorrect}
 use Rattle.ob0_world_rules.specs.Ends.{Open, Editor, open_at, Applied, Made, Ends, start, Mirrors}
 use Rattle.ob0_world_rules.specs.Events.{Event}
-use Rattle.ob0_world_rules.specs.Happens.{Run}
+use Rattle.ob0_world_rules.specs.Happens.{Course}
 
--- an edit that leaves of a well-typed module a well-typed module with the same run
+-- ---- an applied edit
+
+-- of a well-typed module it leaves a well-typed module with the same run
 pub record KeepsTheRun (a : Applied) : Type 0 where
   pub before_fits : WellTypedText a.before
   pub after_fits : WellTypedText a.after
   pub same : SameRun a.before a.after
 
--- the edits, at positions of a unit, leave of this text a well-typed module with the same run
-pub record KeepTheRun (unit : Unit) (text : List ℕ) (edits : List Replacement) : Type 0 where
-  pub before_fits : WellTypedText text
-  pub after : List ℕ
-  pub makes : edited unit text edits ≡ Some after
-  pub after_fits : WellTypedText after
-  pub same : SameRun text after
+-- ---- a publication with a version
 
--- whatever is handed out for an ask keeps the run of the text
-abbrev pub EditsKeepTheRun : Type 0
-EditsKeepTheRun = (unit : Unit) (text : List ℕ) (ask : Ask) (edits : List Edit) → HandsOut unit text ask edits → KeepTheRun unit text (replacements edits)
-
--- diagnostics that are empty exactly where the text that they were made for is a well-typed module
+-- its list is empty exactly when the text that it was made for is a well-typed module
 abbrev pub IsRight : Made → Type 0
-IsRight m = IsTrue m.empty ↔ WellTypedText m.text
+IsRight m = IsEmptyIfCorrect m.text m.empty
+
+-- after the first of the events the editor has this document open, with this version and this text
+pub record WasOpen (unit : Unit) (events : List Event) (uri : List ℕ) (version : ℤ) (text : List ℕ) : Type 0 where
+  pub before : List Event
+  pub behind : List Event
+  pub parts : events ≡ before ++ behind
+  pub moment : Ends
+  pub reached : Course (start unit) before moment
+  pub document : Open
+  pub is_open : open_at moment.editor uri ≡ Some document
+  pub version_is : pos document.version ≡ version
+  pub text_is : document.text ≡ text
+
+-- the text that it was made for is one that the editor's document had, at the version that it names
+abbrev pub WasMadeFor : Unit → List Event → Made → Type 0
+WasMadeFor unit events m = WasOpen unit events m.uri m.version m.text
 
 -- the later one, if there is one
 abbrev pub or_else : Option Made → Option Made → Option Made
@@ -44,29 +48,36 @@ abbrev pub latest : List ℕ → List Made → Option Made
 latest uri [] = None
 latest uri (m ∷ ms) = or_else (latest uri ms) (if bytes_eq m.uri uri then Some m else None)
 
--- a publication that was made for this version and this text
+-- there is one, and it was made for this version and this text
 abbrev pub IsMadeFor : ℤ → List ℕ → Option Made → Type 0
 IsMadeFor version text (Some m) = (m.version ≡ version) × (m.text ≡ text)
 IsMadeFor version text None = ⊥
 
--- the last publication for each document of the editor was made for its present version and text
+-- the last publication for each open document was made for its present version and text
 abbrev pub AreUpToDate : Editor → List Made → Type 0
 AreUpToDate e made = (uri : List ℕ) (d : Open) → open_at e uri ≡ Some d → IsMadeFor (pos d.version) d.text (latest uri made)
 
--- the last publication of each open document is of its present text
-abbrev pub IsUpToDate : Ends → Type 0
-IsUpToDate w = AreUpToDate w.editor w.made
+-- ---- the headline
 
--- In every interleaving of the editor and the server each edit that the editor applies leaves of a well-typed document
--- a well-typed module with the same run; diagnostics are empty exactly where the text they were made for is well-typed;
--- the server holds, once it has taken what waits for it, the editor's documents; and where nothing waits for it,
--- the latest diagnostics of an open document are those of its present text and version.
+-- What holds after each event.
 pub record Holds (w : Ends) : Type 0 where
+  -- each applied edit keeps the run
   pub applied : All KeepsTheRun w.applied
+  -- diagnostics are empty exactly when the text that they were made for is a well-typed module
   pub made : All IsRight w.made
+  -- the server's documents, once it has taken all messages that wait for it, are the editor's
   pub mirror : Mirrors w
-  pub latest_made : w.to_server ≡ [] → IsUpToDate w
+  -- when no message waits for it, the latest diagnostics of each open document are those of its present text
+  pub latest_made : w.to_server ≡ [] → AreUpToDate w.editor w.made
 
--- what holds after every list of events
-abbrev pub InEveryInterleaving : Type 0
-InEveryInterleaving = (unit : Unit) (events : List Event) (w : Ends) → Run (start unit) events w → Holds w
+-- What a list of events leaves, from the beginning on: these edits were applied and these publications made, in this order.
+pub record Headline (unit : Unit) (events : List Event) (applied : List Applied) (made : List Made) : Type 0 where
+  pub end : Ends
+  -- the events lead to this end, and to no other
+  pub course : Course (start unit) events end
+  pub only : (other : Ends) → Course (start unit) events other → other ≡ end
+  pub applied_are : applied ≡ end.applied
+  pub made_are : made ≡ end.made
+  pub holds : Holds end
+  -- each publication was made for a text that the editor's document had at its version
+  pub made_for : All (WasMadeFor unit events) made

@@ -3,8 +3,8 @@ pub mod Answers
 pub mod Serving
 pub mod Happens
 pub mod Headline
-pub mod OneRun
-pub mod Played
+pub mod Laws
+pub mod MadeInOrder
 pub mod Edited
 pub mod Asks
 pub mod Ends

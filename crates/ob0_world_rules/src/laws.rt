@@ -1,14 +1,13 @@
 //! What holds of the definitions that the contracts cite.
-ghost use Rattle.ob0_world_rules.specs.Headline.{EditsKeepTheRun, InEveryInterleaving};
-ghost use Rattle.ob0_world_rules.specs.OneRun.{AnswersAreOne, OneRun};
-ghost use Rattle.ob0_world_rules.specs.Played.{MadeForTheEditor, MadeInOrder};
+ghost use Rattle.ob0_world_rules.specs.Laws.{AnswersAreOne, EditsKeepTheRun, InEveryInterleaving, MadeForTheEditor, OneCourse, OneStep};
+ghost use Rattle.ob0_world_rules.specs.MadeInOrder.{MadeInOrder};
 
 /// Whatever the order of the events, every applied edit keeps the run, and diagnostics are right.
 pub fn in_every_interleaving()
     ensures { InEveryInterleaving }
 {}
 
-/// What is handed out for an ask leaves a well-typed module with the same run.
+/// The edits that answer an ask leave a well-typed module with the same run.
 pub fn edits_keep_the_run()
     ensures { EditsKeepTheRun }
 {}
@@ -18,9 +17,14 @@ pub fn answers_are_one()
     ensures { AnswersAreOne }
 {}
 
-/// A list of events has one run from the beginning.
-pub fn one_run()
-    ensures { OneRun }
+/// What an event shows and what it leaves are determined.
+pub fn one_step()
+    ensures { OneStep }
+{}
+
+/// A list of events has one course.
+pub fn one_course()
+    ensures { OneCourse }
 {}
 
 /// Each publication with a version was made for a text that the editor's document had at that version.
@@ -28,7 +32,7 @@ pub fn made_for_the_editor()
     ensures { MadeForTheEditor }
 {}
 
-/// The n-th publication with a version was made for the n-th document that the editor told the server of: an opened, changed
+/// The n-th publication with a version was made for the n-th document that the editor announced to the server: an opened, changed
 /// or edited one, in that opening, with its version and text.
 pub fn made_in_order()
     ensures { MadeInOrder }

@@ -1,5 +1,4 @@
-//! Client and server: an editor, a server, and a queue in each direction; what every list of events keeps. Definitions, and
-//! laws over them.
+//! Client and server with a queue of messages in each direction: definitions, and what every list of events keeps.
 #![tactic(auto)]
 
 pub mod editor_laws;

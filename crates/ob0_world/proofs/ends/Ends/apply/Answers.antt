@@ -4,7 +4,8 @@ use Rattle.ob0_world_editor.specs.Moves.{ComesOf}
 use Rattle.ob0_world_rules.specs.Ends.{Ends}
 use Rattle.ob0_world_rules.specs.Editing.{applies_answer, held_answer}
 use Rattle.ob0_world_rules.specs.Events.{Is, comes_of, applies}
-use Rattle.ob0_world.specs.Queues.{Both, ends_from}
+use Rattle.ob0_world.specs.Queues.{ends_from}
+use Rattle.ob0_world.specs.Worlds.{Both}
 use Rattle.ob0_world.proofs.Moved.{same_sound, comes_asks, apply_keeps_asks, made_says, made_happens, maybe_pushed}
 use Rattle.ob0_world.proofs.ends.Ends.apply.Goals as goal
 

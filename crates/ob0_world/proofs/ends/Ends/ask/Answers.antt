@@ -2,7 +2,7 @@ use Rattle.std.proofs.Common.{ap}
 use Rattle.ob0_world_editor.specs.Code.{ask_of}
 use Rattle.ob0_world_rules.specs.Ends.{Editor, open_at}
 use Rattle.ob0_world_rules.specs.Editing.{asks_about}
-use Rattle.ob0_world.specs.Queues.{Both}
+use Rattle.ob0_world.specs.Worlds.{Both}
 use Rattle.ob0_world.proofs.Moved.{sent_sound, sent_happens, ask_extends}
 use Rattle.ob0_world.proofs.ends.Ends.ask.Goals as goal
 

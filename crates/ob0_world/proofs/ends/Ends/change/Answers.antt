@@ -2,7 +2,7 @@ use Rattle.std.proofs.Common.{map, ap}
 use Rattle.ob0_text.specs.OpenDocuments.{reported_change}
 use Rattle.ob0_world_rules.specs.Ends.{Editor, open_at}
 use Rattle.ob0_world_rules.specs.Editing.{changes_document}
-use Rattle.ob0_world.specs.Queues.{Both}
+use Rattle.ob0_world.specs.Worlds.{Both}
 use Rattle.ob0_world.proofs.Moved.{sent_sound, sent_happens, change_extends}
 use Rattle.ob0_world.proofs.ends.Ends.change.Goals as goal
 

@@ -1,7 +1,7 @@
 use Rattle.std.proofs.Common.{ap}
 use Rattle.ob0_world_rules.specs.Ends.{Editor, open_at}
 use Rattle.ob0_world_rules.specs.Editing.{closes_document}
-use Rattle.ob0_world.specs.Queues.{Both}
+use Rattle.ob0_world.specs.Worlds.{Both}
 use Rattle.ob0_world.proofs.Moved.{sent_sound, sent_happens, close_extends}
 use Rattle.ob0_world.proofs.ends.Ends.close.Goals as goal
 

@@ -3,13 +3,14 @@ use Rattle.ob0_world_rules.specs.Ends.{Ends}
 use Rattle.ob0_world_rules.specs.Editing.{discards, held_answer}
 use Rattle.ob0_world_rules.specs.Events.{Is, comes_of, drops, nothing}
 use Rattle.ob0_world.specs.Code.{seen_of}
-use Rattle.ob0_world.specs.Queues.{Both, ends_from}
+use Rattle.ob0_world.specs.Queues.{ends_from}
+use Rattle.ob0_world.specs.Worlds.{Both}
 use Rattle.ob0_world.proofs.Moved.{discard_happens}
 use Rattle.ob0_world.proofs.ends.Ends.discard.Goals as goal
 use Rattle.ob0_world.proofs.ends.Ends.discard.Goals.{then-discard, else-discard}
 
-pub returns : goal.returns
-returns g c =
+pub returns-clause-ok : goal.returns-clause-ok
+returns-clause-ok g c =
     let k = c.args.k in
     let i = c.self.inside in
     let shown : seen_of c.if-discard.result ≡ cond c.discard.result (drops k) nothing =

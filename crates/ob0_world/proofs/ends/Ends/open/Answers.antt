@@ -2,7 +2,7 @@ use Rattle.std.proofs.Common.{ap}
 use Rattle.std.specs.Str.{chars}
 use Rattle.ob0_world_rules.specs.Ends.{Editor, open_at}
 use Rattle.ob0_world_rules.specs.Editing.{opens_document}
-use Rattle.ob0_world.specs.Queues.{Both}
+use Rattle.ob0_world.specs.Worlds.{Both}
 use Rattle.ob0_world.proofs.Moved.{sent_sound, sent_happens, open_extends}
 use Rattle.ob0_world.proofs.ends.Ends.open.Goals as goal
 

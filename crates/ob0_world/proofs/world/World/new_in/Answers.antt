@@ -1,7 +1,6 @@
 use Rattle.std.proofs.Common.{subst, sym}
-use Rattle.ob0_world.specs.Queues.{Both}
-use Rattle.ob0_world.specs.Worlds.{Within, IsReached}
-use Rattle.ob0_world.proofs.Beginning.{begins_initialized}
+use Rattle.ob0_world.specs.Queues.{Within, IsReached}
+use Rattle.ob0_world.specs.Worlds.{Both}
 use Rattle.ob0_world.proofs.Counting.{within_start}
 use Rattle.ob0_world.proofs.Stepping.{reached_start}
 use Rattle.ob0_world.proofs.world.World.new_in.Goals as goal
@@ -11,6 +10,3 @@ invariant_of-result g c = λ goes_on. (
   subst (λ (w : Both). Within 0 w.ends.editor) (sym c.in-Ok.ensures) (within_start c.args.unit),
   subst (λ (w : Both). IsReached w.ends) (sym c.in-Ok.ensures) (reached_start c.args.unit),
 )
-
-pub returns-in-Ok-clause-initialized : goal.returns-in-Ok-clause-initialized
-returns-in-Ok-clause-initialized g c = begins_initialized c.args.unit c.in-Ok.ends c.in-Ok.ensures

@@ -1,8 +1,8 @@
-use Rattle.std.proofs.Common.{◌<◌, ◌-◌, ◌^◌, subst, sym}
+use Rattle.std.proofs.Common.{◌<◌, ◌-◌, ◌^◌, refl, subst, sym}
 use Rattle.ob0_world.specs.Code.{event_of, seen_of}
 use Rattle.ob0_world.specs.Worlds.{World}
 use Rattle.ob0_world.proofs.Counting.{few, within_step}
-use Rattle.ob0_world.proofs.Stepping.{reached_more, reached_holds}
+use Rattle.ob0_world.proofs.Stepping.{made_step, reached_more, reached_holds}
 use Rattle.ob0_world.proofs.world.World.step.Goals as goal
 
 pub make-requires : goal.make-requires
@@ -17,3 +17,6 @@ invariant_of-self g c = λ goes_on. (
 pub returns-in-Ok-clause-holds : goal.returns-in-Ok-clause-holds
 returns-in-Ok-clause-holds g c =
     reached_holds c.make.new.self.ends (reached_more c.self.inside.ends.ends (event_of c.args.event.now) (seen_of c.in-Ok.seen) c.make.new.self.ends (c.self.invariant c.if-self.false).1 c.in-Ok.ensures.ok)
+
+pub returns-in-Ok-clause-ok : goal.returns-in-Ok-clause-ok
+returns-in-Ok-clause-ok g c = made_step _ _ _ _ _ c.self.view_is c.if-self.false c.in-Ok.ensures.ok c.in-Ok.ensures.server c.is_tied.ensures refl c.if-self.false

@@ -1,0 +1,6 @@
+mod Tables
+mod SameTables
+mod Reports
+mod NamesShown
+mod Sayings
+mod Conversations

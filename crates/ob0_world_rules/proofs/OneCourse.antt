@@ -1,0 +1,74 @@
+-- An ask about a text has one answer, so an event does one thing, and a list of events has one course.
+use Rattle.std.proofs.Common.{◌≡◌, ◌∙◌, ℕ, Bool, true, false, List, [], ◌∷◌, ◌++◌, length, refl, sym, ap, subst}
+use Rattle.std.specs.Prelude.{◌↔◌, IsTrue, ℤ, Option, Some, None}
+use Rattle.ob0_text.specs.declared.positions.Unit.{Unit}
+use Rattle.ob0_text.specs.OpenDocuments.{OpenDocuments, Document, InStep, OutOfStep, DocumentNote, Opened, Changed, Lost, Closed, after_note, document_at}
+use Rattle.ob0_world_rules.specs.Language.{WellTypedText}
+use Rattle.ob0_world_rules.specs.Edited.{Replacement}
+use Rattle.ob0_world_rules.specs.Asks.{Ask}
+use Rattle.ob0_world_rules.specs.Answers.{IsAnswer}
+use Rattle.ob0_world_rules.specs.Ends.{ToServer, tells, asks, ToEditor, publishes, answers, Made, Ends, after_message}
+use Rattle.ob0_world_rules.specs.Serving.{Publishes, RepliesToNotification, Replies}
+use Rattle.ob0_world_rules.specs.Events.{Event, open_document, change_document, close_document, ask_about, serve, take_message, apply, discard, Seen, served, Step, Is}
+use Rattle.ob0_world_rules.specs.Happens.{Serves, Happens, Course}
+use Rattle.ob0_world_rules.proofs.OneAnswer.{answers_are_one}
+
+same_truth : (a b : Bool) (P : Type 0) → IsTrue a ↔ P → IsTrue b ↔ P → a ≡ b
+same_truth true true P p q = refl
+same_truth true false P p q = sym (q.1 (p.0 refl))
+same_truth false true P p q = p.1 (q.0 refl)
+same_truth false false P p q = refl
+
+abbrev made_with : List ℕ → ℤ → List ℕ → Bool → Made
+made_with uri version text empty = record { uri = uri; version = version; text = text; empty = empty }
+
+publishes_one : (uri : List ℕ) (o : Option Document) (said also : List ToEditor) (made more : List Made) → Publishes uri o said made → Publishes uri o also more → (said ≡ also) × (made ≡ more)
+publishes_one uri (Some (InStep version text)) said also made more (e, right, is_said, is_made) (f, right_too, is_also, is_more) =
+    let same : e ≡ f = same_truth e f (WellTypedText text) right right_too in
+    (is_said ∙ ap (λ b. publishes uri (Some version) b ∷ []) same ∙ sym is_also, is_made ∙ ap (λ b. made_with uri version text b ∷ []) same ∙ sym is_more)
+publishes_one uri (Some OutOfStep) said also made more h k = (h.0 ∙ sym k.0, h.1 ∙ sym k.1)
+publishes_one uri None said also made more h k = (h.0 ∙ sym k.0, h.1 ∙ sym k.1)
+
+tells_one : (held : OpenDocuments) (note : DocumentNote) (said also : List ToEditor) (made more : List Made) → RepliesToNotification held note said made → RepliesToNotification held note also more → (said ≡ also) × (made ≡ more)
+tells_one held (Opened uri version text) said also made more h k = publishes_one uri (document_at (after_note held (Opened uri version text)) uri) said also made more h k
+tells_one held (Changed uri version how) said also made more h k = publishes_one uri (document_at (after_note held (Changed uri version how)) uri) said also made more h k
+tells_one held (Lost uri) said also made more h k = (h.0 ∙ sym k.0, h.1 ∙ sym k.1)
+tells_one held (Closed uri) said also made more h k = (h.0 ∙ sym k.0, h.1 ∙ sym k.1)
+
+answers_one : (unit : Unit) (o : Option Document) (ask : Ask) (given other : List Replacement) → IsAnswer unit o ask given → IsAnswer unit o ask other → given ≡ other
+answers_one unit (Some (InStep version text)) ask given other h k = answers_are_one unit text ask given other h k
+answers_one unit (Some OutOfStep) ask given other h k = h ∙ sym k
+answers_one unit None ask given other h k = h ∙ sym k
+
+sends_one : (held : OpenDocuments) (m : ToServer) (said also : List ToEditor) (made more : List Made) → Replies held m said made → Replies held m also more → (said ≡ also) × (made ≡ more)
+sends_one held (tells note) said also made more h k = tells_one held note said also made more h k
+sends_one held (asks number uri ask) said also made more (given, h, is_said, is_made) (other, k, is_also, is_more) =
+    let same : given ≡ other = answers_one held.unit (document_at held uri) ask given other h k in
+    (is_said ∙ ap (λ edits. answers number edits ∷ []) same ∙ sym is_also, is_made ∙ sym is_more)
+
+serves_one : (w : Ends) (queue : List ToServer) (seen shown : Seen) (new other : Ends) → Serves w queue seen new → Serves w queue shown other → (seen ≡ shown) × (new ≡ other)
+serves_one w [] seen shown new other h k = (h.0 ∙ sym k.0, h.1 ∙ sym k.1)
+serves_one w (m ∷ rest) seen shown new other (said, made, replies, is_seen, is) (also, more, replies_too, is_shown, is_too) =
+    let both : (said ≡ also) × (made ≡ more) = sends_one w.held m said also made more replies replies_too in (
+      is_seen ∙ ap (λ x. served (length x)) both.0 ∙ sym is_shown,
+      is ∙ (λ i. record w { to_server = rest; held = after_message w.held m; to_editor = w.to_editor ++ both.0 i; made = w.made ++ both.1 i }) ∙ sym is_too,
+    )
+
+one_of : (step : Step) (seen shown : Seen) (new other : Ends) → Is step seen new → Is step shown other → (seen ≡ shown) × (new ≡ other)
+one_of step seen shown new other h k = (h.0 ∙ sym k.0, h.1 ∙ sym k.1)
+
+pub one_step : (w : Ends) (event : Event) (seen shown : Seen) (new other : Ends) → Happens w event seen new → Happens w event shown other → (seen ≡ shown) × (new ≡ other)
+one_step w (open_document uri text) seen shown new other h k = one_of _ seen shown new other h k
+one_step w (change_document uri how) seen shown new other h k = one_of _ seen shown new other h k
+one_step w (close_document uri) seen shown new other h k = one_of _ seen shown new other h k
+one_step w (ask_about uri ask) seen shown new other h k = one_of _ seen shown new other h k
+one_step w serve seen shown new other h k = serves_one w w.to_server seen shown new other h k
+one_step w take_message seen shown new other h k = one_of _ seen shown new other h k
+one_step w (apply n) seen shown new other h k = one_of _ seen shown new other h k
+one_step w (discard n) seen shown new other h k = one_of _ seen shown new other h k
+
+pub one_course : (w : Ends) (events : List Event) (end other : Ends) → Course w events end → Course w events other → end ≡ other
+one_course w [] end other h k = h ∙ sym k
+one_course w (event ∷ events) end other (seen, between, happens, course) (shown, middle, happens_too, course_too) =
+    let same : between ≡ middle = (one_step w event seen shown between middle happens happens_too).1 in
+    one_course middle events end other (subst (λ x. Course x events end) same course) course_too

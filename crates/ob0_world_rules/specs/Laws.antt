@@ -1,0 +1,46 @@
+-- Laws of the definitions of client and server.
+use Rattle.std.specs.Prelude.{◌≡◌, ℕ, List, All, Option, Some}
+use Rattle.ob0_text.specs.declared.edits.Edit.{Edit}
+use Rattle.ob0_text.specs.declared.positions.Unit.{Unit}
+use Rattle.ob0_world_rules.specs.Language.{WellTypedText, SameRun}
+use Rattle.ob0_world_rules.specs.Edited.{Replacement, replacements, edited}
+use Rattle.ob0_world_rules.specs.Asks.{Ask}
+use Rattle.ob0_world_rules.specs.Answers.{HandsOut, AnswersFor}
+use Rattle.ob0_world_rules.specs.Ends.{Ends, start}
+use Rattle.ob0_world_rules.specs.Events.{Event, Seen}
+use Rattle.ob0_world_rules.specs.Happens.{Course, Happens}
+use Rattle.ob0_world_rules.specs.Headline.{Holds, WasMadeFor}
+
+-- ---- answers
+
+-- the edits, at positions of a unit, leave of this text a well-typed module with the same run
+pub record EditsPreserveRun (unit : Unit) (text : List ℕ) (edits : List Replacement) : Type 0 where
+  pub before_fits : WellTypedText text
+  pub after : List ℕ
+  pub makes : edited unit text edits ≡ Some after
+  pub after_fits : WellTypedText after
+  pub same : SameRun text after
+
+-- edits that answer an ask keep the run of the text
+abbrev pub EditsKeepTheRun : Type 0
+EditsKeepTheRun = (unit : Unit) (text : List ℕ) (ask : Ask) (edits : List Edit) → HandsOut unit text ask edits → EditsPreserveRun unit text (replacements edits)
+
+-- an ask about a text has one answer
+abbrev pub AnswersAreOne : Type 0
+AnswersAreOne = (unit : Unit) (text : List ℕ) (ask : Ask) (given other : List Replacement) → AnswersFor unit text ask given → AnswersFor unit text ask other → given ≡ other
+
+-- ---- events
+
+-- an event does one thing: what is seen of it and what it leaves are determined
+abbrev pub OneStep : Type 0
+OneStep = (w : Ends) (event : Event) (seen shown : Seen) (new other : Ends) → Happens w event seen new → Happens w event shown other → (seen ≡ shown) × (new ≡ other)
+
+-- two courses of one list of events have one end: documents, queues, edits applied and publications
+abbrev pub OneCourse : Type 0
+OneCourse = (w : Ends) (events : List Event) (end other : Ends) → Course w events end → Course w events other → end ≡ other
+
+abbrev pub InEveryInterleaving : Type 0
+InEveryInterleaving = (unit : Unit) (events : List Event) (w : Ends) → Course (start unit) events w → Holds w
+
+abbrev pub MadeForTheEditor : Type 0
+MadeForTheEditor = (unit : Unit) (events : List Event) (end : Ends) → Course (start unit) events end → All (WasMadeFor unit events) end.made

@@ -1,0 +1,95 @@
+-- The order of publications: each is made for the next document that the editor announced to the server.
+use Rattle.std.specs.Prelude.{◌≡◌, ⊤, ℕ, ℤ, pos, List, [], ◌∷◌, ◌++◌, map, Option, Some, None}
+use Rattle.ob0_text.specs.declared.positions.Unit.{Unit}
+use Rattle.ob0_text.specs.OpenDocuments.{Opened, Changed, Lost, Closed}
+use Rattle.ob0_world_rules.specs.Ends.{Open, Editor, open_at, ToServer, tells, asks, Made, Ends, start}
+use Rattle.ob0_world_rules.specs.Editing.{Move, idle, sends, opens_document, changes_document, closes_document, asks_about, held_answer, Outcome, not_held, drops_answer, makes, discards, applies_answer}
+use Rattle.ob0_world_rules.specs.Events.{Event, open_document, change_document, close_document, ask_about, serve, take_message, apply, discard, Seen}
+use Rattle.ob0_world_rules.specs.Happens.{Happens, Course}
+
+-- ---- the documents that the editor announced
+
+-- a document of the editor, as it was when the editor announced it to the server
+pub record Announced : Type 0 where
+  pub uri : List ℕ
+  pub document : Open
+
+abbrev pub announced_at : List ℕ → Option Open → List Announced
+announced_at uri (Some d) = record { uri = uri; document = d } ∷ []
+announced_at uri None = []
+
+-- the document of this editor whose text the message announces
+abbrev pub announced_by : Editor → ToServer → List Announced
+announced_by e (tells (Opened uri version text)) = announced_at uri (open_at e uri)
+announced_by e (tells (Changed uri version how)) = announced_at uri (open_at e uri)
+announced_by e (tells (Lost uri)) = []
+announced_by e (tells (Closed uri)) = []
+announced_by e (asks number uri ask) = []
+
+abbrev pub announced_in_move : Move → List Announced
+announced_in_move idle = []
+announced_in_move (sends e message) = announced_by e message
+
+abbrev pub announced_in_outcome : Outcome → List Announced
+announced_in_outcome not_held = []
+announced_in_outcome (drops_answer e) = []
+announced_in_outcome (makes e applied message) = announced_by e message
+
+-- the document that is announced as this event happens
+abbrev pub announced_at_event : Ends → Event → List Announced
+announced_at_event w (open_document uri text) = announced_in_move (opens_document w.editor uri text (open_at w.editor uri))
+announced_at_event w (change_document uri how) = announced_in_move (changes_document w.editor uri how (open_at w.editor uri))
+announced_at_event w (close_document uri) = announced_in_move (closes_document w.editor uri (open_at w.editor uri))
+announced_at_event w (ask_about uri ask) = announced_in_move (asks_about w.editor uri ask (open_at w.editor uri))
+announced_at_event w serve = []
+announced_at_event w take_message = []
+announced_at_event w (apply k) = announced_in_outcome (applies_answer w.editor k (held_answer k w.editor.answers))
+announced_at_event w (discard k) = announced_in_outcome (discards w.editor k (held_answer k w.editor.answers))
+
+-- in the course of these events exactly these documents are announced, in this order
+abbrev pub AreAnnounced : Ends → List Event → List Announced → Type 0
+AreAnnounced w [] announced = announced ≡ []
+AreAnnounced w (event ∷ events) announced =
+    (seen : Seen) × (between : Ends) × (later : List Announced) × Happens w event seen between × AreAnnounced between events later
+    × (announced ≡ announced_at_event w event ++ later)
+
+-- ---- what is published
+
+abbrev pub IsMadeOf : Made → Announced → Type 0
+IsMadeOf m t = (m.uri ≡ t.uri) × (m.version ≡ pos t.document.version) × (m.text ≡ t.document.text)
+
+-- as many publications as documents, the first made for the first of them, and so on
+abbrev pub AreMadeOf : List Made → List Announced → Type 0
+AreMadeOf [] [] = ⊤
+AreMadeOf (m ∷ made) (t ∷ announced) = IsMadeOf m t × AreMadeOf made announced
+AreMadeOf [] (t ∷ announced) = ⊥
+AreMadeOf (m ∷ made) [] = ⊥
+
+-- the uri and the version of the document that a message announces
+abbrev pub named_by : ToServer → List (List ℕ × ℤ)
+named_by (tells (Opened uri version text)) = (uri, version) ∷ []
+named_by (tells (Changed uri version how)) = (uri, version) ∷ []
+named_by (tells (Lost uri)) = []
+named_by (tells (Closed uri)) = []
+named_by (asks number uri ask) = []
+
+abbrev pub named_in : List ToServer → List (List ℕ × ℤ)
+named_in [] = []
+named_in (message ∷ queue) = named_by message ++ named_in queue
+
+abbrev pub name_of : Announced → List ℕ × ℤ
+name_of t = (t.uri, pos t.document.version)
+
+-- The documents that the editor announced are those that the publications were made for, one for each and in this order, and
+-- after them those of the messages that still wait for the server, one for each that announces a document.
+pub record AreMadeInOrder (unit : Unit) (events : List Event) (made : List Made) : Type 0 where
+  pub announced : List Announced
+  pub waiting : List Announced
+  pub all : AreAnnounced (start unit) events (announced ++ waiting)
+  pub made_of : AreMadeOf made announced
+  pub still_wait : (end : Ends) → Course (start unit) events end → map name_of waiting ≡ named_in end.to_server
+
+-- ---- the law
+
+abbrev pub MadeInOrder : Type 0
+MadeInOrder = (unit : Unit) (events : List Event) (end : Ends) → Course (start unit) events end → AreMadeInOrder unit events end.made
