@@ -105,7 +105,7 @@ pub enum CommandLine<'a> {
         calls: u32,
         turns: u32,
     },
-    /// A file's text with another name for the one that stands at a position.
+    /// A file's text with another name for the one that is at a position.
     Rename {
         file: &'a str,
         position: Position,
@@ -344,7 +344,7 @@ fn rename_definition<'a>(alloc: Global) -> Result<Command<'a>, AllocError>
     with_column.arg(name)
 }
 
-/// A word that must stand there, and what help calls it.
+/// A word that must be there, and what help calls it.
 fn word<'a>(alloc: Global, id: &'a str, shown: &'a str, help: &'a str) -> Arg<'a>
     ensures rule { rule_of result ≡ word_rule id.entry.now }
     ensures own { result.global ≡ false }
@@ -356,7 +356,7 @@ fn word<'a>(alloc: Global, id: &'a str, shown: &'a str, help: &'a str) -> Arg<'a
         .help(help)
 }
 
-/// A number that must stand there, and what help calls it.
+/// A number that must be there, and what help calls it.
 fn number<'a>(alloc: Global, id: &'a str, shown: &'a str, help: &'a str) -> Arg<'a>
     ensures rule { rule_of result ≡ number_rule id.entry.now }
     ensures own { result.global ≡ false }
