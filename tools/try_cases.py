@@ -41,15 +41,15 @@ class Cases:
 
     def run(self, words, given=b"", stack=None, cwd=None):
         """In place of `harness.run`: the words, the input and the files that they name."""
-        plain, texts = list(words), []
-        if words and words[0] in COMMANDS and "--help" not in words:
+        plain, texts, wants_help = list(words), [], {"-h", "--help"} & {*words}
+        if words[:1] and words[0] in COMMANDS and not wants_help:
             at = next((at for at, it in enumerate(words) if at and os.path.isfile(os.path.join(cwd or ".", it))), None)
             if at is None or os.path.getsize(os.path.join(cwd or ".", words[at])) > LARGEST:
                 raise Unknown("a file that isn't there, or a long one")
             with open(os.path.join(cwd or ".", words[at]), "rb") as file:
                 texts.append(file.read())
             plain[at] = "FILE"
-        if stack or len(given) > LARGEST or words[:1] == ["serve"] or any("\n" in it or not it for it in words):
+        if stack or len(given) > LARGEST or (words[:1] == ["serve"] and not wants_help) or any("\n" in it or not it for it in words):
             raise Unknown("a conversation, a long input or other words")
         key = (tuple(plain), *texts, bytes(given))
         if self.noting:
