@@ -8,8 +8,8 @@ use Rattle.ob0_session_queries.specs.Questions.{AnswersName}
 use Rattle.ob0_session.proofs.Answering.{of_held}
 use Rattle.ob0_session.proofs.server.Server.ask_name.Goals as goal
 
-pub returns-in_ok-answered-in-Some-InStep : goal.returns-in_ok-answered-in-Some-InStep
-returns-in_ok-answered-in-Some-InStep g c =
+pub returns-in_ok-answer_question-in-Some-InStep : goal.returns-in_ok-answer_question-in-Some-InStep
+returns-in_ok-answer_question-in-Some-InStep g c =
     let s = c.args.self.now in
     let id = id_data c.args.id.now in
     let place = at_seen c.args.place.now in
@@ -17,7 +17,7 @@ returns-in_ok-answered-in-Some-InStep g c =
     let there = (rw c.in-Some-InStep.field-0-is at c.in-Some-InStep.ensures.held) ∙ ap (document_at c.self.inside.documents) c.as_str.ensures.value in
     let unit = (rw c.in-Some-InStep.field-0-is at c.in-Some-InStep.ensures.unit) ∙ ap (λ (h : OpenDocuments). h.unit) is in
     let text = g.T.TextStore.content c.in-Some-InStep.text.now in
-    let answer = c.in_ok-answered-in-Some-InStep.ensures in
+    let answer = c.in_ok-answer_question-in-Some-InStep.ensures in
     of_held s id _ place.uri (Some (InStep _ text)) (λ version. answers_name s.held.unit id place c.args.question) _ is there
     (refl, (answer.0, subst (λ (u : Unit). AnswersName u text place c.args.question answer.0) unit answer.1, (_, refl, answer.2)))
 

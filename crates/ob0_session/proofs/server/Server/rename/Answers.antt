@@ -11,8 +11,8 @@ use Rattle.ob0_session_edits.specs.Renamed.{RenameAsked, AnswersRenaming}
 use Rattle.ob0_session.proofs.Answering.{of_held}
 use Rattle.ob0_session.proofs.server.Server.rename.Goals as goal
 
-pub returns-in_ok-renamed-in-Some-InStep : goal.returns-in_ok-renamed-in-Some-InStep
-returns-in_ok-renamed-in-Some-InStep g c =
+pub returns-in_ok-rename_symbol-in-Some-InStep : goal.returns-in_ok-rename_symbol-in-Some-InStep
+returns-in_ok-rename_symbol-in-Some-InStep g c =
     let s = c.args.self.now in
     let id = id_data c.args.id.now in
     let place = at_seen c.args.place.now in
@@ -22,7 +22,7 @@ returns-in_ok-renamed-in-Some-InStep g c =
     let unit = (rw c.in-Some-InStep.field-0-is at c.in-Some-InStep.ensures.unit) ∙ ap (λ (h : OpenDocuments). h.unit) is in
     let text = g.T.TextStore.content c.in-Some-InStep.text.now in
     let asked : Client → RenameAsked = λ who. record { id = id; client = who; at = place; version = c.in-Some-InStep.version; new = c.args.new.now } in
-    let answer = rw (to_z-of_z {w = w64} {z = c.in-Some-InStep.version} (search rules)) at c.in_ok-renamed-in-Some-InStep.ensures in
+    let answer = rw (to_z-of_z {w = w64} {z = c.in-Some-InStep.version} (search rules)) at c.in_ok-rename_symbol-in-Some-InStep.ensures in
     let for_unit = subst (λ (u : Unit). AnswersRenaming u (asked c.self.inside.client) text answer.0) unit answer.1 in
     let for_client = subst (λ (who : Client). AnswersRenaming s.held.unit (asked who) text answer.0) client for_unit in
     of_held s id _ place.uri (Some (InStep _ text)) (λ version. renames s.held.unit (record { id = id; client = s.client; at = place; version = version; new = c.args.new.now })) _ is there
