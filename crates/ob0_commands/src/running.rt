@@ -1,13 +1,14 @@
 //! Running a file's module: its input, and what a run puts out.
 
-ghost use Rattle.std.specs.Prelude.{◌≡◌, ◌≤◌, ◌++◌, [], true, IfOk, IfErr, OnOk, option_map, string_bytes};
+ghost use Rattle.std.specs.Prelude.{◌≡◌, ◌≤◌, ◌++◌, true, IfOk, IfErr, IfNone, MatchOption, OnOk, option_map, string_bytes};
 ghost use Rattle.std.specs.Io.KnownBytes.{Appends};
 ghost use Rattle.ob0_tree.specs.Parsed.{named_tree_of};
+ghost use Rattle.ob0_run.specs.Outcomes.{run_of};
 ghost use Rattle.ob0_run.specs.Programs as lowered;
 ghost use Rattle.ob0_run.specs.States.{item_of, items_out};
-ghost use Rattle.ob0_commands.specs.Printed.{end_line, output_text, written_text};
+ghost use Rattle.ob0_commands.specs.Printed.{TellsWrong, end_line, output_text, written_text};
 ghost use Rattle.ob0_commands.specs.Statuses.{StopsPrinting, status_at};
-ghost use Rattle.ob0_commands.specs.TextRuns.{PrintsDone, PrintsOther};
+ghost use Rattle.ob0_commands.specs.TextRuns.{IsLoweredTo, PrintsDone, PrintsOther, RunsAs};
 
 use crate::checking::{print_diagnoses, text_of};
 use crate::faults::{Fault, tell_fault};
@@ -15,7 +16,7 @@ use crate::numbers::read_numbers;
 use crate::printing::{Output, print};
 use itoa::Buffer;
 use ob0_analysis::{Asked, Question, WellTyped, ask};
-use ob0_run::{End, Item, Program, execute, lower};
+use ob0_run::{End, Item, Outcome, Program, execute, lower};
 use std::alloc::{AllocError, Global};
 use std::io::Read;
 
@@ -73,17 +74,41 @@ fn run_file<R: Read, O: Output, E: Output>(
     let Some(text) = text_of(file, out)? else {
         return Ok(1);
     };
+    let Some(program) = lower_text(alloc, text, out)? else {
+        return Ok(1);
+    };
+    let numbers = read_numbers(alloc, input)?;
+    let outcome = execute_module(alloc, text, &program, numbers.as_slice(), calls, turns)?;
+    print_outcome(alloc, outcome.output.as_slice(), outcome.end, out, err)
+}
+
+/// The program that a text is lowered to; else what is wrong with the text is printed.
+fn lower_text<O: Output>(alloc: Global, text: &str, out: &mut O) -> Result<Option<Program>, Fault>
+    ensures found { IfOk result (λ found. MatchOption found (TellsWrong text.now (O.contents out.old) (O.contents out.new)) (λ program. IsLoweredTo text.now program × (out.new ≡ out.old))) }
+    ensures flushed { IfOk result (λ found. IfNone found (O.is_flushed out.new ≡ true)) }
+{
     match ask(alloc, text, None, &Lowering {})? {
-        Asked::Answered(program) => {
-            let numbers = read_numbers(alloc, input)?;
-            let outcome = execute(alloc, &program, numbers.as_slice(), calls, turns)?;
-            print_outcome(alloc, outcome.output.as_slice(), outcome.end, out, err)
-        }
+        Asked::Answered(program) => Ok(Some(program)),
         Asked::IllTyped(told) => {
             print_diagnoses(alloc, text, told.as_slice(), out)?;
-            Ok(1)
+            Ok(None)
         }
     }
+}
+
+/// The run of the module that a text is, by the program that it is lowered to.
+fn execute_module(
+    alloc: Global,
+    text: &str,
+    program: &Program,
+    input: &[i32],
+    calls: u32,
+    turns: u32,
+) -> Result<Outcome, AllocError>
+    requires { IsLoweredTo text.now program.now }
+    ensures { IfOk result (λ outcome. RunsAs text.now input.now calls turns (run_of outcome)) }
+{
+    execute(alloc, program, input, calls, turns)
 }
 
 /// The line, with its ending, that tells an end other than `Done`.
