@@ -3,33 +3,38 @@
 ghost use Rattle.std.specs.Prelude.{◌≡◌, ◌≤◌, ◌++◌, [], true, IfOk, IfErr, OnOk, option_map, string_bytes};
 ghost use Rattle.std.specs.Io.KnownBytes.{Appends};
 ghost use Rattle.ob0_tree.specs.Parsed.{named_tree_of};
-ghost use Rattle.ob0_run.specs.Programs as lowered;
+ghost use Rattle.ob0_run.specs.Outcomes.{run_of};
+ghost use Rattle.ob0_run_rules.specs.Runs.{run};
+ghost use Rattle.ob0_analysis.specs.Diagnosed.{Tells};
 ghost use Rattle.ob0_run.specs.States.{item_of, items_out};
 ghost use Rattle.ob0_commands.specs.Printed.{end_line, output_text, written_text};
 ghost use Rattle.ob0_commands.specs.Statuses.{StopsPrinting, status_at};
-ghost use Rattle.ob0_commands.specs.TextRuns.{PrintsDone, PrintsOther};
+ghost use Rattle.ob0_commands.specs.TextRuns.{PrintsDone, PrintsOther, RunsAs};
 
-use crate::checking::{print_diagnoses, text_of};
+use crate::checking::check;
 use crate::faults::{Fault, tell_fault};
 use crate::numbers::read_numbers;
 use crate::printing::{Output, print};
-use itoa::Buffer;
 use ob0_analysis::{Asked, Question, WellTyped, ask};
-use ob0_run::{End, Item, Program, execute, lower};
+use ob0_run::{End, Item, Outcome, run};
 use std::alloc::{AllocError, Global};
 use std::io::Read;
 
-/// The program that a text's module is lowered to.
+/// The run of a text's module.
 #[derive(Drop)]
-struct Lowering {}
+struct RunOf<'i> {
+    input: &'i [i32],
+    calls: u32,
+    turns: u32,
+}
 
-impl Question for Lowering {
-    type Answer = Program;
+impl<'i> Question for RunOf<'i> {
+    type Answer = Outcome;
 
-    ghost answers = { λ _ names program. lowered.RunsAs (named_tree_of names.module_read) program };
+    ghost answers = { λ q names outcome. run_of outcome ≡ run (named_tree_of names.module_read) q.input.now q.calls q.turns };
 
-    fn answer(&self, alloc: Global, module: &WellTyped<'_, '_>) -> Result<Program, AllocError> {
-        lower(alloc, module)
+    fn answer(&self, alloc: Global, module: &WellTyped<'_, '_>) -> Result<Outcome, AllocError> {
+        run(alloc, module, self.input, self.calls, self.turns)
     }
 }
 
@@ -70,19 +75,33 @@ fn run_file<R: Read, O: Output, E: Output>(
     ensures other { IfOk result (λ status. status ≡ 1 → PrintsOther file.now (R.remaining input.old) calls turns (O.contents out.old) (O.contents out.new)) }
     ensures flushed { OnOk result (O.is_flushed out.new ≡ true) }
 {
-    let Some(text) = text_of(file, out)? else {
+    let Some(text) = check(alloc, file, out)? else {
         return Ok(1);
     };
-    match ask(alloc, text, None, &Lowering {})? {
-        Asked::Answered(program) => {
-            let numbers = read_numbers(alloc, input)?;
-            let outcome = execute(alloc, &program, numbers.as_slice(), calls, turns)?;
-            print_outcome(alloc, outcome.output.as_slice(), outcome.end, out, err)
-        }
-        Asked::IllTyped(told) => {
-            print_diagnoses(alloc, text, told.as_slice(), out)?;
-            Ok(1)
-        }
+    let numbers = read_numbers(alloc, input)?;
+    let outcome = run_module(alloc, text, numbers.as_slice(), calls, turns)?;
+    print_outcome(alloc, outcome.output.as_slice(), outcome.end, out, err)
+}
+
+/// The run of the module that a text is, of which nothing is told.
+fn run_module(
+    alloc: Global,
+    text: &str,
+    input: &[i32],
+    calls: u32,
+    turns: u32,
+) -> Result<Outcome, AllocError>
+    requires { Tells text.now [] }
+    ensures { IfOk result (λ outcome. RunsAs text.now input.now calls turns (run_of outcome)) }
+{
+    let question = RunOf {
+        input,
+        calls,
+        turns,
+    };
+    match ask(alloc, text, None, &question)? {
+        Asked::Answered(outcome) => Ok(outcome),
+        Asked::IllTyped(_) => unreachable!(),
     }
 }
 
@@ -115,7 +134,7 @@ pub fn print_outcome<O: Output, E: Output>(
     ensures status { IfOk result (λ status. status ≡ status_at end) }
     ensures fault { IfErr result StopsPrinting }
 {
-    print(out, output_of(alloc, output)?.as_str())?;
+    print(out, text_of(alloc, output)?.as_str())?;
     match line_of(end) {
         Some(line) => {
             let _ = print(err, line);
@@ -126,24 +145,23 @@ pub fn print_outcome<O: Output, E: Output>(
 }
 
 /// A number is a space and its digits, a line a line ending.
-fn output_of(alloc: Global, output: &[Item]) -> Result<String, AllocError>
+fn text_of(alloc: Global, output: &[Item]) -> Result<String, AllocError>
     ensures { IfOk result (λ text. string_bytes text ≡ output_text (items_out output.now)) }
 {
     let mut text = String::new(alloc);
-    let mut digits = Buffer::new();
     for item in output {
-        push_item(&mut text, &mut digits, *item)?;
+        push_item(alloc, &mut text, *item)?;
     }
     Ok(text)
 }
 
-fn push_item(text: &mut String, digits: &mut Buffer, item: Item) -> Result<(), AllocError>
+fn push_item(alloc: Global, text: &mut String, item: Item) -> Result<(), AllocError>
     ensures { OnOk result (string_bytes text.new ≡ string_bytes text.old ++ written_text (item_of item)) }
 {
     match item {
         Item::Number(number) => {
-            text.push_str(" ")?;
-            text.push_str(digits.format(number))
+            let digits = format!(in alloc; " {number}")?;
+            text.push_str(digits.as_str())
         }
         Item::Line => text.push_str("\n"),
     }

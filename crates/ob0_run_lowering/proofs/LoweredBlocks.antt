@@ -197,7 +197,7 @@ pub block_lowers : (t : Tables) (w v : Lowering) (inside : Sight) (cs : Tree Lab
     → Places w.sight inside f (place_groups (slots_at f.depth) (declared_size t) (section_variables vs)) own → (m : ℕ) → w.most ≤ m → own.cells ≤ m → Goes t (record { sight = inside; procedures = w.procedures; most = m }) v own.depth ps end
     → scene.types.now ≡ t → scene.sites.now ≡ v.sight.sites.items → scene.depth ≡ own.depth → BodyLowers scene (sequence_of entry.body.items) statements → entry.cells ≡ own.cells - f.cells
     → LowersBlock t w v f (has_body (declares cs ts vs ps) statements) entry
-block_lowers t w v inside cs ts vs ps statements f own scene entry places m more enough goes types sites deep lowers cells = record {
+block_lowers t w v inside cs ts vs ps statements f own scene entry places m grows enough goes types sites deep lowers cells = record {
   means = λ env p k matches frame fits known table most above later.
       let b : Tree Label block = has_body (declares cs ts vs ps) statements in
       let parts = block-parts env k b fits in
@@ -233,7 +233,7 @@ block_lowers t w v inside cs ts vs ps statements f own scene entry places m more
         omega (arith, laid.cells, enough, goes.most_grows, above),
         gone.2 table most (sequence_of entry.body.items) above later (lowers now.env now.placing seen (body-fits now.env now.next statements last.fits)),
       );
-  most_grows = omega (arith, more, goes.most_grows);
+  most_grows = omega (arith, grows, goes.most_grows);
   follows = follows_then w.sight inside v.sight places.follows goes.follows;
   longer = goes.longer;
   grown = goes.grown;
@@ -254,10 +254,10 @@ pub block_means : (t : Tables) (w v : Lowering) (inside : Sight) (b : tree_block
     → Goes t (record { sight = inside; procedures = w.procedures; most = m }) v own.depth (in_labels r (items_of tree_procedure_of xs)) (in_labels r (items_of tree_procedure_of (drop done xs))) → length xs ≤ done → xs ≡ (tree_block.out-Block b).procedures.items
     → scene.types.now ≡ t → scene.sites.now ≡ v.sight.sites.items → scene.depth ≡ own.depth → BodyLowers scene (sequence_of entry.body.items) (in_labels r (body_of (tree_block.out-Block b).body)) → entry.cells ≡ own.cells - f.cells
     → LowersBlock t w v f (in_labels r (block_of b)) entry
-block_means t w v inside b xs done f own scene entry r places m more enough goes all same types sites deep lowers cells =
+block_means t w v inside b xs done f own scene entry r places m grows enough goes all same types sites deep lowers cells =
     let o = tree_block.out-Block b in
     subst (λ z. LowersBlock t w v f (in_labels r z) entry) (sym (block_parts b))
-    (block_lowers t w v inside (in_labels r (constants_of o.constants)) (in_labels r (types_of o.types)) (in_labels r (variables_of o.variables)) (in_labels r (items_of tree_procedure_of o.procedures.items)) (in_labels r (body_of o.body)) f own scene entry places m more enough
+    (block_lowers t w v inside (in_labels r (constants_of o.constants)) (in_labels r (types_of o.types)) (in_labels r (variables_of o.variables)) (in_labels r (items_of tree_procedure_of o.procedures.items)) (in_labels r (body_of o.body)) f own scene entry places m grows enough
     (subst (λ ys. Goes t (record { sight = inside; procedures = w.procedures; most = m }) v own.depth (in_labels r (items_of tree_procedure_of ys)) end) same
     (subst (λ ys. Goes t (record { sight = inside; procedures = w.procedures; most = m }) v own.depth (in_labels r (items_of tree_procedure_of xs)) (in_labels r (items_of tree_procedure_of ys))) (drop_all done xs all) goes))
     types sites deep lowers cells)

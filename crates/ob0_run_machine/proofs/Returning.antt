@@ -80,7 +80,7 @@ block_runs m m' program c t r post inner xs performs seen same d =
 abbrev pub state_with : List ℤ → List ℤ → List Written → State
 state_with cells input output = record { cells = cells; input = input; output = output }
 
-given : {A E : Type 0} → A → Result A E → A
+abbrev given : {A E : Type 0} → A → Result A E → A
 given d (Ok a) = a
 given d (Err e) = d
 
@@ -91,7 +91,7 @@ pub ended_by : (m : Machine) (p : Progress) (executed : Result (Unit {0}) Stop) 
     → record { output = items_out m.output.items; ending = end_in end } ≡ finished p
 ended_by m p (Ok done) r end is h steps = ap (λ e. record { output = items_out m.output.items; ending = end_in e }) (ok-same r is h) ∙ sym (ap finished steps)
 ended_by m p (Err (stop.Ended x)) r end is h steps = ap (λ e. record { output = items_out m.output.items; ending = end_in e }) (ok-same r is h) ∙ sym (ap finished steps)
-ended_by m p (Err stop.Memory) r end is h steps = absurd (subst IsErr is h)
+ended_by m p (Err stop.Memory) r end is h steps = let no = subst IsErr is h in absurd (cc)
 
 pub finishes : (program : lowered.Program) (input : List ℤ) (c t : ℕ) (s : State) (p : Progress) → s ≡ record { cells = zeros program.cells; input = input; output = [] } → block_run program c t s ≡ p → finished p ≡ run program input c t
 unfolding run

@@ -1,5 +1,10 @@
-use Rattle.std.proofs.Common.{subst}
-use Rattle.ob0_tree.specs.View.{expression_of, items_of, selector_of}
+use Rattle.std.proofs.Common.{◌≡◌, subst, sym}
+use Rattle.std.proofs.lemmas.Result.{IfOk-weaker}
+use Rattle.ob0_tree.specs.View.{assignment_of, expression_of, items_of, selector_of}
+use Rattle.ob0_types_rules.specs.InLabels.{in_labels}
+use Rattle.ob0_run_machine.specs.Lowered as lowered
+use Rattle.ob0_run_machine.specs.View.{number_of, place_of, statement_of}
+use Rattle.ob0_run_lowering.specs.LoweredBodies.{StatementLowers}
 use Rattle.ob0_run_lowering.specs.Means.{Lowers}
 use Rattle.ob0_run_lowering.specs.declared.lowered.Lowered.{Lowered}
 use Rattle.ob0_run_lowering.proofs.Assigned.{block_assigned, nothing_assigned, number_assigned, truth_assigned}
@@ -9,7 +14,11 @@ pub returns-in-Number : goal.returns-in-Number
 returns-in-Number c =
     let a = c.args.a.now in
     let P : Lowered → Type 0 = λ l. Lowers c.args.scene.now (expression_of a.value) l in
-    number_assigned c.args.scene.now a.target.name (items_of selector_of a.target.selectors.items) a.value c.in_ok-target.target c.in-Number.n c.in_ok-target.ensures (subst P c.in-Number.is c.in_ok-n.ensures)
+    let tree = in_labels c.args.scene.now.resolved.now (assignment_of a) in
+    let code = lowered.stores_number (place_of c.in_ok-target.target.place) (number_of c.in-Number.n) in
+    let means : StatementLowers c.args.scene.now code tree = number_assigned c.args.scene.now a.target.name (items_of selector_of a.target.selectors.items) a.value c.in_ok-target.target c.in-Number.n c.in_ok-target.ensures (subst P c.in-Number.is c.in_ok-n.ensures) in
+    IfOk-weaker c.store_number.result (λ made. statement_of made ≡ code) (λ made. StatementLowers c.args.scene.now (statement_of made) tree)
+    (λ made same. subst (λ k. StatementLowers c.args.scene.now k tree) (sym same) means) c.store_number.ensures
 
 pub returns-in-Truth : goal.returns-in-Truth
 returns-in-Truth c =
