@@ -1,6 +1,7 @@
 -- The predictive descent: how a text is read, from left to right, by the productions of the grammar (LANGUAGE.md, Grammar and
 -- Syntax faults). The next token, or the next two, choose the production of each construct. So the token at which the descent
 -- stops, and what it expects there, depend on the tokens alone.
+-- Rule: docs/LANGUAGE.md, Grammar 1, Nesting and limits 1, Syntax faults.
 use Rattle.std.specs.Prelude.{◌≡◌, ◌==◌, ℕ, zero, suc, ◌+◌, List, [], ◌∷◌, ◌++◌, Option, Some, None, Bool, true, false, drop, if◌then◌else◌}
 use Rattle.ob0_scan.specs.declared.lexeme.TokenKind.{TokenKind}
 use Rattle.ob0_scan.specs.declared.lexeme.TokenKind.TheVariants as kind

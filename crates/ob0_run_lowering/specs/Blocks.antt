@@ -37,6 +37,7 @@ pub record Ready (t : Tables) (sites : List Site) (depth : ℕ) (s : BlockState)
   pub fits : procedures_fit as_labels s.env s.next statements ps ≡ true
   pub declared_behind : ProceduresDeclared (declared_in t) s.env s.next ps
 
+-- procedures from here on mean their blocks, by the table of procedures
 abbrev pub AllMean : List lowered.Procedure → ℕ → BlockState → lowered.Statements → Tree Label (maybe body) → Tree Label (items procedure) → Type 0
 AllMean table most s code statements ps = ProceduresMean table most as_labels s.env s.placing s.next code statements ps
 

@@ -1,4 +1,5 @@
 -- What the code's outcome of a run stands for.
+-- Rule: none; for contracts: what values of the code mean.
 use Rattle.std.specs.Prelude.{◌≡◌, ℕ, IsErr, Ok, Err, Result}
 use Rattle.std.specs.declared.alloc.AllocError.{AllocError}
 use Rattle.ob0_run_machine.specs.declared.running.End as code_end
@@ -24,6 +25,7 @@ IsEndOf (Ok done) r = r ≡ Ok code.Done
 IsEndOf (Err (stop.Ended e)) r = r ≡ Ok (code.Ended e)
 IsEndOf (Err stop.Memory) r = IsErr r
 
+-- an outcome of the code as a run
 abbrev pub run_of : Outcome → Run
 run_of o = record { output = items_out o.output.items; ending = end_in o.end }
 

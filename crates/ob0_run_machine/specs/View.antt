@@ -93,6 +93,7 @@ abbrev mutual
 abbrev pub element_of : Element → lowered.Place
 element_of e = lowered.element (place_of (out-Element e).array) (number_of (out-Element e).index) (out-Element e).length (out-Element e).stride
 
+-- an operation of the code
 abbrev pub operation_of : Operation → lowered.Number
 operation_of o = applied (out-Operation o).link (number_of (out-Operation o).first)
 

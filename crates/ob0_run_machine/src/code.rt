@@ -122,6 +122,7 @@ pub struct Operands {
     pub right: Number,
 }
 
+/// An expression whose value is a truth value.
 #[cycle(truths)]
 #[derive(Drop)]
 pub enum Truth {

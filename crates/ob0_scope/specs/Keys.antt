@@ -1,4 +1,5 @@
 -- The keys of names in a map: before each name a number made of its last bytes, which tells most names apart.
+-- Rule: none; for private contracts: keys of a map.
 use Rattle.std.specs.Prelude.{ℕ, ◌+◌, ◌-◌, ◌*◌, ◌%◌, ◌^◌, List, [], ◌∷◌, drop, length}
 use Rattle.std.specs.Borrow.{Bor}
 use Rattle.std.specs.declared.cmp.Ordering.{Ordering}

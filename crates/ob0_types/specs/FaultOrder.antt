@@ -1,4 +1,5 @@
 -- The order in which faults are reported.
+-- Rule: docs/LANGUAGE.md, Faults of scopes and types 1.
 use Rattle.std.specs.Prelude.{◌≡◌, ℕ, List, ◌++◌, take}
 use Rattle.std.specs.List.{filter}
 use Rattle.std.specs.List.Sorted.{IsPermutation, IsSorted}

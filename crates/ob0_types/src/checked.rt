@@ -90,6 +90,7 @@ pub fn check<'t>(alloc: Global, resolved: &'t Resolved<'t>) -> Result<Checked<'t
     fits_by_ordinal();
     modules_fit();
     no_fault_in_modules();
+    // For the proof: what the contract of this call says.
     let _module = resolved.module();
     let known = decide(alloc, resolved)?;
     let fields = known_fields(alloc, resolved, &known)?;
@@ -109,6 +110,7 @@ pub fn faults_in<'t>(alloc: Global, resolved: &'t Resolved<'t>) -> Result<Vec<Fa
     fits_by_ordinal();
     modules_fit();
     no_fault_in_modules();
+    // For the proof: what the contract of this call says.
     let _module = resolved.module();
     let known = decide(alloc, resolved)?;
     let found = faults_of(alloc, resolved, known.is_some())?;

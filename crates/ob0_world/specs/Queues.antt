@@ -1,5 +1,6 @@
 -- What the code stores of client and server, and what it means: the view of the code, what it keeps from step to step, and the
 -- clauses of private functions. No promise of a public function names these.
+-- Rule: none; for contracts: contents that wait, and what they say.
 use Rattle.std.specs.Prelude.{◌≡◌, ◌≤◌, ⊤, ℕ, ℤ, List, [], ◌∷◌, ◌++◌, map, length, All, Bool, true, Option, Some, None, Vec, option_and_then, filter_map}
 use Rattle.std.specs.declared.alloc.Global.{Global}
 use Rattle.ob0_text.specs.OpenDocuments.{OpenDocuments, Document, InStep, OutOfStep, document_at, none_open}
@@ -99,6 +100,7 @@ ends_from e to_server session to_editor applied made =
       made = map made_of made;
     }
 
+-- client and server from what the code keeps
 abbrev pub both_from : Editor → Contents → SessionState → Contents → List applied.Applied → List made.Made → Both
 both_from e to_server session to_editor applied made =
     record { ends = ends_from e to_server session to_editor applied made; session = session; to_server = bytes to_server; to_editor = bytes to_editor }

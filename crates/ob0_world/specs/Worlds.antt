@@ -1,4 +1,5 @@
 -- Client and server as the code stores them, and what a list of events makes of them.
+-- Rule: none; for contracts of `World`: a list of events, step by step.
 use Rattle.std.specs.Prelude.{◌≡◌, ◌<◌, ◌+◌, ◌++◌, ◌⊎◌, ⊤, ℕ, List, [], ◌∷◌, map, take, length, Bool, true, false, Some}
 use Rattle.ob0_text.specs.declared.positions.Unit.{Unit}
 use Rattle.ob0_session.specs.Answers.{State, begins, Answers}

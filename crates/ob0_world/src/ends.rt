@@ -73,6 +73,7 @@ impl<T: TextStore> Ends<T> {
     pub fn is_tied(&self)
         ensures { IsTied self.now }
     {
+        // For the proof: what the contract of this call says.
         let _waiting = self.to_server.len();
     }
 

@@ -1,4 +1,5 @@
 -- The answer to each request of an editor.
+-- Rule: docs/PROTOCOL.md, Requests on documents 6 to 10.
 use Rattle.std.specs.Prelude.{◌≡◌, ◌⊎◌, ℕ, List, [], Bool, Option, Some, None, IsTrue, ◌↔◌, Vec}
 use Rattle.std.specs.declared.alloc.Global.{Global}
 use Rattle.ob0_text.specs.declared.positions.Position.{Position}

@@ -1,4 +1,5 @@
 -- What each event does to client and server, and what is seen of it.
+-- Rule: LSP 3.17: a model of client and server.
 use Rattle.std.specs.Prelude.{◌≡◌, List, [], ◌∷◌, ◌++◌, length}
 use Rattle.ob0_world_rules.specs.Ends.{open_at, ToServer, ToEditor, Made, Ends, after_message}
 use Rattle.ob0_world_rules.specs.Editing.{opens_document, changes_document, closes_document, asks_about, held_answer, discards, applies_answer}

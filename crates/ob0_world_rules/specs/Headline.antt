@@ -1,4 +1,5 @@
 -- What holds of every list of events: the headline.
+-- Rule: docs/PROMISES.md, the two ends.
 use Rattle.std.specs.Prelude.{◌≡◌, ℕ, ℤ, pos, List, [], ◌∷◌, ◌++◌, All, Option, Some, None, if◌then◌else◌}
 use Rattle.std.specs.Str.{bytes_eq}
 use Rattle.ob0_text.specs.declared.positions.Unit.{Unit}

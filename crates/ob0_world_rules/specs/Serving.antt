@@ -1,4 +1,5 @@
 -- What the server sends for each message that it takes. It has no choice: for each message there is one list.
+-- Rule: docs/PROTOCOL.md, Documents, Publishing, Requests on documents.
 use Rattle.std.specs.Prelude.{◌≡◌, ℕ, List, [], ◌∷◌, Bool, true, false, Option, Some, None, is_some}
 use Rattle.ob0_text.specs.OpenDocuments.{OpenDocuments, Document, InStep, OutOfStep, DocumentNote, Opened, Changed, Lost, Closed, document_at, after_note}
 use Rattle.ob0_world_rules.specs.Edited.{Replacement}
