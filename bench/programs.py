@@ -210,6 +210,161 @@ for i in range(200):
 print(total)
 """,
     ),
+    "quicksort of 4,000 numbers, 5 times": (
+        """MODULE Quicksort;
+VAR a: ARRAY 4000 OF INTEGER; i, seed, turn, sum: INTEGER;
+PROCEDURE Exchange(VAR x, y: INTEGER);
+VAR kept: INTEGER;
+BEGIN kept := x; x := y; y := kept END Exchange;
+PROCEDURE Sort(low, high: INTEGER);
+VAR i, k, middle: INTEGER;
+BEGIN
+  i := low; k := high; middle := a[(low + high) DIV 2];
+  REPEAT
+    WHILE a[i] < middle DO i := i + 1 END;
+    WHILE middle < a[k] DO k := k - 1 END;
+    IF i <= k THEN Exchange(a[i], a[k]); i := i + 1; k := k - 1 END
+  UNTIL i > k;
+  IF low < k THEN Sort(low, k) END;
+  IF i < high THEN Sort(i, high) END
+END Sort;
+BEGIN
+  seed := 1; turn := 0; sum := 0;
+  WHILE turn < 5 DO
+    i := 0;
+    WHILE i < 4000 DO seed := (seed * 1103 + 12345) MOD 65536; a[i] := seed; i := i + 1 END;
+    Sort(0, 3999);
+    sum := (sum + a[0] + a[2000] + a[3999]) MOD 1000003; turn := turn + 1
+  END;
+  Write(sum); WriteLn
+END Quicksort.
+""",
+        """local a, seed, sum = {}, 1, 0
+local function exchange(i, k)
+  local kept = a[i]
+  a[i] = a[k]; a[k] = kept
+end
+local function sort(low, high)
+  local i, k, middle = low, high, a[(low + high) // 2]
+  repeat
+    while a[i] < middle do i = i + 1 end
+    while middle < a[k] do k = k - 1 end
+    if i <= k then exchange(i, k); i = i + 1; k = k - 1 end
+  until i > k
+  if low < k then sort(low, k) end
+  if i < high then sort(i, high) end
+end
+for turn = 1, 5 do
+  for i = 0, 3999 do seed = (seed * 1103 + 12345) % 65536; a[i] = seed end
+  sort(0, 3999)
+  sum = (sum + a[0] + a[2000] + a[3999]) % 1000003
+end
+print(sum)
+""",
+        """a, seed, total = [0] * 4000, 1, 0
+def exchange(i, k):
+    kept = a[i]
+    a[i] = a[k]
+    a[k] = kept
+def sort(low, high):
+    i, k, middle = low, high, a[(low + high) // 2]
+    while True:
+        while a[i] < middle:
+            i = i + 1
+        while middle < a[k]:
+            k = k - 1
+        if i <= k:
+            exchange(i, k)
+            i = i + 1
+            k = k - 1
+        if i > k:
+            break
+    if low < k:
+        sort(low, k)
+    if i < high:
+        sort(i, high)
+for turn in range(5):
+    for i in range(4000):
+        seed = (seed * 1103 + 12345) % 65536
+        a[i] = seed
+    sort(0, 3999)
+    total = (total + a[0] + a[2000] + a[3999]) % 1000003
+print(total)
+""",
+    ),
+    "a record of 1,002 cells assigned 20,000 times": (
+        """MODULE Records;
+TYPE Line = ARRAY 1000 OF INTEGER; Page = RECORD head, foot: INTEGER; line: Line END;
+VAR a, b: Page; i, k: INTEGER;
+BEGIN
+  i := 0; a.head := 0; a.foot := 1;
+  WHILE i < 1000 DO a.line[i] := i; i := i + 1 END;
+  i := 0;
+  WHILE i < 100 DO
+    k := 0;
+    WHILE k < 100 DO b := a; b.head := b.head + 1; a := b; k := k + 1 END;
+    i := i + 1
+  END;
+  Write(a.head + a.line[999]); WriteLn
+END Records.
+""",
+        """local a, i = {head = 0, foot = 1, line = {}}, 0
+local function copied(page)
+  return {head = page.head, foot = page.foot, line = table.move(page.line, 0, 999, 0, {})}
+end
+for i = 0, 999 do a.line[i] = i end
+for i = 1, 10000 do
+  local b = copied(a)
+  b.head = b.head + 1
+  a = copied(b)
+end
+print(a.head + a.line[999])
+""",
+        """def copied(page):
+    return {"head": page["head"], "foot": page["foot"], "line": page["line"][:]}
+a = {"head": 0, "foot": 1, "line": list(range(1000))}
+for i in range(10000):
+    b = copied(a)
+    b["head"] = b["head"] + 1
+    a = copied(b)
+print(a["head"] + a["line"][999])
+""",
+    ),
+    "200,000 calls with VAR parameters": (
+        """MODULE Var;
+VAR i, k, x, y: INTEGER;
+PROCEDURE Step(VAR x, y: INTEGER; by: INTEGER);
+BEGIN x := (x + by) MOD 1000; y := y + x END Step;
+BEGIN
+  i := 0; x := 0; y := 0;
+  WHILE i < 200 DO
+    k := 0;
+    WHILE k < 1000 DO Step(x, y, k); k := k + 1 END;
+    i := i + 1
+  END;
+  Write(x); Write(y); WriteLn
+END Var.
+""",
+        """local x, y = 0, 0
+local function step(x, y, by)
+  x = (x + by) % 1000
+  return x, y + x
+end
+for i = 1, 200 do
+  for k = 0, 999 do x, y = step(x, y, k) end
+end
+print(x .. " " .. y)
+""",
+        """def step(x, y, by):
+    x = (x + by) % 1000
+    return x, y + x
+x, y = 0, 0
+for i in range(200):
+    for k in range(1000):
+        x, y = step(x, y, k)
+print(x, y)
+""",
+    ),
 }
 
 

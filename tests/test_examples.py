@@ -1,5 +1,6 @@
-"""The modules of examples/: each has no fault, prints what its file .out has on the numbers of its file .in, and is laid out
-as the server lays it out. (What they print was written down by other means than this program.)"""
+"""The modules of examples/: each is checked without a fault, prints what its file .out has on the numbers of its file .in, ends as
+its file .err tells where it has one, and is laid out as the server lays it out. (What they print was written down by other means
+than this program.)"""
 import os
 
 from harness import TOP, Server, did_open, ends, holds, run, same, test
@@ -14,7 +15,8 @@ def bytes_of(*path):
 @test("examples: there are a dozen, each with its input and its output")
 def dozen():
     holds(len(examples()) >= 12, f"there are {len(examples())}")
-    wanted = sorted(f"{it[:-4]}{end}" for it in examples() for end in (".in", ".mod", ".out"))
+    faults = [f"{it[:-4]}.err" for it in examples() if os.path.basename(it).startswith("Fault")]
+    wanted = sorted([f"{it[:-4]}{end}" for it in examples() for end in (".in", ".mod", ".out")] + faults)
     same(sorted(os.path.join("examples", it) for it in os.listdir(os.path.join(TOP, "examples")) if it != "README.md"), wanted)
 
 
@@ -22,7 +24,8 @@ def dozen():
 def run_each():
     for it in examples():
         ends(run(["check", os.path.join(TOP, it)]), "", 0)
-        ends(run(["run", os.path.join(TOP, it)], bytes_of(f"{it[:-4]}.in")), bytes_of(f"{it[:-4]}.out"), 0)
+        told = bytes_of(f"{it[:-4]}.err") if os.path.basename(it).startswith("Fault") else ""
+        ends(run(["run", os.path.join(TOP, it)], bytes_of(f"{it[:-4]}.in")), bytes_of(f"{it[:-4]}.out"), 1 if told else 0, told)
 
 
 @test("examples: a layout changes nothing in any of them")

@@ -1,5 +1,5 @@
 -- Calls: the body of a procedure runs, and its cells are given up.
-use Rattle.std.proofs.Common.{◌≡◌, ◌≢◌, ℕ, zero, suc, arith, ◌-◌, ℤ, refl, sym, ap, ◌∙◌, subst, Ok, Err, List, [], ◌++◌, take, Option, None, Some, Result}
+use Rattle.std.proofs.Common.{◌≡◌, ◌≢◌, ℕ, zero, suc, arith, ◌-◌, ℤ, refl, sym, ap, ◌∙◌, subst, Ok, Err, List, [], ◌++◌, take, Option, None, Some, Result, IsErr}
 use Rattle.ob0_run_machine.specs.declared.code.Program.{Program}
 use Rattle.ob0_run_machine.specs.declared.ending.Ending.TheVariants as ending
 use Rattle.ob0_run_machine.specs.declared.ending.Stop.{Stop}
@@ -17,7 +17,9 @@ use Rattle.ob0_run_machine.specs.Answers.{end_of}
 use Rattle.ob0_run_machine.specs.declared.ending.Ending.{Ending}
 use Rattle.ob0_run_machine.specs.View.{program_of, sequence_of}
 use Rattle.ob0_run_machine.specs.declared.code.Statement.{Statement}
-use Rattle.ob0_run_machine.specs.Outcomes.{block_run}
+use Rattle.ob0_run_machine.specs.Outcomes.{IsEndOf, block_run, end_in}
+use Rattle.ob0_run_machine.specs.declared.running.End.{End}
+use Rattle.std.specs.declared.alloc.AllocError.{AllocError}
 use Rattle.std.specs.Prelude.{slice_get}
 
 call-none : (ps : List Procedure) (c t k : ℕ) (ls : Levels) (s : State) → c ≡ 0 → call ps c t k ls s ≡ stopped CallBound s.output
@@ -78,8 +80,18 @@ block_runs m m' program c t r post inner xs performs seen same d =
 abbrev pub state_with : List ℤ → List ℤ → List Written → State
 state_with cells input output = record { cells = cells; input = input; output = output }
 
-pub ended_by : (m : Machine) (p : Progress) (y : Stop) (x : Ending) → y ≡ stop.Ended x → Steps (Err y) m p → p ≡ stopped (end_of x) (items_out m.output.items)
-ended_by m p y x e h = let P : Stop → Type 0 = λ y. Steps (Err y) m p in subst P e h
+abbrev given : {A E : Type 0} → A → Result A E → A
+given d (Ok a) = a
+given d (Err e) = d
+
+ok-same : {A E : Type 0} {a b : A} (r : Result A E) → r ≡ Ok a → r ≡ Ok b → a ≡ b
+ok-same {a = a} r h k = sym (ap (given a) h) ∙ ap (given a) k
+
+pub ended_by : (m : Machine) (p : Progress) (executed : Result (Unit {0}) Stop) (r : Result End AllocError) (end : End) → r ≡ Ok end → IsEndOf executed r → Steps executed m p
+    → record { output = items_out m.output.items; ending = end_in end } ≡ finished p
+ended_by m p (Ok done) r end is h steps = ap (λ e. record { output = items_out m.output.items; ending = end_in e }) (ok-same r is h) ∙ sym (ap finished steps)
+ended_by m p (Err (stop.Ended x)) r end is h steps = ap (λ e. record { output = items_out m.output.items; ending = end_in e }) (ok-same r is h) ∙ sym (ap finished steps)
+ended_by m p (Err stop.Memory) r end is h steps = let no = subst IsErr is h in absurd (cc)
 
 pub finishes : (program : lowered.Program) (input : List ℤ) (c t : ℕ) (s : State) (p : Progress) → s ≡ record { cells = zeros program.cells; input = input; output = [] } → block_run program c t s ≡ p → finished p ≡ run program input c t
 unfolding run

@@ -1,8 +1,11 @@
 -- What the code's outcome of a run stands for.
-use Rattle.std.specs.Prelude.{ℕ}
+use Rattle.std.specs.Prelude.{◌≡◌, ℕ, IsErr, Ok, Err, Result}
+use Rattle.std.specs.declared.alloc.AllocError.{AllocError}
 use Rattle.ob0_run_machine.specs.declared.running.End as code_end
 use Rattle.ob0_run_machine.specs.declared.running.End.TheVariants as code
 use Rattle.ob0_run_machine.specs.declared.running.Outcome.{Outcome}
+use Rattle.ob0_run_machine.specs.declared.ending.Stop.{Stop}
+use Rattle.ob0_run_machine.specs.declared.ending.Stop.TheVariants as stop
 use Rattle.ob0_run_machine.specs.Answers.{end_of}
 use Rattle.ob0_run_machine.specs.Evaluation.{Done, End}
 use Rattle.ob0_run_machine.specs.Execution.{Progress, Run, State, call, execute_all, outermost}
@@ -12,6 +15,13 @@ use Rattle.ob0_run_machine.specs.Machines.{items_out}
 abbrev pub end_in : code_end.End → End
 end_in code.Done = Done
 end_in (code.Ended e) = end_of e
+
+-- statements that return have reached the end of the program, a rule that they break ends the run, and nothing else but an
+-- allocation that failed leaves it without an end
+abbrev pub IsEndOf : Result (Unit {0}) Stop → Result code_end.End AllocError → Type 0
+IsEndOf (Ok done) r = r ≡ Ok code.Done
+IsEndOf (Err (stop.Ended e)) r = r ≡ Ok (code.Ended e)
+IsEndOf (Err stop.Memory) r = IsErr r
 
 abbrev pub run_of : Outcome → Run
 run_of o = record { output = items_out o.output.items; ending = end_in o.end }

@@ -2,10 +2,9 @@
 
 ghost use Rattle.std.specs.Prelude.{◌≡◌, IfOk};
 ghost use Rattle.ob0_run_machine.specs.Execution.{run};
-ghost use Rattle.ob0_run_machine.specs.Outcomes.{block_run, end_in, run_of};
+ghost use Rattle.ob0_run_machine.specs.Outcomes.{IsEndOf, block_run, run_of};
 ghost use Rattle.ob0_run_machine.specs.Machines.{Steps, state_of};
 ghost use Rattle.ob0_run_machine.specs.View.{program_of};
-ghost use Rattle.ob0_run_machine.specs.Answers.{end_of};
 
 use crate::calls::call;
 use crate::code::Program;
@@ -45,12 +44,25 @@ fn execute(program: &Program, calls: u32, turns: u32, machine: &mut Machine<'_>)
     sequence(&program.body, &level, turns, machine, &enter)
 }
 
-/// Runs a program on an input, with at most so many calls open at a time, and at most so many turns of each execution of a loop.
-/// The program's own statements are no call.
+/// The end of a run whose statements returned this. An error exactly where an allocation failed.
+fn end_of(executed: Result<(), Stop>) -> Result<End, AllocError>
+    ensures { IsEndOf executed result }
+{
+    match executed {
+        Ok(()) => Ok(End::Done),
+        Err(stop) => match stop {
+            Stop::Ended(ending) => Ok(End::Ended(ending)),
+            Stop::Memory => Err(AllocError),
+        },
+    }
+}
+
+/// Runs a program on an input, with at most `calls` calls open at a time, and at most `turns` iterations of each execution of a
+/// loop. The program's own statements are no call.
 ///
 /// # Errors
 ///
-/// Want of memory.
+/// Out of memory.
 pub fn run(
     alloc: Global,
     program: &Program,
@@ -68,13 +80,7 @@ pub fn run(
         input,
         output: Vec::new(alloc),
     };
-    let end = match execute(program, calls, turns, &mut machine) {
-        Ok(()) => End::Done,
-        Err(stop) => match stop {
-            Stop::Ended(ending) => End::Ended(ending),
-            Stop::Memory => return Err(AllocError),
-        },
-    };
+    let end = end_of(execute(program, calls, turns, &mut machine))?;
     Ok(Outcome {
         output: machine.output,
         end,

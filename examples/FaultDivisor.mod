@@ -1,0 +1,10 @@
+MODULE FaultDivisor; (* a divisor has to be 1 at least *)
+VAR
+  d: INTEGER;
+BEGIN
+  d := 3;
+  WHILE d >= -3 DO
+    Write(60 DIV d);
+    d := d - 1
+  END
+END FaultDivisor.

@@ -1,0 +1,13 @@
+MODULE FaultInputEnd; (* reads four numbers of an input that has three *)
+VAR
+  n, sum, i: INTEGER;
+BEGIN
+  sum := 0;
+  i := 0;
+  WHILE i < 4 DO
+    Read(n);
+    sum := sum + n;
+    Write(sum);
+    i := i + 1
+  END
+END FaultInputEnd.
