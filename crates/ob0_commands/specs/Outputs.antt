@@ -1,5 +1,4 @@
--- A device, and whether it has been flushed since something was last written to it.
--- Rule: none; for contracts: std's model of a writer, and whether it is flushed.
+-- A device, whether it has been flushed since something was last written to it, and whether it has failed.
 use Rattle.std.specs.Prelude.{◌≡◌, ◌⊎◌, Bool, true}
 use Rattle.ob0_commands.specs.declared.printing.Flushed.{Flushed}
 
@@ -10,6 +9,10 @@ device_of output = output.device
 -- whether it has been flushed since then, by a flush that succeeded
 abbrev pub has_flushed : {W : Type 0} → Flushed W → Bool
 has_flushed output = output.has_flushed
+
+-- whether a call that writes or flushes has failed
+abbrev pub has_failed : {W : Type 0} → Flushed W → Bool
+has_failed output = output.has_failed
 
 -- what was written is flushed, or the device is as it was
 abbrev pub IsHandedOn : {O : Type 0} → (is_flushed : Bool) (before after : O) → Type 0

@@ -1,6 +1,6 @@
 -- The statuses with which a command on a file ends.
 -- Rule: docs/PROTOCOL.md, The program 8.
-use Rattle.std.specs.Prelude.{◌≡◌, ◌⊎◌, ℕ, List}
+use Rattle.std.specs.Prelude.{◌≡◌, ◌≤◌, ◌⊎◌, ℕ, List, Bool, true}
 use Rattle.std.specs.Str.{IsUtf8}
 use Rattle.ob0_run.specs.declared.running.End.{End}
 use Rattle.ob0_run.specs.declared.running.End.TheVariants as end
@@ -36,3 +36,15 @@ status_at end.Index = 1
 status_at end.InputEnd = 1
 status_at end.CallBound = 1
 status_at end.TurnBound = 1
+
+-- a command on a file ends with 0, 1, 4 or 5
+abbrev pub IsStatus : ℕ → Type 0
+IsStatus status = (status ≤ 1) ⊎ ((status ≡ 4) ⊎ (status ≡ 5))
+
+-- what is wrong where nothing is reported of a file: its bytes are no UTF-8, or the output has failed
+abbrev pub CanNotReport : List ℕ → Bool → Type 0
+CanNotReport file failed = ¬ (IsUtf8 file) ⊎ (failed ≡ true)
+
+-- the output has failed where the fault says so
+abbrev pub IsOfOutput : Bool → Fault → Type 0
+IsOfOutput failed f = f ≡ fault.Write → failed ≡ true

@@ -3,7 +3,7 @@
 ghost use Rattle.std.specs.Prelude.{◌≡◌, ◌<◌, ◌++◌, [], true, IfOk, IfNone, MatchOption, OnOk, IfErr, codes, length, map, string_bytes};
 ghost use Rattle.std.specs.Io.KnownBytes.{Appends};
 ghost use Rattle.ob0_commands.specs.Printed.{TellsWrong, complaint_lines, line_at, lines_at};
-ghost use Rattle.ob0_commands.specs.Statuses.{StopsPrinting, StopsTelling};
+ghost use Rattle.ob0_commands.specs.Statuses.{CanNotReport, IsOfOutput, IsStatus, StopsPrinting, StopsTelling};
 ghost use Rattle.ob0_scan.specs.Scanned.{max_text};
 ghost use Rattle.ob0_analysis.specs.Diagnosed.{Tells, complaint_in};
 
@@ -23,6 +23,8 @@ pub fn check_text<O: Output, E: Output>(alloc: Global, file: &[u8], out: &mut O,
     ensures quiet { result ≡ 0 → out.new ≡ out.old }
     ensures told { result ≡ 1 → TellsWrong file.now (O.contents out.old) (O.contents out.new) }
     ensures flushed { result ≡ 1 → O.is_flushed out.new ≡ true }
+    ensures statuses { IsStatus result }
+    ensures unreported { result ≡ 4 → CanNotReport file.now (O.has_failed out.new) }
 {
     match check(alloc, file, out) {
         Ok(Some(_text)) => 0,
@@ -41,6 +43,7 @@ pub fn check<'f, O: Output>(
     ensures found { IfOk result (λ found. MatchOption found (TellsWrong file.entry.now (O.contents out.old) (O.contents out.new)) (λ text. (text.now ≡ file.entry.now) × Tells file.entry.now [] × (out.new ≡ out.old))) }
     ensures flushed { IfOk result (λ found. IfNone found (O.is_flushed out.new ≡ true)) }
     ensures fault { IfErr result (StopsTelling file.entry.now) }
+    ensures failed { IfErr result (IsOfOutput (O.has_failed out.new)) }
 {
     let Some(text) = text_of(file, out)? else {
         return Ok(None);
@@ -58,6 +61,7 @@ pub fn text_of<'f, O: Output>(file: &'f [u8], out: &mut O) -> Result<Option<&'f 
     ensures found { IfOk result (λ found. MatchOption found ((max_text < length file.entry.now) × Appends (O.contents out.old) (O.contents out.new) (codes "0:0: TooLong: text too long\n")) (λ text. (text.now ≡ file.entry.now) × (out.new ≡ out.old))) }
     ensures flushed { IfOk result (λ found. IfNone found (O.is_flushed out.new ≡ true)) }
     ensures fault { IfErr result (StopsTelling file.entry.now) }
+    ensures failed { IfErr result (IsOfOutput (O.has_failed out.new)) }
 {
     if file.len() >= MAX_FILE {
         print(out, "0:0: TooLong: text too long\n")?;
@@ -79,6 +83,7 @@ pub fn print_diagnoses<O: Output>(
     ensures printed { OnOk result (Appends (O.contents out.old) (O.contents out.new) (complaint_lines text.now (map complaint_in told.now))) }
     ensures flushed { OnOk result (O.is_flushed out.new ≡ true) }
     ensures fault { IfErr result StopsPrinting }
+    ensures failed { IfErr result (IsOfOutput (O.has_failed out.new)) }
 {
     print(out, lines_of(alloc, text, told)?.as_str())
 }

@@ -6,18 +6,20 @@ ghost use Rattle.ob0_commands.specs.Statuses.{status_of};
 
 use crate::printing::{Output, print};
 use std::alloc::{AllocError, AllocFailed};
+use thiserror::Error;
 
 /// Why a command on a file gave up. Each is told by its name.
-#[derive(Clone, Copy, PartialEq, Eq)]
+#[derive(Clone, Copy, Debug, Drop, PartialEq, Eq, Error)]
 pub enum Fault {
-    /// The file can't be read.
+    #[error("the file can't be read")]
     File,
-    /// The file's bytes are no UTF-8.
+    #[error("the file isn't UTF-8")]
     Utf8,
-    /// The input can't be read, is too long, or is no list of numbers.
+    #[error("the input can't be read, is too long, or isn't a list of numbers")]
     Input,
-    /// The output can't be written.
+    #[error("the output can't be written")]
     Write,
+    #[error("out of memory")]
     Memory,
 }
 

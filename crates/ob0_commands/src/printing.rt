@@ -1,41 +1,53 @@
 //! Printing whole texts.
 
-ghost use Rattle.std.specs.Prelude.{◌≡◌, Bool, true, false, OnOk, IfErr};
+ghost use Rattle.std.specs.Prelude.{◌≡◌, ◌||◌, Bool, true, false, is_err, OnOk, OnErr, IfErr};
 ghost use Rattle.std.specs.Io.{WritesAtMost};
 ghost use Rattle.std.specs.Io.KnownBytes.{Appends, Keeps, WriteAppends};
 ghost use Rattle.ob0_commands.specs.declared.faults.Fault.TheVariants as faults;
-ghost use Rattle.ob0_commands.specs.Outputs.{device_of, has_flushed};
+ghost use Rattle.ob0_commands.specs.Outputs.{device_of, has_failed, has_flushed};
 
 use crate::faults::Fault;
 use std::io::{self, Write};
 
-/// A writer that knows whether it has been flushed since something was last written to it.
+/// A writer that knows whether it has been flushed since something was last written to it, and whether it has failed.
 pub trait Output: Write {
     // Whether it has been flushed since then, by a flush that succeeded.
     ghost is_flushed: { Self → Bool };
 
-    /// Flushes, and remembers that this succeeded.
+    // Whether a call of the two below has failed.
+    ghost has_failed: { Self → Bool };
+
+    /// Writes all of some bytes, and remembers where that fails.
+    fn put_all(&mut self, bytes: &[u8]) -> io::Result<()>
+        ensures bytes { OnOk result (Appends (Self.contents self.old) (Self.contents self.new) bytes.now) }
+        ensures failed { has_failed self.new ≡ (has_failed self.old || is_err result) };
+
+    /// Flushes, and remembers whether this succeeded.
     fn hand_on(&mut self) -> io::Result<()>
         ensures bytes { Keeps (Self.contents self.old) (Self.contents self.new) }
-        ensures flushed { OnOk result (is_flushed self.new ≡ true) };
+        ensures flushed { OnOk result (is_flushed self.new ≡ true) }
+        ensures failed { has_failed self.new ≡ (has_failed self.old || is_err result) };
 }
 
-/// A device, and whether it has been flushed since something was last written to it.
+/// A device, whether it has been flushed since something was last written to it, and whether it has failed.
 #[derive(Drop)]
 pub struct Flushed<W> {
     device: W,
     has_flushed: bool,
+    has_failed: bool,
 }
 
 impl<W> Flushed<W> {
-    /// A device that hasn't been flushed.
+    /// A device that hasn't been flushed and hasn't failed.
     pub fn new(device: W) -> Flushed<W>
         ensures device { device_of result ≡ device }
         ensures fresh { has_flushed result ≡ false }
+        ensures works { has_failed result ≡ false }
     {
         Flushed {
             device,
             has_flushed: false,
+            has_failed: false,
         }
     }
 }
@@ -60,13 +72,29 @@ impl<W: Write> Write for Flushed<W> {
 impl<W: Write> Output for Flushed<W> {
     ghost is_flushed = { λ output. has_flushed output };
 
+    ghost has_failed = { λ output. has_failed output };
+
+    fn put_all(&mut self, bytes: &[u8]) -> io::Result<()> {
+        self.has_flushed = self.has_flushed && bytes.is_empty();
+        match self.device.write_all(bytes) {
+            Ok(()) => Ok(()),
+            Err(error) => {
+                self.has_failed = true;
+                Err(error)
+            }
+        }
+    }
+
     fn hand_on(&mut self) -> io::Result<()> {
         match self.device.flush() {
             Ok(()) => {
                 self.has_flushed = true;
                 Ok(())
             }
-            Err(error) => Err(error),
+            Err(unflushed) => {
+                self.has_failed = true;
+                Err(unflushed)
+            }
         }
     }
 }
@@ -76,9 +104,11 @@ pub fn print<W: Output>(out: &mut W, text: &str) -> Result<(), Fault>
     ensures printed { OnOk result (Appends (W.contents out.old) (W.contents out.new) text.now) }
     ensures flushed { OnOk result (W.is_flushed out.new ≡ true) }
     ensures fault { IfErr result (λ fault. fault ≡ faults.Write) }
+    ensures failed { OnErr result (W.has_failed out.new ≡ true) }
 {
-    if out.write_all(text.as_bytes()).is_err() {
-        return Err(Fault::Write);
+    match out.put_all(text.as_bytes()) {
+        Ok(()) => {}
+        Err(_) => return Err(Fault::Write),
     }
     match out.hand_on() {
         Ok(()) => Ok(()),

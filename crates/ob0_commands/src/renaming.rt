@@ -1,9 +1,9 @@
 //! Another name in a file's text.
 
-ghost use Rattle.std.specs.Prelude.{◌≡◌, true, IfOk, IfErr, OnOk};
+ghost use Rattle.std.specs.Prelude.{◌≡◌, ◌≤◌, true, IfOk, IfErr, OnOk};
 ghost use Rattle.ob0_commands.specs.Outputs.{IsHandedOn};
 ghost use Rattle.ob0_commands.specs.Renamed.{IsRefusal, PrintsEdited, PrintsNoName, PrintsRenamed};
-ghost use Rattle.ob0_commands.specs.Statuses.{StopsPrinting};
+ghost use Rattle.ob0_commands.specs.Statuses.{CanNotReport, IsOfOutput, IsStatus, StopsPrinting, StopsTelling};
 
 use crate::checking::{print_diagnoses, text_of};
 use crate::faults::{Fault, tell_fault};
@@ -29,6 +29,8 @@ pub fn rename_text<O: Output, E: Output>(
     ensures other { result ≡ 1 → PrintsNoName file.now position new.now (O.contents out.old) (O.contents out.new) }
     ensures flushed { result ≡ 0 → O.is_flushed out.new ≡ true }
     ensures handed_on { result ≡ 1 → IsHandedOn (O.is_flushed out.new) out.old out.new }
+    ensures statuses { IsStatus result }
+    ensures unreported { result ≡ 4 → CanNotReport file.now (O.has_failed out.new) }
 {
     match rename_file(alloc, file, position, new, out, err) {
         Ok(status) => status,
@@ -48,6 +50,9 @@ fn rename_file<O: Output, E: Output>(
     ensures other { IfOk result (λ status. status ≡ 1 → PrintsNoName file.now position new.now (O.contents out.old) (O.contents out.new)) }
     ensures flushed { IfOk result (λ status. status ≡ 0 → O.is_flushed out.new ≡ true) }
     ensures handed_on { IfOk result (λ status. status ≡ 1 → IsHandedOn (O.is_flushed out.new) out.old out.new) }
+    ensures ends { IfOk result (λ status. status ≤ 1) }
+    ensures fault { IfErr result (StopsTelling file.now) }
+    ensures failed { IfErr result (IsOfOutput (O.has_failed out.new)) }
 {
     let Some(text) = text_of(file, out)? else {
         return Ok(1);
@@ -67,6 +72,9 @@ fn rename_in_text<O: Output, E: Output>(
     ensures other { IfOk result (λ status. status ≡ 1 → PrintsNoName text.now position new.now (O.contents out.old) (O.contents out.new)) }
     ensures flushed { IfOk result (λ status. status ≡ 0 → O.is_flushed out.new ≡ true) }
     ensures handed_on { IfOk result (λ status. status ≡ 1 → IsHandedOn (O.is_flushed out.new) out.old out.new) }
+    ensures ends { IfOk result (λ status. status ≤ 1) }
+    ensures fault { IfErr result StopsPrinting }
+    ensures failed { IfErr result (IsOfOutput (O.has_failed out.new)) }
 {
     let store = Lines::from_str(alloc, text)?;
     match rename_in(alloc, &store, None, position, new)? {
@@ -90,7 +98,9 @@ pub fn print_edited<T: TextStore, O: Output, E: Output>(
     ensures edited { IfOk result (λ status. status ≡ 0 → PrintsEdited (T.unit_of store.now) (T.content store.now) edits (O.contents out.old) (O.contents out.new)) }
     ensures refused { IfOk result (λ status. status ≡ 1 → IsRefusal edits × (out.new ≡ out.old)) }
     ensures flushed { IfOk result (λ status. status ≡ 0 → O.is_flushed out.new ≡ true) }
+    ensures ends { IfOk result (λ status. status ≤ 1) }
     ensures fault { IfErr result StopsPrinting }
+    ensures failed { IfErr result (IsOfOutput (O.has_failed out.new)) }
 {
     match edits {
         Ok(edits) => match patch(alloc, store, edits.as_slice()) {

@@ -11,4 +11,5 @@ returns g c =
           here.0 (ap g.O.Write.contents here.1) c.as_slice.ensures.value c.in_ok-told.ensures some c.in_ok-print_diagnoses.ensures.printed;
       flushed = c.in_ok-print_diagnoses.ensures.flushed;
       fault = tt;
+      failed = tt;
     }

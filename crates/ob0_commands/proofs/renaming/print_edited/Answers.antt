@@ -8,5 +8,7 @@ returns g c =
       edited = λ no. absurd (omega (arith, no));
       refused = λ one. (subst IsRefusal (sym c.in-Err.is) tt, refl);
       flushed = λ no. absurd (omega (arith, no));
+      ends = omega arith;
       fault = tt;
+      failed = tt;
     }
