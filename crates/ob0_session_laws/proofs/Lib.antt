@@ -1,6 +1,0 @@
-mod Tables
-mod SameTables
-mod Reports
-mod NamesShown
-mod Sayings
-mod Conversations
