@@ -1,7 +1,7 @@
 //! What documents and a text are left as where the memory of a call is refused.
 
 use crate::text::changes_of;
-use ob0_text::{Change, Documents, Lines, Position, Range, StoredText, TextStore};
+use ob0_text::{Change, Documents, Held, Lines, Position, Range, TextStore};
 use std::alloc::{AllocError, Global};
 use std::process::Abort;
 use std::test::Fail;
@@ -20,18 +20,17 @@ const CHANGED: &str = "a\r\nb\nd";
 /// Whether a document is in step with this version and text.
 fn is_in_step(documents: &Documents<Lines>, uri: &str, wanted: (i64, &str)) -> bool {
     match documents.get(uri) {
-        Some(StoredText::InStep { version, text }) => version == wanted.0
-            && text.as_str() == wanted.1,
-        Some(StoredText::OutOfStep) => false,
+        Some(Held::InStep { version, text }) => version == wanted.0 && text.as_str() == wanted.1,
+        Some(Held::OutOfStep) => false,
         None => false,
     }
 }
 
 fn is_out_of_step(documents: &Documents<Lines>, uri: &str) -> bool {
     match documents.get(uri) {
-        Some(StoredText::OutOfStep) => true,
+        Some(Held::OutOfStep) => true,
         Some(
-            StoredText::InStep {
+            Held::InStep {
                 version: _version,
                 text: _text,
             },

@@ -2,7 +2,7 @@
 
 use ob0_frame::{FrameFault, Framer};
 use ob0_rpc::{Note, notice};
-use ob0_text::{Documents, Lines, StoredText, TextStore, Unit, Whole};
+use ob0_text::{Documents, Held, Lines, TextStore, Unit, Whole};
 use serde_json::Value;
 use std::alloc::{AllocError, Global};
 use std::process::Abort;

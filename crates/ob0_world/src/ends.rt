@@ -16,7 +16,7 @@ ghost use Rattle.ob0_world.specs.Worlds.{new_both, HasCome, IsAnswered, IsTied, 
 use crate::events::{Event, Seen};
 use crate::played::{Made, Played};
 use ob0_session::{Session, SessionFault};
-use ob0_text::{Change, Documents, StoredText, TextStore, Unit};
+use ob0_text::{Change, Documents, Held, TextStore, Unit};
 use ob0_world_editor::{Applied, Applying, Ask, Editor, Message, initialize};
 use std::alloc::{AllocError, Global};
 use std::collections::VecDeque;
@@ -308,7 +308,7 @@ fn made_with<T: TextStore>(
 {
     match documents.get(uri.as_str()) {
         Some(held) => match held {
-            StoredText::InStep {
+            Held::InStep {
                 version: _version,
                 text,
             } => {
@@ -320,7 +320,7 @@ fn made_with<T: TextStore>(
                     empty,
                 }))
             }
-            StoredText::OutOfStep => Ok(None),
+            Held::OutOfStep => Ok(None),
         },
         None => Ok(None),
     }
