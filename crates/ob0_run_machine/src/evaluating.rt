@@ -10,8 +10,8 @@ ghost use Rattle.ob0_run_machine.specs.Levels.{levels_of};
 ghost use Rattle.ob0_run_machine.specs.View.{all_in, any_in, applied, chained_in, element_of, number_of, operation_of, place_of, related_by, row_of, truth_of, variable_of};
 
 use crate::code::{
-    Chain, Element, Link, Number, Operands, Operation, Place, Relation, Row, Several, Truth, Truths,
-    Variable,
+    Chain, Element, Link, Number, Operands, Operation, Place, Relation, Row, Several, Truth,
+    Truths, Variable,
 };
 use crate::ending::Ending;
 use crate::evaluated::{Evaluated, flat, unpacked};
