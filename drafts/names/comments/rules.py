@@ -15,7 +15,7 @@ def line(rule):
     if line.startswith("-- Rule: for ") or line.startswith("-- Rule: laws of "): line = line.replace("-- Rule: ", "-- Rule: none; ", 1)
     return line.replace("-- Rule: what docs/PROMISES.md promises of client and server.", "-- Rule: docs/PROMISES.md, the two ends.")
 done = 0
-for l in open("/work/brief/comments/rules.txt", encoding="utf-8"):
+for l in open("rules.txt", encoding="utf-8"):
     name, rule = l.rstrip("\n").split("|", 1)
     c, f = name.split("/")
     p = f"{c}/specs/{f}.antt"
