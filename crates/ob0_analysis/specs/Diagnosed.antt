@@ -111,12 +111,6 @@ TellsFaults text told = TellsLexemes text told ⊎ (TellsParser text told ⊎ Te
 abbrev pub Tells : List ℕ → List Complaint → Type 0
 Tells text told = (IsWellTypedModule text × (told ≡ [])) ⊎ (¬ IsWellTypedModule text × TellsFaults text told)
 
--- ---- what is kept for the next scan
-
--- the text's tokens and comments; what was kept before, exactly where it has no lexemes or is too long
-abbrev pub Keeps : List ℕ → Option Scanned → Option Scanned → Type 0
-Keeps text before after = ((scanned : Scanned) × IsScanOf text scanned × (after ≡ Some scanned)) ⊎ ((IsScannable text → ⊥) × (after ≡ before))
-
 -- ---- laws
 
 -- What is told of the parser is determined by the text.

@@ -8,7 +8,7 @@ ghost use Rattle.ob0_commands.specs.Statuses.{StopsPrinting};
 use crate::checking::{print_diagnoses, text_of};
 use crate::faults::{Fault, tell_fault};
 use crate::printing::{Output, print};
-use ob0_analysis::Asked;
+use ob0_analysis::Analysis;
 use ob0_rename::rename_in;
 use ob0_text::{Edit, EditRefusal, Lines, Position, TextStore, patch};
 use std::alloc::Global;
@@ -69,9 +69,11 @@ fn rename_in_text<O: Output, E: Output>(
     ensures handed_on { IfOk result (λ status. status ≡ 1 → IsHandedOn (O.is_flushed out.new) out.old out.new) }
 {
     let store = Lines::from_str(alloc, text)?;
-    match rename_in(alloc, &store, None, position, new)? {
-        Asked::Answered(outcome) => print_edited(alloc, &store, outcome, out, err),
-        Asked::IllTyped(told) => {
+    let analysis = Analysis::of(alloc, text)?;
+    match rename_in(alloc, &store, &analysis, position, new)? {
+        Some(outcome) => print_edited(alloc, &store, outcome, out, err),
+        None => {
+            let told = analysis.diagnoses(alloc)?;
             print_diagnoses(alloc, text, told.as_slice(), out)?;
             Ok(1)
         }

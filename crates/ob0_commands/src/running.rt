@@ -15,7 +15,7 @@ use crate::checking::check;
 use crate::faults::{Fault, tell_fault};
 use crate::numbers::read_numbers;
 use crate::printing::{Output, print};
-use ob0_analysis::{Asked, Question, WellTyped, ask};
+use ob0_analysis::{Analysis, Question, WellTyped, ask};
 use ob0_run::{End, Item, Outcome, run};
 use std::alloc::{AllocError, Global};
 use std::io::Read;
@@ -33,7 +33,7 @@ impl<'i> Question for RunOf<'i> {
 
     ghost answers = { λ q names outcome. run_of outcome ≡ run (named_tree_of names.module_read) q.input.now q.calls q.turns };
 
-    fn answer(&self, alloc: Global, module: &WellTyped<'_, '_>) -> Result<Outcome, AllocError> {
+    fn answer(&self, alloc: Global, module: &WellTyped<'_>) -> Result<Outcome, AllocError> {
         run(alloc, module, self.input, self.calls, self.turns)
     }
 }
@@ -99,9 +99,10 @@ fn run_module(
         calls,
         turns,
     };
-    match ask(alloc, text, None, &question)? {
-        Asked::Answered(outcome) => Ok(outcome),
-        Asked::IllTyped(_) => unreachable!(),
+    let analysis = Analysis::of(alloc, text)?;
+    match ask(alloc, &analysis, &question)? {
+        Some(outcome) => Ok(outcome),
+        None => unreachable!(),
     }
 }
 

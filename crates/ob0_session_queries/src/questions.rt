@@ -1,6 +1,7 @@
 //! Questions about the name or field at a position.
 
 ghost use Rattle.std.specs.Prelude.{◌≡◌, IfOk, option_map, map};
+ghost use Rattle.std.specs.Str.{chars};
 ghost use Rattle.serde_json.specs.Data.{Data, array};
 ghost use Rattle.serde_json.specs.View.{view, items_of};
 ghost use Rattle.ob0_rpc.specs.Seen.{at_seen, id_data};
@@ -11,11 +12,11 @@ ghost use Rattle.ob0_refs.specs.Questions.{AreReferencesAt, all_shown_at, defini
 ghost use Rattle.ob0_session_queries.specs.Questions.{AnswersName, can_be_renamed, hover_at, renamable_in, location_at, range_at, or_null};
 ghost use Rattle.ob0_session_queries.specs.declared.questions.NameQuestion.TheVariants.{Hover, Definition, References, PrepareRename};
 
-use ob0_analysis::{Asked, Question, WellTyped, ask};
+use ob0_analysis::{Analysis, Question, WellTyped, ask};
 use ob0_edits::ranges;
 use ob0_refs::{Of, at, definition, hover, references};
 use ob0_rpc::{Id, Place, result, result_of};
-use ob0_scan::{Span, Tokens};
+use ob0_scan::Span;
 use ob0_session_json::results::{hover_value, location_value, range_value};
 use ob0_session_json::writing::Locations;
 use ob0_text::TextStore;
@@ -45,7 +46,7 @@ impl Question for HoverAt {
     fn answer(
         &self,
         alloc: Global,
-        module: &WellTyped<'_, '_>,
+        module: &WellTyped<'_>,
     ) -> Result<Option<ob0_refs::Hover>, AllocError> {
         hover(alloc, module, self.offset)
     }
@@ -65,7 +66,7 @@ impl Question for DefinitionAt {
     fn answer(
         &self,
         _alloc: Global,
-        module: &WellTyped<'_, '_>,
+        module: &WellTyped<'_>,
     ) -> Result<Option<Span>, AllocError> {
         Ok(definition(module, self.offset))
     }
@@ -83,7 +84,7 @@ impl Question for ReferencesAt {
 
     ghost answers = { λ q names found. AreReferencesAt names q.offset q.include_declaration found.items };
 
-    fn answer(&self, alloc: Global, module: &WellTyped<'_, '_>) -> Result<Vec<Span>, AllocError> {
+    fn answer(&self, alloc: Global, module: &WellTyped<'_>) -> Result<Vec<Span>, AllocError> {
         references(alloc, module, self.offset, self.include_declaration)
     }
 }
@@ -102,7 +103,7 @@ impl Question for RenamableAt {
     fn answer(
         &self,
         _alloc: Global,
-        module: &WellTyped<'_, '_>,
+        module: &WellTyped<'_>,
     ) -> Result<Option<Span>, AllocError> {
         match at(module, self.offset) {
             Some(name) => Ok(renamable(name.of, name.span)),
@@ -121,29 +122,29 @@ fn renamable(of: Of, span: Span) -> Option<Span>
     }
 }
 
-/// The answer to a question about what stands at a position of the text in a store. Where the tokens that were kept are the text's,
-/// it isn't scanned again.
+/// The answer to a question about what stands at a position of the text in a store.
 pub fn answer_question<T: TextStore>(
     alloc: Global,
     id: &Id,
     store: &T,
-    kept: Option<&Tokens>,
+    analysis: &Analysis,
     place: &Place,
     question: NameQuestion,
 ) -> Result<Vec<u8>, AllocError>
+    requires { T.content store.now ≡ chars analysis.now }
     ensures { IfOk result (λ bytes. (value : Data) × AnswersName (T.unit_of store.now) (T.content store.now) (at_seen place.now) question value
         × Writes (result_message (id_data id.now) value) bytes.items) }
 {
     match question {
-        NameQuestion::Hover => result(alloc, id, shown_value(alloc, store, kept, place)?),
-        NameQuestion::Definition => result(alloc, id, definition_value(alloc, store, kept, place)?),
+        NameQuestion::Hover => result(alloc, id, shown_value(alloc, store, analysis, place)?),
+        NameQuestion::Definition => result(alloc, id, definition_value(alloc, store, analysis, place)?),
         NameQuestion::References {
             include_declaration,
-        } => references_answer(alloc, id, store, kept, place, include_declaration),
+        } => references_answer(alloc, id, store, analysis, place, include_declaration),
         NameQuestion::PrepareRename => result(
             alloc,
             id,
-            renamable_value(alloc, store, kept, place)?,
+            renamable_value(alloc, store, analysis, place)?,
         ),
     }
 }
@@ -151,30 +152,32 @@ pub fn answer_question<T: TextStore>(
 fn shown_value<T: TextStore>(
     alloc: Global,
     store: &T,
-    kept: Option<&Tokens>,
+    analysis: &Analysis,
     place: &Place,
 ) -> Result<Value, AllocError>
+    requires { T.content store.now ≡ chars analysis.now }
     ensures { IfOk result (λ v. AnswersName (T.unit_of store.now) (T.content store.now) (at_seen place.now) Hover (view v)) }
 {
     let offset = store.offset(place.position);
-    match ask(alloc, store.as_str(), kept, &HoverAt { offset })? {
-        Asked::Answered(found) => shown_or_null(alloc, store, found),
-        Asked::IllTyped(_told) => Ok(Value::Null),
+    match ask(alloc, analysis, &HoverAt { offset })? {
+        Some(found) => shown_or_null(alloc, store, found),
+        None => Ok(Value::Null),
     }
 }
 
 fn definition_value<T: TextStore>(
     alloc: Global,
     store: &T,
-    kept: Option<&Tokens>,
+    analysis: &Analysis,
     place: &Place,
 ) -> Result<Value, AllocError>
+    requires { T.content store.now ≡ chars analysis.now }
     ensures { IfOk result (λ v. AnswersName (T.unit_of store.now) (T.content store.now) (at_seen place.now) Definition (view v)) }
 {
     let offset = store.offset(place.position);
-    match ask(alloc, store.as_str(), kept, &DefinitionAt { offset })? {
-        Asked::Answered(found) => location_or_null(alloc, store, place.uri.as_str(), found),
-        Asked::IllTyped(_told) => Ok(Value::Null),
+    match ask(alloc, analysis, &DefinitionAt { offset })? {
+        Some(found) => location_or_null(alloc, store, place.uri.as_str(), found),
+        None => Ok(Value::Null),
     }
 }
 
@@ -182,10 +185,11 @@ fn references_answer<T: TextStore>(
     alloc: Global,
     id: &Id,
     store: &T,
-    kept: Option<&Tokens>,
+    analysis: &Analysis,
     place: &Place,
     include_declaration: bool,
 ) -> Result<Vec<u8>, AllocError>
+    requires { T.content store.now ≡ chars analysis.now }
     ensures { IfOk result (λ bytes. (value : Data) × AnswersName (T.unit_of store.now) (T.content store.now) (at_seen place.now) (References include_declaration) value
         × Writes (result_message (id_data id.now) value) bytes.items) }
 {
@@ -193,9 +197,9 @@ fn references_answer<T: TextStore>(
         offset: store.offset(place.position),
         include_declaration,
     };
-    match ask(alloc, store.as_str(), kept, &question)? {
-        Asked::Answered(found) => locations(alloc, id, store, place.uri.as_str(), found.as_slice()),
-        Asked::IllTyped(_) => {
+    match ask(alloc, analysis, &question)? {
+        Some(found) => locations(alloc, id, store, place.uri.as_str(), found.as_slice()),
+        None => {
             let none = Vec::new(alloc);
             result(alloc, id, Value::Array(none))
         }
@@ -205,15 +209,16 @@ fn references_answer<T: TextStore>(
 fn renamable_value<T: TextStore>(
     alloc: Global,
     store: &T,
-    kept: Option<&Tokens>,
+    analysis: &Analysis,
     place: &Place,
 ) -> Result<Value, AllocError>
+    requires { T.content store.now ≡ chars analysis.now }
     ensures { IfOk result (λ v. AnswersName (T.unit_of store.now) (T.content store.now) (at_seen place.now) PrepareRename (view v)) }
 {
     let offset = store.offset(place.position);
-    match ask(alloc, store.as_str(), kept, &RenamableAt { offset })? {
-        Asked::Answered(found) => range_or_null(alloc, store, found),
-        Asked::IllTyped(_told) => Ok(Value::Null),
+    match ask(alloc, analysis, &RenamableAt { offset })? {
+        Some(found) => range_or_null(alloc, store, found),
+        None => Ok(Value::Null),
     }
 }
 

@@ -3,7 +3,7 @@
 ghost use Rattle.std.specs.Prelude.{⊤};
 
 use crate::asking::{said, told};
-use ob0_analysis::{Asked, Question};
+use ob0_analysis::{Analysis, Question};
 use ob0_inline::{inline_all, inline_here};
 use ob0_layout::format;
 use ob0_rename::rename_in;
@@ -133,9 +133,10 @@ static RENAMED: &[(&str, u64, u64, &str, &str)] = &[
 
 fn renamed(alloc: Global, text: &str, place: Position, new: &str) -> Result<String, AllocError> {
     let store = Whole::from_str(alloc, text)?;
-    match rename_in(alloc, &store, None, place, new)? {
-        Asked::Answered(edits) => made(alloc, &store, edits),
-        Asked::IllTyped(faults) => told(alloc, faults.as_slice()),
+    let analysis = Analysis::of(alloc, text)?;
+    match rename_in(alloc, &store, &analysis, place, new)? {
+        Some(edits) => made(alloc, &store, edits),
+        None => told(alloc, analysis.diagnoses(alloc)?.as_slice()),
     }
 }
 
@@ -164,7 +165,7 @@ impl Question for Inlined {
 
     ghost answers = { λ _ _ _. ⊤ };
 
-    fn answer(&self, alloc: Global, module: &WellTyped<'_, '_>) -> Result<String, AllocError> {
+    fn answer(&self, alloc: Global, module: &WellTyped<'_>) -> Result<String, AllocError> {
         let store = Whole::from_str(alloc, module.resolved().tokens().text())?;
         let edits = if self.everywhere {
             inline_all(alloc, &store, module, self.place)
@@ -288,7 +289,7 @@ impl Question for LaidOut {
 
     ghost answers = { λ _ _ _. ⊤ };
 
-    fn answer(&self, alloc: Global, module: &WellTyped<'_, '_>) -> Result<String, AllocError> {
+    fn answer(&self, alloc: Global, module: &WellTyped<'_>) -> Result<String, AllocError> {
         let store = Whole::from_str(alloc, module.resolved().tokens().text())?;
         let edits = format(alloc, &store, module.resolved().module(), self.indent);
         made(alloc, &store, edits)
