@@ -1,6 +1,7 @@
 //! What a text is, as one value that is kept and asked.
 
 ghost use Rattle.std.specs.Prelude.{◌≡◌, IfOk, MatchOption, map};
+ghost use Rattle.std.specs.Str.{IsUtf8};
 ghost use Rattle.ob0_scan.specs.Refused.{AreFaults};
 ghost use Rattle.ob0_scan.specs.Scanned.{IsScannable};
 ghost use Rattle.ob0_analysis.specs.Diagnosed.{IsWellTypedModule, Tells, complaint_in};
@@ -170,8 +171,10 @@ impl Analysis {
     /// the first hundred, and then nothing else; of a text that has lexemes and no tree the one place at which the parser refuses it;
     /// of one with a tree the faults of names and types, the first hundred.
     pub fn diagnoses(&self, alloc: Global) -> Result<Vec<Diagnosis>, AllocError>
-        ensures { IfOk result (λ list. Tells self.now (map complaint_in list.items)) }
+        ensures told { IfOk result (λ list. Tells self.now (map complaint_in list.items)) }
+        ensures utf8 { IsUtf8 self.now }
     {
+        let _text = self.text();
         match &self.found {
             Found::NoLexemes(ill) => of_faults(alloc, ill.faults.as_slice()),
             Found::NoTree(tokens, refusal) => diagnose_refusal(alloc, tokens, refusal),

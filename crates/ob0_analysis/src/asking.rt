@@ -1,6 +1,7 @@
 //! Asking the module that a text is.
 
 ghost use Rattle.std.specs.Prelude.{⊤, ℕ, List, IfOk};
+ghost use Rattle.std.specs.Str.{IsUtf8};
 ghost use Rattle.ob0_scope_rules.specs.Resolution.{Resolution};
 ghost use Rattle.ob0_analysis.specs.Analysed.{Finds};
 
@@ -32,10 +33,12 @@ pub fn ask<Q: Question>(
     question: &Q,
 ) -> Result<Option<Q::Answer>, AllocError>
     requires { Q.is_about question.now analysis.now }
-    ensures { IfOk result (Finds analysis.now (Q.answers question.now)) }
+    ensures found { IfOk result (Finds analysis.now (Q.answers question.now)) }
+    ensures utf8 { IsUtf8 analysis.now }
 {
     one_scan();
     one_tree();
+    let _text = analysis.text();
     let Some(parts) = analysis.module_parts() else {
         return Ok(None);
     };
@@ -43,7 +46,10 @@ pub fn ask<Q: Question>(
     let resolved = parts.resolved(&module);
     let checked = parts.checked(&resolved);
     match checked.well_typed() {
-        Some(module) => Ok(Some(question.answer(alloc, &module)?)),
+        Some(module) => {
+            let _names = module.resolved();
+            Ok(Some(question.answer(alloc, &module)?))
+        }
         None => Ok(None),
     }
 }

@@ -52,9 +52,9 @@ pub record Filled (map : BTreeMap (String Global) First) (fs : List Field) (left
   pub index : IsIndexFrom map left (drop left fs)
   pub within : left ≤ length fs
 
-pub filled_on : (map next : BTreeMap (String Global) First) (fs : List Field) (left : ℕ) (f d : Field) → Filled map fs left → 0 < left → f ≡ get_or fs (left - 1) d
-    → UpdatesBy string_cmp (λ key. slice_cmp nat_cmp (string_bytes f.name) (string_bytes key)) map next (Some (record { place = left - 1; of = f.of })) → Filled next fs (left - 1)
-filled_on map next fs left f d h some here renewed =
+pub filled_on : (map next : BTreeMap (String Global) First) (fs : List Field) (left : ℕ) (bytes : List ℕ) (f d : Field) → Filled map fs left → 0 < left → f ≡ get_or fs (left - 1) d → bytes ≡ string_bytes f.name
+    → UpdatesBy string_cmp (λ key. slice_cmp nat_cmp bytes (string_bytes key)) map next (Some (record { place = left - 1; of = f.of })) → Filled next fs (left - 1)
+filled_on map next fs left bytes f d h some here named renewed =
     let back : left - 1 + 1 ≡ left = omega (arith, some) in
     let after : suc (left - 1) ≡ left = omega (arith, some) in
     let first : First = record { place = left - 1; of = f.of } in
@@ -62,8 +62,8 @@ filled_on map next fs left f d h some here renewed =
     record {
       index = record {
         found = λ x.
-            btree_map_updates_text (string_bytes f.name) map next (Some first) renewed x
-            ∙ (λ i. cond (same_name-comm (string_bytes f.name) x i) (Some first) (h.index.found x i))
+            btree_map_updates_text bytes map next (Some first) renewed x
+            ∙ (λ i. cond (same_name-comm (named i) x i) (Some first) (h.index.found x i))
             ∙ (λ i. cond (same_name x (string_bytes f.name)) (Some first) (first_from (sym after i) (drop left fs) x))
             ∙ ap (λ gs. first_from (left - 1) gs x) (sym split);
       };

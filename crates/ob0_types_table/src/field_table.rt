@@ -60,7 +60,7 @@ fn first_of(alloc: Global, fields: &[Field]) -> Result<BTreeMap<String, First>, 
 
 impl FieldTable {
     pub(crate) fn new(fields: Vec<Field>) -> Result<FieldTable, AllocError>
-        ensures { IfOk result (λ t. t ≡ fields.entry.items) }
+        ensures { IfOk result (λ t. t ≡ fields.items) }
     {
         let first = first_of(*fields.allocator(), fields.as_slice())?;
         Ok(FieldTable {

@@ -494,7 +494,7 @@ impl Known {
     fn put(&mut self, shape: Shape) -> Result<usize, AllocError>
         requires { IsEntry (shapes_of self.old) shape }
         ensures place { IfOk result (λ i. i ≡ length self.old.shapes) }
-        ensures shapes { OnOk result (self.new.shapes ≡ self.old.shapes ++ shape.entry ∷ []) }
+        ensures shapes { OnOk result (self.new.shapes ≡ self.old.shapes ++ shape ∷ []) }
         ensures entries { OnOk result (self.new.entries ≡ self.old.entries) }
         ensures meaning { OnOk result (known_meaning self.new ≡ known_meaning self.old) }
     {
@@ -572,7 +572,7 @@ impl Known {
     ) -> Result<Option<TypeId>, AllocError>
         requires { All (λ f. IsMade (length self.old.shapes) f.of) fields.items }
         ensures made { IfOk result (λ r. IfSome r (IsMade (length self.new.shapes))) }
-        ensures value { IfOk result (λ r. option_map (type_shape (shapes_of self.new)) r ≡ within_limits (record_shape ordinal (fields_shape (shapes_of self.old) fields.entry.items))) }
+        ensures value { IfOk result (λ r. option_map (type_shape (shapes_of self.new)) r ≡ within_limits (record_shape ordinal (fields_shape (shapes_of self.old) fields.items))) }
         ensures entries { OnOk result (self.new.entries ≡ self.old.entries) }
         ensures shapes { OnOk result ((later : List shape.Shape) × (shapes_of self.new ≡ shapes_of self.old ++ later)) }
         ensures counted { IfOk result (λ r. IfSome r (λ _. length self.new.shapes ≡ suc (length self.old.shapes))) }
