@@ -1,11 +1,10 @@
 -- What a text is found to be.
 use Rattle.std.specs.Prelude.{ℕ, List, string_bytes}
 use Rattle.ob0_scan.specs.Refused.{AreFaults}
-use Rattle.ob0_scan.specs.Scanned.{IsScannable, IsScanOf}
+use Rattle.ob0_scan.specs.Scanned.{IsScannable}
 use Rattle.ob0_parse.specs.RefusedBy.{RefusedBy}
 use Rattle.ob0_parse.specs.declared.refusal.ParseRefusal.{ParseRefusal}
 use Rattle.ob0_parse.specs.declared.refusal.ParseRefusal.TheVariants.{Syntax, TooDeep, Memory}
-use Rattle.ob0_types.specs.CheckedModules.{CheckedModule, IsChecked}
 use Rattle.ob0_analysis.specs.declared.analysis.Found.{Found}
 use Rattle.ob0_analysis.specs.declared.analysis.Found.TheVariants.{NoLexemes, NoTree, Module}
 
@@ -13,7 +12,7 @@ use Rattle.ob0_analysis.specs.declared.analysis.Found.TheVariants.{NoLexemes, No
 abbrev pub text_of : Found → List ℕ
 text_of (NoLexemes ill) = string_bytes ill.text
 text_of (NoTree tokens refusal) = tokens.text
-text_of (Module m) = m.names.module_read.source.text
+text_of (Module m) = m.module_read.source.text
 
 -- memory didn't run out
 abbrev pub IsDecided : ParseRefusal → Type 0
@@ -26,8 +25,3 @@ abbrev pub IsFound : Found → Type 0
 IsFound (NoLexemes ill) = (IsScannable (string_bytes ill.text) → ⊥) × AreFaults (string_bytes ill.text) ill.faults.items
 IsFound (NoTree tokens refusal) = RefusedBy tokens refusal × IsDecided refusal
 IsFound (Module m) = Unit {0}
-
--- the text is read as this module, which was checked
-pub record IsCheckOf (text : List ℕ) (c : CheckedModule) : Type 0 where
-  pub scan : IsScanOf text c.names.module_read.source
-  pub checked : IsChecked c

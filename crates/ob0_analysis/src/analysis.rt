@@ -3,9 +3,8 @@
 ghost use Rattle.std.specs.Prelude.{◌≡◌, IfOk, MatchOption, map};
 ghost use Rattle.std.specs.Str.{IsUtf8};
 ghost use Rattle.ob0_scan.specs.Refused.{AreFaults};
-ghost use Rattle.ob0_scan.specs.Scanned.{IsScannable};
+ghost use Rattle.ob0_scan.specs.Scanned.{IsScannable, IsScanOf};
 ghost use Rattle.ob0_analysis.specs.Diagnosed.{IsWellTypedModule, Tells, complaint_in};
-ghost use Rattle.ob0_analysis.specs.Found.{IsCheckOf};
 
 use crate::diagnoses::{Diagnosis, of_faults};
 use crate::diagnosing::{diagnose_module, diagnose_refusal};
@@ -148,9 +147,9 @@ impl Analysis {
         }
     }
 
-    /// The module that the text is, with its names bound and its faults. None where it has no tree.
+    /// The module that the text is, with its names bound. None where it has no tree.
     pub fn module_parts(&self) -> Option<&ModuleParts>
-        ensures { MatchOption result (¬ IsWellTypedModule self.now) (λ m. IsCheckOf self.now m.now) }
+        ensures { MatchOption result (¬ IsWellTypedModule self.now) (λ m. IsScanOf self.now m.now.module_read.source) }
     {
         one_scan();
         match &self.found {
@@ -160,7 +159,6 @@ impl Analysis {
                 None
             }
             Found::Module(parts) => {
-                let _faults = parts.faults();
                 let _text = parts.tokens().text();
                 Some(parts)
             }

@@ -8,7 +8,7 @@ ghost use Rattle.ob0_analysis.specs.Analysed.{Finds};
 use crate::analysis::Analysis;
 use ob0_parse::one_tree;
 use ob0_scan::laws::one_scan;
-use ob0_types::WellTyped;
+use ob0_types::{WellTyped, check};
 use std::alloc::{AllocError, Global};
 
 /// What is asked of a well-typed module.
@@ -21,12 +21,12 @@ pub trait Question {
     /// What an answer says of the module.
     ghost answers: { Self → Resolution → Self.Answer → Type 0 };
 
-    fn answer(&self, alloc: Global, module: &WellTyped<'_>) -> Result<Self::Answer, AllocError>
+    fn answer(&self, alloc: Global, module: &WellTyped<'_, '_>) -> Result<Self::Answer, AllocError>
         requires { is_about self.now module.now.module_read.source.text }
         ensures { IfOk result (λ answer. answers self.now module.now answer) };
 }
 
-/// Asks the module of a text. None where the text is no well-typed module.
+/// Asks the module of a text, of which the types are checked for this. None where the text is no well-typed module.
 pub fn ask<Q: Question>(
     alloc: Global,
     analysis: &Analysis,
@@ -44,7 +44,7 @@ pub fn ask<Q: Question>(
     };
     let module = parts.module();
     let resolved = parts.resolved(&module);
-    let checked = parts.checked(&resolved);
+    let checked = check(alloc, &resolved)?;
     match checked.well_typed() {
         Some(module) => {
             let _names = module.resolved();

@@ -11,6 +11,7 @@ use crate::parts::ModuleParts;
 use ob0_parse::{ParseRefusal, one_tree};
 use ob0_scan::Tokens;
 use ob0_scan::laws::one_scan;
+use ob0_types::faults_in;
 use std::alloc::{AllocError, Global};
 
 /// What is wrong with a text, which is nothing exactly for a well-typed module (`Analysis::diagnoses`).
@@ -42,10 +43,14 @@ pub(crate) fn diagnose_module(
     alloc: Global,
     parts: &ModuleParts,
 ) -> Result<Vec<Diagnosis>, AllocError>
-    ensures { IfOk result (λ list. Tells parts.now.names.module_read.source.text (map complaint_in list.items)) }
+    ensures { IfOk result (λ list. Tells parts.now.module_read.source.text (map complaint_in list.items)) }
 {
     one_scan();
     one_tree();
     let _text = parts.tokens().text();
-    of_faults(alloc, parts.faults())
+    let module = parts.module();
+    let resolved = parts.resolved(&module);
+    let faults = faults_in(alloc, &resolved)?;
+    let told = of_faults(alloc, faults.as_slice())?;
+    Ok(told)
 }

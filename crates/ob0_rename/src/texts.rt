@@ -27,7 +27,7 @@ impl<'a, T: TextStore> Question for NewName<'a, T> {
     fn answer(
         &self,
         alloc: Global,
-        module: &WellTyped<'_>,
+        module: &WellTyped<'_, '_>,
     ) -> Result<Result<Vec<Edit>, EditRefusal>, AllocError> {
         match rename(alloc, self.store, module, self.place, self.new) {
             Ok(edits) => Ok(Ok(edits)),

@@ -74,7 +74,7 @@ fn have_numbers(input: &[i32])
 /// Out of memory. So is a module one of whose activations would have 2^32 cells or more.
 pub fn run(
     alloc: Global,
-    checked: &WellTyped<'_>,
+    checked: &WellTyped<'_, '_>,
     input: &[i32],
     calls: u32,
     turns: u32,

@@ -12,7 +12,7 @@ use std::alloc::Global;
 pub(crate) struct Ground<'g, 'k, 't> {
     pub(crate) alloc: Global,
     pub(crate) resolved: &'g Resolved<'t>,
-    pub(crate) types: &'g Types<'k>,
+    pub(crate) types: &'g Types<'k, 't>,
 }
 
 impl<'g, 'k, 't> Ground<'g, 'k, 't> {

@@ -138,7 +138,7 @@ impl Lowering {
 pub fn program<'t>(
     alloc: Global,
     resolved: &Resolved<'t>,
-    known: &Known,
+    known: &Known<'t>,
 ) -> Result<code::Program, AllocError>
     ensures { IfOk result (λ made. WellTyped (named_tree_of resolved.now.module_read) → ((k : ℕ) → declared_in known.now k ≡ declared_object (named_tree_of resolved.now.module_read) k) → ProgramMeans most as_labels (numbered (named_tree_of resolved.now.module_read)) (program_of made)) }
 {

@@ -24,7 +24,7 @@ use std::alloc::{AllocError, Global};
 /// The identifiers that declare the fields of a module, in text order: each with its field and this field's type.
 pub fn declared_by<'a, 't>(
     alloc: Global,
-    known: &'a Known,
+    known: &'a Known<'t>,
     resolved: &'a Resolved<'t>,
 ) -> Result<Vec<Selection>, AllocError>
     ensures { IfOk result (λ found. map (selection_in (shapes_of known.now)) found.items ≡ typed_fields (token_meaning (declared_in known.now) resolved.now) None (tree_of resolved.now.module_read)) }
@@ -59,7 +59,7 @@ fn note(
 /// A module with the table of its declarations.
 #[derive(Clone, Copy)]
 pub(crate) struct Declaring<'a, 't> {
-    pub(crate) known: &'a Known,
+    pub(crate) known: &'a Known<'t>,
     pub(crate) resolved: &'a Resolved<'t>,
 }
 

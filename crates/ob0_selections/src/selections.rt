@@ -15,7 +15,7 @@ use std::alloc::{AllocError, Global};
 /// in text order.
 pub fn selections_by<'a, 't>(
     alloc: Global,
-    known: &'a Known,
+    known: &'a Known<'t>,
     resolved: &'a Resolved<'t>,
 ) -> Result<Vec<Selection>, AllocError>
     ensures { IfOk result (λ found. map (selection_in (shapes_of known.now)) found.items ≡ selections (token_meaning (declared_in known.now) resolved.now) (tree_of resolved.now.module_read)) }

@@ -33,7 +33,7 @@ impl<'a, T: TextStore> Question for Formatting<'a, T> {
     fn answer(
         &self,
         alloc: Global,
-        module: &WellTyped<'_>,
+        module: &WellTyped<'_, '_>,
     ) -> Result<Result<Vec<Edit>, EditRefusal>, AllocError> {
         lexemes_stay();
         module_stays();

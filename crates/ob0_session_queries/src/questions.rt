@@ -46,7 +46,7 @@ impl Question for HoverAt {
     fn answer(
         &self,
         alloc: Global,
-        module: &WellTyped<'_>,
+        module: &WellTyped<'_, '_>,
     ) -> Result<Option<ob0_refs::Hover>, AllocError> {
         hover(alloc, module, self.offset)
     }
@@ -66,7 +66,7 @@ impl Question for DefinitionAt {
     fn answer(
         &self,
         _alloc: Global,
-        module: &WellTyped<'_>,
+        module: &WellTyped<'_, '_>,
     ) -> Result<Option<Span>, AllocError> {
         Ok(definition(module, self.offset))
     }
@@ -84,7 +84,7 @@ impl Question for ReferencesAt {
 
     ghost answers = { λ q names found. AreReferencesAt names q.offset q.include_declaration found.items };
 
-    fn answer(&self, alloc: Global, module: &WellTyped<'_>) -> Result<Vec<Span>, AllocError> {
+    fn answer(&self, alloc: Global, module: &WellTyped<'_, '_>) -> Result<Vec<Span>, AllocError> {
         references(alloc, module, self.offset, self.include_declaration)
     }
 }
@@ -103,7 +103,7 @@ impl Question for RenamableAt {
     fn answer(
         &self,
         _alloc: Global,
-        module: &WellTyped<'_>,
+        module: &WellTyped<'_, '_>,
     ) -> Result<Option<Span>, AllocError> {
         match at(module, self.offset) {
             Some(name) => Ok(renamable(name.of, name.span)),

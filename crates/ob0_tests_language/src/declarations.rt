@@ -22,7 +22,7 @@ impl Question for TypeOf {
 
     ghost answers = { λ _ _ _. ⊤ };
 
-    fn answer(&self, alloc: Global, module: &WellTyped<'_>) -> Result<String, AllocError> {
+    fn answer(&self, alloc: Global, module: &WellTyped<'_, '_>) -> Result<String, AllocError> {
         match module.shape(self.declaration) {
             None => String::from_str(alloc, "none"),
             Some(shape) => shown(alloc, shape),
@@ -31,7 +31,7 @@ impl Question for TypeOf {
 }
 
 /// A type, with at most two levels of arrays.
-fn shown(alloc: Global, shape: Shape<'_>) -> Result<String, AllocError> {
+fn shown(alloc: Global, shape: Shape<'_, '_>) -> Result<String, AllocError> {
     let mut out = String::new(alloc);
     let mut level = shape;
     for _ in 0..3 {
@@ -96,7 +96,7 @@ impl Question for Free {
 
     ghost answers = { λ _ _ _. ⊤ };
 
-    fn answer(&self, alloc: Global, module: &WellTyped<'_>) -> Result<String, AllocError> {
+    fn answer(&self, alloc: Global, module: &WellTyped<'_, '_>) -> Result<String, AllocError> {
         match captures(alloc, module.resolved(), self.declaration, self.new)? {
             None => String::from_str(alloc, "free"),
             Some(capture) => {

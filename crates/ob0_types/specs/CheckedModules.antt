@@ -9,8 +9,6 @@ use Rattle.ob0_types_rules.specs.Bindings.{declared_object}
 use Rattle.ob0_types_table.specs.KnownTables.{Tables, declared_in}
 use Rattle.ob0_types_rules.specs.WellTyped.{WellTyped, fits_over}
 use Rattle.ob0_types.specs.FaultOrder.{AreFirstFaults}
-use Rattle.ob0_types.specs.declared.checked.Types.{Types}
-use Rattle.ob0_types_fields.specs.Listed.{AreFields}
 
 pub record CheckedModule : Type 0 where
   pub names : Resolution
@@ -35,14 +33,9 @@ pub record IsChecked (c : CheckedModule) : Type 0 where
   pub few : length c.faults ≤ 100
   pub first : AreFirstFaults (fits_over as_names (named_tree_of c.names.module_read)) c.names c.faults
 
--- a module with what was found of its types
-abbrev pub checked_by : Resolution → Types → CheckedModule
-checked_by names types = record { names = names; faults = types.faults.items; known = types.known }
-
--- This was found of a module's types: the module is checked by it, and where it has no fault its fields are these.
-pub record AreTypesOf (names : Resolution) (types : Types) : Type 0 where
-  pub checked : IsChecked (checked_by names types)
-  pub fields : types.faults.items ≡ [] → AreFields names types.fields
+-- these are the faults of a module that was checked, whatever is known of it
+abbrev pub AreFaultsOf : Resolution → List Fault → Type 0
+AreFaultsOf names faults = (known : Option Tables) × IsChecked (record { names = names; faults = faults; known = known })
 
 -- a module that is well-typed
 pub record IsWellTyped (names : Resolution) : Type 0 where

@@ -1,7 +1,7 @@
 //! Checking a module, and what is known of a well-typed one.
 
 ghost use Rattle.ob0_scope_rules.specs.Resolution.{is_of_declarations};
-ghost use Rattle.ob0_types.specs.CheckedModules.{AreTypesOf, IsChecked, checked_by};
+ghost use Rattle.ob0_types.specs.CheckedModules.{AreFaultsOf, IsChecked};
 ghost use Rattle.ob0_types.specs.FaultOrder.{AreFirstFaults, faults_of_types};
 ghost use Rattle.std.specs.List.{filter};
 ghost use Rattle.std.specs.Prelude.{◌≡◌, ◌≤◌, ◌↔◌, ◌++◌, [], length, IfOk, IfSome, OnOk, MatchOption};
@@ -17,50 +17,43 @@ use ob0_types_rules::laws::fits_by_ordinal;
 use ob0_types_table::{Known, Parts, TypeId};
 use ob0_values::Scalar;
 use std::alloc::{AllocError, Global};
-use std::borrow::Cow;
 use std::marker::Model;
-
-/// What checking a module finds: what its declarations are and its fields, where it fits, and the faults of its scopes and types.
-/// It borrows nothing.
-#[derive(Drop)]
-pub struct Types {
-    pub known: Option<Known>,
-    pub fields: FieldList,
-    pub faults: Vec<Fault>,
-}
 
 /// A module that was checked, with its faults.
 #[derive(Drop)]
 pub struct Checked<'t> {
     resolved: &'t Resolved<'t>,
-    types: Cow<'t, Types>,
+    known: Option<Known<'t>>,
+    fields: FieldList,
+    faults: Vec<Fault>,
 }
 
 impl<'t> Model for Checked<'t> {
-    ghost use Rattle.std.specs.Cow.{cow_value};
-    ghost use Rattle.ob0_types.specs.CheckedModules.{AreTypesOf, CheckedModule, checked_by};
+    ghost use Rattle.ob0_types.specs.CheckedModules.{CheckedModule, IsChecked};
 
     ghost Value = { CheckedModule };
 
+    ghost use Rattle.std.specs.Prelude.{◌≡◌, []};
+    ghost use Rattle.ob0_types_fields.specs.Listed.{AreFields};
     ghost use Rattle.std.specs.Coded.{codes};
     ghost use Rattle.ob0_tree.specs.contracts.tree.Block as block_contract;
 
     ghost coded = { Prim.hlevel (codes, block_contract.the_row.coded) };
 
-    ghost view = { λ c. checked_by c.resolved.now (cow_value c.types) };
+    ghost view = { λ c. record { names = c.resolved.now; faults = c.faults.items; known = c.known } };
 
-    ghost invariant = { λ c. AreTypesOf c.resolved.now (cow_value c.types) };
+    ghost invariant = { λ c. IsChecked (record { names = c.resolved.now; faults = c.faults.items; known = c.known }) × (c.faults.items ≡ [] → AreFields c.resolved.now c.fields) };
 }
 
 /// A module without faults, and what is known of its declarations.
 #[derive(Drop)]
-pub struct WellTyped<'t> {
-    checked: &'t Checked<'t>,
-    known: &'t Known,
-    fields: &'t FieldList,
+pub struct WellTyped<'c, 't> {
+    checked: &'c Checked<'t>,
+    known: &'c Known<'t>,
+    fields: &'c FieldList,
 }
 
-impl<'t> Model for WellTyped<'t> {
+impl<'c, 't> Model for WellTyped<'c, 't> {
     ghost use Rattle.ob0_types_fields.specs.Listed.{AreFields};
     ghost use Rattle.ob0_types.specs.CheckedModules.{HoldsDeclarations, IsWellTyped};
     ghost use Rattle.ob0_tree.specs.Parsed.{named_tree_of};
@@ -80,8 +73,8 @@ impl<'t> Model for WellTyped<'t> {
 
 /// A type of a module, with the table that knows its parts.
 #[derive(Clone, Copy)]
-pub struct Shape<'t> {
-    pub known: &'t Known,
+pub struct Shape<'c, 't> {
+    pub known: &'c Known<'t>,
     pub of: TypeId,
 }
 
@@ -93,32 +86,37 @@ pub fn check<'t>(alloc: Global, resolved: &'t Resolved<'t>) -> Result<Checked<'t
     ensures names { IfOk result (λ c. c.names ≡ resolved.now) }
     ensures checked { IfOk result IsChecked }
 {
-    let types = types_of(alloc, resolved)?;
-    Ok(Checked::new(resolved, types))
-}
-
-/// What checking a module finds. It borrows nothing, so that it can be kept beside the module's bindings.
-pub fn types_of<'t>(alloc: Global, resolved: &'t Resolved<'t>) -> Result<Types, AllocError>
-    ensures { IfOk result (AreTypesOf resolved.now) }
-{
     fits_by_ordinal();
     modules_fit();
     let _module = resolved.module();
     let known = decide(alloc, resolved)?;
     let fields = known_fields(alloc, resolved, &known)?;
     let faults = faults_of(alloc, resolved, known.is_some())?;
-    Ok(Types {
+    Ok(Checked {
+        resolved,
         known,
         fields,
         faults,
     })
 }
 
+/// The faults of a module alone: those that `check` finds.
+pub fn faults_in<'t>(alloc: Global, resolved: &'t Resolved<'t>) -> Result<Vec<Fault>, AllocError>
+    ensures { IfOk result (λ faults. AreFaultsOf resolved.now faults.items) }
+{
+    fits_by_ordinal();
+    modules_fit();
+    let _module = resolved.module();
+    let known = decide(alloc, resolved)?;
+    let found = faults_of(alloc, resolved, known.is_some())?;
+    Ok(found)
+}
+
 /// The fields of a module that fits.
 fn known_fields<'t>(
     alloc: Global,
     resolved: &'t Resolved<'t>,
-    known: &Option<Known>,
+    known: &Option<Known<'t>>,
 ) -> Result<FieldList, AllocError>
     ensures { IfOk result (λ fields. IfSome known.now (λ t. fields ≡ listed_by t resolved.now)) }
 {
@@ -180,40 +178,7 @@ fn is_of_declarations(fault: &Fault) -> bool
 }
 
 impl<'t> Checked<'t> {
-    ghost use Rattle.ob0_types.specs.CheckedModules.{AreTypesOf, IsChecked, checked_by};
-
-    /// Joins what was found of a module's types to the module.
-    pub fn new(resolved: &'t Resolved<'t>, types: Types) -> Checked<'t>
-        requires { AreTypesOf resolved.now types }
-        ensures { result ≡ checked_by resolved.now types }
-    {
-        Checked {
-            resolved,
-            types: Cow::Owned(types),
-        }
-    }
-
-    /// Joins what was found of a module's types, and is kept elsewhere, to the module.
-    pub fn lent(resolved: &'t Resolved<'t>, types: &'t Types) -> Checked<'t>
-        requires { AreTypesOf resolved.now types.now }
-        ensures { result ≡ checked_by resolved.now types.now }
-    {
-        Checked {
-            resolved,
-            types: Cow::Borrowed(types),
-        }
-    }
-
-    /// What was found, without the module.
-    fn types(&self) -> &Types
-        ensures found { checked_by self.now.names result.now ≡ self.now }
-        ensures types { AreTypesOf self.now.names result.now }
-    {
-        match &self.types {
-            Cow::Borrowed(types) => types,
-            Cow::Owned(types) => types,
-        }
-    }
+    ghost use Rattle.ob0_types.specs.CheckedModules.{IsChecked};
 
     /// The module with its names bound.
     pub fn resolved(&self) -> &'t Resolved<'t>
@@ -227,22 +192,21 @@ impl<'t> Checked<'t> {
         ensures value { result.now ≡ self.now.faults }
         ensures checked { IsChecked self.now }
     {
-        self.types().faults.as_slice()
+        self.faults.as_slice()
     }
 
     /// The module, where it has no fault.
-    pub fn well_typed(&self) -> Option<WellTyped<'_>>
+    pub fn well_typed(&self) -> Option<WellTyped<'_, 't>>
         ensures { MatchOption result (self.now.faults ≡ [] → ⊥) (λ w. w ≡ self.now.names) }
     {
-        let types = self.types();
-        match &types.known {
+        match &self.known {
             None => None,
             Some(known) => {
-                if types.faults.is_empty() {
+                if self.faults.is_empty() {
                     Some(WellTyped {
                         checked: self,
                         known,
-                        fields: &types.fields,
+                        fields: &self.fields,
                     })
                 } else {
                     None
@@ -252,7 +216,7 @@ impl<'t> Checked<'t> {
     }
 }
 
-impl<'t> WellTyped<'t> {
+impl<'c, 't> WellTyped<'c, 't> {
     ghost use Rattle.std.specs.Prelude.{option_map};
     ghost use Rattle.ob0_tree.specs.Parsed.{named_tree_of};
     ghost use Rattle.ob0_types.specs.CheckedModules.{HoldsDeclarations, IsWellTyped};
@@ -272,14 +236,14 @@ impl<'t> WellTyped<'t> {
     }
 
     /// What is known of the module: what each declaration is, by its ordinal (`Known::object`), and the parts of types.
-    pub fn known(&self) -> &'t Known
+    pub fn known(&self) -> &'c Known<'t>
         ensures { HoldsDeclarations (named_tree_of self.now.module_read) result.now }
     {
         self.known
     }
 
     /// The fields of the module.
-    pub fn fields(&self) -> &'t FieldList
+    pub fn fields(&self) -> &'c FieldList
         ensures { AreFields self.now result.now }
     {
         self.fields
@@ -301,7 +265,7 @@ impl<'t> WellTyped<'t> {
 
     /// The type of a declaration, by its ordinal: of a type, of a variable or parameter, and of a constant. None for a
     /// procedure, and for a number that no declaration has.
-    pub fn shape(&self, declaration: usize) -> Option<Shape<'t>>
+    pub fn shape(&self, declaration: usize) -> Option<Shape<'c, 't>>
         ensures { option_map shape_of result ≡ type_declared (declared_object (named_tree_of self.now.module_read) declaration) }
     {
         let known = self.known();
@@ -310,13 +274,13 @@ impl<'t> WellTyped<'t> {
     }
 }
 
-impl<'t> Shape<'t> {
+impl<'c, 't> Shape<'c, 't> {
     ghost use Rattle.ob0_types_table.specs.KnownTables.{shapes_of};
     ghost use Rattle.ob0_types_table.specs.Parts.{parts_shape};
     ghost use Rattle.ob0_types.specs.DeclaredShapes.{shape_of};
 
     /// What the type is made of; the types of its parts are in the same table.
-    pub fn parts(&self) -> Parts<'t>
+    pub fn parts(&self) -> Parts<'c, 't>
         ensures { parts_shape (shapes_of self.now.known.now) result ≡ shape_of self.now }
     {
         self.known.parts(self.of)

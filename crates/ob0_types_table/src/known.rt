@@ -19,9 +19,9 @@ pub const MOST_SCALARS: usize = 65536;
 pub const MOST_DEPTH: usize = 100;
 
 /// A field of a record.
-#[derive(Drop)]
-pub struct Field {
-    pub name: String,
+#[derive(Clone, Copy)]
+pub struct Field<'t> {
+    pub name: &'t str,
     pub of: TypeId,
 }
 
@@ -44,18 +44,18 @@ pub struct ArrayShape {
 
 /// `RECORD fields END`, made by the constructor with this ordinal in the text.
 #[derive(Drop)]
-pub struct RecordShape {
+pub struct RecordShape<'t> {
     pub ordinal: usize,
-    pub fields: FieldTable,
+    pub fields: FieldTable<'t>,
     pub scalars: usize,
     pub depth: usize,
 }
 
 /// What an ARRAY or RECORD of the text makes.
 #[derive(Drop)]
-pub enum Shape {
+pub enum Shape<'t> {
     Array(ArrayShape),
-    Record(RecordShape),
+    Record(RecordShape<'t>),
 }
 
 /// A formal parameter: passed by its place, as VAR, or by its value.
@@ -112,12 +112,12 @@ pub struct Shadowed {
 
 /// The shapes of the types made so far, and the declarations so far by their ordinals, each in sight or not.
 #[derive(Drop)]
-pub struct Known {
-    shapes: Vec<Shape>,
+pub struct Known<'t> {
+    shapes: Vec<Shape<'t>>,
     entries: Vec<Entry>,
 }
 
-impl RecordShape {
+impl<'t> RecordShape<'t> {
     /// The first field of this name.
     fn field_of(&self, name: &str) -> Option<FieldOf>
         ensures { (shapes : List shape.Shape) → result ≡ field_selected (shape.record_shape self.now.ordinal (fields_shape shapes self.now.fields)) name.now }
@@ -139,7 +139,7 @@ fn is_within(scalars: usize, depth: usize) -> bool
     scalars <= MOST_SCALARS && depth <= MOST_DEPTH
 }
 
-impl Model for Known {
+impl<'t> Model for Known<'t> {
     ghost use Rattle.ob0_types_table.specs.KnownTables.{Tables, AreTables};
 
     ghost Value = { Tables };
@@ -149,7 +149,7 @@ impl Model for Known {
     ghost invariant = { λ k. AreTables (record { shapes = k.shapes.items; entries = k.entries.items }) };
 }
 
-impl Known {
+impl<'t> Known<'t> {
     ghost use Rattle.std.specs.Prelude.{◌≡◌, ℕ, suc, ◌<◌, ◌++◌, ◌∷◌, [], true, false, Some, length, option_map, option_and_then, slice_get, slice_set, slice_index_or, MatchOption, All, ◌^◌, IfOk, OnOk, IfSome, None};
     ghost use Rattle.ob0_types_table.specs.declared.known.Object.TheVariants as kind;
     ghost use Rattle.ob0_types_table.specs.declared.known.Sight.TheVariants as sight;
@@ -161,7 +161,7 @@ impl Known {
     ghost use Rattle.ob0_values.specs.Values.{array_shape, integer_shape, record_shape};
 
     /// The predeclared names.
-    pub fn new(alloc: Global) -> Result<Known, AllocError>
+    pub fn new(alloc: Global) -> Result<Known<'t>, AllocError>
         ensures { IfOk result (λ k. k ≡ predeclared) }
     {
         let mut known = Known {
@@ -325,7 +325,7 @@ impl Known {
     }
 
     /// The types that were made, in order: each is made of those before it.
-    pub fn shapes(&self) -> &[Shape]
+    pub fn shapes(&self) -> &[Shape<'t>]
         ensures { result.now ≡ self.now.shapes }
     {
         self.shapes.as_slice()
@@ -382,7 +382,7 @@ impl Known {
     }
 
     /// What the shape at a place of the table is.
-    pub(crate) fn entry(&self, place: usize) -> Option<&Shape>
+    pub(crate) fn entry(&self, place: usize) -> Option<&Shape<'t>>
         ensures { MatchOption result (slice_index_or (shapes_of self.now) place no_shape ≡ no_shape) (λ m. (slice_index_or (shapes_of self.now) place no_shape ≡ made_shape (shapes_of self.now) m.now) × IsCounted m.now (made_shape (shapes_of self.now) m.now)) }
     {
         if place < self.shapes.len() {
@@ -491,10 +491,10 @@ impl Known {
     }
 
     /// Puts a shape into the table, and tells its place.
-    fn put(&mut self, shape: Shape) -> Result<usize, AllocError>
+    fn put(&mut self, shape: Shape<'t>) -> Result<usize, AllocError>
         requires { IsEntry (shapes_of self.old) shape }
         ensures place { IfOk result (λ i. i ≡ length self.old.shapes) }
-        ensures shapes { OnOk result (self.new.shapes ≡ self.old.shapes ++ shape ∷ []) }
+        ensures shapes { OnOk result (self.new.shapes ≡ self.old.shapes ++ shape.entry ∷ []) }
         ensures entries { OnOk result (self.new.entries ≡ self.old.entries) }
         ensures meaning { OnOk result (known_meaning self.new ≡ known_meaning self.old) }
     {
@@ -539,7 +539,7 @@ impl Known {
     }
 
     /// How many scalars the fields of a record have. None past what a number can say.
-    fn field_scalars(&self, fields: &[Field]) -> Option<usize>
+    fn field_scalars(&self, fields: &[Field<'t>]) -> Option<usize>
         ensures { MatchOption result (2 ^ 64 ≤ field_scalars (fields_shape (shapes_of self.now) fields.now)) (λ n. n ≡ field_scalars (fields_shape (shapes_of self.now) fields.now)) }
     {
         let mut sum = 0usize;
@@ -554,7 +554,7 @@ impl Known {
     }
 
     /// How deep the deepest field of a record is.
-    fn field_depth(&self, fields: &[Field]) -> usize
+    fn field_depth(&self, fields: &[Field<'t>]) -> usize
         ensures { result ≡ field_depth (fields_shape (shapes_of self.now) fields.now) }
     {
         let mut deepest = 0usize;
@@ -568,11 +568,11 @@ impl Known {
     pub fn make_record(
         &mut self,
         ordinal: usize,
-        fields: Vec<Field>,
+        fields: Vec<Field<'t>>,
     ) -> Result<Option<TypeId>, AllocError>
         requires { All (λ f. IsMade (length self.old.shapes) f.of) fields.items }
         ensures made { IfOk result (λ r. IfSome r (IsMade (length self.new.shapes))) }
-        ensures value { IfOk result (λ r. option_map (type_shape (shapes_of self.new)) r ≡ within_limits (record_shape ordinal (fields_shape (shapes_of self.old) fields.items))) }
+        ensures value { IfOk result (λ r. option_map (type_shape (shapes_of self.new)) r ≡ within_limits (record_shape ordinal (fields_shape (shapes_of self.old) fields.entry.items))) }
         ensures entries { OnOk result (self.new.entries ≡ self.old.entries) }
         ensures shapes { OnOk result ((later : List shape.Shape) × (shapes_of self.new ≡ shapes_of self.old ++ later)) }
         ensures counted { IfOk result (λ r. IfSome r (λ _. length self.new.shapes ≡ suc (length self.old.shapes))) }

@@ -1,6 +1,6 @@
 //! Whether two types are the same.
 
-ghost use Rattle.std.specs.Prelude.{◌≡◌, ◌&&◌, List, string_bytes};
+ghost use Rattle.std.specs.Prelude.{◌≡◌, ◌&&◌, List};
 ghost use Rattle.ob0_scope_rules.specs.Names.{same_name};
 ghost use Rattle.ob0_types_table.specs.declared.known.Shape.TheVariants as made;
 ghost use Rattle.ob0_types_table.specs.Parts.{parts_shape};
@@ -14,11 +14,11 @@ use crate::types::TypeId;
 
 /// A type with its parts. What has a fault is a record without fields.
 #[derive(Clone, Copy)]
-pub enum Parts<'k> {
+pub enum Parts<'k, 't> {
     Integer,
     Boolean,
     Array(ArrayShape),
-    Record(&'k RecordShape),
+    Record(&'k RecordShape<'t>),
     Faulty,
 }
 
@@ -29,9 +29,9 @@ fn is_nothing(entry: &RecordShape) -> bool
     entry.ordinal == 0 && entry.fields.as_slice().is_empty()
 }
 
-impl Known {
+impl<'t> Known<'t> {
     /// A type with its parts.
-    pub fn parts(&self, of: TypeId) -> Parts<'_>
+    pub fn parts(&self, of: TypeId) -> Parts<'_, 't>
         ensures { parts_shape (shapes_of self.now) result ≡ type_shape (shapes_of self.now) of }
     {
         match of {
@@ -104,7 +104,7 @@ impl Known {
     }
 
     #[cycle(sameness)]
-    fn same_record(&self, one: &RecordShape, other: &RecordShape) -> bool
+    fn same_record(&self, one: &RecordShape<'t>, other: &RecordShape<'t>) -> bool
         ensures { result ≡ same_shape (made_shape (shapes_of self.now) (made.Record one.now)) (made_shape (shapes_of self.now) (made.Record other.now)) }
     {
         one.ordinal == other.ordinal
@@ -119,7 +119,7 @@ impl Known {
     }
 
     #[cycle(sameness)]
-    fn same_fields(&self, fields: &[Field], others: &[Field]) -> bool
+    fn same_fields(&self, fields: &[Field<'t>], others: &[Field<'t>]) -> bool
         ensures { result ≡ same_fields (fields_shape (shapes_of self.now) fields.now) (fields_shape (shapes_of self.now) others.now) }
     {
         if fields.len() != others.len() {
@@ -134,8 +134,8 @@ impl Known {
     }
 
     #[cycle(sameness)]
-    fn same_field(&self, field: &Field, other: &Field) -> bool
-        ensures { result ≡ (same_name (string_bytes field.now.name) (string_bytes other.now.name) && same_shape (type_shape (shapes_of self.now) field.now.of) (type_shape (shapes_of self.now) other.now.of)) }
+    fn same_field(&self, field: &Field<'t>, other: &Field<'t>) -> bool
+        ensures { result ≡ (same_name field.now.name.now other.now.name.now && same_shape (type_shape (shapes_of self.now) field.now.of) (type_shape (shapes_of self.now) other.now.of)) }
     {
         field.name == other.name && self.same(field.of, other.of)
     }
