@@ -1,9 +1,11 @@
 //! The analyses of the documents that were reported or asked about last.
 
 ghost use Rattle.std.specs.Prelude.{◌≡◌, IfOk};
+ghost use Rattle.std.specs.Str.{chars};
 
 use lru::LruCache;
 use ob0_analysis::Analysis;
+use ob0_text::TextStore;
 use std::alloc::{AllocError, Global};
 
 /// How many bytes the texts of all analyses that are kept have at most, but for the one that was kept last. An analysis takes some 40
@@ -30,20 +32,14 @@ impl Analyses {
         }
     }
 
-    /// The analysis of a document's text, which is kept no more. Where one of another text of the document was kept, it is made of that.
-    pub fn take(&mut self, uri: &str, text: &str) -> Result<Analysis, AllocError>
-        ensures { IfOk result (λ a. a ≡ text.now) }
+    /// The analysis of the text in a store, which is kept no more. Where one of another text of the document was kept, it is made of
+    /// that.
+    pub fn take<T: TextStore>(&mut self, uri: &str, store: &T) -> Result<Analysis, AllocError>
+        ensures { IfOk result (λ a. T.content store.now ≡ chars a) }
     {
-        match self.remove(uri) {
-            None => Analysis::of(self.alloc, text),
-            Some(kept) => {
-                if kept.text() == text {
-                    Ok(kept)
-                } else {
-                    kept.after(self.alloc, text)
-                }
-            }
-        }
+        let kept = self.remove(uri);
+        let analysis = analysis_from(self.alloc, kept, store.as_str())?;
+        Ok(analysis)
     }
 
     /// Keeps the analysis of a document, and drops those that weren't used for longest where they are too much in all.
@@ -86,5 +82,25 @@ impl Analyses {
         let by_uri = self.by_uri.as_mut()?;
         let (_, oldest) = by_uri.pop_lru()?;
         Some(oldest)
+    }
+}
+
+/// The analysis of a text, by one of any text.
+fn analysis_from(
+    alloc: Global,
+    kept: Option<Analysis>,
+    text: &str,
+) -> Result<Analysis, AllocError>
+    ensures { IfOk result (λ a. a ≡ text.now) }
+{
+    match kept {
+        None => Analysis::of(alloc, text),
+        Some(kept) => {
+            if kept.text() == text {
+                Ok(kept)
+            } else {
+                kept.after(alloc, text)
+            }
+        }
     }
 }

@@ -7,7 +7,7 @@ use Rattle.ob0_analysis.proofs.diagnosing.diagnose_module.Goals as goal
 
 pub returns : goal.returns
 returns c =
-    let r = c.resolved-resolved.resolved in
+    let r = c.resolved-resolved.result in
     let told = map complaint_in c.in_ok-told.told.items in
     let is = c.resolved-resolved.ensures in
     let scan = subst IsScan c.tokens.ensures.source c.text-text.ensures.scan in
