@@ -8,8 +8,7 @@ use ob0_analysis::Analysis;
 use ob0_text::TextStore;
 use std::alloc::{AllocError, Global};
 
-/// How many bytes the texts of all analyses that are kept have at most, but for the one that was kept last. An analysis takes some 40
-/// bytes for each byte of its text.
+/// How many bytes the texts of all analyses that are kept have at most, but for the one that was kept last.
 const MOST_BYTES: usize = 2_097_152;
 
 /// For the uri of a document the analysis of a text that it had. Which text that is isn't promised: who takes the analysis names the
@@ -86,11 +85,7 @@ impl Analyses {
 }
 
 /// The analysis of a text, by one of any text.
-fn analysis_from(
-    alloc: Global,
-    kept: Option<Analysis>,
-    text: &str,
-) -> Result<Analysis, AllocError>
+fn analysis_from(alloc: Global, kept: Option<Analysis>, text: &str) -> Result<Analysis, AllocError>
     ensures { IfOk result (λ a. a ≡ text.now) }
 {
     match kept {

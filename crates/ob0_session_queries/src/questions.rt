@@ -137,7 +137,11 @@ pub fn answer_question<T: TextStore>(
 {
     match question {
         NameQuestion::Hover => result(alloc, id, shown_value(alloc, store, analysis, place)?),
-        NameQuestion::Definition => result(alloc, id, definition_value(alloc, store, analysis, place)?),
+        NameQuestion::Definition => result(
+            alloc,
+            id,
+            definition_value(alloc, store, analysis, place)?,
+        ),
         NameQuestion::References {
             include_declaration,
         } => references_answer(alloc, id, store, analysis, place, include_declaration),
