@@ -20,8 +20,8 @@ returns-in-Some g c =
       sent,
     )) c.listed.ensures
 
-pub returns : goal.returns
-returns g c =
+pub returns-in-None : goal.returns-in-None
+returns-in-None g c =
     let unit = g.T.TextStore.unit_of c.args.store.now in
     let text : List ℕ = g.T.TextStore.content c.args.store.now in
     let asked = actions_asked c.args.request.now in

@@ -28,22 +28,22 @@ returns-in-Ok g c =
       subst (λ (d : Data). Writes (result_message (id_data c.args.id.now) d) bytes.items) is (sent (edits_can_be_sent c.as_slice-edits.result.now)),
     )) c.result_of.ensures
 
-pub returns-in-Some : goal.returns-in-Some
-returns-in-Some g c =
+pub returns-in_ok-text-in-Err : goal.returns-in_ok-text-in-Err
+returns-in_ok-text-in-Err g c =
     let unit = g.T.TextStore.unit_of c.args.store.now in
     let text : List ℕ = g.T.TextStore.content c.args.store.now in
     let found = found_of unit c.args.indent c.args.analysis.now text c.in_ok-outcome.field-0 c.in_ok-outcome.ensures.utf8 (sym c.requires) c.in_ok-outcome.ensures.found in
     let outcome = subst (λ (o : Option (Result (Vec Edit Global) EditRefusal)). FoundOf unit c.args.indent text o) c.in-Some.is found in
     let long = subst (λ (o : Result (Vec Edit Global) EditRefusal). Formats unit c.args.indent text o) c.in-Err.is outcome in
-    let is = c.as_str-in-Err.ensures.value ∙ (c.in_ok-text-in-Err.ensures ∙ ap refusal_text long.0) in
+    let is = c.as_str.ensures.value ∙ (c.in_ok-text-in-Err.ensures ∙ ap refusal_text long.0) in
     IfOk-weaker c.refused.result _ _ (λ bytes sent. (
       edit_refused (id_data c.args.id.now) (refusal_text TooLong),
       inr (inl (long.1, refl)),
       subst (λ (said : List ℕ). Writes (edit_refused (id_data c.args.id.now) said) bytes.items) is sent,
     )) c.refused.ensures
 
-pub returns : goal.returns
-returns g c =
+pub returns-in-None : goal.returns-in-None
+returns-in-None g c =
     let unit = g.T.TextStore.unit_of c.args.store.now in
     let text : List ℕ = g.T.TextStore.content c.args.store.now in
     let found = found_of unit c.args.indent c.args.analysis.now text c.in_ok-outcome.field-0 c.in_ok-outcome.ensures.utf8 (sym c.requires) c.in_ok-outcome.ensures.found in

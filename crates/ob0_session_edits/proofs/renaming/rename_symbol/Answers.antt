@@ -25,8 +25,8 @@ returns-in-Ok g c =
       subst (λ (d : Data). Writes (result_message asked.id d) bytes.items) is sent,
     )) c.edits_answer.ensures
 
-pub returns-in-Some : goal.returns-in-Some
-returns-in-Some g c =
+pub returns-in-Err : goal.returns-in-Err
+returns-in-Err g c =
     let unit = g.T.TextStore.unit_of c.args.store.now in
     let text : List ℕ = g.T.TextStore.content c.args.store.now in
     let asked = asked_of c.args.request.now in
@@ -34,8 +34,8 @@ returns-in-Some g c =
     let why = subst (λ (o : Result (Vec Edit Global) EditRefusal). FindsNewName unit text asked.at.position asked.new (Some o)) c.in-Err.is found in
     IfOk-weaker c.refused_because.result _ _ (λ bytes sent. (edit_refused asked.id (refusal_text c.in-Err.refusal), inr (inl (c.in-Err.refusal, why, refl)), sent)) c.refused_because.ensures
 
-pub returns : goal.returns
-returns g c =
+pub returns-in-None : goal.returns-in-None
+returns-in-None g c =
     let unit = g.T.TextStore.unit_of c.args.store.now in
     let text : List ℕ = g.T.TextStore.content c.args.store.now in
     let asked = asked_of c.args.request.now in
