@@ -21,7 +21,7 @@ returns-in-Some g c =
     IfOk-weaker c.location_or_null.result _ _ (λ v shown. inl (
       there.0,
       there.1,
-      shown ∙ (λ i. or_null (option_map (location_at unit (c.as_str-in-Some.ensures.value i) text) (same i))),
+      shown ∙ (λ i. or_null (option_map (location_at unit (c.as_str.ensures.value i) text) (same i))),
     )) c.location_or_null.ensures
 
 pub returns-in-None : goal.returns-in-None

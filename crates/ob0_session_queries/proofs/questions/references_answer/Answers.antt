@@ -1,4 +1,4 @@
-use Rattle.std.proofs.Common.{◌≡◌, ◌∙◌, ℕ, List, Vec, Global, ap, map, inl, inr, refl, arith, subst, sym}
+use Rattle.std.proofs.Common.{◌≡◌, ◌∙◌, ℕ, List, Option, Vec, Global, ap, map, inl, inr, refl, arith, subst, sym}
 use Rattle.std.proofs.lemmas.Result.{IfOk-weaker}
 use Rattle.serde_json.specs.Data.{Data, array}
 use Rattle.serde_json.specs.View.{items_of, items_view}
@@ -25,15 +25,15 @@ returns-in-Some g c =
     let there = subst (λ (a : Option (Vec Span Global)). FoundOf text is a) c.in-Some.is found in
     let spans = c.in-Some.found.items in
     let are = subst (λ (offset : ℕ). AreReferencesAt there.0 offset c.args.include_declaration spans) c.offset.ensures there.2 in
-    let same : array (items_of (map (location_at unit c.as_str-in-Some.result.now text) c.as_slice.result.now)) ≡ array (items_of (map (location_at unit at.uri text) spans)) = (λ i. array (items_of (map (location_at unit (c.as_str-in-Some.ensures.value i) text) (c.as_slice.ensures.value i)))) in
+    let same : array (items_of (map (location_at unit c.as_str.result.now text) c.as_slice.result.now)) ≡ array (items_of (map (location_at unit at.uri text) spans)) = (λ i. array (items_of (map (location_at unit (c.as_str.ensures.value i) text) (c.as_slice.ensures.value i)))) in
     IfOk-weaker c.locations.result _ _ (λ bytes sent. (
       array (items_of (map (location_at unit at.uri text) spans)),
       inl (there.0, there.1, (spans, are, refl)),
       subst (λ (d : Data). Writes (result_message id d) bytes.items) same sent,
     )) c.locations.ensures
 
-pub returns : goal.returns
-returns g c =
+pub returns-in-None : goal.returns-in-None
+returns-in-None g c =
     let text : List ℕ = g.T.TextStore.content c.args.store.now in
     let id = id_data c.args.id.now in
     let is = λ (r : Resolution) (found : Vec Span Global). AreReferencesAt r c.offset.result c.args.include_declaration found.items in
