@@ -1,5 +1,6 @@
 -- Where the lines of a text start, in bytes.
-use Rattle.std.specs.Prelude.{ℕ, suc, ◌+◌, ◌<◌, ◌≤◌, if◌then◌else◌, List, [], ◌∷◌, ◌++◌, length, slice_index, refl}
+use Rattle.std.specs.Prelude.{◌≡◌, ℕ, suc, ◌+◌, ◌-◌, ◌<◌, ◌≤◌, if◌then◌else◌, List, [], ◌∷◌, ◌++◌, length, map, reverse, slice_index, refl}
+use Rattle.std.specs.Str.{chars}
 use Rattle.std.specs.Coded.{Coded, code_by, coded×, coded_list, coded_ℕ}
 use Rattle.ob0_text.specs.declared.positions.Unit.{Unit}
 use Rattle.ob0_text.specs.Units.{unit_code}
@@ -40,3 +41,17 @@ pub record TextInUnit : Type 0 where
 abbrev pub text_code : Coded TextInUnit
 text_code =
     code_by (List ℕ × Unit) (coded× (coded_list coded_ℕ) unit_code) (λ t. (t.text, t.unit)) (λ p. record { text = p.0; unit = p.1 }) (λ t. refl)
+
+-- starts, of which the later ones are counted from the end of a text of this length, the last first
+abbrev pub starts_in : ℕ → List ℕ → List ℕ → List ℕ
+starts_in len front back = front ++ map (λ d. len - d) (reverse back)
+
+-- the starts of a text's lines, and the text's length
+pub record Table : Type 0 where
+  pub starts : List ℕ
+  pub len : ℕ
+
+-- the table is that of a text
+pub record HasLines (text : List ℕ) (t : Table) : Type 0 where
+  pub starts : t.starts ≡ line_starts (chars text)
+  pub len : t.len ≡ length text

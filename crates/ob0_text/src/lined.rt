@@ -7,26 +7,26 @@ ghost use Rattle.ob0_text.specs.Texts.{lines, offset_of};
 ghost use Rattle.ob0_text.specs.Units.{width_of};
 ghost use Rattle.ob0_text.specs.LineStarts.{with_ending};
 
-use crate::lookups::{bounds_in, line_in, mend, offset_in, position_in};
+use crate::line_table::LineTable;
+use crate::lookups::{bounds_in, line_in, offset_in, position_in};
 use crate::places::{offsets_of, positions_of};
 use crate::positions::{Position, Range, Unit};
 use crate::stores::TextStore;
-use crate::tables::starts_of;
 use std::alloc::{AllocError, Global};
 use std::marker::Model;
 
-/// A text with the offsets where its lines start, in bytes. A look-up costs what its line does.
+/// A text with the table of its lines. A look-up costs what its line does.
 #[derive(Debug, Drop)]
 pub struct Lines {
     text: String,
-    starts: Vec<usize>,
+    starts: LineTable,
     unit: Unit,
 }
 
 impl Model for Lines {
     ghost use Rattle.std.specs.Prelude.{◌≡◌, string_bytes};
     ghost use Rattle.std.specs.Str.{chars};
-    ghost use Rattle.ob0_text.specs.LineStarts.{TextInUnit, text_code, line_starts};
+    ghost use Rattle.ob0_text.specs.LineStarts.{HasLines, TextInUnit, text_code};
 
     ghost Value = { TextInUnit };
 
@@ -34,7 +34,7 @@ impl Model for Lines {
 
     ghost view = { λ lines. record { text = chars (string_bytes lines.text); unit = lines.unit } };
 
-    ghost invariant = { λ lines. lines.starts.items ≡ line_starts (chars (string_bytes lines.text)) };
+    ghost invariant = { λ lines. HasLines (string_bytes lines.text) lines.starts };
 }
 
 impl Lines {
@@ -60,7 +60,7 @@ impl TextStore for Lines {
     ghost unit_of = { λ lines. lines.unit };
 
     fn from_str_in(alloc: Global, text: &str, unit: Unit) -> Result<Lines, AllocError> {
-        let starts = starts_of(alloc, text)?;
+        let starts = LineTable::of(alloc, text)?;
         let text = String::from_str(alloc, text)?;
         Ok(Lines { text, starts, unit })
     }
@@ -92,12 +92,7 @@ impl TextStore for Lines {
     fn replace(&mut self, range: Range, text: &str) -> Result<(), AllocError> {
         let (start, end) = self.bounds(range);
         let (from, to) = (start.min(end), start.max(end));
-        let alloc = *self.starts.allocator();
-        let mended = mend(alloc, self.text.as_str(), &self.starts, from, to, text)?;
-        self.starts.reserve(mended.later.len())?;
-        self.text.replace_range(from..to, text)?;
-        self.starts.truncate(mended.kept);
-        self.starts.extend_from_slice(&mended.later)
+        self.starts.replace(&mut self.text, from, to, text)
     }
 
     fn as_str(&self) -> &str {

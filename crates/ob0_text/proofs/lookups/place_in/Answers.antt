@@ -11,4 +11,4 @@ line_place-start-requires c =
 pub onward_to_position-requires : goal.onward_to_position-requires
 onward_to_position-requires c =
     let start = c.line_place-start in
-    record { place = seeks (width_of c.args.unit) c.args.text.now c.args.starts.now c.args.position start.result c.utf8.text c.requires start.ensures.offset start.ensures.line start.ensures.character }
+    record { place = seeks (width_of c.args.unit) c.args.text.now c.args.starts.now.starts c.args.position start.result c.utf8.text c.requires start.ensures.offset start.ensures.line start.ensures.character }
