@@ -115,7 +115,12 @@ pub(crate) fn forward(address: usize, offset: usize) -> usize
 
 /// The address of an array's element.
 #[inline(always)]
-pub(crate) fn element_at(address: usize, length: usize, stride: usize, index: i32) -> Result<usize, Ending>
+pub(crate) fn element_at(
+    address: usize,
+    length: usize,
+    stride: usize,
+    index: i32,
+) -> Result<usize, Ending>
     ensures { outcome_of_result result ≡ element_at address length stride index }
 {
     if index < 0 {

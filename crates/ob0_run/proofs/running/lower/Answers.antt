@@ -22,4 +22,4 @@ returns c =
     λ z made. WellTyped (named_tree_of z.module_read) → ((k : ℕ) → declared_in c.known.result.now k ≡ declared_object (named_tree_of z.module_read) k) → ProgramMeans made.most_cells as_labels (numbered (named_tree_of z.module_read)) (program_of made.code) in
     IfOk-weaker c.lower.result (Means c.resolved.result.now) (RunsAs m)
     (λ made means input calls turns numbers room.
-        c.runs_lowered.ensures m (program_of made.code) made.most_cells calls turns input well (subst (λ (z : Resolution). Means z made) c.resolved.ensures.value means well c.known.ensures) room numbers) c.lower.ensures
+    c.runs_lowered.ensures m (program_of made.code) made.most_cells calls turns input well (subst (λ (z : Resolution). Means z made) c.resolved.ensures.value means well c.known.ensures) room numbers) c.lower.ensures
