@@ -131,7 +131,12 @@ static RENAMED: &[(&str, u64, u64, &str, &str)] = &[
     ),
 ];
 
-fn renamed(alloc: Global, text: &str, place: Position, new: &str) -> Result<String, AllocError> {
+fn rename_text(
+    alloc: Global,
+    text: &str,
+    place: Position,
+    new: &str,
+) -> Result<String, AllocError> {
     let store = Whole::from_str(alloc, text)?;
     match rename_in(alloc, &store, None, place, new)? {
         Asked::Answered(edits) => made(alloc, &store, edits),
@@ -176,7 +181,7 @@ fn a_well_typed_module_is_renamed_alike(rt: HostRuntime) -> Result<(), Fail> {
 fn names_and_fields_are_renamed(rt: HostRuntime) -> Result<(), Fail> {
     for row in RENAMED {
         let (text, line, character, new, wanted) = *row;
-        let found = renamed(rt.alloc(), text, Position { line, character }, new)?;
+        let found = rename_text(rt.alloc(), text, Position { line, character }, new)?;
         assert!(rt;
             found.as_str() == wanted,
             "{found} by {new} at {line}:{character}"
